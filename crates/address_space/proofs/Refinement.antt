@@ -1,0 +1,278 @@
+-- What a finite map from slots to page entries, with bytes for each frame, stands for; and that its steps are the machine's.
+use Rattle.std.proofs.Common.{◌≡◌, ℕ, inl, inr, Bool, true, false, cond, not, ◌&&◌, ◌||◌, ◌==◌, if◌then◌else◌, List, refl, sym, ap, ◌∙◌, Option, Some, None, is_some, unwrap_or, IsTrue, subst}
+use Rattle.std.specs.Option.{option_map}
+use Rattle.page_words.specs.FiniteMap as map
+use Rattle.page_words.specs.FiniteMap.{Order, Map}
+use Rattle.page_words.specs.FiniteSet as set
+use Rattle.page_words.specs.FiniteSet.{Set}
+use Rattle.address_space.specs.Spaces.{Slot, slot_order, Cell, Spaces, write_at, stored, joined, set_bytes, set_holders, store_in, join_in, with_bytes, with_holders, without, fresh, zeros, cell_or_fresh}
+use Rattle.page_words.specs.FiniteMap.{same}
+use Rattle.page_words.proofs.MapLemmas.{same_or_not, get-insert, get-retain_keys, same_map, get-map_values, contains-insert, contains-retain, same_set}
+use Rattle.std.specs.Cmp.{nat_eq_equiv}
+use Rattle.page_map.specs.declared.PageEntry.{PageEntry}
+use Rattle.phys_memory.specs.Bytes.{with_frame}
+use Rattle.address_space.specs.Cells.{Entries, names, nothing, holders_of, cell_of, each_cell, spaces_of}
+use borrow.Author.Tests.{eqb-true, eq-eqb}
+
+contained : (slot : Slot) (x : Option PageEntry) (f : ℕ) → (is_some (option_map (nothing slot) x) && names f x) ≡ names f x
+contained slot None f = refl
+contained slot (Some e) f = refl
+
+pub contains-holders_of : (entries : Entries) (f : ℕ) (slot : Slot) → set.contains (holders_of entries f) slot ≡ names f (map.get entries slot)
+contains-holders_of entries f slot =
+    contains-retain (map.map_values nothing entries) (λ s. names f (map.get entries s)) slot
+    ∙ ap (λ x. is_some x && names f (map.get entries slot)) (get-map_values slot_order nothing entries slot)
+    ∙ contained slot (map.get entries slot) f
+
+-- two maps name each frame at the same slots
+pub same_holders : (d e : Entries) (f : ℕ) → ((slot : Slot) → names f (map.get d slot) ≡ names f (map.get e slot)) → holders_of d f ≡ holders_of e f
+same_holders d e f is = same_set _ _ (λ s. contains-holders_of d f s ∙ is s ∙ sym (contains-holders_of e f s))
+
+pub get-spaces_of : (entries : Entries) (bytes : ℕ → List ℕ) (slot : Slot) → map.get (spaces_of entries bytes) slot ≡ option_map (cell_of entries bytes) (map.get entries slot)
+get-spaces_of entries bytes slot = get-map_values slot_order (each_cell entries bytes) entries slot
+
+eqb_itself : (n : ℕ) → (n == n) ≡ true
+eqb_itself n = eq-eqb n n refl
+
+eqb_sym : (m n : ℕ) → (m == n) ≡ (n == m)
+eqb_sym m n = (nat_eq_equiv).symm m n
+
+-- ---- A store
+
+-- an entry after a store: its frame stays
+abbrev pub stored_entry : PageEntry → PageEntry
+stored_entry e = record e { accessed = true; dirty = true }
+
+-- an entry that keeps its frame keeps each frame's slots
+pub names-insert_same : (entries : Entries) (slot : Slot) (old new : PageEntry) → map.get entries slot ≡ Some old → new.frame ≡ old.frame
+    → (f : ℕ) (q : Slot) → names f (map.get (map.insert entries slot new) q) ≡ names f (map.get entries q)
+names-insert_same entries slot old new found kept f q =
+    rw (get-insert entries slot new q)
+    (elim (same_or_not slot_order q slot) [
+      | inl h ↦ rw h.1 (ap (λ n. n == f) kept ∙ sym (ap (names f) (ap (map.get entries) h.0 ∙ found)))
+      | inr h ↦ rw h refl
+    ])
+
+-- the cell of an entry
+pub cell_at : (entries : Entries) (bytes : ℕ → List ℕ) (slot : Slot) (e : PageEntry) → map.get entries slot ≡ Some e → cell_or_fresh (spaces_of entries bytes) slot ≡ cell_of entries bytes e
+cell_at entries bytes slot e found = ap (λ c. unwrap_or c (fresh slot true)) (get-spaces_of entries bytes slot ∙ ap (option_map (cell_of entries bytes)) found)
+
+-- where the slots of its frame stay, an entry's cell changes in its bytes alone
+cell_kept : (d e : Entries) (b c : ℕ → List ℕ) (entry : PageEntry) → holders_of e entry.frame ≡ holders_of d entry.frame → cell_of e c entry ≡ with_bytes (cell_of d b entry) (c entry.frame)
+cell_kept d e b c entry h = λ i. record { write = entry.write; may = entry.may; accessed = entry.accessed; dirty = entry.dirty; bytes = c entry.frame; holders = h i }
+
+chosen : (b : Bool) (cell : Cell) (new : List ℕ) → with_bytes cell (if b then new else cell.bytes) ≡ (if b then with_bytes cell new else cell)
+chosen true cell new = refl
+chosen false cell new = refl
+
+-- storing into the frame of a slot changes its group as the machine says
+pub store_refines : (entries : Entries) (bytes : ℕ → List ℕ) (slot : Slot) (e : PageEntry) (at : ℕ) (new : List ℕ) → map.get entries slot ≡ Some e
+    → spaces_of (map.insert entries slot (stored_entry e)) (with_frame bytes e.frame (write_at (bytes e.frame) at new)) ≡ stored (spaces_of entries bytes) slot at new
+store_refines entries bytes slot e at new found =
+    let after : List ℕ = write_at (bytes e.frame) at new in
+    let entries' : Entries = map.insert entries slot (stored_entry e) in
+    let bytes' : ℕ → List ℕ = with_frame bytes e.frame after in
+    let cell : Cell = cell_of entries bytes e in
+    let kept : (f : ℕ) → holders_of entries' f ≡ holders_of entries f = λ f. same_holders _ _ f (names-insert_same entries slot e (stored_entry e) found refl f) in
+    let f : Slot → Cell → Cell = λ q c. if set.contains cell.holders q then with_bytes c after else c in
+    let others : (q : Slot) (x : Option PageEntry) → map.get entries q ≡ x → option_map (cell_of entries' bytes') x ≡ option_map (f q) (option_map (cell_of entries bytes) x) = λ q x. elim x as (λ x. map.get entries q ≡ x → option_map (cell_of entries' bytes') x ≡ option_map (f q) (option_map (cell_of entries bytes) x)) [
+      | None ↦ λ _. refl
+      | Some d ↦ λ is. ap Some (cell_kept entries entries' bytes bytes' d (kept d.frame) ∙ chosen (d.frame == e.frame) (cell_of entries bytes d) after
+          ∙ ap (λ b. if b then with_bytes (cell_of entries bytes d) after else cell_of entries bytes d) (sym (contains-holders_of entries e.frame q ∙ ap (names e.frame) is)))
+    ] in
+    same_map _ _ (λ q.
+    get-spaces_of entries' bytes' q ∙ ap (option_map (cell_of entries' bytes')) (get-insert entries slot (stored_entry e) q)
+    ∙ elim (same slot_order q slot) as (λ b. option_map (cell_of entries' bytes') (cond b (Some (stored_entry e)) (map.get entries q)) ≡ cond b (Some (record cell { bytes = after; accessed = true; dirty = true })) (map.get (set_bytes (spaces_of entries bytes) cell.holders after) q)) [
+      | true ↦ λ i. Some (record { write = e.write; may = e.may; accessed = true; dirty = true; bytes = if eqb_itself e.frame i then after else bytes e.frame; holders = kept e.frame i })
+      | false ↦ others q _ refl ∙ sym (get-map_values slot_order f (spaces_of entries bytes) q ∙ ap (option_map (f q)) (get-spaces_of entries bytes q))
+    ]
+    ∙ sym (get-insert (set_bytes (spaces_of entries bytes) cell.holders after) slot (record cell { bytes = after; accessed = true; dirty = true }) q))
+    ∙ sym (ap (λ (c : Cell). store_in (spaces_of entries bytes) slot c (write_at c.bytes at new)) (cell_at entries bytes slot e found))
+
+-- ---- A slot joins
+
+-- what names a frame after a new slot has been given an entry: the slot too, where the entry names that frame
+pub names-insert : (entries : Entries) (slot : Slot) (new : PageEntry) (f : ℕ) (q : Slot)
+    → names f (map.get (map.insert entries slot new) q) ≡ cond (same slot_order q slot) (new.frame == f) (names f (map.get entries q))
+names-insert entries slot new f q =
+    ap (names f) (get-insert entries slot new q) ∙ elim (same slot_order q slot) as (λ b. names f (cond b (Some new) (map.get entries q)) ≡ cond b (new.frame == f) (names f (map.get entries q))) [ true ↦ refl | false ↦ refl ]
+
+either : (b x : Bool) → cond b true x ≡ (b || x)
+either true x = refl
+either false x = refl
+
+-- the frame of the new entry has that slot more
+pub holders-insert : (entries : Entries) (slot : Slot) (new : PageEntry) → holders_of (map.insert entries slot new) new.frame ≡ set.insert (holders_of entries new.frame) slot
+holders-insert entries slot new =
+    same_set _ _ (λ q.
+    contains-holders_of (map.insert entries slot new) new.frame q ∙ names-insert entries slot new new.frame q
+    ∙ ap (λ b. cond (same slot_order q slot) b (names new.frame (map.get entries q))) (eqb_itself new.frame)
+    ∙ either (same slot_order q slot) (names new.frame (map.get entries q))
+    ∙ ap (λ b. same slot_order q slot || b) (sym (contains-holders_of entries new.frame q))
+    ∙ sym (contains-insert (holders_of entries new.frame) slot q))
+
+-- any other frame keeps its slots, where the slot had no entry
+pub holders-other : (entries : Entries) (slot : Slot) (new : PageEntry) (f : ℕ) → map.get entries slot ≡ None → (new.frame == f) ≡ false → holders_of (map.insert entries slot new) f ≡ holders_of entries f
+holders-other entries slot new f none apart =
+    same_holders (map.insert entries slot new) entries f (λ q. names-insert entries slot new f q
+    ∙ elim (same_or_not slot_order q slot) [
+      | inl h ↦ rw h.1 (apart ∙ sym (ap (names f) (ap (map.get entries) h.0 ∙ none)))
+      | inr h ↦ rw h refl
+    ])
+
+-- a slot without an entry gets one on the frame of another: it joins that one's group as the machine says
+pub join_refines : (entries : Entries) (bytes : ℕ → List ℕ) (giver slot : Slot) (e : PageEntry) (right : Bool) → map.get entries giver ≡ Some e → map.get entries slot ≡ None
+    → spaces_of (map.insert entries slot (record { frame = e.frame; write = right; may = right; accessed = false; dirty = false })) bytes ≡ joined (spaces_of entries bytes) giver slot right
+join_refines entries bytes giver slot e right found none =
+    let new : PageEntry = record { frame = e.frame; write = right; may = right; accessed = false; dirty = false } in
+    let entries' : Entries = map.insert entries slot new in
+    let cell : Cell = cell_of entries bytes e in
+    let holders : Set slot_order = set.insert cell.holders slot in
+    let more : holders_of entries' e.frame ≡ holders = holders-insert entries slot new in
+    let f : Slot → Cell → Cell = λ q c. if set.contains cell.holders q then with_holders c holders else c in
+    let own : Cell = record { write = right; may = right; accessed = false; dirty = false; bytes = cell.bytes; holders = holders } in
+    let group : (d : PageEntry) (b : Bool) → (d.frame == e.frame) ≡ b → cell_of entries' bytes d ≡ (if b then with_holders (cell_of entries bytes d) holders else cell_of entries bytes d) = λ d b. elim b as (λ b. (d.frame == e.frame) ≡ b → cell_of entries' bytes d ≡ (if b then with_holders (cell_of entries bytes d) holders else cell_of entries bytes d)) [
+      | true ↦ λ is. ap (with_holders (cell_of entries bytes d)) (ap (holders_of entries') (eqb-true d.frame e.frame is) ∙ more)
+      | false ↦ λ is. ap (with_holders (cell_of entries bytes d)) (holders-other entries slot new d.frame none (eqb_sym e.frame d.frame ∙ is))
+    ] in
+    let others : (q : Slot) (x : Option PageEntry) → map.get entries q ≡ x → option_map (cell_of entries' bytes) x ≡ option_map (f q) (option_map (cell_of entries bytes) x) = λ q x. elim x as (λ x. map.get entries q ≡ x → option_map (cell_of entries' bytes) x ≡ option_map (f q) (option_map (cell_of entries bytes) x)) [
+      | None ↦ λ _. refl
+      | Some d ↦ λ is. ap Some (group d (d.frame == e.frame) refl
+          ∙ ap (λ b. if b then with_holders (cell_of entries bytes d) holders else cell_of entries bytes d) (sym (contains-holders_of entries e.frame q ∙ ap (names e.frame) is)))
+    ] in
+    same_map _ _ (λ q.
+    get-spaces_of entries' bytes q ∙ ap (option_map (cell_of entries' bytes)) (get-insert entries slot new q)
+    ∙ elim (same slot_order q slot) as (λ b. option_map (cell_of entries' bytes) (cond b (Some new) (map.get entries q)) ≡ cond b (Some own) (map.get (set_holders (spaces_of entries bytes) cell.holders holders) q)) [
+      | true ↦ λ i. Some (record own { holders = more i })
+      | false ↦ others q _ refl ∙ sym (get-map_values slot_order f (spaces_of entries bytes) q ∙ ap (option_map (f q)) (get-spaces_of entries bytes q))
+    ]
+    ∙ sym (get-insert (set_holders (spaces_of entries bytes) cell.holders holders) slot own q))
+    ∙ sym (ap (λ (c : Cell). join_in (spaces_of entries bytes) c slot right) (cell_at entries bytes giver e found))
+
+-- ---- Slots that leave
+
+option_filter : {X Y : Type 0} (f : X → Y) (b : Bool) (x : Option X) → option_map f (cond b x None) ≡ cond b (option_map f x) None
+option_filter f true x = refl
+option_filter f false x = refl
+
+names-filter : (f : ℕ) (b : Bool) (x : Option PageEntry) → names f (cond b x None) ≡ (names f x && b)
+names-filter f true None = refl
+names-filter f true (Some e) = and_true (e.frame == f)
+  where
+    and_true : (b : Bool) → b ≡ (b && true)
+    and_true true = refl
+    and_true false = refl
+names-filter f false x = and_false (names f x)
+  where
+    and_false : (b : Bool) → false ≡ (b && false)
+    and_false true = refl
+    and_false false = refl
+
+-- the entries of some slots go: the slots leave their groups as the machine says
+pub leave_refines : (entries : Entries) (bytes : ℕ → List ℕ) (gone : Slot → Bool) → spaces_of (map.retain_keys entries (λ s. not (gone s))) bytes ≡ without (spaces_of entries bytes) gone
+leave_refines entries bytes gone =
+    let kept : Slot → Bool = λ s. not (gone s) in
+    let entries' : Entries = map.retain_keys entries kept in
+    let fewer : (f : ℕ) → holders_of entries' f ≡ set.retain (holders_of entries f) kept = λ f. same_set (holders_of entries' f) (set.retain (holders_of entries f) kept) (λ q.
+    contains-holders_of entries' f q ∙ ap (names f) (get-retain_keys entries kept q) ∙ names-filter f (kept q) (map.get entries q)
+    ∙ ap (λ b. b && kept q) (sym (contains-holders_of entries f q)) ∙ sym (contains-retain (holders_of entries f) kept q)) in
+    let f : Slot → Cell → Cell = λ q c. with_holders c (set.retain c.holders kept) in
+    let each : (q : Slot) (x : Option PageEntry) → option_map (cell_of entries' bytes) x ≡ option_map (f q) (option_map (cell_of entries bytes) x) = λ q x. elim x as (λ x. option_map (cell_of entries' bytes) x ≡ option_map (f q) (option_map (cell_of entries bytes) x)) [
+      | None ↦ refl
+      | Some d ↦ ap (λ h. Some (with_holders (cell_of entries bytes d) h)) (fewer d.frame)
+    ] in
+    same_map _ _ (λ q.
+    get-spaces_of entries' bytes q ∙ ap (option_map (cell_of entries' bytes)) (get-retain_keys entries kept q)
+    ∙ option_filter (cell_of entries' bytes) (kept q) (map.get entries q)
+    ∙ ap (λ x. cond (kept q) x None) (each q (map.get entries q) ∙ ap (option_map (f q)) (sym (get-spaces_of entries bytes q)))
+    ∙ sym (option_filter (f q) (kept q) (map.get (spaces_of entries bytes) q))
+    ∙ ap (option_map (f q)) (sym (get-retain_keys (spaces_of entries bytes) kept q))
+    ∙ sym (get-map_values slot_order f (map.retain_keys (spaces_of entries bytes) kept) q))
+
+-- ---- Flags of one entry
+
+-- an entry that keeps its frame changes its own cell's flags alone
+pub flags_refine : (entries : Entries) (bytes : ℕ → List ℕ) (slot : Slot) (old new : PageEntry) → map.get entries slot ≡ Some old → new.frame ≡ old.frame
+    → spaces_of (map.insert entries slot new) bytes ≡ map.insert (spaces_of entries bytes) slot (record (cell_or_fresh (spaces_of entries bytes) slot) { write = new.write; may = new.may; accessed = new.accessed; dirty = new.dirty })
+flags_refine entries bytes slot old new found same_frame =
+    let entries' : Entries = map.insert entries slot new in
+    let kept : (f : ℕ) → holders_of entries' f ≡ holders_of entries f = λ f. same_holders entries' entries f (names-insert_same entries slot old new found same_frame f) in
+    let flagged : Cell → Cell = λ c. record c { write = new.write; may = new.may; accessed = new.accessed; dirty = new.dirty } in
+    let own : cell_of entries' bytes new ≡ flagged (cell_of entries bytes old) = (λ i. record { write = new.write; may = new.may; accessed = new.accessed; dirty = new.dirty; bytes = bytes (same_frame i); holders = kept (same_frame i) i }) in
+    let others : (x : Option PageEntry) → option_map (cell_of entries' bytes) x ≡ option_map (cell_of entries bytes) x = λ x. elim x as (λ x. option_map (cell_of entries' bytes) x ≡ option_map (cell_of entries bytes) x) [
+      | None ↦ refl
+      | Some d ↦ ap Some (cell_kept entries entries' bytes bytes d (kept d.frame))
+    ] in
+    same_map _ _ (λ q.
+    get-spaces_of entries' bytes q ∙ ap (option_map (cell_of entries' bytes)) (get-insert entries slot new q)
+    ∙ elim (same slot_order q slot) as (λ b. option_map (cell_of entries' bytes) (cond b (Some new) (map.get entries q)) ≡ cond b (Some (flagged (cell_of entries bytes old))) (map.get (spaces_of entries bytes) q)) [
+      | true ↦ ap Some own
+      | false ↦ others (map.get entries q) ∙ sym (get-spaces_of entries bytes q)
+    ]
+    ∙ sym (get-insert (spaces_of entries bytes) slot (flagged (cell_of entries bytes old)) q))
+    ∙ sym (ap (λ (c : Cell). map.insert (spaces_of entries bytes) slot (flagged c)) (cell_at entries bytes slot old found))
+
+-- ---- A fresh page
+
+-- no entry names the frame
+abbrev pub Unused : Entries → ℕ → Type 0
+Unused entries f = (q : Slot) → names f (map.get entries q) ≡ false
+
+-- bytes of a frame that nothing names don't matter
+pub unused_bytes : (entries : Entries) (bytes : ℕ → List ℕ) (f : ℕ) (new : List ℕ) → Unused entries f → spaces_of entries (with_frame bytes f new) ≡ spaces_of entries bytes
+unused_bytes entries bytes f new unused =
+    same_map _ _ (λ q. get-spaces_of entries (with_frame bytes f new) q ∙ each q (map.get entries q) refl ∙ sym (get-spaces_of entries bytes q))
+  where
+    each : (q : Slot) (x : Option PageEntry) → map.get entries q ≡ x → option_map (cell_of entries (with_frame bytes f new)) x ≡ option_map (cell_of entries bytes) x
+    each q None is = refl
+    each q (Some d) is = ap (λ b. Some (with_bytes (cell_of entries bytes d) (if b then new else bytes d.frame))) (sym (ap (names f) is) ∙ unused q)
+
+-- a slot without an entry gets one on a frame that nothing names
+pub fresh_refines : (entries : Entries) (bytes : ℕ → List ℕ) (slot : Slot) (f : ℕ) (write : Bool) → map.get entries slot ≡ None → Unused entries f → bytes f ≡ zeros
+    → spaces_of (map.insert entries slot (record { frame = f; write = write; may = true; accessed = false; dirty = false })) bytes ≡ map.insert (spaces_of entries bytes) slot (fresh slot write)
+fresh_refines entries bytes slot f write none unused clean =
+    let new : PageEntry = record { frame = f; write = write; may = true; accessed = false; dirty = false } in
+    let entries' : Entries = map.insert entries slot new in
+    let alone : holders_of entries' f ≡ set.insert set.empty slot = holders-insert entries slot new ∙ ap (λ s. set.insert s slot) (same_set (holders_of entries f) set.empty (λ q. contains-holders_of entries f q ∙ unused q)) in
+    let others : (q : Slot) (x : Option PageEntry) → map.get entries q ≡ x → option_map (cell_of entries' bytes) x ≡ option_map (cell_of entries bytes) x = λ q x. elim x as (λ x. map.get entries q ≡ x → option_map (cell_of entries' bytes) x ≡ option_map (cell_of entries bytes) x) [
+      | None ↦ λ _. refl
+      | Some d ↦ λ is. ap Some (cell_kept entries entries' bytes bytes d (holders-other entries slot new d.frame none (eqb_sym f d.frame ∙ sym (ap (names f) is) ∙ unused q)))
+    ] in
+    same_map _ _ (λ q.
+    get-spaces_of entries' bytes q ∙ ap (option_map (cell_of entries' bytes)) (get-insert entries slot new q)
+    ∙ elim (same slot_order q slot) as (λ b. option_map (cell_of entries' bytes) (cond b (Some new) (map.get entries q)) ≡ cond b (Some (fresh slot write)) (map.get (spaces_of entries bytes) q)) [
+      | true ↦ λ i. Some (record { write = write; may = true; accessed = false; dirty = false; bytes = clean i; holders = alone i })
+      | false ↦ others q (map.get entries q) refl ∙ sym (get-spaces_of entries bytes q)
+    ]
+    ∙ sym (get-insert (spaces_of entries bytes) slot (fresh slot write) q))
+
+-- ---- Groups
+
+pub same_Some : {A : Type 0} (x y : A) → Some x ≡ Some y → x ≡ y
+same_Some x y e = ap (λ o. unwrap_or o x) e
+
+-- each slot is in its own group, and the slots of a group have the same group and the same bytes
+pub groups_agree : (entries : Entries) (bytes : ℕ → List ℕ) (slot : Slot) (cell : Cell) → map.get (spaces_of entries bytes) slot ≡ Some cell
+    → IsTrue (set.contains cell.holders slot)
+    × ((other : Slot) → IsTrue (set.contains cell.holders other) → (c : Cell) × (map.get (spaces_of entries bytes) other ≡ Some c) × (c.holders ≡ cell.holders) × (c.bytes ≡ cell.bytes))
+groups_agree entries bytes slot cell is = by (map.get entries slot) refl (sym (get-spaces_of entries bytes slot) ∙ is)
+  where
+    other_by : (e : PageEntry) (other : Slot) (x : Option PageEntry) → map.get entries other ≡ x → names e.frame x ≡ true
+        → (c : Cell) × (map.get (spaces_of entries bytes) other ≡ Some c) × (c.holders ≡ holders_of entries e.frame) × (c.bytes ≡ bytes e.frame)
+    other_by e other None found named = cc
+    other_by e other (Some d) found named =
+        let f = eqb-true d.frame e.frame named in
+        (cell_of entries bytes d, get-spaces_of entries bytes other ∙ ap (option_map (cell_of entries bytes)) found, ap (holders_of entries) f, ap bytes f)
+
+    by : (x : Option PageEntry) → map.get entries slot ≡ x → option_map (cell_of entries bytes) x ≡ Some cell
+        → IsTrue (set.contains cell.holders slot)
+        × ((other : Slot) → IsTrue (set.contains cell.holders other) → (c : Cell) × (map.get (spaces_of entries bytes) other ≡ Some c) × (c.holders ≡ cell.holders) × (c.bytes ≡ cell.bytes))
+    by None found e = cc
+    by (Some d) found e =
+        let same_cell = same_Some (cell_of entries bytes d) cell e in
+        let P : Cell → Type 0 = λ cell. IsTrue (set.contains cell.holders slot)
+        × ((other : Slot) → IsTrue (set.contains cell.holders other) → (c : Cell) × (map.get (spaces_of entries bytes) other ≡ Some c) × (c.holders ≡ cell.holders) × (c.bytes ≡ cell.bytes)) in
+        subst P same_cell (
+          contains-holders_of entries d.frame slot ∙ ap (names d.frame) found ∙ eqb_itself d.frame,
+          λ other h. other_by d other (map.get entries other) refl (sym (contains-holders_of entries d.frame other) ∙ h),
+        )

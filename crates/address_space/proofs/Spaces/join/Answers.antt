@@ -1,0 +1,43 @@
+use Rattle.std.proofs.Common.{◌≡◌, ap, sym, ◌∙◌, Some, None, subst, true, refl, arith}
+use Rattle.std.specs.Prelude.{is_some}
+use Rattle.std.specs.Option.{IsSome}
+use Rattle.page_map.specs.declared.PageEntry.{PageEntry}
+use Rattle.page_words.specs.FiniteMap as map
+use Rattle.address_space.specs.Sound.{View, TableGiven, Names}
+use Rattle.address_space.proofs.Costed.{Room, room_for_table, mapped}
+use Rattle.address_space.proofs.Steps.{page_map_of}
+use Rattle.address_space.proofs.Stores.{mapped_slot, mapped_live, mapped_entry, named_entry}
+use Rattle.address_space.proofs.Spaces.join.Goals as goal
+
+pub home-from-requires : goal.home-from-requires
+home-from-requires c =
+    let U : View → Type 0 = λ v. is_some (map.get v.spaces (record { pid = c.args.giver; page = c.args.giver_page })) ≡ true in
+    mapped_live c.self.inside.directories c.self.inside.memory c.args.giver c.args.giver_page (mapped_slot c.self.inside.directories c.self.inside.memory c.args.giver c.args.giver_page (subst U (sym c.self.view_is) c.requires.given))
+
+pub entry-requires-clause-map : goal.entry-requires-clause-map
+entry-requires-clause-map c = page_map_of c.self.inside.directories c.self.inside.memory c.self.inside.frames c.args.giver c.home-from.result c.self.invariant.sound c.home-from.ensures
+
+pub unwrap-entry-requires : goal.unwrap-entry-requires
+unwrap-entry-requires c =
+    let U : View → Type 0 = λ v. is_some (map.get v.spaces (record { pid = c.args.giver; page = c.args.giver_page })) ≡ true in
+    let e = c.entry.ensures.words ∙ mapped_entry c.self.inside.directories c.self.inside.memory c.args.giver c.home-from.result c.args.giver_page (mapped_slot c.self.inside.directories c.self.inside.memory c.args.giver c.args.giver_page (subst U (sym c.self.view_is) c.requires.given)) c.home-from.ensures in
+    rw e refl
+
+pub give_table-requires-clause-room : goal.give_table-requires-clause-room
+give_table-requires-clause-room c =
+    let P : View → Type 0 = λ v. Room v.directories v.spaces v.roles c.args.pid c.args.page in
+    let room = subst P (sym c.self.view_is) c.requires.room in
+    rw c.slot_of-slot.ensures (room_for_table c.self.inside.directories c.self.inside.memory c.self.inside.frames c.args.pid c.args.page c.self.invariant room)
+
+pub add_holder-requires-clause-given : goal.add_holder-requires-clause-given
+add_holder-requires-clause-given c =
+    let n = named_entry c.self.inside.directories c.self.inside.memory c.self.inside.frames c.args.giver c.home-from.result c.args.giver_page c.unwrap-entry.result c.self.invariant.sound c.home-from.ensures c.requires.from.0 c.requires.from.1 (sym c.entry.ensures.words ∙ c.unwrap-entry.ensures) in
+    subst (λ E. Names E (record { pid = c.args.giver; page = c.args.giver_page }) c.unwrap-entry.result.frame) (sym c.give_table.ensures.entries) n
+
+pub invariant_of-self : goal.invariant_of-self
+invariant_of-self c =
+    let P : View → Type 0 = λ v. Room v.directories v.spaces v.roles c.args.pid c.args.page in
+    let room = subst P (sym c.self.view_is) c.requires.room in
+    let given = subst (λ s. TableGiven c.self.inside.directories c.args.pid s c.self.inside.memory c.self.inside.frames c.give_table.new.memory c.give_table.new.frames) c.slot_of-slot.ensures c.give_table.ensures in
+    mapped c.self.inside.directories c.self.inside.memory c.give_table.new.memory c.add_holder.new.memory c.self.inside.frames c.give_table.new.frames c.add_holder.new.frames c.args.pid c.args.page
+    c.self.invariant room given c.add_holder.ensures.slot

@@ -1,0 +1,25 @@
+use Rattle.std.proofs.Common.{◌≡◌, ap, sym, ◌∙◌, Some, subst, true}
+use Rattle.std.specs.Prelude.{is_some}
+use Rattle.page_words.specs.Addresses.{page_number}
+use Rattle.page_words.specs.FiniteMap as map
+use Rattle.address_space.specs.Spaces.{slot_at}
+use Rattle.address_space.specs.Sound.{View}
+use Rattle.address_space.proofs.Stores.{mapped_slot, mapped_live, mapped_entry}
+use Rattle.address_space.proofs.Spaces.read.Goals as goal
+
+pub home-directory-requires : goal.home-directory-requires
+home-directory-requires c =
+    let U : View → Type 0 = λ v. is_some (map.get v.spaces (slot_at c.args.pid c.args.address)) ≡ true in
+    mapped_live c.self.inside.directories c.self.inside.memory c.args.pid (page_number c.args.address) (mapped_slot c.self.inside.directories c.self.inside.memory c.args.pid (page_number c.args.address) (subst U (sym c.self.view_is) c.requires.mapped))
+
+pub fetch-value-requires-clause-mapped : goal.fetch-value-requires-clause-mapped
+fetch-value-requires-clause-mapped c =
+    let U : View → Type 0 = λ v. is_some (map.get v.spaces (slot_at c.args.pid c.args.address)) ≡ true in
+    rw c.page_of-page.ensures.value
+    (ap is_some (mapped_entry c.self.inside.directories c.self.inside.memory c.args.pid c.home-directory.result (page_number c.args.address) (mapped_slot c.self.inside.directories c.self.inside.memory c.args.pid (page_number c.args.address) (subst U (sym c.self.view_is) c.requires.mapped)) c.home-directory.ensures))
+
+pub touch-requires-clause-mapped : goal.touch-requires-clause-mapped
+touch-requires-clause-mapped c =
+    let U : View → Type 0 = λ v. is_some (map.get v.spaces (slot_at c.args.pid c.args.address)) ≡ true in
+    rw c.page_of-page.ensures.value
+    (ap is_some (mapped_entry c.self.inside.directories c.self.inside.memory c.args.pid c.home-directory.result (page_number c.args.address) (mapped_slot c.self.inside.directories c.self.inside.memory c.args.pid (page_number c.args.address) (subst U (sym c.self.view_is) c.requires.mapped)) c.home-directory.ensures))

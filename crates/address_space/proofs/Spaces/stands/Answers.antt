@@ -1,0 +1,36 @@
+use Rattle.std.proofs.Common.{◌≡◌, ◌≢◌, ℕ, ◌+◌, ◌≤◌, subst, arith, true, None}
+use Rattle.std.specs.Prelude.{length, is_some}
+use Rattle.address_space.specs.Image.{StandsFor}
+use Rattle.address_space.specs.Sound.{View, total_cost, directory_of, spaces_in}
+use Rattle.address_space.specs.Spaces.{cost}
+use Rattle.address_space.proofs.Openings.{cost_within, lone_cost}
+use Rattle.address_space.specs.Walks.{WalksAgree}
+use Rattle.address_space.proofs.WalkEnds.{walks_agree}
+use Rattle.address_space.proofs.Standing.{image_stands}
+use Rattle.address_space.proofs.Spaces.stands.Goals as goal
+
+pub returns-clause-image : goal.returns-clause-image
+returns-clause-image c =
+    subst (λ (v : View). StandsFor (record { directories = v.directories; bytes = v.bytes; roles = v.roles }) v.spaces) c.self.view_is
+    (image_stands c.self.inside.directories c.self.inside.memory c.self.inside.frames c.self.invariant)
+
+pub returns-clause-costs : goal.returns-clause-costs
+returns-clause-costs c = subst (λ (v : View). 1 + total_cost v.directories v.spaces ≤ length v.roles) c.self.view_is c.self.invariant.within
+
+pub returns-clause-each : goal.returns-clause-each
+returns-clause-each c =
+    subst (λ (v : View). (p : ℕ) → is_some (directory_of v.directories p) ≡ true → 1 + cost v.spaces p ≤ length v.roles) c.self.view_is
+    (λ p live. let a = cost_within c.self.inside.directories (spaces_in c.self.inside.directories c.self.inside.memory) p c.self.invariant.sound.pids live in let b = c.self.invariant.within in omega (arith, a, b))
+
+pub returns-clause-lone : goal.returns-clause-lone
+returns-clause-lone c =
+    subst (λ (v : View). is_some (directory_of v.directories 0) ≡ true → ((p : ℕ) → p ≢ 0 → directory_of v.directories p ≡ None) → total_cost v.directories v.spaces ≡ cost v.spaces 0) c.self.view_is
+    (lone_cost c.self.inside.directories (spaces_in c.self.inside.directories c.self.inside.memory))
+
+pub returns-clause-few : goal.returns-clause-few
+returns-clause-few c = subst (λ (v : View). length v.roles ≤ 4096) c.self.view_is c.self.invariant.sound.few
+
+pub returns-clause-walks : goal.returns-clause-walks
+returns-clause-walks c =
+    subst (λ (v : View). WalksAgree (record { directories = v.directories; bytes = v.bytes; roles = v.roles }) v.spaces) c.self.view_is
+    (walks_agree c.self.inside.directories c.self.inside.memory c.self.inside.frames c.self.invariant)

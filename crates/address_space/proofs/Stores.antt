@@ -1,0 +1,469 @@
+-- What a store through a slot and a joining slot leave.
+use Rattle.std.proofs.Common.{◌≡◌, ◌≢◌, ℕ, zero, suc, ◌+◌, ◌*◌, ◌/◌, ◌%◌, ◌^◌, ◌<◌, ◌≤◌, Bool, true, false, cond, List, [], ◌∷◌, ◌++◌, length, take, drop, replicate, refl, ap, sym, ◌∙◌, subst, arith, inl, inr, Option, Some, None, length-set, append_assoc}
+use Rattle.std.specs.Prelude.{◌⊎◌, is_some, slice_get, slice_set, if◌then◌else◌, ◌==◌}
+use Rattle.std.specs.Option.{option_and_then, option_map, unwrap_or}
+use Rattle.std.specs.List.{list_any, splice, range_with_len}
+use Rattle.std.proofs.Math.Nat.{add-mul}
+use Rattle.std.proofs.lemmas.Option.{slice_get_within}
+use Rattle.byteorder.specs.Endian.{little_bytes}
+use Rattle.page_words.specs.Addresses.{slot_number, index_number, byte_count}
+use Rattle.page_words.specs.declared.addresses.Size.{Size}
+use Rattle.page_words.specs.declared.addresses.Size.TheVariants.{One, Four}
+use Rattle.page_words.specs.Words.{is_present, frame_number, IsKernelTableWord, is_writable, has_may, is_dirty, is_accessed}
+use Rattle.phys_memory.specs.Bytes.{frame_bytes, word_in, with_word, with_word_in, with_frame}
+use Rattle.phys_memory.proofs.Frames.{with_frame-same, with_frame-other, frames-with_word, frames-with_byte, by_frame, length-with_word_in}
+use Rattle.alloc_table.specs.declared.Role.{Role}
+use Rattle.alloc_table.specs.declared.Role.TheVariants.{Reserved, Free, Directory, Table, Page}
+use Rattle.alloc_table.specs.Roles.{frames_weight}
+use Rattle.alloc_table.proofs.RoleLemmas.{weight-set}
+use Rattle.page_map.specs.declared.PageEntry.{PageEntry}
+use Rattle.page_map.specs.Entries.{Frames, dir_word, word_table, table_of, word_entry, entry_from, entry_at, with_entry, entry_word}
+use Rattle.page_map.proofs.WordLaws.{entry_word-names, entry_word-lt, entry_word-present, word_entry-entry_word}
+use Rattle.page_words.specs.FiniteMap as map
+use Rattle.page_words.specs.FiniteMap.{change_each}
+use Rattle.page_words.specs.FiniteSet as set
+use Rattle.std.specs.FinMap.Entries.{where_key}
+use Rattle.std.proofs.Common.{map as map_list, length-append}
+use Rattle.std.proofs.lemmas.List.{length-map, set_split}
+use Rattle.address_space.specs.Spaces.{Slot, slot_order, Spaces, Cell, cell_or_fresh, write_at, bytes_of, stored, joined, accessed as accessed_in}
+use Rattle.page_words.specs.FiniteMap.{collect, put_some}
+use Rattle.address_space.specs.Slots.{user_slots, slots_below, at_pid}
+use Rattle.page_words.specs.FiniteMap.{same}
+use Rattle.page_words.proofs.MapLemmas.{len-insert}
+use Rattle.address_space.proofs.UserSlots.{in_user_slots}
+use Rattle.address_space.specs.Cells.{Entries, names, cell_of, spaces_of, holders_of, nothing}
+use Rattle.address_space.specs.Sound.{Directories, Roles, directory_of, table_in, entry_in, entries_in, spaces_in, Tables, Pages, IsSound, InUseAt, total_cost, SlotJoined, Touched, Names, Inside, InUse}
+use Rattle.address_space.proofs.CostSteps.{total-entry, total-kept}
+use Rattle.address_space.proofs.EntrySteps.{Loose, get-entries_in, entry_by_table, entries-insert, tables-entry, use_own, use_kept}
+use Rattle.address_space.proofs.FrameSteps.{loose-tables, loose-entries, tables-loose, tables-role, use_loose}
+use Rattle.address_space.proofs.PageSteps.{same_bytes, pages-same, pages-join}
+use Rattle.address_space.proofs.Refinement.{get-spaces_of, store_refines, join_refines, flags_refine, cell_at}
+use Rattle.address_space.proofs.Steps.{inside, live_small, page_loose, none_before, table_by_word, role_own, role_other, some_is}
+
+-- ---- Bytes
+
+four_bytes : (w : ℕ) → little_bytes 4 w ≡ bytes_of 4 w
+four_bytes w =
+    let a : w / 256 ^ 1 ≡ w / 256 = omega arith in
+    let b : w / 256 ^ 2 ≡ w / 256 / 256 = omega arith in
+    let c : w / 256 ^ 3 ≡ w / 256 / 256 / 256 = omega arith in
+    λ i. w % 256 ∷ a i % 256 ∷ b i % 256 ∷ c i % 256 ∷ []
+
+pub word_is_write : (frame : List ℕ) (at w : ℕ) → with_word frame at w ≡ write_at frame at (bytes_of 4 w)
+unfolding with_word
+word_is_write frame at w = ap (λ (b : List ℕ). take at frame ++ (b ++ drop (at + 4) frame)) (four_bytes w) ∙ sym (append_assoc (take at frame) (bytes_of 4 w) (drop (at + 4) frame))
+
+-- ---- Entries
+
+-- what an entry comes from: a table and its word
+pub record Found (D : Directories) (m : Frames) (p d page : ℕ) (e : PageEntry) : Type 0 where
+  pub table : ℕ
+  pub there : table_of m d (slot_number page) ≡ Some table
+  pub word : word_entry (word_in (m table) (index_number page)) ≡ Some e
+
+pub found : (D : Directories) (m : Frames) (p d page : ℕ) (e : PageEntry) → entry_at m d page ≡ Some e → Found D m p d page e
+found D m p d page e is = by (table_of m d (slot_number page)) refl is
+  where
+    by : (x : Option ℕ) → table_of m d (slot_number page) ≡ x → option_and_then (λ table. word_entry (word_in (m table) (index_number page))) x ≡ Some e → Found D m p d page e
+    by None t h = cc
+    by (Some table) t h = record { table = table; there = t; word = h }
+
+pub record Allowed (e : PageEntry) : Type 0 where
+  pub right : e.write ≡ true → e.may ≡ true
+  pub touched : e.dirty ≡ true → e.accessed ≡ true
+
+-- an entry that a kernel word holds keeps its rules
+pub allowed : (word : ℕ) (e : PageEntry) → IsKernelTableWord word → word_entry word ≡ Some e → Allowed e
+allowed word e k h = by (is_present word) refl h k
+  where
+    by : (b : Bool) → is_present word ≡ b → (if b then Some (entry_from word) else None) ≡ Some e → IsKernelTableWord word → Allowed e
+    by false is h k = cc
+    by true is h (inl z) = let c : is_present 0 ≡ true = sym (ap is_present z) ∙ is in cc
+    by true is h (inr n) =
+        let s : entry_from word ≡ e = cc in
+        subst Allowed s (record { right = n.right; touched = n.touched })
+
+pub get_user : (D : Directories) (m : Frames) (p d page : ℕ) (e : PageEntry) → D p ≡ Some d → p < 64 → 0x40000 ≤ page → page < 0xf0000 → entry_at m d page ≡ Some e → map.get (entries_in D m) (record { pid = p; page = page }) ≡ Some e
+get_user D m p d page e live few low high is =
+    get-entries_in D m (record { pid = p; page = page })
+    ∙ ap (λ b. cond b (entry_in D m (record { pid = p; page = page })) None) (in_user_slots p page few low high)
+    ∙ ap (option_and_then (λ d. entry_at m d page)) live ∙ is
+
+-- ---- An access
+
+-- the entry of a slot was written with other flags, after its frame's bytes were
+pub record EntryTouched (directories : List (Option ℕ)) (p page : ℕ) (e e' : PageEntry) (new : List ℕ) (bytes : List ℕ) (roles : List Role) (bytes' : List ℕ) : Type 0 where
+  pub sound : IsSound directories bytes' roles
+  pub named : map.get (entries_in (directory_of directories) (frame_bytes bytes)) (record { pid = p; page = page }) ≡ Some e
+  pub spaces : spaces_in directories bytes' ≡ spaces_of (map.insert (entries_in (directory_of directories) (frame_bytes bytes)) (record { pid = p; page = page }) e') (with_frame (frame_bytes bytes) e.frame new)
+  pub cost : total_cost directories (spaces_in directories bytes') ≡ total_cost directories (spaces_in directories bytes)
+  pub in_use : InUse (directory_of directories) (frame_bytes bytes) → InUse (directory_of directories) (frame_bytes bytes')
+
+pub entry_touched : (directories : List (Option ℕ)) (bytes one two : List ℕ) (roles : List Role) (p d page : ℕ) (e : PageEntry) (write accessed dirty : Bool) (new : List ℕ) → IsSound directories bytes roles → directory_of directories p ≡ Some d
+    → 0x40000 ≤ page → page < 0xf0000 → entry_at (frame_bytes bytes) d page ≡ Some e
+    → (write ≡ true → e.may ≡ true) → (dirty ≡ true → accessed ≡ true) → length new ≡ 4096
+    → frame_bytes one ≡ with_frame (frame_bytes bytes) e.frame new → length one ≡ length bytes
+    → frame_bytes two ≡ with_entry (frame_bytes one) (frame_number (dir_word (frame_bytes one) d (slot_number page))) page (record e { write = write; accessed = accessed; dirty = dirty }) → length two ≡ length one
+    → EntryTouched directories p page e (record e { write = write; accessed = accessed; dirty = dirty }) new bytes roles two
+unfolding spaces_in
+entry_touched directories bytes one two roles p d page e write accessed dirty new sound live low high is_entry right touched long_new is1 long_one is_two long_two =
+    let few : p < 64 = live_small directories p d sound.pids live in
+    let D : Directories = directory_of directories in
+    let m : Frames = frame_bytes bytes in
+    let R : Roles = slice_get roles in
+    let T : Tables D m R = sound.tables in
+    let slot : Slot = record { pid = p; page = page } in
+    let e' : PageEntry = record e { write = write; accessed = accessed; dirty = dirty } in
+    let m1 : Frames = with_frame m e.frame new in
+    let E : Entries = entries_in D m in
+    let f = found D m p d page e is_entry in
+    let t : ℕ = f.table in
+    let m2 : Frames = with_entry m1 t page e' in
+    let there : map.get E slot ≡ Some e = get_user D m p d page e live few low high is_entry in
+    let page_role = sound.pages.pages slot e there in
+    let role = page_role.1 in
+    let loose = page_loose R e.frame page_role.0 role in
+    let in_memory = inside directories bytes roles e.frame (Page page_role.0) sound role in
+    let Ta : Tables D m1 R = tables-loose D m R T e.frame new loose long_new in
+    let up_table : table_in D m p (slot_number page) ≡ Some t = ap (option_and_then (λ x. table_of m x (slot_number page))) live ∙ f.there in
+    let role_t : R t ≡ Some (Table p (slot_number page)) = T.table p (slot_number page) t up_table in
+    let there_one : table_of m1 d (slot_number page) ≡ Some t = sym (ap (option_and_then (λ x. table_of m1 x (slot_number page))) live) ∙ loose-tables D m R T e.frame new loose p (slot_number page) ∙ up_table in
+    let named : frame_number (dir_word m1 d (slot_number page)) ≡ t = table_by_word (dir_word m1 d (slot_number page)) t there_one in
+    let is : frame_bytes two ≡ m2 = is_two ∙ (λ i. with_entry (is1 i) (frame_number (dir_word (is1 i) d (slot_number page))) page e') ∙ ap (λ g. with_entry m1 g page e') named in
+    let E2 : entries_in D (frame_bytes two) ≡ map.insert E slot e' = ap (entries_in D) is ∙ entries-insert D m1 R Ta p d page t (entry_word e') live there_one (entry_word-lt e' in_memory.small) e' (word_entry-entry_word e' in_memory.small) few low high ∙ ap (λ x. map.insert x slot e') (loose-entries D m R T e.frame new loose) in
+    let P2 : Pages (map.insert E slot e') R = pages-same E R slot e e' sound.pages there refl in
+    let page_kept : (q : Slot) (x : PageEntry) → map.get (map.insert E slot e') q ≡ Some x → m2 x.frame ≡ m1 x.frame = λ q x was.
+    let a = P2.pages q x was in
+    let r = a.1 in
+    with_frame-other m1 t x.frame _ (λ same. let k : R x.frame ≡ R t = ap R same in cc) in
+    record {
+      sound = record {
+        size = long_two ∙ long_one ∙ sound.size;
+        few = sound.few;
+        pids = sound.pids;
+        tables = subst (λ x. Tables D x R) (sym is) (tables-entry D m1 R Ta p d page t (entry_word e') live there_one (entry_word-lt e' in_memory.small) (inr (entry_word-names e' in_memory.small (above T role) right touched)));
+        pages = subst (λ x. Pages x R) (sym E2) P2;
+      };
+      named = there;
+      spaces = (λ i. spaces_of (E2 i) (is i)) ∙ same_bytes (map.insert E slot e') m1 m2 page_kept;
+      cost = (λ i. total_cost directories (spaces_of (E2 i) (frame_bytes two))) ∙ total-kept directories E m (frame_bytes two) slot e e' there;
+      in_use = λ before q r. subst (λ x. InUseAt D x q r) (sym is) (use_kept D m1 R Ta p d page t (entry_word e') live there_one (entry_word-lt e' in_memory.small) (entry_word-present e') q r (use_loose D m R T e.frame new loose q r (before q r)));
+    }
+  where
+    above : {c : ℕ} → Tables (directory_of directories) (frame_bytes bytes) (slice_get roles) → slice_get roles e.frame ≡ Some (Page c) → 1 ≤ e.frame
+    above T is = let n : e.frame ≢ 0 = (λ z. let a = T.zero_role in let k : slice_get roles 0 ≡ slice_get roles e.frame = ap (slice_get roles) (sym z) in cc) in omega arith
+
+-- the rules of an entry that is in use
+pub entry_rules : (directories : List (Option ℕ)) (bytes : List ℕ) (roles : List Role) (p d page : ℕ) (e : PageEntry) → IsSound directories bytes roles → directory_of directories p ≡ Some d → entry_at (frame_bytes bytes) d page ≡ Some e → Allowed e
+entry_rules directories bytes roles p d page e sound live is =
+    let D : Directories = directory_of directories in
+    let m : Frames = frame_bytes bytes in
+    let f = found D m p d page e is in
+    let up : table_in D m p (slot_number page) ≡ Some f.table = ap (option_and_then (λ x. table_of m x (slot_number page))) live ∙ f.there in
+    allowed (word_in (m f.table) (index_number page)) e (sound.tables.table_words p (slot_number page) f.table (index_number page) up (omega arith)) f.word
+
+unchanged_frame : (m : Frames) (f : ℕ) → m ≡ with_frame m f (m f)
+unchanged_frame m f = by_frame m m f (m f) refl (λ g n. refl)
+
+-- an access that completes stores what the machine stores
+pub page_stored : (directories : List (Option ℕ)) (bytes one two : List ℕ) (roles : List Role) (p d page at : ℕ) (written : List ℕ) (e : PageEntry) → IsSound directories bytes roles → directory_of directories p ≡ Some d
+    → 0x40000 ≤ page → page < 0xf0000 → entry_at (frame_bytes bytes) d page ≡ Some e → length (write_at (frame_bytes bytes e.frame) at written) ≡ 4096
+    → frame_bytes one ≡ with_frame (frame_bytes bytes) e.frame (write_at (frame_bytes bytes e.frame) at written) → length one ≡ length bytes
+    → frame_bytes two ≡ with_entry (frame_bytes one) (frame_number (dir_word (frame_bytes one) d (slot_number page))) page (record e { accessed = true; dirty = true }) → length two ≡ length one
+    → Touched directories (stored (spaces_in directories bytes) (record { pid = p; page = page }) at written) bytes roles two
+unfolding spaces_in
+page_stored directories bytes one two roles p d page at written e sound live low high is_entry long is1 long_one is_two long_two =
+    let rules = entry_rules directories bytes roles p d page e sound live is_entry in
+    let h = entry_touched directories bytes one two roles p d page e e.write true true (write_at (frame_bytes bytes e.frame) at written) sound live low high is_entry rules.right (λ _. refl) long is1 long_one is_two long_two in
+    record {
+      sound = h.sound;
+      spaces = h.spaces ∙ store_refines (entries_in (directory_of directories) (frame_bytes bytes)) (frame_bytes bytes) (record { pid = p; page = page }) e at written h.named;
+      cost = h.cost;
+      in_use = h.in_use;
+    }
+
+-- flags of a slot's own cell set as in its entry
+flagged_cell : (spaces : Spaces) (slot : Slot) (cell : Cell) (write accessed : Bool) → cell_or_fresh spaces slot ≡ cell
+    → (c : Cell) → c ≡ record cell { write = write; accessed = accessed } → map.insert spaces slot c ≡ map.insert spaces slot (record (cell_or_fresh spaces slot) { write = write; accessed = accessed })
+flagged_cell spaces slot cell write accessed is c same = ap (map.insert spaces slot) (same ∙ ap (λ (x : Cell). record x { write = write; accessed = accessed }) (sym is))
+
+-- an entry's flags alone were written
+pub flags_set : (directories : List (Option ℕ)) (bytes two : List ℕ) (roles : List Role) (p d page : ℕ) (e : PageEntry) (write accessed : Bool) → IsSound directories bytes roles → directory_of directories p ≡ Some d
+    → 0x40000 ≤ page → page < 0xf0000 → entry_at (frame_bytes bytes) d page ≡ Some e
+    → (write ≡ true → e.may ≡ true) → (e.dirty ≡ true → accessed ≡ true)
+    → frame_bytes two ≡ with_entry (frame_bytes bytes) (frame_number (dir_word (frame_bytes bytes) d (slot_number page))) page (record e { write = write; accessed = accessed }) → length two ≡ length bytes
+    → Touched directories (map.insert (spaces_in directories bytes) (record { pid = p; page = page }) (record (cell_or_fresh (spaces_in directories bytes) (record { pid = p; page = page })) { write = write; accessed = accessed })) bytes roles two
+unfolding spaces_in
+flags_set directories bytes two roles p d page e write accessed sound live low high is_entry right touched is_two long_two =
+    let m : Frames = frame_bytes bytes in
+    let E : Entries = entries_in (directory_of directories) m in
+    let slot : Slot = record { pid = p; page = page } in
+    let there : map.get E slot ≡ Some e = get_user (directory_of directories) m p d page e live (live_small directories p d sound.pids live) low high is_entry in
+    let page_role = sound.pages.pages slot e there in
+    let long : length (m e.frame) ≡ 4096 = sound.tables.long e.frame (Page page_role.0) page_role.1 in
+    let h = entry_touched directories bytes bytes two roles p d page e write accessed e.dirty (m e.frame) sound live low high is_entry right touched long (unchanged_frame m e.frame) refl is_two long_two in
+    let e' : PageEntry = record e { write = write; accessed = accessed } in
+    let cell = cell_at E m slot e there in
+    record {
+      sound = h.sound;
+      spaces = h.spaces ∙ ap (spaces_of (map.insert E slot e')) (sym (unchanged_frame m e.frame)) ∙ flags_refine E m slot e e' there refl
+          ∙ flagged_cell (spaces_of E m) slot (cell_of E m e) write accessed cell (record (cell_or_fresh (spaces_of E m) slot) { write = write; may = e.may; accessed = accessed; dirty = e.dirty })
+          (ap (λ (c : Cell). record c { write = write; may = e.may; accessed = accessed; dirty = e.dirty }) cell);
+      cost = h.cost;
+      in_use = h.in_use;
+    }
+
+pub word_long : (frame : List ℕ) (at word : ℕ) → at < 4096 → at % 4 ≡ 0 → length frame ≡ 4096 → length (with_word frame at word) ≡ 4096
+word_long frame at word l aligned l4 = let i : at ≡ 4 * (at / 4) = omega arith in ap (λ k. length (with_word frame k word)) i ∙ length-with_word_in frame (at / 4) word l4 (omega arith)
+
+-- ---- Bytes of a page, by their place in memory
+
+pub byte_is_write : (frame : List ℕ) (at v : ℕ) → at < length frame → slice_set frame at (v % 256) ≡ write_at frame at (bytes_of 1 v)
+byte_is_write frame at v l =
+    let d : suc at ≡ at + 1 = omega arith in
+    set_split frame at (v % 256) l ∙ ap (λ k. take at frame ++ (v % 256 ∷ drop k frame)) d ∙ sym (append_assoc (take at frame) (v % 256 ∷ []) (drop (at + 1) frame))
+
+pub byte_placed : (bytes one : List ℕ) (f at v : ℕ) → Inside bytes f → at < 4096 → one ≡ slice_set bytes (f * 4096 + at) v
+    → frame_bytes one ≡ with_frame (frame_bytes bytes) f (slice_set (frame_bytes bytes f) at v)
+byte_placed bytes one f at v i l is =
+    let a : f * 4096 + at ≡ 4096 * f + at = omega arith in
+    ap frame_bytes is ∙ ap (λ k. frame_bytes (slice_set bytes k v)) a ∙ frames-with_byte bytes f at v l i.fits
+
+-- a word of a page, by its place in memory
+pub word_placed : (bytes one : List ℕ) (f at word : ℕ) → Inside bytes f → at < 4096 → at % 4 ≡ 0 → one ≡ with_word bytes (f * 4096 + at) word
+    → frame_bytes one ≡ with_frame (frame_bytes bytes) f (with_word (frame_bytes bytes f) at word)
+word_placed bytes one f at word i l aligned is =
+    let a : f * 4096 + at ≡ 4096 * f + 4 * (at / 4) = omega arith in
+    let b : 4 * (at / 4) ≡ at = omega arith in
+    ap frame_bytes is ∙ ap (λ k. frame_bytes (with_word bytes k word)) a ∙ frames-with_word bytes f (at / 4) word (omega arith) i.fits
+    ∙ ap (λ k. with_frame (frame_bytes bytes) f (with_word (frame_bytes bytes f) k word)) b
+
+-- ---- A mapped slot
+
+pub record Mapped (directories : List (Option ℕ)) (bytes : List ℕ) (p page : ℕ) : Type 0 where
+  pub directory : ℕ
+  pub live : directory_of directories p ≡ Some directory
+  pub entry : PageEntry
+  pub here : entry_at (frame_bytes bytes) directory page ≡ Some entry
+
+pub mapped_slot : (directories : List (Option ℕ)) (bytes : List ℕ) (p page : ℕ) → is_some (map.get (spaces_in directories bytes) (record { pid = p; page = page })) ≡ true → Mapped directories bytes p page
+unfolding spaces_in
+mapped_slot directories bytes p page h = by_directory (directory_of directories p) refl (in_user (list_any (same slot_order slot) user_slots) (entry_in D m slot) (sym (ap is_some (get-spaces_of E m slot) ∙ some_map (map.get E slot) ∙ ap is_some (get-entries_in D m slot)) ∙ h))
+  where
+    D : Directories
+    D = directory_of directories
+
+    m : Frames
+    m = frame_bytes bytes
+
+    E : Entries
+    E = entries_in D m
+
+    slot : Slot
+    slot = record { pid = p; page = page }
+
+    some_map : (x : Option PageEntry) → is_some (option_map (cell_of E m) x) ≡ is_some x
+    some_map None = refl
+    some_map (Some d) = refl
+
+    in_user : (b : Bool) (x : Option PageEntry) → is_some (cond b x None) ≡ true → is_some x ≡ true
+    in_user true x h = h
+    in_user false x h = cc
+
+    by_directory : (x : Option ℕ) → D p ≡ x → is_some (option_and_then (λ d. entry_at m d page) x) ≡ true → Mapped directories bytes p page
+    by_directory None is h = cc
+    by_directory (Some d) is h = let e = some_is (entry_at m d page) h in record { directory = d; live = is; entry = e.0; here = e.1 }
+
+-- ---- A slot that joins
+
+-- a page has fewer holders than a count can say
+few_holders : (E : Entries) (f n : ℕ) → map.len E ≤ n → set.len (holders_of E f) ≤ n
+few_holders E f n h = let a = kept (map.map_values nothing E).entries in let b = changed E.entries in omega arith
+  where
+    kept : (es : List (Slot × Unit {0})) → length (where_key slot_order.cmp (λ slot. names f (map.get E slot)) es) ≤ length es
+    kept [] = omega arith
+    kept (e ∷ es) = step (names f (map.get E e.0)) (kept es)
+      where
+        step : (b : Bool) → length (where_key slot_order.cmp (λ slot. names f (map.get E slot)) es) ≤ length es
+            → length (cond b (e ∷ where_key slot_order.cmp (λ slot. names f (map.get E slot)) es) (where_key slot_order.cmp (λ slot. names f (map.get E slot)) es)) ≤ length (e ∷ es)
+        step true h = omega arith
+        step false h = omega arith
+
+    changed : (es : List (Slot × PageEntry)) → length (change_each nothing es) ≡ length es
+    changed [] = refl
+    changed (e ∷ es) = ap suc (changed es)
+
+collected : (g : Slot → Option PageEntry) (ks : List Slot) → map.len (collect {o = slot_order} g ks) ≤ length ks
+collected g [] = omega arith
+collected g (k ∷ ks) = by (g k) (collected g ks)
+  where
+    by : (x : Option PageEntry) → map.len (collect {o = slot_order} g ks) ≤ length ks → map.len (put_some k x (collect {o = slot_order} g ks)) ≤ length (k ∷ ks)
+    by None h = omega arith
+    by (Some e) h = let l = len-insert (collect {o = slot_order} g ks) k e in let c = at_most (map.contains_key (collect {o = slot_order} g ks) k) (map.len (collect {o = slot_order} g ks)) in omega (arith, l, c, h)
+      where
+        at_most : (b : Bool) (n : ℕ) → cond b n (n + 1) ≤ n + 1
+        at_most true n = omega arith
+        at_most false n = omega arith
+
+suc_times : (n k : ℕ) → suc n * k ≡ k + n * k
+suc_times n k = omega (arith, add-mul n 1 k)
+
+length-range : (a n : ℕ) → length (range_with_len a n) ≡ n
+length-range a zero = refl
+length-range a (suc n) = ap suc (length-range (a + 1) n)
+
+length-slots : (n a k : ℕ) → length (slots_below n (range_with_len a k)) ≡ n * k
+length-slots zero a k = omega arith
+length-slots (suc n) a k =
+    let pages : List ℕ = range_with_len a k in
+    let x = length-append (map_list (at_pid n) pages) (slots_below n pages) in
+    let b = length-slots n a k in
+    let c : length (map_list (at_pid n) pages) ≡ length pages = length-map pages (at_pid n) in
+    let r = length-range a k in
+    let d = suc_times n k in
+    omega (arith, x, b, c, d, r)
+
+user_slots-count : length user_slots ≡ 64 * 0xb0000
+unfolding user_slots
+user_slots-count = length-slots 64 0x40000 0xb0000
+
+user_slots-few : length user_slots < 4294967295
+user_slots-few = let a = user_slots-count in omega (arith, a)
+
+pub count_few : (D : Directories) (m : Frames) (R : Roles) (f c : ℕ) → Pages (entries_in D m) R → R f ≡ Some (Page c) → c < 4294967295
+unfolding entries_in
+count_few D m R f c P is =
+    let a = (P.counts f c is).1 in
+    let b = few_holders (entries_in D m) f (length user_slots) (collected (entry_in D m) user_slots) in
+    let l = user_slots-few in
+    omega (arith, a, b, l)
+
+pub slot_joined : (directories : List (Option ℕ)) (bytes two : List ℕ) (roles roles' : List Role) (giver giver_page p d page f c : ℕ) (right : Bool) → IsSound directories bytes roles → directory_of directories p ≡ Some d
+    → 0x40000 ≤ page → page < 0xf0000 → map.get (spaces_in directories bytes) (record { pid = p; page = page }) ≡ None → is_some (table_of (frame_bytes bytes) d (slot_number page)) ≡ true
+    → Names (entries_in (directory_of directories) (frame_bytes bytes)) (record { pid = giver; page = giver_page }) f → slice_get roles f ≡ Some (Page c) → roles' ≡ slice_set roles f (Page (c + 1))
+    → frame_bytes two ≡ with_entry (frame_bytes bytes) (frame_number (dir_word (frame_bytes bytes) d (slot_number page))) page (record { frame = f; write = right; may = right; accessed = false; dirty = false }) → length two ≡ length bytes
+    → SlotJoined directories giver giver_page p page right bytes roles two roles'
+unfolding spaces_in
+slot_joined directories bytes two roles roles' giver giver_page p d page f c right sound live low high unmapped table given role now is_two long_two =
+    let few : p < 64 = live_small directories p d sound.pids live in
+    let D : Directories = directory_of directories in
+    let m : Frames = frame_bytes bytes in
+    let R : Roles = slice_get roles in
+    let R' : Roles = slice_get roles' in
+    let T : Tables D m R = sound.tables in
+    let slot : Slot = record { pid = p; page = page } in
+    let e : PageEntry = record { frame = f; write = right; may = right; accessed = false; dirty = false } in
+    let E : Entries = entries_in D m in
+    let at = some_is (table_of m d (slot_number page)) table in
+    let t : ℕ = at.0 in
+    let m2 : Frames = with_entry m t page e in
+    let own : R' f ≡ Some (Page (c + 1)) = role_own roles roles' f (Page c) (Page (c + 1)) role now in
+    let others : (g : ℕ) → g ≢ f → R' g ≡ R g = role_other roles roles' f (Page (c + 1)) now in
+    let in_memory = inside directories bytes roles f (Page c) sound role in
+    let Tb : Tables D m R' = tables-role D m R R' f (Page c) T role (page_loose R f c role) (page_loose R' f (c + 1) own) others in
+    let up_table : table_in D m p (slot_number page) ≡ Some t = ap (option_and_then (λ x. table_of m x (slot_number page))) live ∙ at.1 in
+    let role_t : R t ≡ Some (Table p (slot_number page)) = T.table p (slot_number page) t up_table in
+    let is : frame_bytes two ≡ m2 = is_two ∙ ap (λ g. with_entry m g page e) (table_by_word (dir_word m d (slot_number page)) t at.1) in
+    let E2 : entries_in D (frame_bytes two) ≡ map.insert E slot e = ap (entries_in D) is ∙ entries-insert D m R' Tb p d page t (entry_word e) live at.1 (entry_word-lt e in_memory.small) e (word_entry-entry_word e in_memory.small) few low high in
+    let none : map.get E slot ≡ None = none_before E m (map.get E slot) (sym (get-spaces_of E m slot) ∙ unmapped) in
+    let same_length : length roles' ≡ length roles = ap length now ∙ length-set roles f (Page (c + 1)) in
+    let page_kept : (q : Slot) (x : PageEntry) → map.get E q ≡ Some x → m2 x.frame ≡ m x.frame = λ q x was.
+    let a = sound.pages.pages q x was in
+    let r = a.1 in
+    with_frame-other m t x.frame _ (λ same. let k : R x.frame ≡ R t = ap R same in cc) in
+    let named : e ≡ record { frame = given.0.frame; write = right; may = right; accessed = false; dirty = false } = (λ i. record { frame = sym given.2 i; write = right; may = right; accessed = false; dirty = false }) in
+    record {
+      slot = record {
+        sound = record {
+          size = long_two ∙ sound.size ∙ ap (λ n. 4096 * n) (sym same_length);
+          few = subst (λ n. n ≤ 4096) (sym same_length) sound.few;
+          pids = sound.pids;
+          tables = subst (λ x. Tables D x R') (sym is) (tables-entry D m R' Tb p d page t (entry_word e) live at.1 (entry_word-lt e in_memory.small) (inr (entry_word-names e in_memory.small (above T) (λ h. h) (λ h. h))));
+          pages = subst (λ x. Pages x R') (sym E2) (pages-join E R R' slot e c sound.pages none role own others);
+        };
+        cost = (λ i. total_cost directories (spaces_of (E2 i) (frame_bytes two))) ∙ total-entry directories E m (frame_bytes two) slot e (cell_of E m e) d few live none;
+        weight = let k = weight-set roles f (Page c) (Page (c + 1)) role in let n : frames_weight roles' ≡ frames_weight (slice_set roles f (Page (c + 1))) = ap frames_weight now in omega (arith, k, n);
+        length = same_length;
+        own = subst (λ x. InUseAt D x p (slot_number page)) (sym is) (use_own D m R' Tb p d page t (entry_word e) live at.1 (entry_word-lt e in_memory.small) (entry_word-present e));
+        others = λ q r n use_at. subst (λ x. InUseAt D x q r) (sym is) (use_kept D m R' Tb p d page t (entry_word e) live at.1 (entry_word-lt e in_memory.small) (entry_word-present e) q r use_at);
+      };
+      spaces = (λ i. spaces_of (E2 i) (is i)) ∙ (λ i. spaces_of (map.insert E slot (named i)) m2) ∙ join_refines E m2 (record { pid = giver; page = giver_page }) slot given.0 right given.1 none ∙ ap (λ x. joined x (record { pid = giver; page = giver_page }) slot right) (same_bytes E m m2 page_kept);
+    }
+  where
+    above : Tables (directory_of directories) (frame_bytes bytes) (slice_get roles) → 1 ≤ f
+    above T = let n : f ≢ 0 = (λ z. let a = T.zero_role in let r = role in let k : slice_get roles 0 ≡ slice_get roles f = ap (slice_get roles) (sym z) in cc) in omega arith
+
+pub record HasPage (roles : List Role) (f : ℕ) : Type 0 where
+  pub count : ℕ
+  pub page : slice_get roles f ≡ Some (Page count)
+
+-- a frame that an entry names is a page
+pub page_of_name : (directories : List (Option ℕ)) (bytes : List ℕ) (roles : List Role) (slot : Slot) (f : ℕ) → IsSound directories bytes roles → Names (entries_in (directory_of directories) (frame_bytes bytes)) slot f → HasPage roles f
+page_of_name directories bytes roles slot f sound given =
+    let a = sound.pages.pages slot given.0 given.1 in
+    record { count = a.0; page = ap (slice_get roles) (sym given.2) ∙ a.1 }
+
+-- the entry that was read is the one that the map has
+pub named_entry : (directories : List (Option ℕ)) (bytes : List ℕ) (roles : List Role) (p d page : ℕ) (e : PageEntry) → IsSound directories bytes roles → directory_of directories p ≡ Some d → 0x40000 ≤ page → page < 0xf0000
+    → entry_at (frame_bytes bytes) d page ≡ Some e → Names (entries_in (directory_of directories) (frame_bytes bytes)) (record { pid = p; page = page }) e.frame
+named_entry directories bytes roles p d page e sound live low high is =
+    (e, get_user (directory_of directories) (frame_bytes bytes) p d page e live (live_small directories p d sound.pids live) low high is, refl)
+
+-- a mapped slot has a directory, and an entry there
+pub mapped_live : (directories : List (Option ℕ)) (bytes : List ℕ) (p page : ℕ) → Mapped directories bytes p page → is_some (directory_of directories p) ≡ true
+mapped_live directories bytes p page h = ap is_some h.live
+
+pub mapped_entry : (directories : List (Option ℕ)) (bytes : List ℕ) (p d page : ℕ) → (h : Mapped directories bytes p page) → directory_of directories p ≡ Some d → entry_at (frame_bytes bytes) d page ≡ Some h.entry
+mapped_entry directories bytes p d page h is =
+    let e : Some d ≡ Some h.directory = sym is ∙ h.live in
+    let same : d ≡ h.directory = cc in
+    ap (λ x. entry_at (frame_bytes bytes) x page) same ∙ h.here
+
+-- where a store through an entry goes
+pub record Place (bytes : List ℕ) (roles : List Role) (d page : ℕ) (e : PageEntry) : Type 0 where
+  pub inside : Inside bytes e.frame
+  pub loose : Loose (slice_get roles) e.frame
+  pub long : length (frame_bytes bytes e.frame) ≡ 4096
+  pub table : is_some (table_of (frame_bytes bytes) d (slot_number page)) ≡ true
+
+pub stored_place : (directories : List (Option ℕ)) (bytes : List ℕ) (roles : List Role) (p d page : ℕ) (e : PageEntry) → IsSound directories bytes roles → directory_of directories p ≡ Some d → 0x40000 ≤ page → page < 0xf0000
+    → entry_at (frame_bytes bytes) d page ≡ Some e → Place bytes roles d page e
+stored_place directories bytes roles p d page e sound live low high is =
+    let n = named_entry directories bytes roles p d page e sound live low high is in
+    let r = page_of_name directories bytes roles (record { pid = p; page = page }) e.frame sound n in
+    record {
+      inside = inside directories bytes roles e.frame (Page r.count) sound r.page;
+      loose = page_loose (slice_get roles) e.frame r.count r.page;
+      long = sound.tables.long e.frame (Page r.count) r.page;
+      table = ap is_some (found (directory_of directories) (frame_bytes bytes) p d page e is).there;
+    }
+
+-- a page keeps its length under a store
+pub written_long : (frame : List ℕ) (at : ℕ) (size : Size) (value : ℕ) → length frame ≡ 4096 → at < 4096 → at % byte_count size ≡ 0 → length (write_at frame at (bytes_of (byte_count size) value)) ≡ 4096
+written_long frame at One value long l aligned = sym (ap length (byte_is_write frame at value (omega arith))) ∙ length-set frame at (value % 256) ∙ long
+written_long frame at Four value long l aligned = sym (ap length (word_is_write frame at value)) ∙ word_long frame at value l aligned long
+
+-- the cell of a slot whose entry was read
+pub cell_read : (directories : List (Option ℕ)) (bytes : List ℕ) (p d page : ℕ) (e : PageEntry) → directory_of directories p ≡ Some d → p < 64 → 0x40000 ≤ page → page < 0xf0000 → entry_at (frame_bytes bytes) d page ≡ Some e
+    → cell_or_fresh (spaces_in directories bytes) (record { pid = p; page = page }) ≡ cell_of (entries_in (directory_of directories) (frame_bytes bytes)) (frame_bytes bytes) e
+unfolding spaces_in
+cell_read directories bytes p d page e live few low high is =
+    cell_at (entries_in (directory_of directories) (frame_bytes bytes)) (frame_bytes bytes) (record { pid = p; page = page }) e (get_user (directory_of directories) (frame_bytes bytes) p d page e live few low high is)
+
+-- a slot that was read has accessed set, and nothing else changed
+pub touched : (directories : List (Option ℕ)) (bytes two : List ℕ) (roles : List Role) (p d page : ℕ) (e : PageEntry) → IsSound directories bytes roles → directory_of directories p ≡ Some d
+    → 0x40000 ≤ page → page < 0xf0000 → entry_at (frame_bytes bytes) d page ≡ Some e
+    → frame_bytes two ≡ with_entry (frame_bytes bytes) (frame_number (dir_word (frame_bytes bytes) d (slot_number page))) page (record e { accessed = true }) → length two ≡ length bytes
+    → Touched directories (accessed_in (spaces_in directories bytes) (record { pid = p; page = page })) bytes roles two
+touched directories bytes two roles p d page e sound live low high is_entry is_two long_two =
+    let rules = entry_rules directories bytes roles p d page e sound live is_entry in
+    let h = flags_set directories bytes two roles p d page e e.write true sound live low high is_entry rules.right (λ _. refl) is_two long_two in
+    let slot : Slot = record { pid = p; page = page } in
+    let cell = cell_read directories bytes p d page e live (live_small directories p d sound.pids live) low high is_entry in
+    record {
+      sound = h.sound;
+      spaces = h.spaces ∙ ap (map.insert (spaces_in directories bytes) slot)
+          (ap (λ (c : Cell). record c { write = e.write; accessed = true }) cell ∙ sym (ap (λ (c : Cell). record c { accessed = true }) cell));
+      cost = h.cost;
+      in_use = h.in_use;
+    }

@@ -1,0 +1,23 @@
+use Rattle.std.proofs.Common.{◌≡◌, ◌+◌, ◌*◌, ◌<◌, ◌≤◌, ap, sym, ◌∙◌, subst, Some, arith}
+use Rattle.std.specs.Prelude.{slice_set, length}
+use Rattle.alloc_table.specs.declared.Role.TheVariants.{Free}
+use Rattle.address_space.specs.Sound.{SpaceAdded}
+use Rattle.address_space.proofs.Openings.{space_added, room_for_directory}
+use Rattle.address_space.proofs.Steps.{inside, zeroed}
+use Rattle.address_space.proofs.add_directory.Goals as goal
+
+pub take-directory-requires-clause-free : goal.take-directory-requires-clause-free
+take-directory-requires-clause-free c = room_for_directory c.args.directories.now c.args.memory.now c.args.frames.now c.requires.spaces c.requires.room
+
+pub zero_frame-requires : goal.zero_frame-requires
+zero_frame-requires c =
+    let f = (inside c.args.directories.now c.args.memory.now c.args.frames.now c.take-directory.result Free c.requires.spaces.sound c.take-directory.ensures.was_free).fits in
+    omega (arith, f)
+
+pub returns : goal.returns
+returns c =
+    let at = inside c.args.directories.now c.args.memory.now c.args.frames.now c.take-directory.result Free c.requires.spaces.sound c.take-directory.ensures.was_free in
+    subst (λ k. SpaceAdded c.args.directories.now c.args.pid c.args.memory.now c.args.frames.now (slice_set c.args.directories.now k (Some c.take-directory.result)) c.zero_frame.new.self c.take-directory.new.frames) (sym c.number.ensures.value)
+    (space_added c.args.directories.now c.args.memory.now c.zero_frame.new.self c.args.frames.now c.take-directory.new.frames c.args.pid c.take-directory.result
+    c.requires.spaces (subst (λ k. k < 64) c.number.ensures.value c.number.ensures.bound) c.requires.none c.requires.room c.take-directory.ensures
+    (zeroed c.args.memory.now c.zero_frame.new.self c.take-directory.result at c.zero_frame.ensures.bytes) c.zero_frame.ensures.length)

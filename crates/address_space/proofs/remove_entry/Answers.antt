@@ -1,0 +1,30 @@
+use Rattle.std.proofs.Common.{◌≡◌, ap, sym, ◌∙◌, Some, refl}
+use Rattle.std.specs.Prelude.{slice_get, is_some}
+use Rattle.alloc_table.specs.declared.Role.TheVariants.{Page}
+use Rattle.std.proofs.lemmas.Option.{slice_get_within}
+use Rattle.address_space.proofs.Steps.{page_map_of, present_by_table}
+use Rattle.address_space.proofs.Stores.{stored_place, named_entry, page_of_name}
+use Rattle.address_space.proofs.Leaves.{slot_removed, freed_table}
+use Rattle.address_space.proofs.remove_entry.Goals as goal
+
+pub entry-requires-clause-map : goal.entry-requires-clause-map
+entry-requires-clause-map c = page_map_of c.args.directories.now c.args.memory.now c.args.frames.now c.args.pid c.args.directory c.requires.spaces.sound c.requires.live
+
+pub clear_entry-freed-requires-clause-map : goal.clear_entry-freed-requires-clause-map
+clear_entry-freed-requires-clause-map c = page_map_of c.args.directories.now c.args.memory.now c.args.frames.now c.args.pid c.args.directory c.requires.spaces.sound c.requires.live
+
+pub release-requires : goal.release-requires
+release-requires c =
+    let n = named_entry c.args.directories.now c.args.memory.now c.args.frames.now c.args.pid c.args.directory c.args.page c.unwrap-entry.result c.requires.spaces.sound c.requires.live c.requires.user.0 c.requires.user.1 (sym c.entry.ensures.words ∙ c.unwrap-entry.ensures) in
+    let r = page_of_name c.args.directories.now c.args.memory.now c.args.frames.now _ c.unwrap-entry.result.frame c.requires.spaces.sound n in
+    record { role = Page r.count; is = r.page; in_use = refl }
+
+pub free_table-requires : goal.free_table-requires
+free_table-requires c = λ t is.
+    freed_table c.args.directories.now c.args.memory.now c.clear_entry-freed.new.memory c.args.frames.now c.release.new.self c.args.pid c.args.directory c.args.page c.unwrap-entry.result c.clear_entry-freed.result
+    c.requires.spaces.sound c.requires.live c.requires.user.0 c.requires.user.1 (sym c.entry.ensures.words ∙ c.unwrap-entry.ensures) c.clear_entry-freed.ensures.cleared c.release.ensures.role t is
+
+pub returns : goal.returns
+returns c =
+    slot_removed c.args.directories.now c.args.memory.now c.clear_entry-freed.new.memory c.args.frames.now c.release.new.self c.free_table.new.frames c.args.pid c.args.directory c.args.page c.unwrap-entry.result c.clear_entry-freed.result
+    c.requires.spaces c.requires.live c.requires.user.0 c.requires.user.1 (sym c.entry.ensures.words ∙ c.unwrap-entry.ensures) c.clear_entry-freed.ensures.cleared c.clear_entry-freed.ensures.length c.release.ensures.role c.free_table.ensures

@@ -1,0 +1,32 @@
+-- What a finite map from slots to page entries, with bytes for each frame, stands for.
+use Rattle.std.proofs.Common.{◌≡◌, ℕ, Bool, true, false, ◌==◌, List, Option, Some, None}
+use Rattle.page_words.specs.FiniteMap as map
+use Rattle.page_words.specs.FiniteMap.{Order, Map}
+use Rattle.page_words.specs.FiniteSet.{Set}
+use Rattle.address_space.specs.Spaces.{Slot, slot_order, Cell, Spaces}
+use Rattle.page_map.specs.declared.PageEntry.{PageEntry}
+
+abbrev pub Entries : Type 0
+Entries = Map slot_order PageEntry
+
+-- whether an entry is there and names the frame
+abbrev pub names : ℕ → Option PageEntry → Bool
+names f None = false
+names f (Some entry) = entry.frame == f
+
+abbrev pub nothing : Slot → PageEntry → Unit {0}
+nothing slot entry = tt
+
+-- the slots that name a frame
+abbrev pub holders_of : Entries → ℕ → Set slot_order
+holders_of entries f = map.retain_keys (map.map_values nothing entries) (λ slot. names f (map.get entries slot))
+
+abbrev pub cell_of : Entries → (ℕ → List ℕ) → PageEntry → Cell
+cell_of entries bytes entry = record { write = entry.write; may = entry.may; accessed = entry.accessed; dirty = entry.dirty; bytes = bytes entry.frame; holders = holders_of entries entry.frame }
+
+abbrev pub each_cell : Entries → (ℕ → List ℕ) → Slot → PageEntry → Cell
+each_cell entries bytes slot entry = cell_of entries bytes entry
+
+-- the spaces that they stand for
+abbrev pub spaces_of : Entries → (ℕ → List ℕ) → Spaces
+spaces_of entries bytes = map.map_values (each_cell entries bytes) entries

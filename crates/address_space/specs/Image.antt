@@ -1,0 +1,109 @@
+-- What memory's own words say: the tables and pages that directories name, when directories, roles and words
+-- agree, and which spaces they stand for.
+use Rattle.std.specs.Prelude.{◌≡◌, ◌≢◌, ℕ, ◌+◌, ◌*◌, ◌<◌, ◌≤◌, ◌↔◌, ◌⊎◌, Bool, true, false, ◌&&◌, nat_lt, nat_le, if◌then◌else◌, IsTrue, List, length, Option, Some, None, slice_get}
+use Rattle.std.specs.Option.{option_and_then, option_map, unwrap_or}
+use Rattle.page_words.specs.Addresses.{slot_number, index_number}
+use Rattle.page_words.specs.Words.{frame_number, is_present, is_writable, is_accessed, is_dirty, has_may, IsKernelDirWord, IsKernelTableWord}
+use Rattle.page_words.specs.FiniteMap as map
+use Rattle.page_words.specs.FiniteMap.{Order}
+use Rattle.page_words.specs.FiniteSet as set
+use Rattle.page_words.specs.FiniteSet.{Set}
+use Rattle.phys_memory.specs.Bytes.{frame_bytes, word_in}
+use Rattle.alloc_table.specs.declared.Role.{Role}
+use Rattle.alloc_table.specs.declared.Role.TheVariants.{Reserved, Directory, Table, Page}
+use Rattle.address_space.specs.Spaces.{Slot, slot_order, Cell, Spaces, zeros}
+
+-- what there is of address spaces outside the abstract machine
+pub record Image : Type 0 where
+  -- each process's directory, where it has one
+  pub directories : List (Option ℕ)
+  -- 4,096 bytes for each frame
+  pub bytes : List ℕ
+  -- one for each frame
+  pub roles : List Role
+
+-- ---- What an image names
+
+abbrev pub directory_at : Image → ℕ → Option ℕ
+directory_at image p = unwrap_or (slice_get image.directories p) None
+
+-- the word of an index of a frame
+abbrev pub word_of : Image → ℕ → ℕ → ℕ
+word_of image frame index = word_in (frame_bytes image.bytes frame) index
+
+abbrev pub is_user_slot : ℕ → Bool
+is_user_slot s = nat_le 256 s && nat_lt s 960
+
+-- the frame that a directory word names, where it is present and of the user range
+abbrev pub named_by : ℕ → ℕ → Option ℕ
+named_by s word = if is_user_slot s && is_present word then Some (frame_number word) else None
+
+-- the table that a process's directory names at a slot of the user range
+abbrev pub table_at : Image → ℕ → ℕ → Option ℕ
+table_at image p s = option_and_then (λ d. named_by s (word_of image d s)) (directory_at image p)
+
+-- the word, where it is present and its table lies in memory
+abbrev pub present_word : Image → ℕ → ℕ → Option ℕ
+present_word image table word = if nat_lt table (length image.roles) && is_present word then Some word else None
+
+-- the table word of a slot, where its table has a present one
+abbrev pub page_word : Image → Slot → Option ℕ
+page_word image slot = option_and_then (λ t. present_word image t (word_of image t (index_number slot.page))) (table_at image slot.pid (slot_number slot.page))
+
+-- the frame that it names
+abbrev pub page_frame : Image → Slot → Option ℕ
+page_frame image slot = option_map frame_number (page_word image slot)
+
+-- ---- When an image is sound
+
+-- n is the number of slots that have P
+pub record IsCount (n : ℕ) (P : Slot → Type 0) : Type 0 where
+  pub members : Set slot_order
+  pub are : (slot : Slot) → IsTrue (set.contains members slot) ↔ P slot
+  pub count : n ≡ set.len members
+
+-- frames, roles and words agree
+pub record IsSoundImage (image : Image) : Type 0 where
+  pub size : length image.bytes ≡ 4096 * length image.roles
+  -- frame 0 alone is reserved, and holds zeros
+  pub reserved : (f : ℕ) → f < length image.roles → (slice_get image.roles f ≡ Some Reserved) ↔ (f ≡ 0)
+  pub zero_frame : frame_bytes image.bytes 0 ≡ zeros
+  -- a frame is the directory of a process exactly where it has that role
+  pub directories : (f p : ℕ) → (slice_get image.roles f ≡ Some (Directory p)) ↔ (directory_at image p ≡ Some f)
+  -- a frame is the table of a process and a slot exactly where it has that role, so that it is named once
+  pub tables : (f p s : ℕ) → (slice_get image.roles f ≡ Some (Table p s)) ↔ (table_at image p s ≡ Some f)
+  -- each frame that a slot names is a page, and its count is the number of slots that name it, which is not 0
+  pub pages : (slot : Slot) (f : ℕ) → page_frame image slot ≡ Some f → (c : ℕ) × (slice_get image.roles f ≡ Some (Page c))
+  pub counts : (f c : ℕ) → slice_get image.roles f ≡ Some (Page c) → (0 < c) × IsCount c (λ slot. page_frame image slot ≡ Some f)
+  -- directories and tables hold words that the kernel writes, directories none outside the user range
+  pub directory_words : (p d s : ℕ) → directory_at image p ≡ Some d → s < 1024 → IsKernelDirWord (word_of image d s)
+  pub no_more : (p d s : ℕ) → directory_at image p ≡ Some d → s < 1024 → is_user_slot s ≡ false → word_of image d s ≡ 0
+  pub table_words : (p s t i : ℕ) → table_at image p s ≡ Some t → i < 1024 → IsKernelTableWord (word_of image t i)
+  -- each table has a present word
+  pub in_use : (p s t : ℕ) → table_at image p s ≡ Some t → (i : ℕ) × (i < 1024) × (is_present (word_of image t i) ≡ true)
+
+-- ---- What an image stands for
+
+-- a cell by its word, the bytes of its frame and the slots that name that frame
+pub record CellStands (image : Image) (word : ℕ) (cell : Cell) : Type 0 where
+  pub write : cell.write ≡ is_writable word
+  pub may : cell.may ≡ has_may word
+  pub accessed : cell.accessed ≡ is_accessed word
+  pub dirty : cell.dirty ≡ is_dirty word
+  pub bytes : cell.bytes ≡ frame_bytes image.bytes (frame_number word)
+  pub group : (slot : Slot) → IsTrue (set.contains cell.holders slot) ↔ (page_frame image slot ≡ Some (frame_number word))
+
+abbrev pub SlotStands : Image → Option ℕ → Option Cell → Type 0
+SlotStands image None None = Unit {0}
+SlotStands image (Some word) (Some cell) = CellStands image word cell
+SlotStands image None (Some cell) = ⊥
+SlotStands image (Some word) None = ⊥
+
+-- the image is sound, and the slots that it maps are those of the spaces
+pub record StandsFor (image : Image) (spaces : Spaces) : Type 0 where
+  pub sound : IsSoundImage image
+  pub cells : (slot : Slot) → SlotStands image (page_word image slot) (map.get spaces slot)
+
+-- an image stands for at most one set of spaces
+abbrev pub StandsForOne : Type 0
+StandsForOne = (image : Image) (s t : Spaces) → StandsFor image s → StandsFor image t → s ≡ t

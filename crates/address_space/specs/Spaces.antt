@@ -1,0 +1,160 @@
+-- Address spaces: a finite map from slots to cells, and what they cost. No frame, word or count is in it.
+use Rattle.std.proofs.Common.{◌≡◌, ℕ, zero, suc, ◌+◌, ◌*◌, ◌/◌, ◌%◌, Bool, true, false, not, if◌then◌else◌, ◌==◌, List, [], ◌∷◌, ◌++◌, map, length, take, drop, replicate, refl, Option, unwrap_or}
+use Rattle.std.specs.declared.cmp.Ordering.{Ordering}
+use Rattle.std.specs.declared.cmp.Ordering.TheVariants.{Less, Equal, Greater}
+use Rattle.std.specs.Ordering.{nat_cmp, then_cmp, on, ordering_then}
+use Rattle.std.specs.Cmp.{IsTotalOrder, nat_cmp_total, on_total, then_total}
+use Rattle.std.specs.FinMap.{IsAntisymmetric, nat_cmp-IsAntisymmetric}
+use Rattle.page_words.specs.Addresses.{slot_number, page_number}
+use Rattle.page_words.specs.FiniteMap as map
+use Rattle.page_words.specs.FiniteMap.{Order, Map, nat_order, same}
+use Rattle.page_words.specs.FiniteSet as set
+use Rattle.page_words.specs.FiniteSet.{Set}
+
+-- a page of a process
+pub record Slot : Type 0 where
+  pub pid : ℕ
+  pub page : ℕ
+
+-- the slot that an address of a process lies in
+abbrev pub slot_at : ℕ → ℕ → Slot
+slot_at p address = record { pid = p; page = page_number address }
+
+-- by process, then by page
+abbrev pub slot_cmp : Slot → Slot → Ordering
+slot_cmp = then_cmp (on (λ s. s.pid) nat_cmp) (on (λ s. s.page) nat_cmp)
+
+both_equal : (a b : Ordering) → ordering_then a b ≡ Equal → (a ≡ Equal) × (b ≡ Equal)
+both_equal Less b e = cc
+both_equal Equal b e = (refl, e)
+both_equal Greater b e = cc
+
+pub slot_same : IsAntisymmetric slot_cmp
+slot_same x y e =
+    let ps = both_equal (nat_cmp x.pid y.pid) _ e in
+    let p = nat_cmp-IsAntisymmetric _ _ ps.0 in
+    let q = nat_cmp-IsAntisymmetric _ _ ps.1 in
+    λ i. record { pid = p i; page = q i }
+
+pub slot_total : IsTotalOrder slot_cmp
+slot_total = then_total (on_total (λ s. s.pid) nat_cmp_total) (on_total (λ s. s.page) nat_cmp_total)
+
+abbrev pub slot_order : Order Slot
+slot_order = record { cmp = slot_cmp; total = slot_total; same = slot_same }
+
+-- whether a slot is this page of this process
+abbrev pub is_slot : ℕ → ℕ → Slot → Bool
+is_slot p page slot = same slot_order (record { pid = p; page = page }) slot
+
+-- ---- Cells
+
+-- what a process has at a mapped page
+pub record Cell : Type 0 where
+  pub write : Bool
+  -- the process may make the page writable
+  pub may : Bool
+  pub accessed : Bool
+  pub dirty : Bool
+  -- 4,096 bytes
+  pub bytes : List ℕ
+  -- the group: the slots that have these bytes in common, this one among them
+  pub holders : Set slot_order
+
+abbrev pub Spaces : Type 0
+Spaces = Map slot_order Cell
+
+abbrev pub zeros : List ℕ
+zeros = replicate 4096 0
+
+-- a page of zeros, in a group of its own
+abbrev pub fresh : Slot → Bool → Cell
+fresh slot write = record { write = write; may = true; accessed = false; dirty = false; bytes = zeros; holders = set.insert set.empty slot }
+
+-- what stands at a slot, and a fresh page where nothing does
+abbrev pub cell_or_fresh : Spaces → Slot → Cell
+cell_or_fresh spaces slot = unwrap_or (map.get spaces slot) (fresh slot true)
+
+abbrev pub with_bytes : Cell → List ℕ → Cell
+with_bytes cell bytes = record cell { bytes = bytes }
+
+abbrev pub with_holders : Cell → Set slot_order → Cell
+with_holders cell holders = record cell { holders = holders }
+
+-- the slots of a group have these bytes
+abbrev pub set_bytes : Spaces → Set slot_order → List ℕ → Spaces
+set_bytes spaces group bytes = map.map_values (λ slot cell. if set.contains group slot then with_bytes cell bytes else cell) spaces
+
+-- the slots of a group are this group from now on
+abbrev pub set_holders : Spaces → Set slot_order → Set slot_order → Spaces
+set_holders spaces group holders = map.map_values (λ slot cell. if set.contains group slot then with_holders cell holders else cell) spaces
+
+-- some slots leave their groups, and go
+abbrev pub without : Spaces → (Slot → Bool) → Spaces
+without spaces gone = map.map_values (λ slot cell. with_holders cell (set.retain cell.holders (λ s. not (gone s)))) (map.retain_keys spaces (λ s. not (gone s)))
+
+-- ---- Costs
+
+-- the pages that a process has mapped
+abbrev pub pages_of : Spaces → ℕ → Set nat_order
+pages_of spaces p = set.from_list (map (λ entry. entry.0.page) (map.retain_keys spaces (λ slot. slot.pid == p)).entries)
+
+-- their regions, of 1,024 pages each
+abbrev pub regions_of : Set nat_order → Set nat_order
+regions_of pages = set.from_list (map slot_number (set.items pages))
+
+-- one for the directory, one for each region with a page, one for each page
+abbrev pub cost_of : Set nat_order → ℕ
+cost_of pages = 1 + set.len (regions_of pages) + set.len pages
+
+abbrev pub cost : Spaces → ℕ → ℕ
+cost spaces p = cost_of (pages_of spaces p)
+
+-- what one more page costs
+abbrev pub need : Spaces → ℕ → ℕ → ℕ
+need spaces p page = if set.contains (regions_of (pages_of spaces p)) (slot_number page) then 1 else 2
+
+-- ---- Bytes and numbers
+
+-- the low bytes of a number, the lowest first
+abbrev pub bytes_of : ℕ → ℕ → List ℕ
+bytes_of zero value = []
+bytes_of (suc k) value = value % 256 ∷ bytes_of k (value / 256)
+
+-- the number of these bytes, the lowest first
+abbrev pub value_of : List ℕ → ℕ
+value_of [] = 0
+value_of (b ∷ bytes) = b + 256 * value_of bytes
+
+-- the bytes at a place
+abbrev pub bytes_at : List ℕ → ℕ → ℕ → List ℕ
+bytes_at bytes at count = take count (drop at bytes)
+
+-- these bytes with others written at a place
+abbrev pub write_at : List ℕ → ℕ → List ℕ → List ℕ
+write_at bytes at new = take at bytes ++ new ++ drop (at + length new) bytes
+
+-- ---- Spaces after each kind of change
+
+-- after an access that completes: accessed is set in the slot's own cell
+abbrev pub accessed : Spaces → Slot → Spaces
+accessed spaces slot = map.insert spaces slot (record (cell_or_fresh spaces slot) { accessed = true })
+
+-- the group of a slot's cell has these bytes, and the cell both flags
+abbrev pub store_in : Spaces → Slot → Cell → List ℕ → Spaces
+store_in spaces slot cell bytes = map.insert (set_bytes spaces cell.holders bytes) slot (record cell { bytes = bytes; accessed = true; dirty = true })
+
+-- after a store of these bytes at this offset
+abbrev pub stored : Spaces → Slot → ℕ → List ℕ → Spaces
+stored spaces slot at new =
+    let cell = cell_or_fresh spaces slot in
+    store_in spaces slot cell (write_at cell.bytes at new)
+
+-- a slot joins the group of a cell, with this right
+abbrev pub join_in : Spaces → Cell → Slot → Bool → Spaces
+join_in spaces cell slot right =
+    let holders = set.insert cell.holders slot in
+    map.insert (set_holders spaces cell.holders holders) slot (record { write = right; may = right; accessed = false; dirty = false; bytes = cell.bytes; holders = holders })
+
+-- after a slot has joined the group of another, with this right
+abbrev pub joined : Spaces → Slot → Slot → Bool → Spaces
+joined spaces giver slot right = join_in spaces (cell_or_fresh spaces giver) slot right

@@ -1,0 +1,751 @@
+//! The address spaces of all processes over one memory.
+//!
+//! A space is seen as slots, cells and groups (specs/Spaces.antt). It is kept as a directory and tables
+//! of real page words, page frames, and a role for each frame. Each call leaves exactly the spaces that
+//! the definitions say, and under its condition it succeeds: a frame is found wherever the sum of the
+//! costs allows.
+#![tactic(auto)]
+
+ghost use Rattle.std.specs.Prelude.{◌≡◌, ◌≢◌, ◌↔◌, IfOk, IsErrOf, replicate, ℕ, ◌+◌, ◌*◌, ◌<◌, ◌≤◌, ◌%◌, Some, None, length, slice_get, is_some, true, false};
+ghost use Rattle.page_words.specs.Addresses.{slot_number, page_number, offset_number, byte_count, IsUserPage};
+ghost use Rattle.phys_memory.specs.Bytes.{blank_bytes, frame_bytes, with_frame};
+ghost use Rattle.alloc_table.specs.Roles.{free_frames, CanBeTaken, IsTaken, IsPageBelow, IsInUse, opening_roles};
+ghost use Rattle.page_map.specs.Entries.{table_of, entry_at, IsPageMap};
+ghost use Rattle.page_words.specs.FiniteMap as map;
+ghost use Rattle.address_space.specs.Spaces.{need, fresh, joined, stored, write_at, bytes_of, without, slot_at, value_of, bytes_at, cell_or_fresh, accessed, cost, is_slot};
+ghost use Rattle.address_space.specs.Image.{StandsFor, StandsForOne};
+ghost use Rattle.address_space.specs.Walks.{WalksAgree};
+ghost use Rattle.address_space.specs.Shown.{shown};
+ghost use Rattle.std.specs.Option.{option_map};
+ghost use Rattle.address_space.specs.Sound.{IsSound, directory_of, table_in, entries_in, spaces_in, total_cost, table_need, TableGiven, PageAdded, SlotJoined, Touched, Names, Inside, IsSpaces, TableFreed, SlotRemoved, SpaceAdded, IsAlone, IsShared};
+
+use alloc_table::{FrameTable, Role};
+use page_map::PageEntry;
+use page_words::{Frame, Page, Pid, Size, Vaddr, offset_of, page_of, slot_of};
+use phys_memory::Memory;
+use std::alloc::Global;
+use std::marker::Model;
+
+/// The address spaces, by directories, memory and roles.
+#[derive(Drop)]
+pub struct Spaces {
+    memory: Memory,
+    frames: FrameTable,
+    directories: [Option<Frame>; 64],
+}
+
+impl Model for Spaces {
+    ghost use Rattle.address_space.specs.Sound.{View, view_code, spaces_in, IsSpaces};
+
+    ghost Value = { View };
+
+    ghost coded = { view_code };
+
+    ghost view = { λ s. record { spaces = spaces_in s.directories s.memory; directories = s.directories; bytes = s.memory; roles = s.frames } };
+
+    ghost invariant = { λ s. IsSpaces s.directories s.memory s.frames };
+}
+
+/// A frame for a role, where one is free.
+fn take(frames: &mut FrameTable, role: Role) -> Frame
+    requires free { 0 < free_frames frames.old }
+    requires role { CanBeTaken role }
+    ensures { IsTaken frames.old result role frames.new }
+{
+    frames.take(role).unwrap()
+}
+
+/// The directory of a process, where it has one.
+fn space_of(directories: &[Option<Frame>; 64], pid: Pid) -> Option<Frame>
+    ensures { result ≡ directory_of directories.now pid }
+{
+    directories[pid.number() as usize]
+}
+
+/// The directory of a process that has one.
+fn home(directories: &[Option<Frame>; 64], pid: Pid) -> Frame
+    requires { is_some (directory_of directories.now pid) ≡ true }
+    ensures { directory_of directories.now pid ≡ Some result }
+{
+    directories[pid.number() as usize].unwrap()
+}
+
+/// Links a blank table, where the slot has none.
+fn give_table(
+    memory: &mut Memory,
+    frames: &mut FrameTable,
+    directories: &[Option<Frame>; 64],
+    pid: Pid,
+    directory: Frame,
+    slot: u32,
+)
+    requires sound { IsSound directories.now memory.old frames.old }
+    requires live { directory_of directories.now pid ≡ Some directory }
+    requires low { 256 ≤ slot }
+    requires high { slot < 960 }
+    requires room { table_need (table_in (directory_of directories.now) (frame_bytes memory.old) pid slot) ≤ free_frames frames.old }
+    ensures { TableGiven directories.now pid slot memory.old frames.old memory.new frames.new }
+{
+    if !page_map::has_table(memory, directory, slot) {
+        let table = take(frames, Role::Table { pid, slot });
+        page_map::link_table(memory, directory, slot, table);
+    }
+}
+
+/// Maps a page of zeros.
+fn add_page(
+    memory: &mut Memory,
+    frames: &mut FrameTable,
+    directories: &[Option<Frame>; 64],
+    pid: Pid,
+    directory: Frame,
+    page: Page,
+    write: bool,
+)
+    requires sound { IsSound directories.now memory.old frames.old }
+    requires live { directory_of directories.now pid ≡ Some directory }
+    requires user { IsUserPage page }
+    requires unmapped { map.get (spaces_in directories.now memory.old) (record { pid = pid; page = page }) ≡ None }
+    requires table { is_some (table_of (frame_bytes memory.old) directory (slot_number page)) ≡ true }
+    requires room { 0 < free_frames frames.old }
+    ensures { PageAdded directories.now pid page write memory.old frames.old memory.new frames.new }
+{
+    let frame = take(frames, Role::Page { count: 1 });
+    memory.zero_frame(frame);
+    page_map::set_entry(
+        memory,
+        directory,
+        page,
+        PageEntry {
+            frame,
+            write,
+            may: true,
+            accessed: false,
+            dirty: false,
+        },
+    );
+}
+
+/// Adds a slot to the group of a page.
+fn add_holder(
+    memory: &mut Memory,
+    frames: &mut FrameTable,
+    directories: &[Option<Frame>; 64],
+    giver: Pid,
+    giver_page: Page,
+    pid: Pid,
+    directory: Frame,
+    page: Page,
+    frame: Frame,
+    right: bool,
+)
+    requires sound { IsSound directories.now memory.old frames.old }
+    requires live { directory_of directories.now pid ≡ Some directory }
+    requires user { IsUserPage page }
+    requires unmapped { map.get (spaces_in directories.now memory.old) (record { pid = pid; page = page }) ≡ None }
+    requires table { is_some (table_of (frame_bytes memory.old) directory (slot_number page)) ≡ true }
+    requires given { Names (entries_in (directory_of directories.now) (frame_bytes memory.old)) (record { pid = giver; page = giver_page }) frame }
+    ensures { SlotJoined directories.now giver giver_page pid page right memory.old frames.old memory.new frames.new }
+{
+    frames.hold(frame);
+    page_map::set_entry(
+        memory,
+        directory,
+        page,
+        PageEntry {
+            frame,
+            write: right,
+            may: right,
+            accessed: false,
+            dirty: false,
+        },
+    );
+}
+
+/// Frees a table that was unlinked.
+fn free_table(frames: &mut FrameTable, freed: Option<Frame>)
+    requires { (t : ℕ) → freed ≡ Some t → IsInUse frames.old t }
+    ensures { TableFreed frames.old freed frames.new }
+{
+    if let Some(table) = freed {
+        frames.release(table);
+    }
+}
+
+/// Takes a slot out of its group.
+fn remove_entry(
+    memory: &mut Memory,
+    frames: &mut FrameTable,
+    directories: &[Option<Frame>; 64],
+    pid: Pid,
+    directory: Frame,
+    page: Page,
+)
+    requires spaces { IsSpaces directories.now memory.old frames.old }
+    requires live { directory_of directories.now pid ≡ Some directory }
+    requires user { IsUserPage page }
+    requires mapped { is_some (entry_at (frame_bytes memory.old) directory page) ≡ true }
+    ensures { SlotRemoved directories.now pid page memory.old frames.old memory.new frames.new }
+{
+    let entry = page_map::entry(memory, directory, page).unwrap();
+    let freed = page_map::clear_entry(memory, directory, page);
+    frames.release(entry.frame);
+    free_table(frames, freed);
+}
+
+/// The frame, the place in it and the bytes of a store: one byte, or a word at a multiple of four.
+fn put_bytes(memory: &mut Memory, frame: Frame, at: u32, size: Size, value: u32)
+    requires frame { Inside memory.old frame }
+    requires inside { at < 4096 }
+    requires aligned { at % byte_count size ≡ 0 }
+    ensures frames { frame_bytes memory.new ≡ with_frame (frame_bytes memory.old) frame (write_at (frame_bytes memory.old frame) at (bytes_of (byte_count size) value)) }
+    ensures length { length memory.new ≡ length memory.old }
+{
+    let place = frame.0 as usize * 4096 + at as usize;
+    match size {
+        Size::One => memory.write_byte(place, (value % 256) as u8),
+        Size::Four => memory.write_word(place, value),
+    }
+}
+
+/// Stores through a slot.
+fn store(
+    memory: &mut Memory,
+    frames: &FrameTable,
+    directories: &[Option<Frame>; 64],
+    pid: Pid,
+    directory: Frame,
+    page: Page,
+    at: u32,
+    size: Size,
+    value: u32,
+)
+    requires sound { IsSound directories.now memory.old frames.now }
+    requires live { directory_of directories.now pid ≡ Some directory }
+    requires user { IsUserPage page }
+    requires mapped { is_some (entry_at (frame_bytes memory.old) directory page) ≡ true }
+    requires inside { at < 4096 }
+    requires aligned { at % byte_count size ≡ 0 }
+    ensures { Touched directories.now (stored (spaces_in directories.now memory.old) (record { pid = pid; page = page }) at (bytes_of (byte_count size) value)) memory.old frames.now memory.new }
+{
+    let entry = page_map::entry(memory, directory, page).unwrap();
+    put_bytes(memory, entry.frame, at, size, value);
+    page_map::set_entry(
+        memory,
+        directory,
+        page,
+        PageEntry {
+            accessed: true,
+            dirty: true,
+            ..entry
+        },
+    );
+}
+
+/// Gives a process a blank directory.
+fn add_directory(
+    memory: &mut Memory,
+    frames: &mut FrameTable,
+    directories: &mut [Option<Frame>; 64],
+    pid: Pid,
+)
+    requires spaces { IsSpaces directories.old memory.old frames.old }
+    requires none { directory_of directories.old pid ≡ None }
+    requires room { 2 + total_cost directories.old (spaces_in directories.old memory.old) ≤ length frames.old }
+    ensures { SpaceAdded directories.old pid memory.old frames.old directories.new memory.new frames.new }
+{
+    let directory = take(frames, Role::Directory { pid });
+    memory.zero_frame(directory);
+    directories[pid.number() as usize] = Some(directory);
+}
+
+/// Address spaces over blank memory, without any space.
+fn opened(memory: Memory, table: FrameTable, frames: u32) -> Spaces
+    requires memory { memory ≡ blank_bytes frames }
+    requires roles { table ≡ opening_roles frames }
+    requires least { 16 ≤ frames }
+    requires most { frames ≤ 4096 }
+    ensures spaces { result.spaces ≡ map.empty }
+    ensures directories { result.directories ≡ replicate 64 None }
+    ensures roles { result.roles ≡ opening_roles frames }
+    ensures frames { length result.roles ≡ frames }
+    ensures costs { total_cost result.directories result.spaces ≡ 0 }
+{
+    Spaces {
+        memory,
+        frames: table,
+        directories: [None; 64],
+    }
+}
+
+/// What a process has at a mapped page, as `Spaces::cell` tells it.
+#[derive(Clone, Copy, Debug, PartialEq, Eq)]
+pub struct Cell {
+    /// The process may write now.
+    pub write: bool,
+    /// The process may make the page writable.
+    pub may: bool,
+    /// An access has completed through this slot.
+    pub accessed: bool,
+    /// A store has completed through this slot.
+    pub dirty: bool,
+    /// How many slots the page's group has, this one among them.
+    pub holders: u32,
+}
+
+/// How many slots name a page's frame.
+fn holders(frames: &FrameTable, frame: Frame) -> u32
+    requires { IsPageBelow frames.now frame 4294967295 }
+    ensures { slice_get frames.now frame ≡ Some (Role.Page result) }
+{
+    match frames.role(frame) {
+        Role::Page { count } => count,
+        _ => unreachable!(),
+    }
+}
+
+/// The cell of a slot.
+fn cell_in(
+    memory: &Memory,
+    frames: &FrameTable,
+    directories: &[Option<Frame>; 64],
+    pid: Pid,
+    page: Page,
+) -> Option<Cell>
+    requires sound { IsSound directories.now memory.now frames.now }
+    requires user { IsUserPage page }
+    ensures { result ≡ option_map shown (map.get (spaces_in directories.now memory.now) (record { pid = pid; page = page })) }
+{
+    let directory = space_of(directories, pid)?;
+    let entry = page_map::entry(memory, directory, page)?;
+    Some(Cell {
+        write: entry.write,
+        may: entry.may,
+        accessed: entry.accessed,
+        dirty: entry.dirty,
+        holders: holders(frames, entry.frame),
+    })
+}
+
+/// The number in some bytes of a page: one byte, or a word at a multiple of four.
+fn number_at(memory: &Memory, frame: Frame, at: u32, size: Size) -> u32
+    requires frame { Inside memory.now frame }
+    requires inside { at < 4096 }
+    requires aligned { at % byte_count size ≡ 0 }
+    ensures { result ≡ value_of (bytes_at (frame_bytes memory.now frame) at (byte_count size)) }
+{
+    let place = frame.0 as usize * 4096 + at as usize;
+    match size {
+        Size::One => u32::from(memory.read_byte(place)),
+        Size::Four => memory.read_word(place),
+    }
+}
+
+/// The number that a mapped slot has at a place.
+fn fetch(
+    memory: &Memory,
+    frames: &FrameTable,
+    directories: &[Option<Frame>; 64],
+    pid: Pid,
+    directory: Frame,
+    page: Page,
+    at: u32,
+    size: Size,
+) -> u32
+    requires sound { IsSound directories.now memory.now frames.now }
+    requires live { directory_of directories.now pid ≡ Some directory }
+    requires user { IsUserPage page }
+    requires mapped { is_some (entry_at (frame_bytes memory.now) directory page) ≡ true }
+    requires inside { at < 4096 }
+    requires aligned { at % byte_count size ≡ 0 }
+    ensures { result ≡ value_of (bytes_at (cell_or_fresh (spaces_in directories.now memory.now) (record { pid = pid; page = page })).bytes at (byte_count size)) }
+{
+    let entry = page_map::entry(memory, directory, page).unwrap();
+    number_at(memory, entry.frame, at, size)
+}
+
+/// Sets accessed in a mapped slot.
+fn touch(
+    memory: &mut Memory,
+    frames: &FrameTable,
+    directories: &[Option<Frame>; 64],
+    pid: Pid,
+    directory: Frame,
+    page: Page,
+)
+    requires sound { IsSound directories.now memory.old frames.now }
+    requires live { directory_of directories.now pid ≡ Some directory }
+    requires user { IsUserPage page }
+    requires mapped { is_some (entry_at (frame_bytes memory.old) directory page) ≡ true }
+    ensures { Touched directories.now (accessed (spaces_in directories.now memory.old) (record { pid = pid; page = page })) memory.old frames.now memory.new }
+{
+    let entry = page_map::entry(memory, directory, page).unwrap();
+    page_map::set_entry(
+        memory,
+        directory,
+        page,
+        PageEntry {
+            accessed: true,
+            ..entry
+        },
+    );
+}
+
+/// What one more page costs a process.
+fn need_in(
+    memory: &Memory,
+    frames: &FrameTable,
+    directories: &[Option<Frame>; 64],
+    pid: Pid,
+    page: Page,
+) -> u32
+    requires spaces { IsSpaces directories.now memory.now frames.now }
+    requires live { is_some (directory_of directories.now pid) ≡ true }
+    requires user { IsUserPage page }
+    ensures value { result ≡ need (spaces_in directories.now memory.now) pid page }
+    ensures most { result ≤ 2 }
+{
+    let directory = home(directories, pid);
+    if page_map::has_table(memory, directory, slot_of(page)) {
+        1
+    } else {
+        2
+    }
+}
+
+/// Whether no other page of a page's region is mapped.
+fn is_alone(memory: &Memory, directory: Frame, page: Page) -> bool
+    requires user { IsUserPage page }
+    requires map { IsPageMap memory.now directory }
+    ensures alone { result ≡ true → IsAlone (frame_bytes memory.now) directory page }
+    ensures shared { result ≡ false → IsShared (frame_bytes memory.now) directory page }
+{
+    let first = slot_of(page) * 1024;
+    for index in 0..1024u32 {
+        let other = Page(first + index);
+        if other != page && page_map::entry(memory, directory, other).is_some() {
+            return false;
+        }
+    }
+    true
+}
+
+/// What a process's cost falls by when a mapped page goes.
+fn relief_in(
+    memory: &Memory,
+    frames: &FrameTable,
+    directories: &[Option<Frame>; 64],
+    pid: Pid,
+    page: Page,
+) -> u32
+    requires sound { IsSound directories.now memory.now frames.now }
+    requires live { is_some (directory_of directories.now pid) ≡ true }
+    requires mapped { is_some (map.get (spaces_in directories.now memory.now) (record { pid = pid; page = page })) ≡ true }
+    requires user { IsUserPage page }
+    ensures { cost (without (spaces_in directories.now memory.now) (is_slot pid page)) pid + result ≡ cost (spaces_in directories.now memory.now) pid }
+{
+    let directory = home(directories, pid);
+    if is_alone(memory, directory, page) {
+        2
+    } else {
+        1
+    }
+}
+
+/// Why there are no address spaces.
+#[derive(Clone, Copy, Debug, PartialEq, Eq)]
+pub enum SpacesFault {
+    /// The number of frames is not 16 to 4,096.
+    BadSize,
+    /// There was no memory for the frames or for their roles.
+    NoMemory,
+}
+
+impl Spaces {
+    /// Address spaces over that many frames of zeros, 16 to 4,096, without any space.
+    pub fn new(alloc: Global, frames: u32) -> Result<Spaces, SpacesFault>
+        ensures spaces { IfOk result (λ new. new.spaces ≡ map.empty) }
+        ensures directories { IfOk result (λ new. new.directories ≡ replicate 64 None) }
+        ensures roles { IfOk result (λ new. new.roles ≡ opening_roles frames) }
+        ensures frames { IfOk result (λ new. length new.roles ≡ frames) }
+        ensures costs { IfOk result (λ new. total_cost new.directories new.spaces ≡ 0) }
+        ensures size { IsErrOf result SpacesFault.BadSize ↔ (16 ≤ frames → frames ≤ 4096 → ⊥) }
+    {
+        if frames < 16 || frames > 4096 {
+            return Err(SpacesFault::BadSize);
+        }
+        let Ok(memory) = Memory::new(alloc, frames) else {
+            return Err(SpacesFault::NoMemory);
+        };
+        let Ok(table) = FrameTable::new(alloc, frames) else {
+            return Err(SpacesFault::NoMemory);
+        };
+        Ok(opened(memory, table, frames))
+    }
+
+    /// Gives a process an empty space: a blank directory.
+    pub fn fresh(&mut self, pid: Pid)
+        requires none { directory_of self.old.directories pid ≡ None }
+        requires room { 2 + total_cost self.old.directories self.old.spaces ≤ length self.old.roles }
+        ensures spaces { self.new.spaces ≡ self.old.spaces }
+        ensures costs { total_cost self.new.directories self.new.spaces ≡ total_cost self.old.directories self.old.spaces + 1 }
+        ensures live { is_some (directory_of self.new.directories pid) ≡ true }
+        ensures others { (other : ℕ) → other ≢ pid → directory_of self.new.directories other ≡ directory_of self.old.directories other }
+        ensures frames { length self.new.roles ≡ length self.old.roles }
+    {
+        add_directory(
+            &mut self.memory,
+            &mut self.frames,
+            &mut self.directories,
+            pid,
+        );
+    }
+
+    /// Maps a page of zeros.
+    pub fn map_zero(&mut self, pid: Pid, page: Page, write: bool)
+        requires live { is_some (directory_of self.old.directories pid) ≡ true }
+        requires user { IsUserPage page }
+        requires unmapped { map.get self.old.spaces (record { pid = pid; page = page }) ≡ None }
+        requires room { 1 + total_cost self.old.directories self.old.spaces + need self.old.spaces pid page ≤ length self.old.roles }
+        ensures spaces { self.new.spaces ≡ map.insert self.old.spaces (record { pid = pid; page = page }) (fresh (record { pid = pid; page = page }) write) }
+        ensures directories { self.new.directories ≡ self.old.directories }
+        ensures frames { length self.new.roles ≡ length self.old.roles }
+    {
+        let directory = home(&self.directories, pid);
+        let slot = slot_of(page);
+        give_table(
+            &mut self.memory,
+            &mut self.frames,
+            &self.directories,
+            pid,
+            directory,
+            slot,
+        );
+        add_page(
+            &mut self.memory,
+            &mut self.frames,
+            &self.directories,
+            pid,
+            directory,
+            page,
+            write,
+        );
+    }
+
+    /// Lets a slot join the group of another.
+    pub fn join(&mut self, giver: Pid, giver_page: Page, pid: Pid, page: Page, right: bool)
+        requires given { is_some (map.get self.old.spaces (record { pid = giver; page = giver_page })) ≡ true }
+        requires from { IsUserPage giver_page }
+        requires live { is_some (directory_of self.old.directories pid) ≡ true }
+        requires user { IsUserPage page }
+        requires unmapped { map.get self.old.spaces (record { pid = pid; page = page }) ≡ None }
+        requires room { 1 + total_cost self.old.directories self.old.spaces + need self.old.spaces pid page ≤ length self.old.roles }
+        ensures spaces { self.new.spaces ≡ joined self.old.spaces (record { pid = giver; page = giver_page }) (record { pid = pid; page = page }) right }
+        ensures directories { self.new.directories ≡ self.old.directories }
+        ensures frames { length self.new.roles ≡ length self.old.roles }
+    {
+        let from = home(&self.directories, giver);
+        let entry = page_map::entry(&self.memory, from, giver_page).unwrap();
+        let directory = home(&self.directories, pid);
+        let slot = slot_of(page);
+        give_table(
+            &mut self.memory,
+            &mut self.frames,
+            &self.directories,
+            pid,
+            directory,
+            slot,
+        );
+        add_holder(
+            &mut self.memory,
+            &mut self.frames,
+            &self.directories,
+            giver,
+            giver_page,
+            pid,
+            directory,
+            page,
+            entry.frame,
+            right,
+        );
+    }
+
+    /// Stores through a mapped slot, and sets accessed and dirty in it.
+    pub fn write(&mut self, pid: Pid, address: Vaddr, size: Size, value: u32)
+        requires mapped { is_some (map.get self.old.spaces (slot_at pid address)) ≡ true }
+        requires user { IsUserPage (page_number address) }
+        requires aligned { address % byte_count size ≡ 0 }
+        ensures spaces { self.new.spaces ≡ stored self.old.spaces (slot_at pid address) (offset_number address) (bytes_of (byte_count size) value) }
+        ensures directories { self.new.directories ≡ self.old.directories }
+        ensures roles { self.new.roles ≡ self.old.roles }
+    {
+        let directory = home(&self.directories, pid);
+        let page = page_of(address);
+        let at = offset_of(address);
+        store(
+            &mut self.memory,
+            &self.frames,
+            &self.directories,
+            pid,
+            directory,
+            page,
+            at,
+            size,
+            value,
+        );
+    }
+
+    /// The flags of a slot and the size of its group; None where the page is not mapped.
+    pub fn cell(&self, pid: Pid, page: Page) -> Option<Cell>
+        requires user { IsUserPage page }
+        ensures { result ≡ option_map shown (map.get self.now.spaces (record { pid = pid; page = page })) }
+    {
+        cell_in(&self.memory, &self.frames, &self.directories, pid, page)
+    }
+
+    /// What one more page costs a process: 1 where it has a page in that region of 1,024 pages, else 2.
+    pub fn need(&self, pid: Pid, page: Page) -> u32
+        requires live { is_some (directory_of self.now.directories pid) ≡ true }
+        requires user { IsUserPage page }
+        ensures value { result ≡ need self.now.spaces pid page }
+        ensures most { result ≤ 2 }
+    {
+        need_in(&self.memory, &self.frames, &self.directories, pid, page)
+    }
+
+    /// What a process's cost falls by when a mapped page goes: 2 where it is the last of its region of
+    /// 1,024 pages, whose table goes too, else 1.
+    pub fn relief(&self, pid: Pid, page: Page) -> u32
+        requires mapped { is_some (map.get self.now.spaces (record { pid = pid; page = page })) ≡ true }
+        requires user { IsUserPage page }
+        ensures { cost (without self.now.spaces (is_slot pid page)) pid + result ≡ cost self.now.spaces pid }
+    {
+        relief_in(&self.memory, &self.frames, &self.directories, pid, page)
+    }
+
+    /// The number at an address of a mapped page, the lowest byte first. It sets no flag.
+    pub fn peek(&self, pid: Pid, address: Vaddr, size: Size) -> u32
+        requires mapped { is_some (map.get self.now.spaces (slot_at pid address)) ≡ true }
+        requires user { IsUserPage (page_number address) }
+        requires aligned { address % byte_count size ≡ 0 }
+        ensures { result ≡ value_of (bytes_at (cell_or_fresh self.now.spaces (slot_at pid address)).bytes (offset_number address) (byte_count size)) }
+    {
+        let directory = home(&self.directories, pid);
+        let page = page_of(address);
+        fetch(
+            &self.memory,
+            &self.frames,
+            &self.directories,
+            pid,
+            directory,
+            page,
+            offset_of(address),
+            size,
+        )
+    }
+
+    /// The number at an address of a mapped page; accessed is set in its slot.
+    pub fn read(&mut self, pid: Pid, address: Vaddr, size: Size) -> u32
+        requires mapped { is_some (map.get self.old.spaces (slot_at pid address)) ≡ true }
+        requires user { IsUserPage (page_number address) }
+        requires aligned { address % byte_count size ≡ 0 }
+        ensures value { result ≡ value_of (bytes_at (cell_or_fresh self.old.spaces (slot_at pid address)).bytes (offset_number address) (byte_count size)) }
+        ensures spaces { self.new.spaces ≡ accessed self.old.spaces (slot_at pid address) }
+        ensures directories { self.new.directories ≡ self.old.directories }
+        ensures roles { self.new.roles ≡ self.old.roles }
+    {
+        let directory = home(&self.directories, pid);
+        let page = page_of(address);
+        let value = fetch(
+            &self.memory,
+            &self.frames,
+            &self.directories,
+            pid,
+            directory,
+            page,
+            offset_of(address),
+            size,
+        );
+        touch(
+            &mut self.memory,
+            &self.frames,
+            &self.directories,
+            pid,
+            directory,
+            page,
+        );
+        value
+    }
+
+    /// Takes a slot out of its group.
+    pub fn unmap(&mut self, pid: Pid, page: Page)
+        requires mapped { is_some (map.get self.old.spaces (record { pid = pid; page = page })) ≡ true }
+        requires user { IsUserPage page }
+        ensures spaces { self.new.spaces ≡ without self.old.spaces (is_slot pid page) }
+        ensures directories { self.new.directories ≡ self.old.directories }
+        ensures frames { length self.new.roles ≡ length self.old.roles }
+    {
+        let directory = home(&self.directories, pid);
+        remove_entry(
+            &mut self.memory,
+            &mut self.frames,
+            &self.directories,
+            pid,
+            directory,
+            page,
+        );
+    }
+
+    /// The memory: 4,096 bytes for each frame.
+    pub fn memory(&self) -> &Memory
+        ensures { result.now ≡ self.now.bytes }
+    {
+        &self.memory
+    }
+
+    /// How many frames the memory has.
+    pub fn frames(&self) -> u32
+        ensures roles { length self.now.roles ≡ result }
+        ensures bytes { length self.now.bytes ≡ 4096 * result }
+        ensures least { 16 ≤ result }
+        ensures most { result ≤ 4096 }
+    {
+        self.memory.frames()
+    }
+
+    /// The frame of a process's directory; None where it has no space.
+    pub fn directory(&self, pid: Pid) -> Option<Frame>
+        ensures { result ≡ directory_of self.now.directories pid }
+    {
+        space_of(&self.directories, pid)
+    }
+
+    /// What a frame serves.
+    pub fn role(&self, frame: Frame) -> Role
+        requires { frame < length self.now.roles }
+        ensures { slice_get self.now.roles frame ≡ Some result }
+    {
+        self.frames.role(frame)
+    }
+
+    /// What memory's own words say of these spaces, and that their costs leave frame 0 alone. It
+    /// computes nothing.
+    pub fn stands(&self)
+        ensures image { StandsFor (record { directories = self.now.directories; bytes = self.now.bytes; roles = self.now.roles }) self.now.spaces }
+        ensures walks { WalksAgree (record { directories = self.now.directories; bytes = self.now.bytes; roles = self.now.roles }) self.now.spaces }
+        ensures costs { 1 + total_cost self.now.directories self.now.spaces ≤ length self.now.roles }
+        ensures each { (p : ℕ) → is_some (directory_of self.now.directories p) ≡ true → 1 + cost self.now.spaces p ≤ length self.now.roles }
+        ensures few { length self.now.roles ≤ 4096 }
+        ensures lone { is_some (directory_of self.now.directories 0) ≡ true → ((p : ℕ) → p ≢ 0 → directory_of self.now.directories p ≡ None) → total_cost self.now.directories self.now.spaces ≡ cost self.now.spaces 0 }
+    {
+        let _ = &self.memory;
+    }
+}
+
+/// An image stands for at most one set of spaces. It computes nothing.
+pub fn images_stand_for_one()
+    ensures { StandsForOne }
+{}
+
+#[cfg(test)]
+mod tests;

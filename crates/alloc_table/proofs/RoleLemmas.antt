@@ -1,0 +1,106 @@
+-- What the list of roles says after a frame was taken.
+use Rattle.std.proofs.Common.{◌≡◌, ◌≢◌, ℕ, zero, suc, ◌+◌, ◌-◌, ◌<◌, ◌≤◌, Bool, true, false, cond, List, [], ◌∷◌, length, get_or, refl, ap, ◌∙◌, Some, arith}
+use Rattle.std.specs.Prelude.{slice_get, slice_set, set, nat_lt}
+use Rattle.std.proofs.lemmas.List.Sums.{sum_by-cons, sum_by-set}
+use Rattle.std.proofs.lemmas.Option.{get_or_from_slice_get, slice_get_within}
+use Rattle.std.proofs.lemmas.Bool.Decides.{nat_tests}
+use Rattle.alloc_table.specs.Roles.{is_free, free_frames, frames_weight, weight, IsTaken, IsHeld, IsReleased, released}
+use Rattle.alloc_table.specs.declared.Role.{Role}
+use Rattle.alloc_table.specs.declared.Role.TheVariants.{Reserved, Free, Directory, Table, Page}
+
+abbrev counted : Bool → ℕ
+counted b = cond b 1 0
+
+pub free_is : (r : Role) → is_free r ≡ true → r ≡ Free
+free_is Reserved h = cc
+free_is Free h = refl
+free_is (Directory pid) h = cc
+free_is (Table pid slot) h = cc
+free_is (Page count) h = cc
+
+module _ {X : Type 0} where
+  pub get-set_same : (xs : List X) (i : ℕ) (v : X) → i < length xs → slice_get (slice_set xs i v) i ≡ Some v
+  get-set_same [] i v h = absurd (omega arith)
+  get-set_same (x ∷ xs) zero v h = refl
+  get-set_same (x ∷ xs) (suc i) v h = get-set_same xs i v (omega arith)
+
+  pub get-set_other : (xs : List X) (i j : ℕ) (v : X) → j ≢ i → slice_get (slice_set xs i v) j ≡ slice_get xs j
+  get-set_other [] i j v n = refl
+  get-set_other (x ∷ xs) zero zero v n = absurd (n refl)
+  get-set_other (x ∷ xs) zero (suc j) v n = refl
+  get-set_other (x ∷ xs) (suc i) zero v n = refl
+  get-set_other (x ∷ xs) (suc i) (suc j) v n = get-set_other xs i j v (λ e. n (ap suc e))
+
+-- one frame fewer is free once it was taken
+pub free-taken : (old new : List Role) (f : ℕ) (role : Role) → IsTaken old f role new → is_free role ≡ false → free_frames new + 1 ≡ free_frames old
+free-taken old new f role h n =
+    let was : get_or old f role ≡ Free = get_or_from_slice_get old f Free role h.was_free in
+    let s = sum_by-set (λ r. counted (is_free r)) old f role role (slice_get_within old f Free h.was_free) in
+    let a : counted (is_free (get_or old f role)) ≡ 1 = ap (λ r. counted (is_free r)) was in
+    let b : counted (is_free role) ≡ 0 = ap counted n in
+    let c : free_frames new ≡ free_frames (set old f role) = ap free_frames h.now in
+    omega arith
+
+-- as many are free where one role became another and neither is free
+pub free-kept : (old : List Role) (f : ℕ) (was role : Role) → slice_get old f ≡ Some was → is_free was ≡ false → is_free role ≡ false → free_frames (slice_set old f role) ≡ free_frames old
+free-kept old f was role h m n =
+    let is : get_or old f role ≡ was = get_or_from_slice_get old f was role h in
+    let s = sum_by-set (λ r. counted (is_free r)) old f role role (slice_get_within old f was h) in
+    let a : counted (is_free (get_or old f role)) ≡ 0 = ap (λ r. counted (is_free r)) is ∙ ap counted m in
+    let b : counted (is_free role) ≡ 0 = ap counted n in
+    omega arith
+
+-- one role in place of another
+pub weight-set : (old : List Role) (f : ℕ) (was role : Role) → slice_get old f ≡ Some was → frames_weight (slice_set old f role) + weight was ≡ frames_weight old + weight role
+weight-set old f was role h =
+    let is : get_or old f role ≡ was = get_or_from_slice_get old f was role h in
+    let s = sum_by-set weight old f role role (slice_get_within old f was h) in
+    let a : weight (get_or old f role) ≡ weight was = ap weight is in
+    omega (arith, s, a)
+
+pub weight-taken : (old new : List Role) (f : ℕ) (role : Role) → IsTaken old f role new → frames_weight new ≡ frames_weight old + weight role
+weight-taken old new f role h =
+    let s = weight-set old f Free role h.was_free in
+    let c : frames_weight new ≡ frames_weight (set old f role) = ap frames_weight h.now in
+    omega (arith, s, c)
+
+-- where each page has a holder, a frame that weighs nothing is free
+pub free-by-weight : (roles : List Role) → ((i c : ℕ) → slice_get roles i ≡ Some (Page c) → 0 < c) → length roles ≤ free_frames roles + frames_weight roles
+free-by-weight [] held = omega arith
+free-by-weight (r ∷ rs) held =
+    let a = sum_by-cons (λ x. counted (is_free x)) r rs in
+    let b = sum_by-cons weight r rs in
+    let rest = free-by-weight rs (λ i c is. held (suc i) c is) in
+    let own = one r (λ c is. held 0 c (ap Some is)) in
+    omega (arith, a, b, rest, own)
+  where
+    one : (r : Role) → ((c : ℕ) → r ≡ Page c → 0 < c) → 1 ≤ counted (is_free r) + weight r
+    one Reserved h = omega arith
+    one Free h = omega arith
+    one (Directory pid) h = omega arith
+    one (Table pid slot) h = omega arith
+    one (Page count) h = let x = h count refl in omega arith
+
+pub weight-held : (old new : List Role) (f : ℕ) → IsHeld old f new → frames_weight new ≡ frames_weight old + 1
+weight-held old new f h =
+    let s = weight-set old f (Page h.count) (Page (h.count + 1)) h.page in
+    let c : frames_weight new ≡ frames_weight (slice_set old f (Page (h.count + 1))) = ap frames_weight h.now in
+    omega (arith, s, c)
+
+pub weight-released : (old new : List Role) (f : ℕ) (h : IsReleased old f new) → 1 ≤ weight h.role → frames_weight new + 1 ≡ frames_weight old
+weight-released old new f h heavy =
+    let s = weight-set old f h.role (released h.role) h.was in
+    let c : frames_weight new ≡ frames_weight (slice_set old f (released h.role)) = ap frames_weight h.now in
+    let less = weight_of_released h.role heavy in
+    omega (arith, s, c, less)
+  where
+    weight_of_released : (r : Role) → 1 ≤ weight r → weight (released r) + 1 ≡ weight r
+    weight_of_released Reserved h = refl
+    weight_of_released Free h = absurd (omega arith)
+    weight_of_released (Directory pid) h = refl
+    weight_of_released (Table pid slot) h = refl
+    weight_of_released (Page n) h = by (nat_lt 1 n) refl
+      where
+        by : (b : Bool) → nat_lt 1 n ≡ b → weight (cond b (Page (n - 1)) Free) + 1 ≡ n
+        by true is = let more : 1 < n = grind (arith, nat_tests) in omega arith
+        by false is = let few : n ≤ 1 = grind (arith, nat_tests) in omega arith

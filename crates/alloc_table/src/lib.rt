@@ -1,0 +1,255 @@
+//! What each frame of physical memory serves.
+//!
+//! A contract sees a frame table as the list of roles, one a frame: a map from frame to role. Frames
+//! come from a ledger of the free ones.
+#![tactic(auto, unfolding(crate::specs::Roles::opening_roles))]
+
+ghost use Rattle.std.specs.Prelude.{◌≡◌, ℕ, ◌+◌, ◌<◌, ◌≤◌, ◌↔◌, List, IsTrue, IfOk, IsErrOf, IfSome, IsNone, Some, length, slice_get};
+ghost use Rattle.alloc_table.specs.Roles.{table_fault, CanBeTaken, IsTaken, IsPageBelow, IsHeld, IsInUse, IsReleased, released, free_frames, frames_weight, opening_roles};
+ghost use Rattle.alloc_table.specs.Weights.{TakingAddsTheRole, HoldingAddsOne, ReleasingTakesOne, FreeOrWeighed};
+
+use frame_ledger::{FEWEST_FRAMES, Ledger, LedgerFault, MOST_FRAMES};
+use page_words::{Frame, Pid};
+use std::alloc::Global;
+use std::marker::Model;
+
+/// What a frame serves.
+#[derive(Clone, Copy, Debug, PartialEq, Eq)]
+pub enum Role {
+    /// Nothing, and it is never free: frame 0.
+    Reserved,
+    /// Nothing: it can be taken.
+    Free,
+    /// The page directory of a process.
+    Directory {
+        /// The process.
+        pid: Pid,
+    },
+    /// A page table of a process.
+    Table {
+        /// The process.
+        pid: Pid,
+        /// The directory slot that leads to the table.
+        slot: u32,
+    },
+    /// A page of one process, or of several.
+    Page {
+        /// How many hold it: at least 1.
+        count: u32,
+    },
+}
+
+/// Why there is no frame table.
+#[derive(Clone, Copy, Debug, PartialEq, Eq)]
+pub enum TableFault {
+    /// The number of frames is below 16 or above 4,096.
+    BadSize,
+    /// There was no memory for the table.
+    NoMemory,
+}
+
+impl From<LedgerFault> for TableFault {
+    ghost from_gives = { λ fault gives. gives ≡ table_fault fault };
+
+    fn from(fault: LedgerFault) -> TableFault {
+        match fault {
+            LedgerFault::BadSize => TableFault::BadSize,
+            LedgerFault::NoMemory => TableFault::NoMemory,
+        }
+    }
+}
+
+/// The roles of all frames.
+#[derive(Debug, Drop)]
+pub struct FrameTable {
+    ledger: Ledger,
+    roles: Vec<Role>,
+}
+
+impl Model for FrameTable {
+    ghost use Rattle.std.specs.Prelude.{List};
+    ghost use Rattle.alloc_table.specs.declared.Role.{Role};
+    ghost use Rattle.alloc_table.specs.Kept.{IsFrameTable};
+
+    ghost Value = { List Role };
+
+    ghost view = { λ table. table.roles.items };
+
+    ghost invariant = { λ table. IsFrameTable table.ledger table.roles.items };
+}
+
+fn role_at(roles: &[Role], frame: Frame) -> Role
+    requires { frame < length roles.now }
+    ensures { slice_get roles.now frame ≡ Some result }
+{
+    let index = frame.0 as usize;
+    roles[index]
+}
+
+fn after_release(role: Role) -> Role
+    ensures { result ≡ released role }
+{
+    match role {
+        Role::Page { count } if count > 1 => Role::Page { count: count - 1 },
+        _ => Role::Free,
+    }
+}
+
+impl FrameTable {
+    /// A table of the frames 0 to `frames` - 1: frame 0 is reserved, and all others are free.
+    ///
+    /// BadSize where `frames` is outside 16 to 4,096, and else NoMemory where there is no memory.
+    pub fn new(alloc: Global, frames: u32) -> Result<FrameTable, TableFault>
+        ensures roles { IfOk result (λ table. table ≡ opening_roles frames) }
+        ensures bad_size { IsErrOf result TableFault.BadSize ↔ (FEWEST_FRAMES ≤ frames → frames ≤ MOST_FRAMES → ⊥) }
+    {
+        let ledger = Ledger::new(alloc, frames)?;
+        match vec![in alloc; Role::Free; frames as usize] {
+            Ok(mut roles) => {
+                roles[0] = Role::Reserved;
+                Ok(FrameTable { ledger, roles })
+            }
+            Err(_) => Err(TableFault::NoMemory),
+        }
+    }
+
+    /// Gives a free frame, whichever it is, a role: a directory, a table, or a page with one holder.
+    /// None exactly where no frame is free.
+    pub fn take(&mut self, role: Role) -> Option<Frame>
+        requires { CanBeTaken role }
+        ensures found { IfSome result (λ frame. IsTaken self.old frame role self.new) }
+        ensures none { IsNone result ↔ (free_frames self.old ≡ 0) }
+        ensures kept { IsNone result → (self.new ≡ self.old) }
+    {
+        let free = self.ledger.take()?;
+        self.roles[free.0 as usize] = role;
+        Some(free)
+    }
+
+    /// Counts one holder more of a page, which has fewer than 4,294,967,295.
+    pub fn hold(&mut self, frame: Frame)
+        requires { IsPageBelow self.old frame 4294967295 }
+        ensures { IsHeld self.old frame self.new }
+    {
+        if let Role::Page { count } = role_at(&self.roles, frame) {
+            self.roles[frame.0 as usize] = Role::Page { count: count + 1 };
+        }
+    }
+
+    /// Counts one holder less of a page, which is free once it has none, and frees a directory or a
+    /// table. Says whether the frame is free now.
+    pub fn release(&mut self, frame: Frame) -> bool
+        requires { IsInUse self.old frame }
+        ensures role { IsReleased self.old frame self.new }
+        ensures freed { IsTrue result ↔ (slice_get self.new frame ≡ Some Role.Free) }
+    {
+        let was = role_at(&self.roles, frame);
+        let role = after_release(was);
+        self.roles[frame.0 as usize] = role;
+        let freed = role == Role::Free;
+        if freed {
+            self.ledger.put_back(frame);
+        }
+        freed
+    }
+
+    /// The role of a frame, one of 0 to n - 1.
+    pub fn role(&self, frame: Frame) -> Role
+        requires { frame < length self.now }
+        ensures { slice_get self.now frame ≡ Some result }
+    {
+        role_at(&self.roles, frame)
+    }
+
+    /// How many frames are free.
+    pub fn free_count(&self) -> u32
+        ensures { result ≡ free_frames self.now }
+    {
+        self.ledger.free_count()
+    }
+
+    /// There are 16 to 4,096 frames, of which frame 0 is reserved. With what the frames in use weigh,
+    /// the free ones are at least as many as there are frames.
+    pub fn within(&self)
+        ensures fewest { FEWEST_FRAMES ≤ length self.now }
+        ensures most { length self.now ≤ MOST_FRAMES }
+        ensures reserved { slice_get self.now 0 ≡ Some Role.Reserved }
+        ensures weighed { length self.now ≤ free_frames self.now + frames_weight self.now }
+    {
+        self.ledger.within();
+        let _ = &self.roles;
+    }
+}
+
+/// What each call leaves of the sum of weights, where a free frame weighs 0, a page as much as it has
+/// holders, and every other frame 1; and where each page has a holder, the free frames and the weights
+/// together are at least as many as there are frames.
+pub fn weights_add_up()
+    ensures taken { TakingAddsTheRole }
+    ensures held { HoldingAddsOne }
+    ensures released { ReleasingTakesOne }
+    ensures covered { FreeOrWeighed }
+{}
+
+#[cfg(test)]
+mod tests {
+    use super::*;
+    use std::test::Fail;
+
+    const PAGE: Role = Role::Page { count: 1 };
+
+    #[test]
+    fn gives_each_frame_once(rt: HostRuntime) -> Result<(), Fail> {
+        let mut table = FrameTable::new(rt.alloc(), 16)?;
+        table.within();
+        assert_eq!(rt; table.free_count(), 15);
+        for _ in 0..15 {
+            let frame = table.take(PAGE).ok_or("a frame is free")?;
+            assert_eq!(rt; table.role(frame), PAGE);
+        }
+        assert_eq!(rt; table.free_count(), 0);
+        assert_eq!(rt; table.take(PAGE), None);
+        Ok(())
+    }
+
+    #[test]
+    fn frees_a_page_with_its_last_holder(rt: HostRuntime) -> Result<(), Fail> {
+        let mut table = FrameTable::new(rt.alloc(), 16)?;
+        let frame = table.take(PAGE).ok_or("a frame is free")?;
+        assert_eq!(rt; table.role(frame), PAGE);
+        table.hold(frame);
+        assert_eq!(rt; table.role(frame), Role::Page { count: 2 });
+        assert!(rt; !table.release(frame));
+        assert_eq!(rt; table.role(frame), PAGE);
+        assert!(rt; table.release(frame));
+        assert_eq!(rt; table.role(frame), Role::Free);
+        assert_eq!(rt; table.free_count(), 15);
+        Ok(())
+    }
+
+    #[test]
+    fn frees_a_directory_and_a_table(rt: HostRuntime) -> Result<(), Fail> {
+        let pid = Pid::new(1).ok_or("1 is below 64")?;
+        let mut table = FrameTable::new(rt.alloc(), 16)?;
+        for role in [Role::Directory { pid }, Role::Table { pid, slot: 256 }] {
+            let frame = table.take(role).ok_or("a frame is free")?;
+            assert_eq!(rt; table.role(frame), role);
+            assert!(rt; table.release(frame));
+        }
+        assert_eq!(rt; table.free_count(), 15);
+        weights_add_up();
+        Ok(())
+    }
+
+    #[test]
+    fn refuses_other_sizes(rt: HostRuntime) {
+        for (frames, fault) in [
+            (15, Some(TableFault::BadSize)),
+            (16, None),
+            (4096, None),
+            (4097, Some(TableFault::BadSize)),
+        ] {
+            assert_eq!(rt; FrameTable::new(rt.alloc(), frames).err(), fault);
+        }
+    }
+}

@@ -1,0 +1,2 @@
+pub mod FreeFrames
+pub mod Marks

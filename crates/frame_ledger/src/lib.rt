@@ -1,0 +1,166 @@
+//! Which frames of physical memory are free.
+//!
+//! A contract sees a ledger as the finite set of its free frames beside the number of frames that it
+//! was made for. Frame 0 is never free.
+#![tactic(auto)]
+
+ghost use Rattle.std.specs.Prelude.{◌≡◌, ℕ, ◌<◌, ◌≤◌, ◌↔◌, true, false, IsTrue, IfOk, IsErrOf, IfSome, IsNone, position, count_by};
+ghost use Rattle.page_words.specs.FiniteSet as set;
+ghost use Rattle.frame_ledger.specs.FreeFrames.{opening, IsFree, IsTaken, with_free};
+
+use page_words::Frame;
+use std::alloc::Global;
+use std::marker::Model;
+
+/// The fewest frames that a ledger is made for.
+pub const FEWEST_FRAMES: u32 = 16;
+
+/// The most frames that a ledger is made for.
+pub const MOST_FRAMES: u32 = 4096;
+
+/// Why there is no ledger.
+#[derive(Clone, Copy, Debug, PartialEq, Eq)]
+pub enum LedgerFault {
+    /// The number of frames is below 16 or above 4,096.
+    BadSize,
+    /// There was no memory for the ledger.
+    NoMemory,
+}
+
+/// The free frames among the frames 0 to n - 1.
+#[derive(Debug, Drop)]
+pub struct Ledger {
+    free: Vec<bool>,
+}
+
+impl Model for Ledger {
+    ghost use Rattle.frame_ledger.specs.FreeFrames.{FreeFrames, free_frames_code};
+
+    ghost Value = { FreeFrames };
+
+    ghost coded = { free_frames_code };
+
+    ghost use Rattle.frame_ledger.specs.Marks.{seen_as, IsLedger};
+
+    ghost view = { λ ledger. seen_as ledger.free.items };
+
+    ghost invariant = { λ ledger. IsLedger ledger.free.items };
+}
+
+fn first_marked(marks: &[bool]) -> Option<usize>
+    ensures { result ≡ position (λ mark. mark) marks.now }
+{
+    marks.iter().position(|mark| *mark)
+}
+
+impl Ledger {
+    /// A ledger for the frames 0 to `frames` - 1, in which all but frame 0 are free.
+    ///
+    /// BadSize where `frames` is outside 16 to 4,096, and else NoMemory where there is no memory.
+    pub fn new(alloc: Global, frames: u32) -> Result<Ledger, LedgerFault>
+        ensures ledger { IfOk result (λ ledger. ledger ≡ opening frames) }
+        ensures size { IfOk result (λ ledger. ledger.frames ≡ frames) }
+        ensures bad_size { IsErrOf result LedgerFault.BadSize ↔ (FEWEST_FRAMES ≤ frames → frames ≤ MOST_FRAMES → ⊥) }
+    {
+        if frames < FEWEST_FRAMES || frames > MOST_FRAMES {
+            return Err(LedgerFault::BadSize);
+        }
+        match vec![in alloc; true; frames as usize] {
+            Ok(mut free) => {
+                free[0] = false;
+                Ok(Ledger { free })
+            }
+            Err(_) => Err(LedgerFault::NoMemory),
+        }
+    }
+
+    /// Takes a free frame, whichever it is. None exactly where none is free.
+    pub fn take(&mut self) -> Option<Frame>
+        ensures taken { IfSome result (λ frame. IsTaken self.old frame self.new) }
+        ensures within { IfSome result (λ frame. (1 ≤ frame) × (frame < self.old.frames)) }
+        ensures gone { IfSome result (λ frame. set.contains self.new.free frame ≡ false) }
+        ensures none { IsNone result ↔ (set.len self.old.free ≡ 0) }
+        ensures kept { IsNone result → (self.new ≡ self.old) }
+    {
+        let frame = first_marked(&self.free)?;
+        self.free[frame] = false;
+        Some(Frame(frame as u32))
+    }
+
+    /// Makes a frame free. It is one of 1 to n - 1, and isn't free.
+    pub fn put_back(&mut self, frame: Frame)
+        requires not_reserved { 1 ≤ frame }
+        requires within { frame < self.old.frames }
+        requires in_use { set.contains self.old.free frame ≡ false }
+        ensures { self.new ≡ with_free self.old frame }
+    {
+        let index = frame.0 as usize;
+        self.free[index] = true;
+    }
+
+    /// Whether a frame, one of 0 to n - 1, is free.
+    pub fn is_free(&self, frame: Frame) -> bool
+        requires { frame < self.now.frames }
+        ensures { result ≡ set.contains self.now.free frame }
+    {
+        self.free[frame.0 as usize]
+    }
+
+    /// How many frames are free: 0 to n - 1.
+    pub fn free_count(&self) -> u32
+        ensures { result ≡ set.len self.now.free }
+    {
+        self.free.iter().filter(|mark| **mark).count() as u32
+    }
+
+    /// There are 16 to 4,096 frames, and each that is free is one of 1 to n - 1.
+    pub fn within(&self)
+        ensures fewest { FEWEST_FRAMES ≤ self.now.frames }
+        ensures most { self.now.frames ≤ MOST_FRAMES }
+        ensures free { (frame : ℕ) → IsFree self.now frame → (1 ≤ frame) × (frame < self.now.frames) }
+    {
+        let _ = &self.free;
+    }
+}
+
+#[cfg(test)]
+mod tests {
+    use super::*;
+    use std::test::Fail;
+
+    #[test]
+    fn takes_each_frame_once(rt: HostRuntime) -> Result<(), Fail> {
+        let mut ledger = Ledger::new(rt.alloc(), 16)?;
+        assert_eq!(rt; ledger.free_count(), 15);
+        for _ in 0..15 {
+            let frame = ledger.take().ok_or("a frame is free")?;
+            assert!(rt; !ledger.is_free(frame));
+        }
+        assert_eq!(rt; ledger.free_count(), 0);
+        assert_eq!(rt; ledger.take(), None);
+        Ok(())
+    }
+
+    #[test]
+    fn takes_again_what_was_put_back(rt: HostRuntime) -> Result<(), Fail> {
+        let mut ledger = Ledger::new(rt.alloc(), 16)?;
+        let frame = ledger.take().ok_or("a frame is free")?;
+        ledger.put_back(frame);
+        assert!(rt; ledger.is_free(frame));
+        assert_eq!(rt; ledger.free_count(), 15);
+        ledger.within();
+        Ok(())
+    }
+
+    #[test]
+    fn refuses_other_sizes(rt: HostRuntime) {
+        for (frames, fault) in [
+            (15, Some(LedgerFault::BadSize)),
+            (16, None),
+            (4096, None),
+            (4097, Some(LedgerFault::BadSize)),
+        ] {
+            assert_eq!(rt; Ledger::new(rt.alloc(), frames).err(), fault);
+        }
+    }
+}

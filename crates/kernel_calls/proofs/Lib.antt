@@ -1,0 +1,3 @@
+pub mod Charges
+pub mod Plans
+pub mod Roots

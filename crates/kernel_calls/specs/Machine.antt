@@ -1,0 +1,66 @@
+-- The machine: the answer to an event, the next state, and runs.
+use Rattle.std.proofs.Common.{ℕ, Bool, true, false, if◌then◌else◌, List, [], ◌∷◌, Option, Some, None}
+use Rattle.kernel_calls.specs.State.{State, open_with, is_live}
+use Rattle.kernel_calls.specs.Calls.{map_refusal, unmap_refusal, plan_of, loaded, after_load, after_store, after_map, after_unmap}
+use Rattle.table_walk.specs.declared.Access.TheVariants.{Read, Write}
+use Rattle.kernel_calls.specs.declared.calls.Cause.{Cause}
+use Rattle.kernel_calls.specs.declared.calls.Cause.TheVariants as cause
+use Rattle.kernel_calls.specs.declared.calls.Plan.{Plan}
+use Rattle.kernel_calls.specs.declared.calls.Plan.TheVariants as plan
+use Rattle.kernel_calls.specs.declared.calls.Call.{Call}
+use Rattle.kernel_calls.specs.declared.calls.Call.TheVariants as call
+use Rattle.kernel_calls.specs.declared.calls.Event.{Event}
+use Rattle.kernel_calls.specs.declared.calls.Reply.{Reply}
+use Rattle.kernel_calls.specs.declared.calls.Reply.TheVariants as reply
+
+-- a refusal where there is a cause, and else this reply
+abbrev pub refused_or : Option Cause → Reply → Reply
+refused_or (Some cause) otherwise = reply.Refused cause
+refused_or None otherwise = otherwise
+
+-- the reply to an access: its refusal or fault, and else this one
+abbrev pub planned_or : Plan → Reply → Reply
+planned_or (plan.Refused cause) otherwise = reply.Refused cause
+planned_or (plan.Fault fault) otherwise = reply.Fault fault.addr fault.code
+planned_or plan.Complete otherwise = otherwise
+planned_or plan.MapZero otherwise = otherwise
+
+-- the reply to a call of a live process
+abbrev pub answer_of : State → ℕ → Call → Reply
+answer_of s p (call.Load addr size) = planned_or (plan_of s p addr size Read) (reply.Value (loaded s p addr size))
+answer_of s p (call.Store addr size value) = planned_or (plan_of s p addr size Write) reply.Done
+answer_of s p (call.Map page write) = refused_or (map_refusal s p page) reply.Done
+answer_of s p (call.Unmap page) = refused_or (unmap_refusal s p page) reply.Done
+
+-- the reply to an event
+abbrev pub answer : State → Event → Reply
+answer s e = if is_live s e.pid then answer_of s e.pid e.call else reply.Refused cause.NoProcess
+
+-- the state after a call that is neither refused nor a fault
+abbrev pub after : State → ℕ → Call → State
+after s p (call.Load addr size) = after_load s p addr
+after s p (call.Store addr size value) = after_store s p addr size value
+after s p (call.Map page write) = after_map s p page write
+after s p (call.Unmap page) = after_unmap s p page
+
+-- neither a refusal nor a fault
+abbrev pub completes : Reply → Bool
+completes (reply.Refused _) = false
+completes (reply.Fault _ _) = false
+completes _ = true
+
+-- the state after an event: a refusal or a fault changes nothing
+abbrev pub next : State → Event → State
+next s e = if completes (answer s e) then after s e.pid e.call else s
+
+-- ---- Runs
+
+-- the answer to each event, in order
+abbrev pub answers : State → List Event → List Reply
+answers s [] = []
+answers s (e ∷ events) = answer s e ∷ answers (next s e) events
+
+-- the last state
+abbrev pub end_of : State → List Event → State
+end_of s [] = s
+end_of s (e ∷ events) = end_of (next s e) events

@@ -1,0 +1,7 @@
+pub mod Steps
+pub mod WordLaws
+pub mod PageLemmas
+pub mod MapSteps
+pub mod MapChanges
+pub mod LawProofs
+pub mod MarkProofs

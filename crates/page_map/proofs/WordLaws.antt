@@ -1,0 +1,136 @@
+-- What the words that are written say.
+use Rattle.std.proofs.Common.{◌≡◌, ◌≢◌, ℕ, ◌-◌, ◌^◌, ◌<◌, ◌≤◌, Bool, true, false, refl, ap, sym, ◌∙◌, arith}
+use Rattle.std.specs.Prelude.{Some}
+use Rattle.std.proofs.lemmas.Nat.{or_lt, and_le_l}
+use Rattle.std.proofs.Math.Pow.{pow-lt}
+use Rattle.page_words.specs.Words.{flag, with_flag, with_frame as word_with_frame, frame_number, is_present, is_writable, is_accessed, is_dirty, has_may, NamesPage, NamesTable}
+use Rattle.page_words.proofs.Flags.{flag-with_flag_same, flag-with_flag_other, flag-with_frame, frame-with_flag, frame-with_frame}
+use Rattle.page_map.specs.declared.PageEntry.{PageEntry}
+use Rattle.page_map.specs.Entries.{entry_from, entry_word, link_word, word_table, word_entry}
+
+-- a flag that was set before another one still reads
+kept : (w k j : ℕ) (b c : Bool) → k < 32 → j < 32 → j ≢ k → flag w j ≡ c → flag (with_flag w k b) j ≡ c
+kept w k j b c h i n e = flag-with_flag_other w k j b h i n ∙ e
+
+pub entry_word-present : (e : PageEntry) → is_present (entry_word e) ≡ true
+entry_word-present e =
+    kept _ 6 0 e.dirty true (omega arith) (omega arith) (omega arith)
+    (kept _ 5 0 e.accessed true (omega arith) (omega arith) (omega arith)
+    (kept _ 9 0 e.may true (omega arith) (omega arith) (omega arith)
+    (kept _ 1 0 e.write true (omega arith) (omega arith) (omega arith)
+    (kept _ 2 0 true true (omega arith) (omega arith) (omega arith)
+    (flag-with_flag_same (word_with_frame 0 e.frame) 0 true (omega arith))))))
+
+with_flag_lt : (w k : ℕ) (b : Bool) → w < 2 ^ 32 → k < 32 → with_flag w k b < 2 ^ 32
+with_flag_lt w k true h i = or_lt 32 w (2 ^ k) h (pow-lt i)
+with_flag_lt w k false h i = omega (arith, and_le_l w (2 ^ 32 - 1 - 2 ^ k))
+
+-- a word and the frame that it names, in turn
+record Keeps (w f : ℕ) : Type 0 where
+  pub small : w < 2 ^ 32
+  pub frame : frame_number w ≡ f
+
+keeps : (w f k : ℕ) (b : Bool) → k < 12 → Keeps w f → Keeps (with_flag w k b) f
+keeps w f k b h r =
+    let l : with_flag w k b < 2 ^ 32 = with_flag_lt w k b r.small (omega arith) in
+    record { small = l; frame = frame-with_flag w k b r.small l h ∙ r.frame }
+
+entry_word-keeps : (e : PageEntry) → e.frame < 2 ^ 20 → Keeps (entry_word e) e.frame
+entry_word-keeps e h =
+    keeps _ _ 6 e.dirty (omega arith) (keeps _ _ 5 e.accessed (omega arith) (keeps _ _ 9 e.may (omega arith)
+    (keeps _ _ 1 e.write (omega arith) (keeps _ _ 2 true (omega arith) (keeps _ _ 0 true (omega arith)
+    (record { small = omega arith; frame = frame-with_frame 0 e.frame }))))))
+
+pub entry_from-entry_word : (e : PageEntry) → e.frame < 2 ^ 20 → entry_from (entry_word e) ≡ e
+entry_from-entry_word e h =
+    let write : is_writable (entry_word e) ≡ e.write =
+    kept _ 6 1 e.dirty e.write (omega arith) (omega arith) (omega arith)
+    (kept _ 5 1 e.accessed e.write (omega arith) (omega arith) (omega arith)
+    (kept _ 9 1 e.may e.write (omega arith) (omega arith) (omega arith) (flag-with_flag_same _ 1 e.write (omega arith)))) in
+    let may : has_may (entry_word e) ≡ e.may =
+    kept _ 6 9 e.dirty e.may (omega arith) (omega arith) (omega arith)
+    (kept _ 5 9 e.accessed e.may (omega arith) (omega arith) (omega arith) (flag-with_flag_same _ 9 e.may (omega arith))) in
+    let accessed : is_accessed (entry_word e) ≡ e.accessed =
+    kept _ 6 5 e.dirty e.accessed (omega arith) (omega arith) (omega arith) (flag-with_flag_same _ 5 e.accessed (omega arith)) in
+    let dirty : is_dirty (entry_word e) ≡ e.dirty = flag-with_flag_same _ 6 e.dirty (omega arith) in
+    let frame = (entry_word-keeps e h).frame in
+    rw (frame, write, may, accessed, dirty) refl
+
+pub entry_word-lt : (e : PageEntry) → e.frame < 2 ^ 20 → entry_word e < 2 ^ 32
+entry_word-lt e h = (entry_word-keeps e h).small
+
+pub word_entry-entry_word : (e : PageEntry) → e.frame < 2 ^ 20 → word_entry (entry_word e) ≡ Some e
+word_entry-entry_word e h = rw (entry_word-present e, entry_from-entry_word e h) refl
+
+-- a flag that an entry doesn't set
+entry_flag : (e : PageEntry) (j : ℕ) → j < 12 → j ≢ 0 → j ≢ 1 → j ≢ 2 → j ≢ 5 → j ≢ 6 → j ≢ 9 → flag 0 j ≡ false → flag (entry_word e) j ≡ false
+entry_flag e j l a b c d f g z =
+    kept _ 6 j e.dirty false (omega arith) (omega arith) f
+    (kept _ 5 j e.accessed false (omega arith) (omega arith) d
+    (kept _ 9 j e.may false (omega arith) (omega arith) g
+    (kept _ 1 j e.write false (omega arith) (omega arith) b
+    (kept _ 2 j true false (omega arith) (omega arith) c
+    (kept _ 0 j true false (omega arith) (omega arith) a
+    (flag-with_frame 0 e.frame j l ∙ z))))))
+
+pub entry_word-names : (e : PageEntry) → e.frame < 2 ^ 20 → 1 ≤ e.frame → (e.write ≡ true → e.may ≡ true) → (e.dirty ≡ true → e.accessed ≡ true) → NamesPage (entry_word e)
+entry_word-names e h o right touched =
+    let from = entry_from-entry_word e h in
+    record {
+      frame = omega (arith, (entry_word-keeps e h).frame);
+      present = entry_word-present e;
+      user =
+          kept _ 6 2 e.dirty true (omega arith) (omega arith) (omega arith)
+          (kept _ 5 2 e.accessed true (omega arith) (omega arith) (omega arith)
+          (kept _ 9 2 e.may true (omega arith) (omega arith) (omega arith)
+          (kept _ 1 2 e.write true (omega arith) (omega arith) (omega arith)
+          (flag-with_flag_same _ 2 true (omega arith)))));
+      bit_3 = entry_flag e 3 (omega arith) (omega arith) (omega arith) (omega arith) (omega arith) (omega arith) (omega arith) refl;
+      bit_4 = entry_flag e 4 (omega arith) (omega arith) (omega arith) (omega arith) (omega arith) (omega arith) (omega arith) refl;
+      bit_7 = entry_flag e 7 (omega arith) (omega arith) (omega arith) (omega arith) (omega arith) (omega arith) (omega arith) refl;
+      bit_8 = entry_flag e 8 (omega arith) (omega arith) (omega arith) (omega arith) (omega arith) (omega arith) (omega arith) refl;
+      bit_10 = entry_flag e 10 (omega arith) (omega arith) (omega arith) (omega arith) (omega arith) (omega arith) (omega arith) refl;
+      bit_11 = entry_flag e 11 (omega arith) (omega arith) (omega arith) (omega arith) (omega arith) (omega arith) (omega arith) refl;
+      right = λ w. ap (λ (x : PageEntry). x.may) from ∙ right (sym (ap (λ (x : PageEntry). x.write) from) ∙ w);
+      touched = λ d. ap (λ (x : PageEntry). x.accessed) from ∙ touched (sym (ap (λ (x : PageEntry). x.dirty) from) ∙ d);
+    }
+
+link_keeps : (t : ℕ) → t < 2 ^ 20 → Keeps (link_word t) t
+link_keeps t h =
+    keeps _ _ 2 true (omega arith) (keeps _ _ 1 true (omega arith) (keeps _ _ 0 true (omega arith)
+    (record { small = omega arith; frame = frame-with_frame 0 t })))
+
+pub link_word-lt : (t : ℕ) → t < 2 ^ 20 → link_word t < 2 ^ 32
+link_word-lt t h = (link_keeps t h).small
+
+pub link_word-present : (t : ℕ) → is_present (link_word t) ≡ true
+link_word-present t =
+    kept _ 2 0 true true (omega arith) (omega arith) (omega arith)
+    (kept _ 1 0 true true (omega arith) (omega arith) (omega arith)
+    (flag-with_flag_same (word_with_frame 0 t) 0 true (omega arith)))
+
+pub word_table-link_word : (t : ℕ) → t < 2 ^ 20 → word_table (link_word t) ≡ Some t
+word_table-link_word t h = rw (link_word-present t, (link_keeps t h).frame) refl
+
+link_flag : (t j : ℕ) → j < 12 → j ≢ 0 → j ≢ 1 → j ≢ 2 → flag 0 j ≡ false → flag (link_word t) j ≡ false
+link_flag t j l a b c z =
+    kept _ 2 j true false (omega arith) (omega arith) c
+    (kept _ 1 j true false (omega arith) (omega arith) b
+    (kept _ 0 j true false (omega arith) (omega arith) a
+    (flag-with_frame 0 t j l ∙ z)))
+
+pub link_word-names : (t : ℕ) → t < 2 ^ 20 → 1 ≤ t → NamesTable (link_word t)
+link_word-names t h o = record {
+  frame = omega (arith, (link_keeps t h).frame);
+  present = link_word-present t;
+  writable = kept _ 2 1 true true (omega arith) (omega arith) (omega arith) (flag-with_flag_same _ 1 true (omega arith));
+  user = flag-with_flag_same _ 2 true (omega arith);
+  bit_3 = link_flag t 3 (omega arith) (omega arith) (omega arith) (omega arith) refl;
+  bit_4 = link_flag t 4 (omega arith) (omega arith) (omega arith) (omega arith) refl;
+  bit_6 = link_flag t 6 (omega arith) (omega arith) (omega arith) (omega arith) refl;
+  bit_7 = link_flag t 7 (omega arith) (omega arith) (omega arith) (omega arith) refl;
+  bit_8 = link_flag t 8 (omega arith) (omega arith) (omega arith) (omega arith) refl;
+  bit_9 = link_flag t 9 (omega arith) (omega arith) (omega arith) (omega arith) refl;
+  bit_10 = link_flag t 10 (omega arith) (omega arith) (omega arith) (omega arith) refl;
+  bit_11 = link_flag t 11 (omega arith) (omega arith) (omega arith) (omega arith) refl;
+}

@@ -1,0 +1,7 @@
+use Rattle.std.proofs.Common.{◌≡◌, ℕ, ◌<◌, ◌≤◌, false}
+use Rattle.page_words.specs.Words.{is_present}
+use Rattle.phys_memory.specs.Bytes.{frame_bytes, word_in}
+use Rattle.page_map.proofs.next_present.Given as goal
+
+abbrev pub invariant-loop-index : goal.invariant-loop-index
+invariant-loop-index l = (i : ℕ) → l.fn.first ≤ i → i < l.index → is_present (word_in (frame_bytes l.memory l.fn.table) i) ≡ false

@@ -1,0 +1,20 @@
+use Rattle.std.proofs.Common.{◌≡◌, is_some, sym, ◌∙◌, arith}
+use Rattle.phys_memory.specs.Bytes.{frame_bytes}
+use Rattle.page_map.specs.Entries.{entry_at}
+use Rattle.page_map.proofs.PageLemmas.{count_range-zero, count_slot, count_end, len-entries_of}
+use Rattle.page_map.proofs.pages.Goals as goal
+
+pub loop-slot-init : goal.loop-slot-init
+loop-slot-init c = (sym (count_range-zero _ 0x40000), omega arith)
+
+pub loop-slot-preserved : goal.loop-slot-preserved
+loop-slot-preserved c = (
+  count_slot (λ page. is_some (entry_at (frame_bytes c.args.memory.now) c.args.directory page)) c.loop-slot.slot c.loop-slot.pages c.pages_of_slot-pages.result c.loop-slot.auto.slot c.loop-slot.invariant.0 c.pages_of_slot-pages.ensures.count,
+  omega (arith, c.loop-slot.invariant.1, c.loop-slot.auto.slot, c.pages_of_slot-pages.ensures.bound),
+)
+
+pub returns : goal.returns
+returns c =
+    let end : c.loop-slot.slot ≡ 960 = omega arith in
+    count_end (λ page. is_some (entry_at (frame_bytes c.args.memory.now) c.args.directory page)) c.loop-slot.slot c.loop-slot.pages end c.loop-slot.invariant.0
+    ∙ sym (len-entries_of (frame_bytes c.args.memory.now) c.args.directory)

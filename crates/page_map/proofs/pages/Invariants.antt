@@ -1,0 +1,8 @@
+use Rattle.std.proofs.Common.{◌≡◌, ◌-◌, ◌*◌, ◌≤◌, is_some}
+use Rattle.phys_memory.specs.Bytes.{frame_bytes}
+use Rattle.page_map.specs.Entries.{entry_at}
+use Rattle.page_map.specs.Pages.{count_range}
+use Rattle.page_map.proofs.pages.Given as goal
+
+abbrev pub invariant-loop-slot : goal.invariant-loop-slot
+invariant-loop-slot l = (l.pages ≡ count_range (λ page. is_some (entry_at (frame_bytes l.memory) l.fn.directory page)) 0x40000 (1024 * (l.slot - 256))) × (l.pages ≤ 1024 * (l.slot - 256))

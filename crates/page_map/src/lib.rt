@@ -1,0 +1,391 @@
+//! One process's page map: a directory and its tables in memory, as a finite map from pages to entries.
+//!
+//! The words are those of the Intel SDM, volume 3, chapter on paging, 32-bit paging; bit 9 of a table
+//! word, which a processor ignores, is this kernel's own. Each call asks that the directory and its
+//! tables lie in memory, are distinct frames, and hold words that the kernel writes. Pages and slots are
+//! those of the user range. No call changes a frame that is neither the directory nor one of its tables.
+#![tactic(auto)]
+
+ghost use Rattle.std.specs.Prelude.{◌≡◌, ◌≢◌, ℕ, ◌+◌, ◌*◌, ◌<◌, ◌≤◌, ◌^◌, true, false, is_some, Some, None, IfSome, IfNone, length};
+ghost use Rattle.page_words.specs.Words.{is_present, frame_number};
+ghost use Rattle.page_words.specs.Addresses.{slot_number, IsUserPage};
+ghost use Rattle.page_words.specs.FiniteMap as map;
+ghost use Rattle.phys_memory.specs.Bytes.{frame_bytes, word_in, with_word_in, with_frame};
+ghost use Rattle.page_map.specs.Entries.{IsPageMap, IsForeign, IsFreshTable, IsKernelEntry, IsCleared, dir_word, table_of, entry_at, word_entry, entry_word, with_entry, with_table, link_word};
+ghost use Rattle.page_map.specs.Laws.{EntriesAreTheWords, EntriesAreUserPages, EntriesReadBack, EntryWordsAreKernelWords, TablesReadBack, LinkWordsAreKernelWords, BlankFramesAreMaps, BlankFramesMapNothing, WalksReadEntries, MarksTouchEntries};
+ghost use Rattle.page_map.specs.Pages.{entries_of, is_mapped, counted, count_range};
+
+use page_words::{DirWord, Frame, Page, TableWord, index_of, slot_of};
+use phys_memory::{FRAME_BYTES, Memory};
+
+/// The first slot of the user range.
+const FIRST_SLOT: u32 = 256;
+
+/// The slot behind the last one of the user range.
+const SLOT_END: u32 = 960;
+
+/// What a page map says of a page.
+#[derive(Clone, Copy, Debug, PartialEq, Eq)]
+pub struct PageEntry {
+    /// The frame that holds the page's bytes.
+    pub frame: Frame,
+    /// Whether the process may write to the page now.
+    pub write: bool,
+    /// Whether the process may make the page writable.
+    pub may: bool,
+    /// Whether the page was read or written.
+    pub accessed: bool,
+    /// Whether the page was written.
+    pub dirty: bool,
+}
+
+fn word_of(entry: PageEntry) -> u32
+    requires { entry.frame < 2 ^ 20 }
+    ensures { result ≡ entry_word entry }
+{
+    let mut word = TableWord::read(0);
+    word.set_frame(entry.frame);
+    word.set_present(true);
+    word.set_user(true);
+    word.set_writable(entry.write);
+    word.set_may(entry.may);
+    word.set_accessed(entry.accessed);
+    word.set_dirty(entry.dirty);
+    word.word()
+}
+
+fn linking(table: Frame) -> u32
+    requires { table < 2 ^ 20 }
+    ensures { result ≡ link_word table }
+{
+    let mut word = DirWord::read(0);
+    word.set_frame(table);
+    word.set_present(true);
+    word.set_writable(true);
+    word.set_user(true);
+    word.word()
+}
+
+/// The word of an index of a frame.
+#[tactic(auto, using(crate::proofs::Steps::word_read))]
+fn word(memory: &Memory, frame: Frame, index: u32) -> u32
+    requires inside { 4096 * frame + 4096 ≤ length memory.now }
+    requires index { index < 1024 }
+    ensures { result ≡ word_in (frame_bytes memory.now frame) index }
+{
+    let frames = memory.frames();
+    prove!(frame.0 < frames);
+    memory.read_word(frame.0 as usize * FRAME_BYTES + index as usize * 4)
+}
+
+/// Writes the word of an index of a frame.
+fn set_word(memory: &mut Memory, frame: Frame, index: u32, word: u32)
+    requires inside { 4096 * frame + 4096 ≤ length memory.old }
+    requires index { index < 1024 }
+    ensures frames { frame_bytes memory.new ≡ with_frame (frame_bytes memory.old) frame (with_word_in (frame_bytes memory.old frame) index word) }
+    ensures length { length memory.new ≡ length memory.old }
+{
+    let frames = memory.frames();
+    prove!(frame.0 < frames);
+    memory.write_word(frame.0 as usize * FRAME_BYTES + index as usize * 4, word);
+}
+
+/// The table of a slot.
+fn table(memory: &Memory, directory: Frame, slot: u32) -> Option<Frame>
+    requires inside { 4096 * directory + 4096 ≤ length memory.now }
+    requires slot { slot < 1024 }
+    ensures { result ≡ table_of (frame_bytes memory.now) directory slot }
+{
+    let word = DirWord::read(word(memory, directory, slot));
+    if word.present() {
+        Some(word.frame())
+    } else {
+        None
+    }
+}
+
+/// The entry of a word of a table.
+fn word_entry(memory: &Memory, table: Frame, index: u32) -> Option<PageEntry>
+    requires inside { 4096 * table + 4096 ≤ length memory.now }
+    requires index { index < 1024 }
+    ensures { result ≡ word_entry (word_in (frame_bytes memory.now table) index) }
+{
+    let word = TableWord::read(word(memory, table, index));
+    if word.present() {
+        Some(PageEntry {
+            frame: word.frame(),
+            write: word.writable(),
+            may: word.may(),
+            accessed: word.accessed(),
+            dirty: word.dirty(),
+        })
+    } else {
+        None
+    }
+}
+
+/// The entry of a page, or None where it is not mapped.
+#[tactic(auto, using(crate::proofs::PageLemmas::entry_of_map))]
+pub fn entry(memory: &Memory, directory: Frame, page: Page) -> Option<PageEntry>
+    requires user { IsUserPage page }
+    requires map { IsPageMap memory.now directory }
+    ensures words { result ≡ entry_at (frame_bytes memory.now) directory page }
+    ensures entry { result ≡ map.get (entries_of (frame_bytes memory.now) directory) page }
+{
+    let table = table(memory, directory, slot_of(page))?;
+    word_entry(memory, table, index_of(page))
+}
+
+/// Whether a slot of the directory has a table, which may be empty.
+pub fn has_table(memory: &Memory, directory: Frame, slot: u32) -> bool
+    requires slot { slot < 1024 }
+    requires map { IsPageMap memory.now directory }
+    ensures { result ≡ is_some (table_of (frame_bytes memory.now) directory slot) }
+{
+    table(memory, directory, slot).is_some()
+}
+
+fn store_table(memory: &mut Memory, directory: Frame, slot: u32, table: Frame)
+    requires slot { slot < 1024 }
+    requires map { IsPageMap memory.old directory }
+    requires inside { 4096 * table + 4096 ≤ length memory.old }
+    requires apart { table ≢ directory }
+    ensures frames { frame_bytes memory.new ≡ with_table (frame_bytes memory.old) directory slot table }
+    ensures length { length memory.new ≡ length memory.old }
+    ensures few { table < 2 ^ 20 }
+{
+    let frames = memory.frames();
+    prove!(table.0 < frames);
+    memory.zero_frame(table);
+    set_word(memory, directory, slot, linking(table));
+}
+
+/// Makes a frame zero and links it as the table of a slot. No page is mapped by it yet.
+///
+/// The map stays a map, with the entries that it had, where the slot had no table and the frame is none
+/// of the map's and not frame 0.
+pub fn link_table(memory: &mut Memory, directory: Frame, slot: u32, table: Frame)
+    requires slot { slot < 1024 }
+    requires map { IsPageMap memory.old directory }
+    requires inside { 4096 * table + 4096 ≤ length memory.old }
+    requires apart { table ≢ directory }
+    ensures frames { frame_bytes memory.new ≡ with_table (frame_bytes memory.old) directory slot table }
+    ensures length { length memory.new ≡ length memory.old }
+    ensures entries { IsFreshTable (frame_bytes memory.old) directory slot table → entries_of (frame_bytes memory.new) directory ≡ entries_of (frame_bytes memory.old) directory }
+    ensures map { IsFreshTable (frame_bytes memory.old) directory slot table → IsPageMap memory.new directory }
+    ensures foreign { (frame : ℕ) → IsForeign (frame_bytes memory.old) directory frame → frame ≢ table → frame_bytes memory.new frame ≡ frame_bytes memory.old frame }
+{
+    store_table(memory, directory, slot, table);
+}
+
+fn store_entry(memory: &mut Memory, directory: Frame, page: Page, entry: PageEntry)
+    requires user { IsUserPage page }
+    requires frame { entry.frame < 2 ^ 20 }
+    requires map { IsPageMap memory.old directory }
+    requires table { is_present (dir_word (frame_bytes memory.old) directory (slot_number page)) ≡ true }
+    ensures frames { frame_bytes memory.new ≡ with_entry (frame_bytes memory.old) (frame_number (dir_word (frame_bytes memory.old) directory (slot_number page))) page entry }
+    ensures length { length memory.new ≡ length memory.old }
+{
+    if let Some(table) = table(memory, directory, slot_of(page)) {
+        set_word(memory, table, index_of(page), word_of(entry));
+    }
+}
+
+/// Sets a page's entry. The slot of the page must have a table.
+///
+/// The map stays a map where the entry is one that the kernel writes: its frame is not frame 0, `write`
+/// is set only with `may`, and `dirty` only with `accessed`.
+pub fn set_entry(memory: &mut Memory, directory: Frame, page: Page, entry: PageEntry)
+    requires user { IsUserPage page }
+    requires frame { entry.frame < 2 ^ 20 }
+    requires map { IsPageMap memory.old directory }
+    requires table { is_present (dir_word (frame_bytes memory.old) directory (slot_number page)) ≡ true }
+    ensures frames { frame_bytes memory.new ≡ with_entry (frame_bytes memory.old) (frame_number (dir_word (frame_bytes memory.old) directory (slot_number page))) page entry }
+    ensures length { length memory.new ≡ length memory.old }
+    ensures entries { entries_of (frame_bytes memory.new) directory ≡ map.insert (entries_of (frame_bytes memory.old) directory) page entry }
+    ensures map { IsKernelEntry entry → IsPageMap memory.new directory }
+    ensures foreign { (frame : ℕ) → IsForeign (frame_bytes memory.old) directory frame → frame_bytes memory.new frame ≡ frame_bytes memory.old frame }
+{
+    store_entry(memory, directory, page, entry);
+}
+
+/// The least index from a first one on whose word in a table is present.
+fn next_present(memory: &Memory, table: Frame, first: u32) -> Option<u32>
+    requires inside { 4096 * table + 4096 ≤ length memory.now }
+    ensures within { IfSome result (λ index. (first ≤ index) × (index < 1024)) }
+    ensures present { IfSome result (λ index. is_present (word_in (frame_bytes memory.now table) index) ≡ true) }
+    ensures least { IfSome result (λ index. (i : ℕ) → first ≤ i → i < index → is_present (word_in (frame_bytes memory.now table) i) ≡ false) }
+    ensures none { IfNone result ((i : ℕ) → first ≤ i → i < 1024 → is_present (word_in (frame_bytes memory.now table) i) ≡ false) }
+{
+    for index in first..1024 {
+        if TableWord::read(word(memory, table, index)).present() {
+            return Some(index);
+        }
+    }
+    None
+}
+
+fn remove_entry(memory: &mut Memory, directory: Frame, page: Page) -> Option<Frame>
+    requires user { IsUserPage page }
+    requires map { IsPageMap memory.old directory }
+    requires table { is_present (dir_word (frame_bytes memory.old) directory (slot_number page)) ≡ true }
+    ensures cleared { IsCleared (frame_bytes memory.old) directory page result (frame_bytes memory.new) }
+    ensures length { length memory.new ≡ length memory.old }
+{
+    let slot = slot_of(page);
+    let table = table(memory, directory, slot)?;
+    set_word(memory, table, index_of(page), 0);
+    if next_present(memory, table, 0).is_none() {
+        set_word(memory, directory, slot, 0);
+        Some(table)
+    } else {
+        None
+    }
+}
+
+/// Clears a page's entry. Where that was the last entry of its table, it unlinks the table and returns
+/// it; else it returns None. The slot of the page must have a table.
+pub fn clear_entry(memory: &mut Memory, directory: Frame, page: Page) -> Option<Frame>
+    requires user { IsUserPage page }
+    requires map { IsPageMap memory.old directory }
+    requires table { is_present (dir_word (frame_bytes memory.old) directory (slot_number page)) ≡ true }
+    ensures cleared { IsCleared (frame_bytes memory.old) directory page result (frame_bytes memory.new) }
+    ensures length { length memory.new ≡ length memory.old }
+    ensures entries { entries_of (frame_bytes memory.new) directory ≡ map.remove (entries_of (frame_bytes memory.old) directory) page }
+    ensures map { IsPageMap memory.new directory }
+    ensures foreign { (frame : ℕ) → IsForeign (frame_bytes memory.old) directory frame → frame_bytes memory.new frame ≡ frame_bytes memory.old frame }
+{
+    remove_entry(memory, directory, page)
+}
+
+/// 1 where a word of a table is present, and else 0.
+fn word_count(memory: &Memory, table: Frame, index: u32) -> u32
+    requires inside { 4096 * table + 4096 ≤ length memory.now }
+    requires index { index < 1024 }
+    ensures count { result ≡ counted (is_present (word_in (frame_bytes memory.now table) index)) }
+    ensures bound { result ≤ 1 }
+{
+    if TableWord::read(word(memory, table, index)).present() {
+        1
+    } else {
+        0
+    }
+}
+
+/// How many words of a table are present.
+fn words_present(memory: &Memory, table: Frame) -> u32
+    requires inside { 4096 * table + 4096 ≤ length memory.now }
+    ensures count { result ≡ count_range (λ i. is_present (word_in (frame_bytes memory.now table) i)) 0 1024 }
+    ensures bound { result ≤ 1024 }
+{
+    let mut count = 0;
+    for index in 0..1024 {
+        count += word_count(memory, table, index);
+    }
+    count
+}
+
+/// How many pages of a slot are mapped.
+fn pages_of_slot(memory: &Memory, directory: Frame, slot: u32) -> u32
+    requires slot { slot < 1024 }
+    requires map { IsPageMap memory.now directory }
+    ensures count { result ≡ count_range (λ page. is_some (entry_at (frame_bytes memory.now) directory page)) (1024 * slot) 1024 }
+    ensures bound { result ≤ 1024 }
+{
+    match table(memory, directory, slot) {
+        Some(table) => words_present(memory, table),
+        None => 0,
+    }
+}
+
+/// The number of mapped pages, 0 to 720,896.
+pub fn pages(memory: &Memory, directory: Frame) -> u32
+    requires { IsPageMap memory.now directory }
+    ensures { result ≡ map.len (entries_of (frame_bytes memory.now) directory) }
+{
+    let mut pages = 0;
+    for slot in FIRST_SLOT..SLOT_END {
+        pages += pages_of_slot(memory, directory, slot);
+    }
+    pages
+}
+
+/// The least mapped page of a slot from a first page on.
+fn next_in_slot(memory: &Memory, directory: Frame, slot: u32, first: u32) -> Option<u32>
+    requires slot { slot < 1024 }
+    requires map { IsPageMap memory.now directory }
+    ensures within { IfSome result (λ page. (first ≤ page) × (1024 * slot ≤ page) × (page < 1024 * slot + 1024)) }
+    ensures mapped { IfSome result (λ page. is_some (entry_at (frame_bytes memory.now) directory page) ≡ true) }
+    ensures least { IfSome result (λ page. (p : ℕ) → first ≤ p → 1024 * slot ≤ p → p < page → is_some (entry_at (frame_bytes memory.now) directory p) ≡ false) }
+    ensures none { IfNone result ((p : ℕ) → first ≤ p → 1024 * slot ≤ p → p < 1024 * slot + 1024 → is_some (entry_at (frame_bytes memory.now) directory p) ≡ false) }
+{
+    let table = table(memory, directory, slot)?;
+    let index = next_present(memory, table, first.saturating_sub(slot * 1024))?;
+    Some(slot * 1024 + index)
+}
+
+/// The least mapped page from a first page of the user range on.
+fn next_entry(memory: &Memory, directory: Frame, first: u32) -> Option<u32>
+    requires first { 0x40000 ≤ first }
+    requires map { IsPageMap memory.now directory }
+    ensures within { IfSome result (λ page. (first ≤ page) × (page < 0xf0000)) }
+    ensures mapped { IfSome result (λ page. is_some (entry_at (frame_bytes memory.now) directory page) ≡ true) }
+    ensures least { IfSome result (λ page. (p : ℕ) → first ≤ p → p < page → is_some (entry_at (frame_bytes memory.now) directory p) ≡ false) }
+    ensures none { IfNone result ((p : ℕ) → first ≤ p → p < 0xf0000 → is_some (entry_at (frame_bytes memory.now) directory p) ≡ false) }
+{
+    for slot in first / 1024..SLOT_END {
+        if let Some(page) = next_in_slot(memory, directory, slot, first) {
+            return Some(page);
+        }
+    }
+    None
+}
+
+/// The least mapped page that is not below `from`, or None where there is none. `from` may be any page.
+pub fn next_page(memory: &Memory, directory: Frame, from: Page) -> Option<Page>
+    requires { IsPageMap memory.now directory }
+    ensures mapped { IfSome result (λ page. is_mapped (frame_bytes memory.now) directory page ≡ true) }
+    ensures user { IfSome result IsUserPage }
+    ensures from { IfSome result (λ page. from ≤ page) }
+    ensures least { IfSome result (λ page. (other : ℕ) → from ≤ other → other < page → is_mapped (frame_bytes memory.now) directory other ≡ false) }
+    ensures none { IfNone result ((other : ℕ) → from ≤ other → is_mapped (frame_bytes memory.now) directory other ≡ false) }
+{
+    let page = next_entry(memory, directory, from.0.max(FIRST_SLOT * 1024))?;
+    Some(Page(page))
+}
+
+/// The finite map of a directory has at each page of the user range what the page's two words say, and
+/// nothing at any other page.
+pub fn entries_are_the_words()
+    ensures user { EntriesAreTheWords }
+    ensures other { EntriesAreUserPages }
+{}
+
+/// The words that `set_entry` and `link_table` write read back, and are words that the kernel writes.
+pub fn words_read_back()
+    ensures entries { EntriesReadBack }
+    ensures entry_words { EntryWordsAreKernelWords }
+    ensures tables { TablesReadBack }
+    ensures table_words { LinkWordsAreKernelWords }
+{}
+
+/// A blank frame is a directory that maps no page.
+pub fn blank_frames_map_nothing()
+    ensures map { BlankFramesAreMaps }
+    ensures entries { BlankFramesMapNothing }
+{}
+
+/// A processor's walk of a page map ends as the entry of the page says: at its frame, or in the fault
+/// that the missing entry or the missing right makes.
+pub fn walks_read_entries()
+    ensures { WalksReadEntries }
+{}
+
+/// A mark of an access on a page map changes the page's entry, which is then accessed, and for a write
+/// dirty. The map stays a map, and each foreign frame keeps its bytes.
+pub fn marks_touch_entries()
+    ensures { MarksTouchEntries }
+{}
+
+#[cfg(test)]
+mod tests;

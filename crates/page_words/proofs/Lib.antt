@@ -1,0 +1,4 @@
+pub mod Flags
+pub mod MapLemmas
+pub mod SetLemmas
+pub mod Marks

@@ -1,0 +1,143 @@
+-- Which numbers a list of truth values marks, and how many.
+use Rattle.std.proofs.Common.{◌≡◌, ◌≢◌, ℕ, zero, suc, ◌+◌, ◌<◌, ◌≤◌, inl, inr, Bool, true, false, cond, ◌&&◌, ◌||◌, not, List, [], ◌∷◌, length, replicate, get_or, refl, sym, ap, ◌∙◌, arith, count_by, Some, None}
+use Rattle.std.specs.Prelude.{position, slice_set, nat_lt}
+use Rattle.std.specs.List.{position_or_len, range_with_len}
+use Rattle.std.proofs.lemmas.List.{get_or-set_same, get_or-set_other}
+use Rattle.std.proofs.lemmas.List.Sums.{sum_by-cons}
+use Rattle.std.proofs.lemmas.List.Quantifiers.{position-Some}
+use Rattle.std.proofs.lemmas.Bool.{cases_lt}
+use Rattle.std.proofs.lemmas.Bool.Decides.{nat_tests}
+use Rattle.page_words.specs.FiniteMap.{nat_order, same}
+use Rattle.page_words.specs.FiniteSet as set
+use Rattle.page_words.specs.FiniteSet.{Set}
+use Rattle.page_words.specs.Marked.{marked_from, marked}
+use Rattle.page_words.proofs.MapLemmas.{contains-insert, len-insert, same_itself, same_set}
+use Rattle.page_words.proofs.SetLemmas.{contains-remove, same_cases, contains-no_members}
+
+contains-one_more : (mark : Bool) (s : Set nat_order) (k q : ℕ) → set.contains (cond mark (set.insert s k) s) q ≡ ((mark && same nat_order q k) || set.contains s q)
+contains-one_more true s k q = contains-insert s k q
+contains-one_more false s k q = refl
+
+apart : (q k : ℕ) → q ≢ k → same nat_order q k ≡ false
+apart q k n = elim (same_cases nat_order q k) [ inl h ↦ absurd (n h.0) | inr h ↦ h.1 ]
+
+and_false : (b : Bool) → (b && false) ≡ false
+and_false true = refl
+and_false false = refl
+
+and_true : (b : Bool) → ((b && true) || false) ≡ b
+and_true true = refl
+and_true false = refl
+
+pub contains-below : (start : ℕ) (marks : List Bool) (q : ℕ) → q < start → set.contains (marked_from start marks) q ≡ false
+contains-below start [] q h = refl
+contains-below start (mark ∷ marks) q h =
+    let rest = contains-below (start + 1) marks q (omega arith) in
+    let other : q ≢ start = omega arith in
+    contains-one_more mark (marked_from (start + 1) marks) start q
+    ∙ (λ i. (mark && apart q start other i) || rest i)
+    ∙ ap (λ b. b || false) (and_false mark)
+
+contains-at : (start : ℕ) (marks : List Bool) (i q : ℕ) → q ≡ start + i → set.contains (marked_from start marks) q ≡ get_or marks i false
+contains-at start [] i q e = refl
+contains-at start (mark ∷ marks) zero q e =
+    let is : q ≡ start = omega arith in
+    let none = contains-below (start + 1) marks q (omega arith) in
+    contains-one_more mark (marked_from (start + 1) marks) start q
+    ∙ (λ i. (mark && (ap (λ k. same nat_order q k) (sym is) ∙ same_itself nat_order q) i) || none i)
+    ∙ and_true mark
+contains-at start (mark ∷ marks) (suc i) q e =
+    let other : q ≢ start = omega arith in
+    contains-one_more mark (marked_from (start + 1) marks) start q
+    ∙ ap (λ b. (mark && b) || set.contains (marked_from (start + 1) marks) q) (apart q start other)
+    ∙ ap (λ b. b || set.contains (marked_from (start + 1) marks) q) (and_false mark)
+    ∙ contains-at (start + 1) marks i q (omega arith)
+
+-- a number is marked exactly where the list is true at it
+pub contains-marked : (marks : List Bool) (q : ℕ) → set.contains (marked marks) q ≡ get_or marks q false
+unfolding marked
+contains-marked marks q = contains-at 0 marks q q (omega arith)
+
+one_more : (mark : Bool) (s : Set nat_order) (k : ℕ) → set.contains s k ≡ false → set.len (cond mark (set.insert s k) s) ≡ cond mark 1 0 + set.len s
+one_more true s k none = len-insert s k tt ∙ ap (λ b. cond b (set.len s) (set.len s + 1)) none ∙ (omega arith)
+one_more false s k none = omega arith
+
+len-marked_from : (start : ℕ) (marks : List Bool) → set.len (marked_from start marks) ≡ count_by (λ mark. mark) marks
+len-marked_from start [] = refl
+len-marked_from start (mark ∷ marks) =
+    one_more mark (marked_from (start + 1) marks) start (contains-below (start + 1) marks start (omega arith))
+    ∙ ap (λ n. cond mark 1 0 + n) (len-marked_from (start + 1) marks)
+    ∙ sym (sum_by-cons (λ b. cond b 1 0) mark marks)
+
+-- as many numbers are marked as the list is true at
+pub len-marked : (marks : List Bool) → set.len (marked marks) ≡ count_by (λ mark. mark) marks
+unfolding marked
+len-marked marks = len-marked_from 0 marks
+
+-- a run of marked numbers
+pub marked_from-replicate : (start n : ℕ) → marked_from start (replicate n true) ≡ set.from_list (range_with_len start n)
+marked_from-replicate start zero = refl
+marked_from-replicate start (suc n) = ap (λ s. set.insert s start) (marked_from-replicate (start + 1) n)
+
+-- one mark more
+pub marked-set_true : (marks : List Bool) (f : ℕ) → f < length marks → marked (slice_set marks f true) ≡ set.insert (marked marks) f
+marked-set_true marks f h = same_set (marked (slice_set marks f true)) (set.insert (marked marks) f) each
+  where
+    each : (q : ℕ) → set.contains (marked (slice_set marks f true)) q ≡ set.contains (set.insert (marked marks) f) q
+    each q =
+        contains-marked (slice_set marks f true) q
+        ∙ elim (same_cases nat_order q f) [
+          | inl is ↦ ap (λ k. get_or (slice_set marks f true) k false) is.0 ∙ get_or-set_same marks f true false h ∙ ap (λ b. b || set.contains (marked marks) q) (sym is.1)
+          | inr other ↦ get_or-set_other marks f q true false other.0 ∙ sym (contains-marked marks q) ∙ ap (λ b. b || set.contains (marked marks) q) (sym other.1)
+        ]
+        ∙ sym (contains-insert (marked marks) f q)
+
+-- one mark less
+pub marked-set_false : (marks : List Bool) (f : ℕ) → f < length marks → marked (slice_set marks f false) ≡ set.remove (marked marks) f
+marked-set_false marks f h = same_set (marked (slice_set marks f false)) (set.remove (marked marks) f) each
+  where
+    each : (q : ℕ) → set.contains (marked (slice_set marks f false)) q ≡ set.contains (set.remove (marked marks) f) q
+    each q =
+        contains-marked (slice_set marks f false) q
+        ∙ elim (same_cases nat_order q f) [
+          | inl is ↦ ap (λ k. get_or (slice_set marks f false) k false) is.0 ∙ get_or-set_same marks f false false h ∙ ap (λ b. not b && set.contains (marked marks) q) (sym is.1)
+          | inr other ↦ get_or-set_other marks f q false false other.0 ∙ sym (contains-marked marks q) ∙ ap (λ b. not b && set.contains (marked marks) q) (sym other.1)
+        ]
+        ∙ sym (contains-remove (marked marks) f q)
+
+none_marked : (marks : List Bool) → length marks ≤ position_or_len (λ mark. mark) marks → count_by (λ mark. mark) marks ≡ 0
+none_marked [] h = refl
+none_marked (true ∷ marks) h = absurd (omega arith)
+none_marked (false ∷ marks) h = let rest = none_marked marks (omega arith) in omega (arith, sum_by-cons (λ b. cond b 1 0) false marks)
+
+-- where no mark is found, no number is marked
+pub len-position_None : (marks : List Bool) → position (λ mark. mark) marks ≡ None → set.len (marked marks) ≡ 0
+len-position_None marks h = elim (cases_lt (position_or_len (λ mark. mark) marks) (length marks)) [
+  | inl below ↦ absurd (let t : nat_lt (position_or_len (λ mark. mark) marks) (length marks) ≡ true = grind (arith, nat_tests) in let e : Some (position_or_len (λ mark. mark) marks) ≡ None = ap (λ b. cond b (Some (position_or_len (λ mark. mark) marks)) None) (sym t) ∙ h in cc)
+  | inr rest ↦ len-marked marks ∙ none_marked marks (omega arith)
+]
+
+-- where a mark is found, it is marked
+pub contains-position_Some : (marks : List Bool) (f : ℕ) → position (λ mark. mark) marks ≡ Some f → set.contains (marked marks) f ≡ true
+contains-position_Some marks f h = contains-marked marks f ∙ (position-Some (λ mark. mark) marks f false h).1
+
+pub len-contains : (marks : List Bool) (f : ℕ) → set.contains (marked marks) f ≡ true → set.len (marked marks) ≢ 0
+len-contains marks f h none = let e : true ≡ false = sym h ∙ contains-no_members (marked marks) none f in cc
+
+pub within-position_Some : (marks : List Bool) (f : ℕ) → position (λ mark. mark) marks ≡ Some f → f < length marks
+within-position_Some marks f h = (position-Some (λ mark. mark) marks f false h).0
+
+-- a list that isn't true at 0 marks numbers from 1 to its length less 1
+pub contains-within : (marks : List Bool) (f : ℕ) → get_or marks 0 false ≡ false → set.contains (marked marks) f ≡ true → (1 ≤ f) × (f < length marks)
+contains-within marks f reserved member =
+    let marks_it : get_or marks f false ≡ true = sym (contains-marked marks f) ∙ member in
+    (first f marks_it, below marks f marks_it)
+  where
+    first : (f : ℕ) → get_or marks f false ≡ true → 1 ≤ f
+    first zero h = let e : false ≡ true = sym reserved ∙ h in cc
+    first (suc f) h = omega arith
+
+    below : (marks : List Bool) (f : ℕ) → get_or marks f false ≡ true → f < length marks
+    below [] f h = cc
+    below (mark ∷ marks) zero h = omega arith
+    below (mark ∷ marks) (suc f) h = let l = below marks f h in omega arith

@@ -1,0 +1,59 @@
+-- What is left after a removal, and how many members a set has.
+use Rattle.std.proofs.Common.{◌≡◌, ◌≢◌, ◌+◌, ◌⊎◌, inl, inr, Bool, true, false, cond, not, ◌&&◌, List, [], ◌∷◌, length, is_some, refl, sym, ap, ◌∙◌, Option, None, arith}
+use Rattle.std.specs.Ordering.{eq_by_cmp}
+use Rattle.std.specs.Cmp.{eq_by_cmp_equiv}
+use Rattle.std.specs.FinMap.Entries.{find, length_without}
+use Rattle.page_words.specs.FiniteMap as map
+use Rattle.page_words.specs.FiniteMap.{Order, Map, same}
+use Rattle.page_words.specs.FiniteSet as set
+use Rattle.page_words.specs.FiniteSet.{Set}
+use Rattle.page_words.proofs.MapLemmas.{get-retain_keys, same_itself, same_or_not, same_set}
+
+negated : {A : Type 0} (b : Bool) (x y : A) → cond (not b) x y ≡ cond b y x
+negated true x y = refl
+negated false x y = refl
+
+module _ {K : Type 0} (o : Order K) where
+  pub same_sym : (x y : K) → same o x y ≡ same o y x
+  same_sym x y = (eq_by_cmp_equiv o.total).symm x y
+
+  -- the two cases, with what each says of the keys and of the test
+  pub same_cases : (x y : K) → ((x ≡ y) × (same o x y ≡ true)) ⊎ ((x ≢ y) × (same o x y ≡ false))
+  same_cases x y = elim (same_or_not o x y) [
+    | inl h ↦ inl h
+    | inr h ↦ inr (λ e. (let t : true ≡ false = sym (ap (same o x) (sym e) ∙ same_itself o x) ∙ h in cc), h)
+  ]
+
+module _ {K X : Type 0} {o : Order K} where
+  pub get-remove : (m : Map o X) (k q : K) → map.get (map.remove m k) q ≡ cond (same o q k) None (map.get m q)
+  get-remove m k q =
+      get-retain_keys m (λ j. not (eq_by_cmp o.cmp k j)) q
+      ∙ negated (same o k q) _ _
+      ∙ ap (λ b. cond b None (map.get m q)) (same_sym o k q)
+
+  pub len_before_remove : (m : Map o X) (k : K) → cond (map.contains_key m k) 1 0 + map.len (map.remove m k) ≡ map.len m
+  len_before_remove m k = length_without o.cmp o.total k m.entries m.sorted
+
+module _ {K : Type 0} (o : Order K) where
+  nothing : (q : K) (es : List (K × Unit {0})) → length es ≡ 0 → is_some (find o.cmp q es) ≡ false
+  nothing q [] h = refl
+  nothing q (e ∷ es) h = absurd (omega arith)
+
+module _ {K : Type 0} {o : Order K} where
+  pub contains-remove : (s : Set o) (k q : K) → set.contains (set.remove s k) q ≡ (not (same o q k) && set.contains s q)
+  contains-remove s k q = ap is_some (get-remove s k q) ∙ by (same o q k) _
+    where
+      by : (b : Bool) (x : Option (Unit {0})) → is_some (cond b None x) ≡ (not b && is_some x)
+      by true x = refl
+      by false x = refl
+
+  -- what was removed is gone
+  pub contains-removed : (s : Set o) (k : K) → set.contains (set.remove s k) k ≡ false
+  contains-removed s k = contains-remove s k k ∙ ap (λ b. not b && set.contains s k) (same_itself o k)
+
+  -- a set of no members has none, and only such a set
+  pub contains-no_members : (s : Set o) → set.len s ≡ 0 → (q : K) → set.contains s q ≡ false
+  contains-no_members s h q = nothing o q s.entries h
+
+  pub len-no_members : (s : Set o) → ((q : K) → set.contains s q ≡ false) → set.len s ≡ 0
+  len-no_members s none = ap set.len (same_set s set.empty none)

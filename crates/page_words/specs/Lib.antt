@@ -1,0 +1,6 @@
+pub mod Addresses
+pub mod Codes
+pub mod FiniteMap
+pub mod FiniteSet
+pub mod Marked
+pub mod Words

@@ -1,0 +1,225 @@
+//! The simulated physical memory of a machine: 16 to 4,096 frames of 4,096 bytes, as one list of
+//! bytes. Frame f is the bytes from place 4,096 f on.
+//!
+//! Words have four bytes, the lowest first, as the Intel SDM, volume 3, stores the entries of its
+//! paging structures. The laws at the end say what each write leaves of every word and every frame,
+//! and compute nothing.
+#![tactic(auto, unfolding(crate::specs::Bytes::blank_bytes, crate::specs::Bytes::word_at, crate::specs::Bytes::with_word, crate::specs::Bytes::frame_bytes, crate::specs::Bytes::with_frame_bytes))]
+
+ghost use Rattle.std.specs.Prelude.{◌≡◌, ◌+◌, ◌*◌, ◌<◌, ◌≤◌, ◌↔◌, ◌⊎◌, IfOk, length, replicate, slice_index, slice_set};
+ghost use Rattle.phys_memory.specs.Bytes.{blank_bytes, word_at, with_word, frame_bytes, with_frame_bytes};
+ghost use Rattle.phys_memory.specs.Bytes.{WordsReadBack, WordsStandApart, BytesStandApart, WordsFit};
+ghost use Rattle.phys_memory.specs.Bytes.{WordsChangeFrames, BytesChangeFrames, FramesChangeAlone};
+ghost use Rattle.phys_memory.specs.Bytes.{FramesBeginBlank, FramesEnd, BytesLieInFrames, WordsLieInFrames, BlankWords};
+ghost use Rattle.phys_memory.specs.Bytes.{FramesAreWhole, WordsKeepLengths, FramesKeepLengths};
+
+use byteorder::{ByteOrder, LittleEndian};
+use page_words::Frame;
+use std::alloc::Global;
+use std::marker::Model;
+
+/// How many bytes a frame has.
+pub const FRAME_BYTES: usize = 4096;
+
+/// The least number of frames of a memory.
+pub const MIN_FRAMES: u32 = 16;
+
+/// The greatest number of frames of a memory.
+pub const MAX_FRAMES: u32 = 4096;
+
+/// Why there is no memory.
+#[derive(Clone, Copy, Debug, PartialEq, Eq)]
+pub enum MemoryFault {
+    /// The number of frames is not 16 to 4,096.
+    BadSize,
+    /// The allocator refused the bytes.
+    NoMemory,
+}
+
+/// The memory of a machine of 16 to 4,096 frames. A contract sees the list of its bytes.
+#[derive(Debug, Drop)]
+pub struct Memory {
+    bytes: Vec<u8>,
+    frames: u32,
+}
+
+impl Model for Memory {
+    ghost use Rattle.std.specs.Prelude.{◌≡◌, ℕ, ◌*◌, ◌≤◌, List, length};
+
+    ghost Value = { List ℕ };
+
+    ghost view = { λ m. m.bytes.items };
+
+    ghost invariant = { λ m. (length m.bytes.items ≡ 4096 * m.frames) × (16 ≤ m.frames) × (m.frames ≤ 4096) };
+}
+
+impl Memory {
+    /// A memory of that many frames, all zero. The size is judged first: BadSize where it is not 16
+    /// to 4,096, and else NoMemory where the allocator refuses the bytes.
+    pub fn new(alloc: Global, frames: u32) -> Result<Memory, MemoryFault>
+        ensures zero { IfOk result (λ memory. memory ≡ blank_bytes frames) }
+        ensures length { IfOk result (λ memory. length memory ≡ 4096 * frames) }
+        ensures size { (result ≡ Err MemoryFault.BadSize) ↔ ((frames < 16) ⊎ (4096 < frames)) }
+    {
+        if !(MIN_FRAMES..=MAX_FRAMES).contains(&frames) {
+            return Err(MemoryFault::BadSize);
+        }
+        match vec![in alloc; 0u8; frames as usize * FRAME_BYTES] {
+            Ok(bytes) => Ok(Memory { bytes, frames }),
+            Err(_) => Err(MemoryFault::NoMemory),
+        }
+    }
+
+    /// The number of frames, 16 to 4,096.
+    pub fn frames(&self) -> u32
+        ensures length { length self.now ≡ 4096 * result }
+        ensures least { 16 ≤ result }
+        ensures most { result ≤ 4096 }
+    {
+        self.frames
+    }
+
+    /// All bytes, from place 0 on.
+    pub fn bytes(&self) -> &[u8]
+        ensures { result.now ≡ self.now }
+    {
+        self.bytes.as_slice()
+    }
+
+    /// The byte at a place.
+    pub fn read_byte(&self, place: usize) -> u8
+        requires { place < length self.now }
+        ensures { result ≡ slice_index self.now place }
+    {
+        self.bytes[place]
+    }
+
+    /// Writes the byte at a place.
+    pub fn write_byte(&mut self, place: usize, value: u8)
+        requires { place < length self.old }
+        ensures bytes { self.new ≡ slice_set self.old place value }
+        ensures length { length self.new ≡ length self.old }
+    {
+        self.bytes[place] = value;
+    }
+
+    /// The word in the four bytes from a place on, the lowest byte first. The place is any at which
+    /// four bytes lie in memory.
+    pub fn read_word(&self, place: usize) -> u32
+        requires { place + 4 ≤ length self.now }
+        ensures { result ≡ word_at self.now place }
+    {
+        LittleEndian::read_u32(&self.bytes[place..])
+    }
+
+    /// Writes a word into the four bytes from a place on, the lowest byte first. The place is any at
+    /// which four bytes lie in memory.
+    pub fn write_word(&mut self, place: usize, value: u32)
+        requires { place + 4 ≤ length self.old }
+        ensures bytes { self.new ≡ with_word self.old place value }
+        ensures length { length self.new ≡ length self.old }
+    {
+        LittleEndian::write_u32(&mut self.bytes[place..place + 4], value);
+    }
+
+    /// Makes all 4,096 bytes of a frame zero.
+    pub fn zero_frame(&mut self, frame: Frame)
+        requires { 4096 * frame < length self.old }
+        ensures bytes { self.new ≡ with_frame_bytes self.old frame (replicate 4096 0) }
+        ensures length { length self.new ≡ length self.old }
+    {
+        let start = frame.0 as usize * FRAME_BYTES;
+        fill_with_zeros(&mut self.bytes[start..start + FRAME_BYTES]);
+    }
+
+    /// Copies the 4,096 bytes of one frame to another.
+    pub fn copy_frame(&mut self, from: Frame, to: Frame)
+        requires source { 4096 * from < length self.old }
+        requires target { 4096 * to < length self.old }
+        ensures bytes { self.new ≡ with_frame_bytes self.old to (frame_bytes self.old from) }
+        ensures length { length self.new ≡ length self.old }
+    {
+        let source = from.0 as usize * FRAME_BYTES;
+        let target = to.0 as usize * FRAME_BYTES;
+        self.bytes.copy_within(source..source + FRAME_BYTES, target);
+    }
+}
+
+fn fill_with_zeros(part: &mut [u8])
+    ensures { part.new ≡ replicate (length part.old) 0 }
+{
+    part.fill(0);
+}
+
+/// A word that was written reads back, every word and every byte apart from it is as it was, and four
+/// bytes make a number of 32 bits.
+pub fn words_stand_alone()
+    ensures read_back { WordsReadBack }
+    ensures apart { WordsStandApart }
+    ensures bytes { BytesStandApart }
+    ensures fit { WordsFit }
+{}
+
+/// With memory seen as a function from frames to bytes, each write inside a frame is a change of that
+/// frame alone. The equations are of whole functions, so they speak of frames past the end as well.
+pub fn writes_change_one_frame()
+    ensures word { WordsChangeFrames }
+    ensures byte { BytesChangeFrames }
+    ensures frame { FramesChangeAlone }
+{}
+
+/// What the frames of a memory hold: in a blank memory zeros, past the end nothing, and inside it the
+/// bytes and the words of memory.
+pub fn frames_hold_memory()
+    ensures blank { FramesBeginBlank }
+    ensures past { FramesEnd }
+    ensures bytes { BytesLieInFrames }
+    ensures words { WordsLieInFrames }
+    ensures blank_words { BlankWords }
+{}
+
+/// A frame inside memory has 4,096 bytes, and no write changes the number of bytes.
+pub fn lengths_stay()
+    ensures whole { FramesAreWhole }
+    ensures word { WordsKeepLengths }
+    ensures frame { FramesKeepLengths }
+{}
+
+#[cfg(test)]
+mod tests {
+    use super::*;
+    use std::test::Fail;
+
+    #[test]
+    fn writes_and_copies(rt: HostRuntime) -> Result<(), Fail> {
+        let mut memory = Memory::new(rt.alloc(), 16)?;
+        memory.write_word(0x3ffe, 0x3267);
+        assert_eq!(rt; memory.read_byte(0x3ffe), 0x67);
+        assert_eq!(rt; memory.read_byte(0x3fff), 0x32);
+        assert_eq!(rt; memory.read_byte(0x4000), 0x00);
+        assert_eq!(rt; memory.read_byte(0x4001), 0x00);
+        memory.write_byte(0x4000, 0xab);
+        assert_eq!(rt; memory.read_word(0x3ffe), 0x00ab_3267);
+        memory.copy_frame(Frame(4), Frame(15));
+        assert_eq!(rt; memory.read_byte(0xf000), 0xab);
+        memory.zero_frame(Frame(4));
+        assert_eq!(rt; memory.read_word(0x3ffe), 0x3267);
+        assert_eq!(rt; memory.bytes().len(), 65536);
+        Ok(())
+    }
+
+    #[test]
+    fn has_16_to_4096_frames(rt: HostRuntime) -> Result<(), Fail> {
+        for frames in [0, 15, 4097, u32::MAX] {
+            let refused = matches!(Memory::new(rt.alloc(), frames), Err(MemoryFault::BadSize));
+            assert!(rt; refused, "at {frames}");
+        }
+        for frames in [16, 4096] {
+            let memory = Memory::new(rt.alloc(), frames)?;
+            assert_eq!(rt; memory.frames(), frames);
+            assert_eq!(rt; memory.bytes().len(), frames as usize * FRAME_BYTES);
+            assert!(rt; memory.bytes().iter().all(|byte| *byte == 0));
+        }
+        Ok(())
+    }
+}

@@ -1,0 +1,130 @@
+-- What a close leaves.
+use Rattle.std.proofs.Common.{◌≡◌, ◌≢◌, ℕ, ◌+◌, ◌-◌, ◌<◌, ◌≤◌, ◌⊎◌, inl, inr, true, false, List, length, get_or, is_some, refl, sym, ap, ◌∙◌, Option, Some, None, unwrap_or, arith, subst, length-set}
+use Rattle.std.specs.Prelude.{slice_set}
+use Rattle.std.specs.Option.{option_map}
+use Rattle.page_words.specs.FiniteMap as map
+use Rattle.page_words.specs.FiniteMap.{Map, nat_order, same}
+use Rattle.page_words.proofs.SetLemmas.{same_cases}
+use Rattle.quota_tree.specs.declared.Container.{Container}
+use Rattle.quota_tree.specs.Book.{Member, Book, is_child, given, number_of_children}
+use Rattle.quota_tree.specs.Collected.{collected}
+use Rattle.quota_tree.specs.Containers.{after_close}
+use Rattle.quota_tree.specs.Kept.{member_of, seen_as, IsKept, IsQuotas}
+use Rattle.quota_tree.proofs.CollectedLemmas.{get-collected, collected-set, collected-unset}
+use Rattle.quota_tree.proofs.Sums.{given-remove, number-remove}
+use Rattle.quota_tree.proofs.Views.{is_Some, get-member}
+use Rattle.quota_tree.proofs.Writes.{after_set, insert_same, book-set, child_yes, child_no, get-remove_other, only_if}
+
+-- ---- A close: a process without children goes, and its quota returns to its parent
+
+abbrev pub giver_after_close : Container → ℕ → Container
+giver_after_close g q = record g { given = g.given - q; children = g.children - 1 }
+
+module _ (cs : List (Option Container)) (kept : IsQuotas cs) (k : ℕ) (k_in : k < length cs) (d : Container) (hd : get_or cs k None ≡ Some d)
+    (not_0 : k ≢ 0) (childless : number_of_children (collected member_of cs) k ≡ 0) where
+  abbrev closed_book : Book
+  closed_book = map.remove (collected member_of cs) k
+
+  number_now : (x : ℕ) → number_of_children (collected member_of cs) x ≡ only_if (is_child x (k, member_of d)) 1 + number_of_children closed_book x
+  number_now x = number-remove (collected member_of cs) k (member_of d) (get-member cs k d hd) x
+
+  given_now : (x : ℕ) → given (collected member_of cs) x ≡ only_if (is_child x (k, member_of d)) d.quota + given closed_book x
+  given_now x = given-remove (collected member_of cs) k (member_of d) (get-member cs k d hd) x
+
+  -- nobody's parent is the process that goes
+  parent_other : (x : ℕ) (c : Container) → get_or cs x None ≡ Some c → c.parent ≢ k
+  parent_other x c h e = elim (same_cases nat_order x 0) [
+    | inl is ↦
+        (let m : Some (member_of c) ≡ Some (record { parent = 0; quota = kept.root.quota }) = sym (get-member cs x c h) ∙ ap (map.get (collected member_of cs)) is.0 ∙ kept.root.is in
+        let zero : c.parent ≡ 0 = ap (λ (o : Option Member). unwrap_or (option_map (λ y. y.parent) o) 0) m in
+        not_0 (sym e ∙ zero))
+    | inr other ↦
+        (let a = number-remove (collected member_of cs) x (member_of c) (get-member cs x c h) k in
+        let yes : is_child k (x, member_of c) ≡ true = ap (λ n. is_child n (x, member_of c)) (sym e) ∙ child_yes c.parent x c.quota other.0 in
+        let one : only_if (is_child k (x, member_of c)) 1 ≡ 1 = ap (λ t. only_if t 1) yes in
+        absurd (omega (arith, a, one, childless)))
+  ]
+
+  module _ (g : Container) (hg : get_or cs d.parent None ≡ Some g) (p_in : d.parent < length cs) where
+    closing : given (collected member_of cs) d.parent ≡ d.quota + given closed_book d.parent
+    closing = given_now d.parent ∙ ap (λ t. only_if t d.quota + given closed_book d.parent) (child_yes d.parent k d.quota not_0)
+
+    closing_number : number_of_children (collected member_of cs) d.parent ≡ 1 + number_of_children closed_book d.parent
+    closing_number = number_now d.parent ∙ ap (λ t. only_if t 1 + number_of_children closed_book d.parent) (child_yes d.parent k d.quota not_0)
+
+    pub giver_gave : d.quota ≤ g.given
+    giver_gave = let a = closing in let b = (kept.each d.parent g hg).given in omega arith
+
+    pub giver_has_children : 1 ≤ g.children
+    giver_has_children = let a = closing_number in let b = (kept.each d.parent g hg).children in omega arith
+
+    length_giver : length (slice_set cs d.parent (Some (giver_after_close g d.quota))) ≡ length cs
+    length_giver = length-set cs d.parent (Some (giver_after_close g d.quota))
+
+    book_after_close : collected member_of (slice_set (slice_set cs d.parent (Some (giver_after_close g d.quota))) k None) ≡ closed_book
+    book_after_close =
+        collected-unset member_of (slice_set cs d.parent (Some (giver_after_close g d.quota))) k (omega (arith, length_giver, k_in))
+        ∙ ap (λ b. map.remove b k) (book-set cs kept d.parent p_in g (giver_after_close g d.quota) hg refl)
+
+    pub seen_as-close : seen_as (slice_set (slice_set cs d.parent (Some (giver_after_close g d.quota))) k None) ≡ after_close (seen_as cs) k
+    seen_as-close =
+        let used = collected-unset (λ c. c.used) (slice_set cs d.parent (Some (giver_after_close g d.quota))) k (omega (arith, length_giver, k_in)) in
+        let same_used = collected-set (λ c. c.used) cs d.parent (giver_after_close g d.quota) p_in ∙ insert_same (collected (λ c. c.used) cs) d.parent g.used (get-collected (λ c. c.used) cs d.parent ∙ ap (option_map (λ c. c.used)) hg) in
+        λ i. record { book = book_after_close i; used = (used ∙ ap (λ m. map.remove m k) same_used) i }
+
+    stays_live : (x : ℕ) → x ≢ k → map.contains_key (collected member_of cs) x ≡ true → map.contains_key closed_book x ≡ true
+    stays_live x n h = ap is_some (get-remove_other (collected member_of cs) k x n) ∙ h
+
+    giver_stays : IsKept closed_book d.parent (giver_after_close g d.quota)
+    giver_stays =
+        let old = kept.each d.parent g hg in
+        let a = closing in
+        let b = closing_number in
+        let e = old.given in
+        let f = old.children in
+        let w = old.within in
+        record {
+          parent = stays_live g.parent (parent_other d.parent g hg) old.parent;
+          given = omega (arith, a, e);
+          children = omega (arith, b, f);
+          used = old.used;
+          within = omega (arith, w);
+        }
+
+    other_stays : (x : ℕ) (c : Container) → x ≢ d.parent → get_or cs x None ≡ Some c → IsKept closed_book x c
+    other_stays x c n h =
+        let old = kept.each x c h in
+        let no = child_no d.parent x k d.quota (λ e. n (sym e)) in
+        let a = given_now x in
+        let b = number_now x in
+        let e : only_if (is_child x (k, member_of d)) d.quota ≡ 0 = ap (λ t. only_if t d.quota) no in
+        let f : only_if (is_child x (k, member_of d)) 1 ≡ 0 = ap (λ t. only_if t 1) no in
+        let j = old.given in
+        let l = old.children in
+        record {
+          parent = stays_live c.parent (parent_other x c h) old.parent;
+          given = omega (arith, a, e, j);
+          children = omega (arith, b, f, l);
+          used = old.used;
+          within = old.within;
+        }
+
+    pub quotas-close : IsQuotas (slice_set (slice_set cs d.parent (Some (giver_after_close g d.quota))) k None)
+    quotas-close = record {
+      places = length-set (slice_set cs d.parent (Some (giver_after_close g d.quota))) k None ∙ length_giver ∙ kept.places;
+      root = record {
+        quota = kept.root.quota;
+        is = ap (λ b. map.get b 0) book_after_close ∙ get-remove_other (collected member_of cs) k 0 (λ e. not_0 (sym e)) ∙ kept.root.is;
+      };
+      each = λ x c at. subst (λ (b : Book). IsKept b x c) (sym book_after_close) (new x c (after_set (slice_set cs d.parent (Some (giver_after_close g d.quota))) k None x c (omega (arith, length_giver, k_in)) at));
+    }
+      where
+        kept_at : (x y : ℕ) (c e : Container) → x ≡ y → Some e ≡ Some c → IsKept closed_book y e → IsKept closed_book x c
+        kept_at x y c e i f h = subst (λ (n : ℕ). IsKept closed_book n c) (sym i) (subst (λ (z : Container). IsKept closed_book y z) (is_Some e c f) h)
+
+        new : (x : ℕ) (c : Container) → ((x ≡ k) × (None ≡ Some c)) ⊎ ((x ≢ k) × (get_or (slice_set cs d.parent (Some (giver_after_close g d.quota))) x None ≡ Some c)) → IsKept closed_book x c
+        new x c (inl is) = absurd (let f : false ≡ true = ap is_some is.1 in cc)
+        new x c (inr other) = elim (after_set cs d.parent (Some (giver_after_close g d.quota)) x c p_in other.1) [
+          | inl is ↦ kept_at x d.parent c (giver_after_close g d.quota) is.0 is.1 giver_stays
+          | inr rest ↦ other_stays x c rest.0 rest.1
+        ]

@@ -1,0 +1,6 @@
+mod Closes
+mod CollectedLemmas
+mod Splits
+pub mod Sums
+mod Views
+mod Writes

@@ -1,0 +1,54 @@
+use Rattle.std.proofs.Common.{ap, ◌∙◌}
+use Rattle.page_words.specs.FiniteMap as map
+use Rattle.quota_tree.specs.Book.{number_of_children}
+use Rattle.quota_tree.specs.Containers.{after_close}
+use Rattle.quota_tree.proofs.Closes.{giver_gave, giver_has_children, quotas-close, seen_as-close}
+use Rattle.quota_tree.proofs.Views.{is_some-live, within_places}
+use Rattle.quota_tree.proofs.Quotas.close.Goals as goal
+
+pub live-closed-requires : goal.live-closed-requires
+live-closed-requires c = is_some-live c.self.inside.containers c.args.pid (ap (λ view. map.contains_key view.book c.args.pid) c.self.view_is ∙ c.requires.live)
+
+pub live-giver-requires : goal.live-giver-requires
+live-giver-requires c =
+    let at = c.live-closed.ensures.container in
+    is_some-live c.self.inside.containers c.live-closed.result.parent (c.self.invariant.each c.args.pid c.live-closed.result at).parent
+
+pub overflow_sub-giver : goal.overflow_sub-giver
+overflow_sub-giver c =
+    let cs = c.self.inside.containers in
+    let at = c.live-closed.ensures.container in
+    let giver = c.live-giver.ensures.container in
+    let childless = ap (λ view. number_of_children view.book c.args.pid) c.self.view_is ∙ c.requires.childless in
+    giver_gave cs c.self.invariant c.args.pid (within_places cs c.self.invariant c.args.pid c.live-closed.result at) c.live-closed.result at c.requires.not_root childless
+    c.live-giver.result giver (within_places cs c.self.invariant c.live-closed.result.parent c.live-giver.result giver)
+
+pub overflow_sub-giver-2 : goal.overflow_sub-giver-2
+overflow_sub-giver-2 c =
+    let cs = c.self.inside.containers in
+    let at = c.live-closed.ensures.container in
+    let giver = c.live-giver.ensures.container in
+    let childless = ap (λ view. number_of_children view.book c.args.pid) c.self.view_is ∙ c.requires.childless in
+    giver_has_children cs c.self.invariant c.args.pid (within_places cs c.self.invariant c.args.pid c.live-closed.result at) c.live-closed.result at c.requires.not_root childless
+    c.live-giver.result giver (within_places cs c.self.invariant c.live-closed.result.parent c.live-giver.result giver)
+
+pub invariant_of-self : goal.invariant_of-self
+invariant_of-self c =
+    let cs = c.self.inside.containers in
+    let at = c.live-closed.ensures.container in
+    let giver = c.live-giver.ensures.container in
+    let childless = ap (λ view. number_of_children view.book c.args.pid) c.self.view_is ∙ c.requires.childless in
+    rw (c.put-2.ensures, c.put.ensures)
+    (quotas-close cs c.self.invariant c.args.pid (within_places cs c.self.invariant c.args.pid c.live-closed.result at) c.live-closed.result at c.requires.not_root childless
+    c.live-giver.result giver (within_places cs c.self.invariant c.live-closed.result.parent c.live-giver.result giver))
+
+pub returns : goal.returns
+returns c =
+    let cs = c.self.inside.containers in
+    let at = c.live-closed.ensures.container in
+    let giver = c.live-giver.ensures.container in
+    let childless = ap (λ view. number_of_children view.book c.args.pid) c.self.view_is ∙ c.requires.childless in
+    rw (c.put-2.ensures, c.put.ensures)
+    (seen_as-close cs c.self.invariant c.args.pid (within_places cs c.self.invariant c.args.pid c.live-closed.result at) c.live-closed.result at c.requires.not_root childless
+    c.live-giver.result giver (within_places cs c.self.invariant c.live-closed.result.parent c.live-giver.result giver))
+    ∙ ap (λ view. after_close view c.args.pid) c.self.view_is

@@ -1,0 +1,203 @@
+-- What a split answers, and what it leaves.
+use Rattle.std.proofs.Common.{◌≡◌, ◌≢◌, ℕ, ◌+◌, ◌-◌, ◌<◌, ◌≤◌, ◌⊎◌, inl, inr, Bool, true, false, cond, ◌==◌, List, length, get_or, is_some, refl, sym, ap, ◌∙◌, Option, Some, None, arith, subst, length-set}
+use Rattle.std.specs.Prelude.{slice_set, nat_lt, Ok, Err}
+use Rattle.std.specs.Option.{option_map}
+use Rattle.std.proofs.lemmas.Bool.Decides.{nat_tests}
+use Rattle.page_words.specs.FiniteMap as map
+use Rattle.page_words.specs.FiniteMap.{Map, nat_order, same}
+use Rattle.quota_tree.specs.declared.Container.{Container}
+use Rattle.quota_tree.specs.declared.QuotaFault.TheVariants.{BadQuota, TableFull, NoRoom}
+use Rattle.quota_tree.specs.Book.{Book, is_child, given, number_of_children, next_number}
+use Rattle.quota_tree.specs.Collected.{collected}
+use Rattle.quota_tree.specs.Containers.{Containers, room_of, opened_container, split_answer, fitting, after_split}
+use Rattle.quota_tree.specs.Kept.{member_of, seen_as, IsKept, IsQuotas}
+use Rattle.quota_tree.proofs.CollectedLemmas.{get-collected, collected-set}
+use Rattle.quota_tree.proofs.Sums.{given-insert, number-insert, given-none, number-none, number-given}
+use Rattle.quota_tree.proofs.Views.{is_Some, live-container, parents_live, each_quota, room_of-container, within_places, absent_at}
+use Rattle.quota_tree.proofs.Writes.{after_set, insert_same, book-set, child_yes, child_no, live_and_absent, contains_key-insert, get-insert_other, only_if}
+
+-- ---- What a split answers
+
+pub record CanSplit (c : Containers) (parent quota child : ℕ) : Type 0 where
+  pub some : 1 ≤ quota
+  pub next : next_number c.book ≡ Some child
+  pub room : quota ≤ room_of c parent
+
+module _ (c : Containers) (parent quota : ℕ) where
+  pub split_answer-full : 1 ≤ quota → next_number c.book ≡ None → split_answer c parent quota ≡ Err TableFull
+  split_answer-full some full = let no : (quota == 0) ≡ false = grind (arith, nat_tests) in rw (no, full) refl
+
+  pub split_answer-no_room : (child : ℕ) → 1 ≤ quota → next_number c.book ≡ Some child → room_of c parent < quota → split_answer c parent quota ≡ Err NoRoom
+  split_answer-no_room child some next more =
+      let no : (quota == 0) ≡ false = grind (arith, nat_tests) in
+      let over : nat_lt (room_of c parent) quota ≡ true = grind (arith, nat_tests) in
+      rw (no, next, over) refl
+
+  pub split_answer-ok : (child : ℕ) → CanSplit c parent quota child → split_answer c parent quota ≡ Ok child
+  split_answer-ok child can =
+      let some = can.some in
+      let room = can.room in
+      let no : (quota == 0) ≡ false = grind (arith, nat_tests) in
+      let within : nat_lt (room_of c parent) quota ≡ false = grind (arith, nat_tests) in
+      rw (no, can.next, within) refl
+
+  pub can_split-of_answer : (child : ℕ) → split_answer c parent quota ≡ Ok child → CanSplit c parent quota child
+  can_split-of_answer child h = by (quota == 0) (next_number c.book) refl refl h
+    where
+      by : (b : Bool) (o : Option ℕ) → (quota == 0) ≡ b → next_number c.book ≡ o → cond b (Err BadQuota) (fitting c parent quota o) ≡ Ok child → CanSplit c parent quota child
+      by true o is next e = cc
+      by false None is next e = cc
+      by false (Some k) is next e = room (nat_lt (room_of c parent) quota) refl e
+        where
+          room : (b : Bool) → nat_lt (room_of c parent) quota ≡ b → cond b (Err NoRoom) (Ok k) ≡ Ok child → CanSplit c parent quota child
+          room true over e = cc
+          room false over e = record {
+            some = grind (arith, nat_tests);
+            next = (let same : k ≡ child = cc in next ∙ ap Some same);
+            room = grind (arith, nat_tests);
+          }
+
+-- ---- A split: a parent gives a part of its room to a child that wasn't there
+
+abbrev pub giver_after_split : Container → ℕ → Container
+giver_after_split g q = record g { given = g.given + q; children = g.children + 1 }
+
+module _ (cs : List (Option Container)) (kept : IsQuotas cs) (p k q : ℕ) (p_in : p < length cs) (k_in : k < length cs)
+    (g : Container) (hg : get_or cs p None ≡ Some g) (hk : get_or cs k None ≡ None) (some : 1 ≤ q) (room : q ≤ g.quota - g.used - g.given) where
+  given_first : collected member_of (slice_set cs p (Some (giver_after_split g q))) ≡ collected member_of cs
+  given_first = book-set cs kept p p_in g (giver_after_split g q) hg refl
+
+  absent : map.get (collected member_of cs) k ≡ None
+  absent = get-collected member_of cs k ∙ ap (option_map member_of) hk
+
+  k_not_0 : k ≢ 0
+  k_not_0 e = let f : false ≡ true = ap is_some (sym absent) ∙ ap (map.contains_key (collected member_of cs)) e ∙ ap is_some kept.root.is in cc
+
+  p_not_k : p ≢ k
+  p_not_k = live_and_absent (collected member_of cs) p k (live-container cs p g hg) absent
+
+  abbrev book2 : Book
+  book2 = map.insert (collected member_of cs) k (record { parent = p; quota = q })
+
+  length_first : length (slice_set cs p (Some (giver_after_split g q))) ≡ length cs
+  length_first = length-set cs p (Some (giver_after_split g q))
+
+  book_after_split : collected member_of (slice_set (slice_set cs p (Some (giver_after_split g q))) k (Some (opened_container p q))) ≡ book2
+  book_after_split =
+      collected-set member_of (slice_set cs p (Some (giver_after_split g q))) k (opened_container p q) (omega (arith, length_first, k_in))
+      ∙ ap (λ b. map.insert b k (record { parent = p; quota = q })) given_first
+
+  pub seen_as-split : seen_as (slice_set (slice_set cs p (Some (giver_after_split g q))) k (Some (opened_container p q))) ≡ after_split (seen_as cs) p q k
+  seen_as-split =
+      let used = collected-set (λ c. c.used) (slice_set cs p (Some (giver_after_split g q))) k (opened_container p q) (omega (arith, length_first, k_in)) in
+      let same_used = collected-set (λ c. c.used) cs p (giver_after_split g q) p_in ∙ insert_same (collected (λ c. c.used) cs) p g.used (get-collected (λ c. c.used) cs p ∙ ap (option_map (λ c. c.used)) hg) in
+      λ i. record { book = book_after_split i; used = (used ∙ ap (λ m. map.insert m k 1) same_used) i }
+
+  given2 : (x : ℕ) → given book2 x ≡ only_if (is_child x (k, record { parent = p; quota = q })) q + given (collected member_of cs) x
+  given2 x = given-insert (collected member_of cs) k (record { parent = p; quota = q }) absent x
+
+  number2 : (x : ℕ) → number_of_children book2 x ≡ only_if (is_child x (k, record { parent = p; quota = q })) 1 + number_of_children (collected member_of cs) x
+  number2 x = number-insert (collected member_of cs) k (record { parent = p; quota = q }) absent x
+
+  child_kept : IsKept book2 k (opened_container p q)
+  child_kept =
+      let no = child_no p k k q p_not_k in
+      let a = given2 k in
+      let b = number2 k in
+      let c : only_if (is_child k (k, record { parent = p; quota = q })) q ≡ 0 = ap (λ t. only_if t q) no in
+      let d : only_if (is_child k (k, record { parent = p; quota = q })) 1 ≡ 0 = ap (λ t. only_if t 1) no in
+      let e = given-none (collected member_of cs) k absent (parents_live cs kept) in
+      let f = number-none (collected member_of cs) k absent (parents_live cs kept) in
+      record {
+        parent = contains_key-insert (collected member_of cs) k (record { parent = p; quota = q }) p (live-container cs p g hg);
+        given = omega (arith, a, c, e);
+        children = omega (arith, b, d, f);
+        used = omega arith;
+        within = some;
+      }
+
+  giver_kept : IsKept book2 p (giver_after_split g q)
+  giver_kept =
+      let old = kept.each p g hg in
+      let yes = child_yes p k q k_not_0 in
+      let a = given2 p in
+      let b = number2 p in
+      let c : only_if (is_child p (k, record { parent = p; quota = q })) q ≡ q = ap (λ t. only_if t q) yes in
+      let d : only_if (is_child p (k, record { parent = p; quota = q })) 1 ≡ 1 = ap (λ t. only_if t 1) yes in
+      let e = old.given in
+      let f = old.children in
+      let w = old.within in
+      record {
+        parent = contains_key-insert (collected member_of cs) k (record { parent = p; quota = q }) g.parent old.parent;
+        given = omega (arith, a, c, e);
+        children = omega (arith, b, d, f);
+        used = old.used;
+        within = omega (arith, w, room);
+      }
+
+  other_kept : (x : ℕ) (c : Container) → x ≢ p → get_or cs x None ≡ Some c → IsKept book2 x c
+  other_kept x c n h =
+      let old = kept.each x c h in
+      let no = child_no p x k q (λ e. n (sym e)) in
+      let a = given2 x in
+      let b = number2 x in
+      let d : only_if (is_child x (k, record { parent = p; quota = q })) q ≡ 0 = ap (λ t. only_if t q) no in
+      let e : only_if (is_child x (k, record { parent = p; quota = q })) 1 ≡ 0 = ap (λ t. only_if t 1) no in
+      let f = old.given in
+      let j = old.children in
+      record {
+        parent = contains_key-insert (collected member_of cs) k (record { parent = p; quota = q }) c.parent old.parent;
+        given = omega (arith, a, d, f);
+        children = omega (arith, b, e, j);
+        used = old.used;
+        within = old.within;
+      }
+
+  pub quotas-split : IsQuotas (slice_set (slice_set cs p (Some (giver_after_split g q))) k (Some (opened_container p q)))
+  quotas-split = record {
+    places = length-set (slice_set cs p (Some (giver_after_split g q))) k (Some (opened_container p q)) ∙ length_first ∙ kept.places;
+    root = record {
+      quota = kept.root.quota;
+      is = ap (λ b. map.get b 0) book_after_split ∙ get-insert_other (collected member_of cs) k (record { parent = p; quota = q }) 0 (λ e. k_not_0 (sym e)) ∙ kept.root.is;
+    };
+    each = λ x c at. subst (λ (b : Book). IsKept b x c) (sym book_after_split) (new x c (after_set (slice_set cs p (Some (giver_after_split g q))) k (Some (opened_container p q)) x c (omega (arith, length_first, k_in)) at));
+  }
+    where
+      kept_at : (x y : ℕ) (c d : Container) → x ≡ y → Some d ≡ Some c → IsKept book2 y d → IsKept book2 x c
+      kept_at x y c d e f h = subst (λ (n : ℕ). IsKept book2 n c) (sym e) (subst (λ (z : Container). IsKept book2 y z) (is_Some d c f) h)
+
+      new : (x : ℕ) (c : Container) → ((x ≡ k) × (Some (opened_container p q) ≡ Some c)) ⊎ ((x ≢ k) × (get_or (slice_set cs p (Some (giver_after_split g q))) x None ≡ Some c)) → IsKept book2 x c
+      new x c (inl is) = kept_at x k c (opened_container p q) is.0 is.1 child_kept
+      new x c (inr other) = elim (after_set cs p (Some (giver_after_split g q)) x c p_in other.1) [
+        | inl is ↦ kept_at x p c (giver_after_split g q) is.0 is.1 giver_kept
+        | inr rest ↦ other_kept x c rest.0 rest.1
+      ]
+
+-- the same, from what the split answers
+module _ (cs : List (Option Container)) (kept : IsQuotas cs) (p q k : ℕ) (answer : split_answer (seen_as cs) p q ≡ Ok k) (g : Container) (hg : get_or cs p None ≡ Some g) where
+  can : CanSplit (seen_as cs) p q k
+  can = can_split-of_answer (seen_as cs) p q k answer
+
+  in_room : q ≤ g.quota - g.used - g.given
+  in_room = let a = can.room in omega (arith, a, room_of-container cs kept p g hg)
+
+  pub giver_room : g.given + q ≤ g.quota
+  giver_room = let a = in_room in let w = (kept.each p g hg).within in omega arith
+
+  pub giver_children : g.children + 1 ≤ g.quota
+  giver_children =
+      let some = can.some in
+      let old = kept.each p g hg in
+      let number = old.children in
+      let gives = old.given in
+      omega (arith, some, number, gives, giver_room, number-given (collected member_of cs) (each_quota cs kept) p)
+
+  pub quotas-split_answer : IsQuotas (slice_set (slice_set cs p (Some (giver_after_split g q))) k (Some (opened_container p q)))
+  quotas-split_answer =
+      let absent_there = absent_at cs kept k can.next in
+      quotas-split cs kept p k q (within_places cs kept p g hg) absent_there.0 g hg absent_there.1 can.some in_room
+
+  pub seen_as-split_answer : seen_as (slice_set (slice_set cs p (Some (giver_after_split g q))) k (Some (opened_container p q))) ≡ after_split (seen_as cs) p q k
+  seen_as-split_answer =
+      let absent_there = absent_at cs kept k can.next in
+      seen_as-split cs kept p k q (within_places cs kept p g hg) absent_there.0 g hg absent_there.1 can.some in_room

@@ -1,0 +1,4 @@
+pub mod Book
+pub mod Collected
+pub mod Containers
+pub mod Kept

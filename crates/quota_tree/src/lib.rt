@@ -1,0 +1,317 @@
+//! Containers: how many frames each process may use, and which part of that it has given away.
+//!
+//! Each live process has a container. Its quota is what it may use and give, in frames; what it gives
+//! goes to its children, and comes back when they close. A contract sees the containers as two finite
+//! maps by process: the book (parent and quota) and what each process uses. What a process has given
+//! and how many children it has are sums over the book.
+#![tactic(auto)]
+
+ghost use Rattle.std.specs.Prelude.{◌≡◌, ℕ, ◌+◌, ◌-◌, ◌<◌, ◌≤◌, ◌≢◌, ◌^◌, ◌↔◌, IfSome, None, Ok, IsOk, IsSome, Some, is_some, not, slice_index_or, slice_set, position};
+ghost use Rattle.page_words.specs.FiniteMap as map;
+ghost use Rattle.quota_tree.specs.Book.{Member, given, quota_of, number_of_children};
+ghost use Rattle.quota_tree.specs.Containers.{opening, IsLive, opened_container, room_of, used_of, split_answer, after_split, with_used, after_close, container_of, total_used};
+
+use page_words::Pid;
+use std::marker::Model;
+
+/// What a process may use, and what it uses and gives of that.
+#[derive(Clone, Copy, Debug, PartialEq, Eq)]
+pub struct Container {
+    /// The process that gave the quota; for process 0, itself.
+    pub parent: Pid,
+    /// How many frames the process may use and give in all.
+    pub quota: u32,
+    /// How many frames the process is charged for.
+    pub used: u32,
+    /// The sum of the quotas of its live children.
+    pub given: u32,
+    /// How many live children it has.
+    pub children: u32,
+}
+
+/// Why a process can't have that child.
+#[derive(Clone, Copy, Debug, PartialEq, Eq)]
+pub enum QuotaFault {
+    /// The quota asked is 0.
+    BadQuota,
+    /// All 64 numbers are taken.
+    TableFull,
+    /// The quota asked is more than the parent's room.
+    NoRoom,
+}
+
+/// The containers of all live processes, of which process 0 is one.
+#[derive(Clone, Debug, Drop)]
+pub struct Quotas {
+    containers: [Option<Container>; 64],
+}
+
+impl Model for Quotas {
+    ghost use Rattle.quota_tree.specs.Containers.{Containers, containers_code};
+
+    ghost Value = { Containers };
+
+    ghost coded = { containers_code };
+
+    ghost use Rattle.quota_tree.specs.Kept.{seen_as, IsQuotas};
+
+    ghost view = { λ quotas. seen_as quotas.containers };
+
+    ghost invariant = { λ quotas. IsQuotas quotas.containers };
+}
+
+fn root_pid() -> Pid
+    ensures { result ≡ 0 }
+{
+    Pid::new(0).unwrap()
+}
+
+fn opened(parent: Pid, quota: u32) -> Container
+    ensures { result ≡ opened_container parent quota }
+{
+    Container {
+        parent,
+        quota,
+        used: 1,
+        given: 0,
+        children: 0,
+    }
+}
+
+fn container_at(containers: &[Option<Container>; 64], pid: Pid) -> Option<Container>
+    ensures { result ≡ slice_index_or containers.now pid None }
+{
+    containers[pid.number() as usize]
+}
+
+fn live(containers: &[Option<Container>; 64], pid: Pid) -> Container
+    requires { IsSome (slice_index_or containers.now pid None) }
+    ensures container { slice_index_or containers.now pid None ≡ Some result }
+    ensures fits { result.quota < 2 ^ 32 }
+{
+    container_at(containers, pid).unwrap()
+}
+
+fn put(containers: &mut [Option<Container>; 64], pid: Pid, container: Option<Container>)
+    ensures { containers.new ≡ slice_set containers.old pid container }
+{
+    containers[pid.number() as usize] = container;
+}
+
+fn first_absent(containers: &[Option<Container>; 64]) -> Option<usize>
+    ensures { result ≡ position (λ container. not (is_some container)) containers.now }
+{
+    containers.iter().position(|container| container.is_none())
+}
+
+fn first_number(containers: &[Option<Container>; 64]) -> Option<Pid>
+    ensures { result ≡ position (λ container. not (is_some container)) containers.now }
+{
+    let place = first_absent(containers)?;
+    Pid::new(place as u8)
+}
+
+impl Quotas {
+    /// Process 0 alone, with that quota, of which it uses one frame. The quota is at least 1.
+    pub fn new(root: u32) -> Quotas
+        requires { 1 ≤ root }
+        ensures { result ≡ opening root }
+    {
+        let mut containers = [None; 64];
+        containers[0] = Some(opened(root_pid(), root));
+        Quotas { containers }
+    }
+
+    /// The number that a new child of a live process would have, if it can have one of that quota.
+    ///
+    /// BadQuota where the quota is 0, else TableFull where all 64 numbers are taken, else NoRoom where
+    /// the quota is more than the parent's room.
+    pub fn can_split(&self, parent: Pid, quota: u32) -> Result<Pid, QuotaFault>
+        requires { IsLive self.now parent }
+        ensures { result ≡ split_answer self.now parent quota }
+    {
+        if quota == 0 {
+            return Err(QuotaFault::BadQuota);
+        }
+        let Some(child) = first_number(&self.containers) else {
+            return Err(QuotaFault::TableFull);
+        };
+        if quota > self.room(parent) {
+            return Err(QuotaFault::NoRoom);
+        }
+        Ok(child)
+    }
+
+    /// Gives a part of a live process's room to a new child, which uses one frame of it. The child has
+    /// the least number that isn't live.
+    pub fn split(&mut self, parent: Pid, quota: u32) -> Pid
+        requires live { IsLive self.old parent }
+        requires can { IsOk (split_answer self.old parent quota) }
+        ensures child { split_answer self.old parent quota ≡ Ok result }
+        ensures containers { self.new ≡ after_split self.old parent quota result }
+    {
+        let child = self.can_split(parent, quota).unwrap();
+        let mut giver = live(&self.containers, parent);
+        giver.given += quota;
+        giver.children += 1;
+        put(&mut self.containers, parent, Some(giver));
+        put(&mut self.containers, child, Some(opened(parent, quota)));
+        child
+    }
+
+    /// Charges a live process for that many frames more, at most its room.
+    pub fn charge(&mut self, pid: Pid, frames: u32)
+        requires live { IsLive self.old pid }
+        requires room { frames ≤ room_of self.old pid }
+        ensures { self.new ≡ with_used self.old pid (used_of self.old pid + frames) }
+    {
+        let mut charged = live(&self.containers, pid);
+        charged.used += frames;
+        put(&mut self.containers, pid, Some(charged));
+    }
+
+    /// Charges a live process for that many frames less, fewer than it uses.
+    pub fn refund(&mut self, pid: Pid, frames: u32)
+        requires live { IsLive self.old pid }
+        requires used { frames < used_of self.old pid }
+        ensures { self.new ≡ with_used self.old pid (used_of self.old pid - frames) }
+    {
+        let mut refunded = live(&self.containers, pid);
+        refunded.used -= frames;
+        put(&mut self.containers, pid, Some(refunded));
+    }
+
+    /// Takes out a live process, which isn't process 0 and has no children. Its quota returns to its
+    /// parent.
+    pub fn close(&mut self, pid: Pid)
+        requires live { IsLive self.old pid }
+        requires not_root { pid ≢ 0 }
+        requires childless { number_of_children self.old.book pid ≡ 0 }
+        ensures { self.new ≡ after_close self.old pid }
+    {
+        let closed = live(&self.containers, pid);
+        let mut giver = live(&self.containers, closed.parent);
+        giver.given -= closed.quota;
+        giver.children -= 1;
+        put(&mut self.containers, closed.parent, Some(giver));
+        put(&mut self.containers, pid, None);
+    }
+
+    /// How many frames a live process may still use or give.
+    pub fn room(&self, pid: Pid) -> u32
+        requires { IsLive self.now pid }
+        ensures { result ≡ room_of self.now pid }
+    {
+        let container = live(&self.containers, pid);
+        container.quota - container.used - container.given
+    }
+
+    /// The container of a process; None where it isn't live.
+    pub fn get(&self, pid: Pid) -> Option<Container>
+        ensures container { result ≡ container_of self.now pid }
+        ensures live { IsSome result ↔ IsLive self.now pid }
+        ensures used { IfSome result (λ container. container.used ≡ used_of self.now pid) }
+        ensures children { IfSome result (λ container. container.children ≡ number_of_children self.now.book pid) }
+    {
+        container_at(&self.containers, pid)
+    }
+
+    /// Process 0 is live. Each live process has a number below 64 and a live parent, uses at least one
+    /// frame, and uses and gives no more than its quota. All together use at most the quota of process
+    /// 0.
+    pub fn within(&self)
+        ensures root { IsLive self.now 0 }
+        ensures numbers { (p : ℕ) → IsLive self.now p → p < 64 }
+        ensures parents { (p : ℕ) (member : Member) → map.get self.now.book p ≡ Some member → IsLive self.now member.parent }
+        ensures used { (p : ℕ) → IsLive self.now p → 1 ≤ used_of self.now p }
+        ensures quota { (p : ℕ) → IsLive self.now p → used_of self.now p + given self.now.book p ≤ quota_of self.now.book p }
+        ensures total { total_used self.now ≤ quota_of self.now.book 0 }
+    {
+        let _ = &self.containers;
+    }
+}
+
+#[cfg(test)]
+mod tests {
+    use super::*;
+    use std::process::Abort;
+    use std::test::Fail;
+
+    fn room(rt: &impl Abort, quotas: &Quotas, pid: Pid) -> u32 {
+        assert!(rt; quotas.get(pid).is_some());
+        quotas.room(pid)
+    }
+
+    fn charge(rt: &impl Abort, quotas: &mut Quotas, pid: Pid, frames: u32) {
+        assert!(rt; quotas.get(pid).is_some());
+        assert!(rt; frames <= quotas.room(pid));
+        quotas.charge(pid, frames);
+    }
+
+    fn refund(rt: &impl Abort, quotas: &mut Quotas, pid: Pid, frames: u32) {
+        let container = quotas.get(pid).expect(rt, "the process is live");
+        assert!(rt; frames < container.used);
+        quotas.refund(pid, frames);
+    }
+
+    fn close(rt: &impl Abort, quotas: &mut Quotas, pid: Pid) {
+        let container = quotas.get(pid).expect(rt, "the process is live");
+        assert_eq!(rt; container.children, 0);
+        assert!(rt; pid.number() != 0);
+        quotas.close(pid);
+    }
+
+    fn split(rt: &impl Abort, quotas: &mut Quotas, parent: Pid, quota: u32) -> Pid {
+        assert!(rt; quotas.get(parent).is_some());
+        assert!(rt; quotas.can_split(parent, quota).is_ok());
+        quotas.split(parent, quota)
+    }
+
+    #[test]
+    fn gives_and_takes_back(rt: HostRuntime) -> Result<(), Fail> {
+        let root = Pid::new(0).ok_or("0 is below 64")?;
+        let mut quotas = Quotas::new(15);
+        assert_eq!(rt; room(&rt, &quotas, root), 14);
+        let child = split(&rt, &mut quotas, root, 12);
+        assert_eq!(rt; child.number(), 1);
+        assert_eq!(rt; room(&rt, &quotas, root), 2);
+        let container = quotas.get(child).ok_or("the child is live")?;
+        assert_eq!(rt; container.parent, root);
+        assert_eq!(rt;
+            (
+                container.quota,
+                container.used,
+                container.given,
+                container.children
+            ),
+            (12, 1, 0, 0)
+        );
+        charge(&rt, &mut quotas, child, 11);
+        assert_eq!(rt; room(&rt, &quotas, child), 0);
+        refund(&rt, &mut quotas, child, 10);
+        assert_eq!(rt; room(&rt, &quotas, child), 10);
+        close(&rt, &mut quotas, child);
+        quotas.within();
+        assert_eq!(rt; room(&rt, &quotas, root), 14);
+        assert_eq!(rt; quotas.get(child), None);
+        Ok(())
+    }
+
+    #[test]
+    fn numbers_children_from_the_least(rt: HostRuntime) -> Result<(), Fail> {
+        let root = Pid::new(0).ok_or("0 is below 64")?;
+        let mut quotas = Quotas::new(127);
+        for number in 1..64 {
+            assert_eq!(rt; split(&rt, &mut quotas, root, 1).number(), number);
+        }
+        quotas.within();
+        assert_eq!(rt; quotas.can_split(root, 1), Err(QuotaFault::TableFull));
+        assert_eq!(rt; quotas.can_split(root, 0), Err(QuotaFault::BadQuota));
+        let seventh = Pid::new(7).ok_or("7 is below 64")?;
+        close(&rt, &mut quotas, seventh);
+        quotas.within();
+        assert_eq!(rt; quotas.can_split(root, 1), Ok(seventh));
+        assert_eq!(rt; quotas.can_split(root, 100), Err(QuotaFault::NoRoom));
+        Ok(())
+    }
+}

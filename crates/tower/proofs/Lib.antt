@@ -1,0 +1,9 @@
+pub mod NumberLemmas
+pub mod TokenLemmas
+pub mod OutputLemmas
+pub mod ReplyLemmas
+pub mod LineLemmas
+pub mod ScriptLemmas
+pub mod ProgressLemmas
+pub mod RunLemmas
+pub mod JobLemmas

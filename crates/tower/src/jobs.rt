@@ -1,0 +1,70 @@
+//! The program's command line.
+
+ghost use Rattle.std.specs.Prelude.{◌≡◌, true, false, map, codes, IfOk, IfErr};
+ghost use Rattle.clap.specs.Words.{app_of, found_of, kind_of, one_text, subcommand_of, takes};
+ghost use Rattle.clap.specs.declared.builder.command.Command.TheViews.{out-Command as fields_of};
+ghost use Rattle.tower.specs.Jobs.{tower_app, run_app, IsFrames, IsJobOf};
+
+use clap::error::ErrorKind;
+use clap::{Arg, ArgMatches, Command, Error};
+use std::alloc::{AllocError, Global};
+use std::convert::AsStr;
+
+/// How many frames a machine has where the command line does not say.
+const FRAMES: u32 = 16;
+
+/// What the command line asks for.
+#[derive(Clone, Copy, Debug, PartialEq, Eq)]
+pub enum Job {
+    /// To run a script on a machine of so many frames.
+    Run { frames: u32 },
+}
+
+/// `run [--frames N]`.
+fn run_command<'a>(alloc: Global) -> Result<Command<'a>, AllocError>
+    ensures app { IfOk result (λ command. app_of command ≡ run_app) }
+    ensures globals { IfOk result (λ command. (fields_of command).has_globals ≡ false) }
+{
+    let frames = Arg::new(alloc, "frames")
+        .long("frames")
+        .value_name("N")
+        .value_parser(clap::value_parser!(u32))
+        .help("The frames of the machine's memory, 16 to 4096; 16 where it is absent");
+    Command::new(alloc, "run")
+        .about("Runs a script from standard input, and writes a line for each reply")
+        .arg(frames)
+}
+
+/// `tower run [--frames N]`.
+fn tower_command<'a>(alloc: Global) -> Result<Command<'a>, AllocError>
+    ensures app { IfOk result (λ command. app_of command ≡ tower_app) }
+    ensures globals { IfOk result (λ command. (fields_of command).has_globals ≡ false) }
+    ensures required { IfOk result (λ command. (fields_of command).subcommand_required ≡ true) }
+{
+    let run = run_command(alloc)?;
+    let tower = Command::new(alloc, "tower").subcommand(run)?;
+    Ok(tower.subcommand_required(true))
+}
+
+/// The number of frames that was asked for.
+fn frames_of(matches: &ArgMatches<'_>) -> u32
+    ensures { IsFrames (one_text (found_of matches.now) (codes "frames")) result }
+{
+    matches.get_one::<u32>("frames").unwrap_or(FRAMES)
+}
+
+/// The job that the words ask for, of which the first is the program's name. What they do not spell
+/// is refused by `clap`, with its own text; a call for help is refused so too.
+pub fn job_of<'a, S: AsStr>(alloc: Global, words: &'a [S]) -> Result<Job, Error>
+    ensures job { IfOk result (IsJobOf (subcommand_of tower_app (map S.text words.now))) }
+    // Where `clap` takes the words, want of memory alone refuses them.
+    ensures taken { IfErr result (λ error. takes tower_app (map S.text words.now) ≡ true → kind_of error ≡ ErrorKind.OutOfMemory) }
+{
+    let matches = tower_command(alloc)?.try_get_matches_from(words)?;
+    let Some((_, run)) = matches.subcommand() else {
+        unreachable!();
+    };
+    Ok(Job::Run {
+        frames: frames_of(run),
+    })
+}

@@ -1,0 +1,83 @@
+//! `tower run [--frames N]`: runs a script of kernel calls from standard input on a freshly booted
+//! machine, and writes a line for each reply on standard output.
+#![tactic(auto)]
+
+ghost use Rattle.std.specs.Prelude.{◌≡◌};
+ghost use Rattle.tower.specs.Faults.{status_of};
+
+mod faults;
+mod jobs;
+mod lines;
+mod numbers;
+mod output;
+mod replies;
+mod script;
+mod session;
+mod tokens;
+
+#[cfg(test)]
+mod tests;
+
+use clap::error::ErrorKind;
+use faults::ScriptFault;
+use jobs::{Job, job_of};
+use script::run_script;
+use std::process::ExitCode;
+use std::rt::Env;
+use std::{env, io};
+
+/// The exit status where the command line is refused.
+const REFUSED: u8 = 2;
+
+/// The exit status of a fault: 1 for want of memory or a device's fault, 2 for a refused script.
+fn status_of(fault: ScriptFault) -> u8
+    ensures { result ≡ status_of fault }
+{
+    match fault {
+        ScriptFault::NoMemory | ScriptFault::ReadFailed | ScriptFault::WriteFailed => 1,
+        ScriptFault::BadSize | ScriptFault::Malformed { .. } | ScriptFault::TooLong => 2,
+    }
+}
+
+/// Prints a fault's line on standard error, and gives its exit status.
+fn report(rt: &impl Eprint, fault: ScriptFault) -> u8 {
+    let _ = rt.eprintln(fault);
+    status_of(fault)
+}
+
+/// Prints `clap`'s text on standard error, a call for help too.
+fn refuse(rt: &impl Eprint, error: &clap::Error) -> u8 {
+    if error.kind() == ErrorKind::OutOfMemory {
+        return report(rt, ScriptFault::NoMemory);
+    }
+    let _ = rt.eprint(error);
+    REFUSED
+}
+
+/// Does what the words ask for, of which the first is the program's name.
+fn run<R: AllocGlobal + Input + Print + Eprint>(rt: &R, words: &[String]) -> u8 {
+    match job_of(rt.alloc(), words) {
+        Ok(Job::Run { frames }) => {
+            let mut reader = rt.reader();
+            let mut writer = io::writer(rt);
+            match run_script(rt.alloc(), &mut reader, &mut writer, frames) {
+                Ok(_) => 0,
+                Err(fault) => report(rt, fault),
+            }
+        }
+        Err(error) => refuse(rt, &error),
+    }
+}
+
+/// The words of the command line.
+fn words<R: AllocGlobal + Env>(rt: &R) -> io::Result<Vec<String>> {
+    Ok(env::args(rt)?.collect(rt.alloc())?)
+}
+
+fn main(rt: HostRuntime) -> ExitCode {
+    let status = match words(&rt) {
+        Ok(words) => run(&rt, words.as_slice()),
+        Err(_) => report(&rt, ScriptFault::NoMemory),
+    };
+    ExitCode::from(status)
+}

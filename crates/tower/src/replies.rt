@@ -1,0 +1,127 @@
+//! The text of replies.
+
+ghost use Rattle.std.specs.Prelude.{◌≡◌, ◌+◌, ◌≤◌, ◌<◌, ◌^◌, ◌%◌, ◌++◌, [], ◌∷◌, length, decimal};
+ghost use Rattle.std.specs.Char.{digit_char};
+ghost use Rattle.arrayvec.specs.ArrayVec.{array_vec_len};
+ghost use Rattle.tower.specs.Replies.{eight_digits, name_of, reply_text, reply_line};
+
+use arrayvec::ArrayVec;
+use kernel_calls::{Cause, Reply};
+
+/// Room for the longest line that a reply has.
+const ROOM: usize = 64;
+
+/// A reply's line.
+type ReplyLine = ArrayVec<u8, ROOM>;
+
+fn push_word(line: &mut ReplyLine, word: &str)
+    requires { array_vec_len line.old + length word.now ≤ 64 }
+    ensures items { line.new.items ≡ line.old.items ++ word.now }
+    ensures len { array_vec_len line.new ≡ array_vec_len line.old + length word.now }
+{
+    line.try_extend_from_slice(word.as_bytes()).unwrap();
+}
+
+/// The lowest hexadecimal digit of a number.
+fn last_digit(n: u32) -> u8
+    ensures { result ≡ digit_char (n % 16) }
+{
+    let digit = (n % 16) as u8;
+    if digit < 10 { b'0' + digit } else { b'a' - 10 + digit }
+}
+
+/// Eight hexadecimal digits in lower case.
+#[tactic(auto, unfolding(crate::specs::Replies::eight_digits))]
+fn push_eight_digits(line: &mut ReplyLine, n: u32)
+    requires { array_vec_len line.old + 8 ≤ 64 }
+    ensures items { line.new.items ≡ line.old.items ++ eight_digits n }
+    ensures len { array_vec_len line.new ≡ array_vec_len line.old + 8 }
+{
+    let digits = [
+        last_digit(n >> 28),
+        last_digit(n >> 24),
+        last_digit(n >> 20),
+        last_digit(n >> 16),
+        last_digit(n >> 12),
+        last_digit(n >> 8),
+        last_digit(n >> 4),
+        last_digit(n),
+    ];
+    line.try_extend_from_slice(&digits).unwrap();
+}
+
+/// A number in decimal.
+#[tactic(auto, using(crate::proofs::ReplyLemmas::decimal_steps))]
+fn push_decimal(line: &mut ReplyLine, n: u32)
+    requires { array_vec_len line.old + length (decimal n) ≤ 64 }
+    ensures items { line.new.items ≡ line.old.items ++ decimal n }
+    ensures len { array_vec_len line.new ≡ array_vec_len line.old + length (decimal n) }
+{
+    if n < 10 {
+        line.push(b'0' + n as u8);
+    } else {
+        push_decimal(line, n / 10);
+        line.push(b'0' + (n % 10) as u8);
+    }
+}
+
+/// The name of a cause.
+fn name_of(cause: Cause) -> &'static str
+    ensures value { result.now ≡ name_of cause }
+    ensures short { length result.now ≤ 13 }
+{
+    match cause {
+        Cause::NoProcess => "NoProcess",
+        Cause::BadPage => "BadPage",
+        Cause::Misaligned => "Misaligned",
+        Cause::NotMapped => "NotMapped",
+        Cause::Mapped => "Mapped",
+        Cause::Quota => "Quota",
+        Cause::Rights => "Rights",
+        Cause::SelfOffer => "SelfOffer",
+        Cause::NoTarget => "NoTarget",
+        Cause::OfferPending => "OfferPending",
+        Cause::TooManyOffers => "TooManyOffers",
+        Cause::NoOffer => "NoOffer",
+        Cause::TableFull => "TableFull",
+        Cause::BadQuota => "BadQuota",
+        Cause::HasChildren => "HasChildren",
+        Cause::RootExit => "RootExit",
+    }
+}
+
+/// What a reply says, without the line feed.
+#[tactic(auto, using(crate::proofs::ReplyLemmas::short_decimal))]
+fn push_text(line: &mut ReplyLine, reply: &Reply)
+    requires { line.old.items ≡ [] }
+    ensures items { line.new.items ≡ reply_text reply.now }
+    ensures room { array_vec_len line.new ≤ 63 }
+{
+    match *reply {
+        Reply::Done => push_word(line, "done"),
+        Reply::Value(value) => {
+            push_word(line, "value ");
+            push_eight_digits(line, value);
+        }
+        Reply::Fault { addr, code } => {
+            push_word(line, "fault ");
+            push_eight_digits(line, addr.0);
+            push_word(line, " ");
+            push_decimal(line, u32::from(code));
+        }
+        Reply::Refused(cause) => {
+            push_word(line, "refused ");
+            push_word(line, name_of(cause));
+        }
+    }
+}
+
+/// A reply's line, with its line feed.
+pub fn reply_line(reply: &Reply) -> ReplyLine
+    ensures { result.items ≡ reply_line reply.now }
+{
+    let mut line = ArrayVec::new();
+    push_text(&mut line, reply);
+    line.push(b'\n');
+    line
+}
