@@ -1,18 +1,15 @@
 -- How tables and entries change where one frame, one word or one role does.
-use Rattle.std.proofs.Common.{◌≡◌, ◌≢◌, ℕ, ◌+◌, ◌*◌, ◌/◌, ◌%◌, ◌^◌, ◌<◌, ◌≤◌, Bool, true, false, cond, List, length, replicate, refl, ap, sym, ◌∙◌, subst, arith, inl, inr, Option, Some, None}
-use Rattle.std.specs.Prelude.{◌⊎◌, is_some, slice_get}
+use Rattle.std.proofs.Common.{◌≡◌, ◌≢◌, ℕ, ◌^◌, ◌<◌, ◌≤◌, Bool, true, false, cond, length, refl, ap, sym, ◌∙◌, subst, arith, inl, inr, Option, Some, None}
 use Rattle.std.specs.Option.{option_and_then}
 use Rattle.std.specs.List.{list_any}
 use Rattle.std.proofs.lemmas.Bool.{cases_eq}
 use Rattle.page_words.specs.Addresses.{slot_number, index_number}
-use Rattle.page_words.specs.Words.{IsKernelDirWord, IsKernelTableWord, NamesPage, NamesTable, is_present}
+use Rattle.page_words.specs.Words.{IsKernelDirWord, IsKernelTableWord, is_present}
 use Rattle.phys_memory.specs.Bytes.{word_in, with_word_in, with_frame}
 use Rattle.phys_memory.proofs.Frames.{with_frame-same, with_frame-other, word_in_same, word_in_other, length-with_word_in}
-use Rattle.alloc_table.specs.declared.Role.{Role}
-use Rattle.alloc_table.specs.declared.Role.TheVariants.{Reserved, Free, Directory, Table, Page}
+use Rattle.alloc_table.specs.declared.Role.TheVariants.{Reserved, Directory, Table}
 use Rattle.page_map.specs.declared.PageEntry.{PageEntry}
-use Rattle.page_map.specs.Entries.{Frames, dir_word, word_table, table_of, word_entry, entry_at, entry_word, with_entry, link_word, with_table}
-use Rattle.page_map.proofs.WordLaws.{entry_word-lt, word_entry-entry_word, entry_word-names, entry_word-present, link_word-lt, word_table-link_word, link_word-names}
+use Rattle.page_map.specs.Entries.{Frames, word_table, table_of, word_entry, entry_at}
 use Rattle.page_words.specs.FiniteMap as map
 use Rattle.address_space.specs.Spaces.{Slot, slot_order}
 use Rattle.page_words.specs.FiniteMap.{collect}
@@ -21,7 +18,6 @@ use Rattle.page_words.specs.FiniteMap.{same}
 use Rattle.page_words.proofs.MapLemmas.{same_or_not, same_itself, get-insert, same_map}
 use Rattle.page_words.proofs.MapLemmas.{get-collect}
 use Rattle.address_space.proofs.UserSlots.{in_user_slots}
-use Rattle.address_space.specs.Cells.{Entries}
 use Rattle.address_space.proofs.Removal.{removed, kept_other}
 use Rattle.address_space.specs.Sound.{Directories, Roles, table_in, entry_in, entries_in, Tables, InUseAt}
 

@@ -1,5 +1,5 @@
 -- How tables and entries stay where a page's bytes or its role change, and how a blank table is linked.
-use Rattle.std.proofs.Common.{◌≡◌, ◌≢◌, ℕ, ◌+◌, ◌*◌, ◌^◌, ◌<◌, ◌≤◌, Bool, true, false, List, length, replicate, refl, ap, sym, ◌∙◌, subst, arith, inl, inr, Option, Some, None}
+use Rattle.std.proofs.Common.{◌≡◌, ◌≢◌, ℕ, ◌^◌, ◌<◌, ◌≤◌, false, List, length, replicate, refl, ap, sym, ◌∙◌, subst, arith, inl, inr, Option, Some, None}
 use Rattle.std.specs.Prelude.{◌⊎◌, if◌then◌else◌}
 use Rattle.std.specs.Option.{option_and_then}
 use Rattle.std.proofs.lemmas.Bool.{cases_eq}
@@ -9,10 +9,10 @@ use Rattle.page_words.specs.Words.{IsKernelDirWord, IsKernelTableWord, NamesTabl
 use Rattle.phys_memory.specs.Bytes.{word_in, with_word_in, with_frame}
 use Rattle.phys_memory.proofs.Frames.{with_frame-same, with_frame-other, word_in_same, word_in_other, length-with_word_in, word_in-zeros}
 use Rattle.alloc_table.specs.declared.Role.{Role}
-use Rattle.alloc_table.specs.declared.Role.TheVariants.{Reserved, Free, Directory, Table, Page}
-use Rattle.page_map.specs.Entries.{Frames, dir_word, word_table, table_of, word_entry, entry_from, entry_at, link_word, with_table, without_table}
+use Rattle.alloc_table.specs.declared.Role.TheVariants.{Reserved, Free, Directory, Table}
+use Rattle.page_map.specs.Entries.{Frames, word_table, table_of, word_entry, entry_from, link_word, with_table, without_table}
 use Rattle.page_map.proofs.WordLaws.{link_word-lt, word_table-link_word, link_word-names}
-use Rattle.address_space.specs.Spaces.{Slot, slot_order}
+use Rattle.address_space.specs.Spaces.{Slot}
 use Rattle.address_space.specs.Sound.{Directories, Roles, table_in, entry_in, entries_in, Tables, InUseAt}
 use Rattle.address_space.proofs.EntrySteps.{Loose, same_entries, entry_by_table}
 

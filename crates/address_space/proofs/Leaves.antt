@@ -1,44 +1,33 @@
 -- What a slot that leaves its group leaves.
-use Rattle.std.proofs.Common.{◌≡◌, ◌≢◌, ℕ, zero, suc, ◌+◌, ◌*◌, ◌/◌, ◌%◌, ◌^◌, ◌<◌, ◌≤◌, Bool, true, false, cond, List, [], ◌∷◌, ◌++◌, length, take, drop, replicate, refl, ap, sym, ◌∙◌, subst, arith, inl, inr, Option, Some, None, length-set, append_assoc}
-use Rattle.std.specs.Prelude.{◌⊎◌, is_some, slice_get, slice_set, if◌then◌else◌, ◌==◌, nat_lt, ◌-◌}
-use Rattle.std.specs.Option.{option_and_then, option_map, unwrap_or}
-use Rattle.std.specs.List.{list_any, splice, range_with_len}
-use Rattle.std.proofs.Math.Nat.{add-mul}
-use Rattle.std.proofs.lemmas.Option.{slice_get_within}
+use Rattle.std.proofs.Common.{◌≡◌, ◌≢◌, ℕ, ◌+◌, ◌*◌, ◌<◌, ◌≤◌, Bool, true, false, List, length, refl, ap, sym, ◌∙◌, subst, arith, inl, inr, Option, Some, None, length-set}
+use Rattle.std.specs.Prelude.{◌⊎◌, slice_get, slice_set, if◌then◌else◌, nat_lt, ◌-◌}
+use Rattle.std.specs.Option.{option_and_then}
 use Rattle.std.proofs.lemmas.Bool.{cases_eq}
 use Rattle.std.proofs.lemmas.Bool.Decides.{nat_tests}
-use Rattle.byteorder.specs.Endian.{little_bytes}
-use Rattle.page_words.specs.Addresses.{slot_number, index_number}
-use Rattle.page_words.specs.Words.{is_present, frame_number, IsKernelTableWord, is_writable, has_may, is_dirty, is_accessed}
-use Rattle.phys_memory.specs.Bytes.{frame_bytes, word_in, with_word, with_word_in, with_frame}
-use Rattle.phys_memory.proofs.Frames.{with_frame-same, with_frame-other, frames-with_word, length-with_word_in}
+use Rattle.page_words.specs.Addresses.{slot_number}
+use Rattle.page_words.specs.Words.{is_present, frame_number}
+use Rattle.phys_memory.specs.Bytes.{frame_bytes, word_in}
+use Rattle.phys_memory.proofs.Frames.{with_frame-other}
 use Rattle.alloc_table.specs.declared.Role.{Role}
-use Rattle.alloc_table.specs.declared.Role.TheVariants.{Reserved, Free, Directory, Table, Page}
+use Rattle.alloc_table.specs.declared.Role.TheVariants.{Free, Table, Page}
 use Rattle.alloc_table.specs.Roles.{frames_weight, weight, IsReleased, released, IsInUse}
 use Rattle.alloc_table.proofs.RoleLemmas.{weight-set}
 use Rattle.page_map.specs.declared.PageEntry.{PageEntry}
-use Rattle.page_map.specs.Entries.{Frames, dir_word, word_table, table_of, word_entry, entry_from, entry_at, with_entry, entry_word, IsCleared, without_table, without_entry}
-use Rattle.page_map.proofs.WordLaws.{entry_word-names, entry_word-lt, entry_word-present, word_entry-entry_word}
+use Rattle.page_map.specs.Entries.{Frames, dir_word, table_of, entry_at, IsCleared, without_table}
 use Rattle.page_words.specs.FiniteMap as map
 use Rattle.page_words.specs.FiniteMap.{change_each}
 use Rattle.page_words.specs.FiniteSet as set
-use Rattle.std.specs.FinMap.Entries.{where_key}
-use Rattle.std.proofs.Common.{map as map_list, length-append}
-use Rattle.std.proofs.lemmas.List.{length-map}
-use Rattle.address_space.specs.Spaces.{Slot, slot_order, Spaces, Cell, without, need, is_slot}
+use Rattle.address_space.specs.Spaces.{Slot, need, is_slot}
 use Rattle.page_words.specs.FiniteMap.{collect, put_some}
-use Rattle.address_space.specs.Slots.{user_slots, slots_below, at_pid}
 use Rattle.page_words.specs.FiniteMap.{same}
-use Rattle.page_words.proofs.MapLemmas.{len-insert}
-use Rattle.address_space.proofs.UserSlots.{in_user_slots}
-use Rattle.address_space.specs.Cells.{Entries, names, cell_of, spaces_of, holders_of, nothing}
-use Rattle.address_space.specs.Sound.{Directories, Roles, directory_of, table_in, entry_in, entries_in, spaces_in, Tables, Pages, IsSound, InUseAt, total_cost, SlotJoined, IsSpaces, TableFreed, SlotRemoved}
+use Rattle.address_space.specs.Cells.{Entries, cell_of, spaces_of, holders_of}
+use Rattle.address_space.specs.Sound.{Directories, Roles, directory_of, table_in, entries_in, spaces_in, Tables, Pages, IsSound, InUseAt, total_cost, IsSpaces, TableFreed, SlotRemoved}
 use Rattle.address_space.proofs.CostSteps.{total-entry, need-one, need-most}
-use Rattle.address_space.proofs.EntrySteps.{Loose, get-entries_in, entry_by_table, with_word_at, entries-remove, tables-entry, tables_kept}
+use Rattle.address_space.proofs.EntrySteps.{Loose, with_word_at, entries-remove, tables-entry, tables_kept}
 use Rattle.address_space.proofs.FrameSteps.{here_or_not, tables-role, unlinked-own, unlinked-others, unlinked-table, unlinked-entry, tables-unlinked}
-use Rattle.address_space.proofs.PageSteps.{same_bytes, pages-role, holders-less, not_same}
-use Rattle.address_space.proofs.Refinement.{get-spaces_of, leave_refines}
-use Rattle.address_space.proofs.Steps.{inside, live_small, page_loose, free_loose, none_before, table_by_word, role_own, role_other, some_is}
+use Rattle.address_space.proofs.PageSteps.{same_bytes, pages-role, holders-less}
+use Rattle.address_space.proofs.Refinement.{leave_refines}
+use Rattle.address_space.proofs.Steps.{live_small, page_loose, free_loose, table_by_word, role_own, role_other}
 use Rattle.address_space.proofs.Stores.{Found, found, get_user, named_entry, page_of_name}
 use Rattle.address_space.proofs.Removal.{put_back, removed, kept_other}
 use Rattle.address_space.proofs.EntrySteps.{same_entries}

@@ -1,11 +1,11 @@
 -- A machine without any space, and a process that gets an empty one.
-use Rattle.std.proofs.Common.{◌≡◌, ◌≢◌, ℕ, zero, suc, ◌+◌, ◌*◌, ◌<◌, ◌≤◌, Bool, true, false, cond, List, [], ◌∷◌, length, replicate, refl, ap, sym, ◌∙◌, subst, arith, inl, inr, Option, Some, None, length-set, get_or, drop}
+use Rattle.std.proofs.Common.{◌≡◌, ◌≢◌, ℕ, zero, suc, ◌+◌, ◌*◌, ◌<◌, ◌≤◌, Bool, true, false, cond, List, length, replicate, refl, ap, sym, ◌∙◌, subst, arith, inl, inr, Option, Some, None, length-set, get_or, drop}
 use Rattle.std.specs.Prelude.{◌⊎◌, is_some, slice_get, slice_set, if◌then◌else◌, sum_by}
 use Rattle.std.specs.Option.{option_and_then, option_map, unwrap_or}
 use Rattle.std.specs.List.{list_any, range_with_len}
 use Rattle.std.proofs.lemmas.Bool.{cases_eq}
 use Rattle.std.proofs.lemmas.List.{length-replicate, get_or-drop, ext_get_or}
-use Rattle.std.proofs.lemmas.List.Sums.{sum_by-cons, sum_by-set}
+use Rattle.std.proofs.lemmas.List.Sums.{sum_by-cons}
 use Rattle.std.proofs.lemmas.Option.{slice_get_within}
 use Rattle.page_words.specs.Words.{is_present}
 use Rattle.page_words.specs.FiniteMap as map
@@ -24,15 +24,15 @@ use Rattle.page_map.specs.Entries.{Frames, dir_word, word_table, word_entry, tab
 use Rattle.address_space.specs.Spaces.{Slot, slot_order, Spaces, cost, cost_of, pages_of}
 use Rattle.address_space.specs.Slots.{user_slots}
 use Rattle.address_space.specs.Cells.{Entries, spaces_of, cell_of}
-use Rattle.address_space.specs.Sound.{Directories, Roles, directory_of, table_in, entry_in, entries_in, spaces_in, live_cost, total_cost, Tables, Pages, IsSound, IsSpaces, InUse, SpaceAdded, Inside}
+use Rattle.address_space.specs.Sound.{Directories, Roles, directory_of, table_in, entry_in, entries_in, spaces_in, live_cost, total_cost, Tables, Pages, IsSpaces, SpaceAdded}
 use Rattle.address_space.proofs.Costs.{contains-pages_of}
-use Rattle.address_space.proofs.CostSteps.{sum_one, total-same}
+use Rattle.address_space.proofs.CostSteps.{sum_one}
 use Rattle.address_space.proofs.Costed.{free_where_light}
 use Rattle.address_space.proofs.EntrySteps.{Loose, get-entries_in, entry_by_table}
-use Rattle.address_space.proofs.FrameSteps.{loose-tables, loose-table, loose-entries, tables-loose, loose-directory, use_loose}
+use Rattle.address_space.proofs.FrameSteps.{loose-tables, loose-table, loose-entries, tables-loose}
 use Rattle.address_space.proofs.PageSteps.{pages-role, same_bytes}
 use Rattle.address_space.proofs.Refinement.{get-spaces_of}
-use Rattle.address_space.proofs.Steps.{inside, free_loose, live_small, role_own, role_other}
+use Rattle.address_space.proofs.Steps.{free_loose, live_small, role_own, role_other}
 
 zero_byte : (n k : ℕ) → ◌≡◌ {A = ℕ} (get_or (replicate n 0) k 0) 0
 zero_byte zero k = refl

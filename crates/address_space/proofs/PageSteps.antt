@@ -1,16 +1,15 @@
 -- How pages and their counts change with one entry, and what the bytes of pages give.
-use Rattle.std.proofs.Common.{◌≡◌, ◌≢◌, ℕ, ◌+◌, ◌<◌, ◌≤◌, Bool, true, false, cond, List, length, refl, ap, sym, ◌∙◌, subst, arith, inl, inr, Option, Some, None}
+use Rattle.std.proofs.Common.{◌≡◌, ◌≢◌, ℕ, ◌+◌, false, cond, List, refl, ap, sym, ◌∙◌, subst, arith, inl, inr, Option, Some, None}
 use Rattle.std.specs.Prelude.{◌⊎◌, ◌==◌}
 use Rattle.std.specs.Option.{option_map}
 use Rattle.std.proofs.lemmas.Bool.{cases_eq}
 use Rattle.std.proofs.lemmas.Bool.Decides.{nat_tests}
-use Rattle.alloc_table.specs.declared.Role.{Role}
-use Rattle.alloc_table.specs.declared.Role.TheVariants.{Reserved, Free, Directory, Table, Page}
+use Rattle.alloc_table.specs.declared.Role.TheVariants.{Free, Page}
 use Rattle.page_map.specs.declared.PageEntry.{PageEntry}
 use Rattle.page_words.specs.FiniteMap as map
 use Rattle.page_words.specs.FiniteMap.{Map}
 use Rattle.page_words.specs.FiniteSet as set
-use Rattle.address_space.specs.Spaces.{Slot, slot_order, Spaces}
+use Rattle.address_space.specs.Spaces.{Slot, slot_order}
 use Rattle.page_words.specs.FiniteMap.{same}
 use Rattle.page_words.proofs.MapLemmas.{same_or_not, get-insert, same_map, same_set, len-insert}
 use Rattle.address_space.specs.Cells.{Entries, names, holders_of, cell_of, spaces_of}

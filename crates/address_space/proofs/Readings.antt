@@ -1,24 +1,19 @@
 -- What a slot, its bytes and its needs are read as.
-use Rattle.std.proofs.Common.{◌≡◌, ◌≢◌, ℕ, zero, suc, ◌+◌, ◌*◌, ◌/◌, ◌%◌, ◌<◌, ◌≤◌, Bool, true, false, cond, List, [], ◌∷◌, length, take, drop, refl, ap, sym, ◌∙◌, subst, arith, Option, Some, None, length-drop}
+use Rattle.std.proofs.Common.{◌≡◌, ℕ, ◌+◌, ◌*◌, ◌/◌, ◌%◌, ◌<◌, ◌≤◌, cond, List, [], ◌∷◌, length, take, drop, refl, ap, sym, ◌∙◌, arith, Option, Some, None, length-drop}
 use Rattle.std.specs.Prelude.{slice_index, slice_get, is_some}
-use Rattle.std.specs.Option.{option_and_then, option_map, unwrap_or}
-use Rattle.std.specs.List.{list_any}
+use Rattle.std.specs.Option.{option_and_then, option_map}
 use Rattle.std.proofs.lemmas.List.{get_or-drop}
-use Rattle.page_words.specs.Addresses.{slot_number, byte_count}
-use Rattle.page_words.specs.declared.addresses.Size.{Size}
-use Rattle.page_words.specs.declared.addresses.Size.TheVariants.{One, Four}
+use Rattle.page_words.specs.Addresses.{slot_number}
 use Rattle.page_words.specs.FiniteMap as map
 use Rattle.page_words.specs.FiniteMap.{same}
 use Rattle.page_words.specs.FiniteSet as set
-use Rattle.phys_memory.specs.Bytes.{frame_bytes, word_at, word_in}
+use Rattle.phys_memory.specs.Bytes.{frame_bytes, word_at}
 use Rattle.phys_memory.proofs.Frames.{byte-frame, length-frame, word_in-frame}
 use Rattle.alloc_table.specs.declared.Role.{Role}
 use Rattle.alloc_table.specs.declared.Role.TheVariants.{Page}
-use Rattle.page_map.specs.declared.PageEntry.{PageEntry}
 use Rattle.page_map.specs.Entries.{Frames, entry_at}
-use Rattle.address_space.specs.Spaces.{Slot, slot_order, Cell, Spaces, need, fresh, value_of, bytes_at}
-use Rattle.address_space.specs.Slots.{user_slots}
-use Rattle.address_space.specs.Cells.{Entries, cell_of, spaces_of, holders_of}
+use Rattle.address_space.specs.Spaces.{Slot, need, value_of, bytes_at}
+use Rattle.address_space.specs.Cells.{cell_of, spaces_of, holders_of}
 use Rattle.address_space.specs.Sound.{Directories, directory_of, entry_in, entries_in, spaces_in, table_in, IsSound, InUse, Inside}
 use Rattle.address_space.proofs.UserSlots.{in_user_slots}
 use Rattle.address_space.proofs.EntrySteps.{get-entries_in}

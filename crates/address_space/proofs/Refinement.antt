@@ -5,7 +5,7 @@ use Rattle.page_words.specs.FiniteMap as map
 use Rattle.page_words.specs.FiniteMap.{Order, Map}
 use Rattle.page_words.specs.FiniteSet as set
 use Rattle.page_words.specs.FiniteSet.{Set}
-use Rattle.address_space.specs.Spaces.{Slot, slot_order, Cell, Spaces, write_at, stored, joined, set_bytes, set_holders, store_in, join_in, with_bytes, with_holders, without, fresh, zeros, cell_or_fresh}
+use Rattle.address_space.specs.Spaces.{Slot, slot_order, Cell, write_at, stored, joined, set_bytes, set_holders, store_in, join_in, with_bytes, with_holders, without, fresh, zeros, cell_or_fresh}
 use Rattle.page_words.specs.FiniteMap.{same}
 use Rattle.page_words.proofs.MapLemmas.{same_or_not, get-insert, get-retain_keys, same_map, get-map_values, contains-insert, contains-retain, same_set}
 use Rattle.std.specs.Cmp.{nat_eq_equiv}

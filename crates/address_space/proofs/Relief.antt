@@ -1,6 +1,6 @@
 -- What a process's cost falls by when one of its pages goes.
-use Rattle.std.proofs.Common.{◌≡◌, ◌≢◌, ℕ, ◌+◌, ◌*◌, ◌/◌, ◌%◌, ◌<◌, ◌≤◌, Bool, true, false, cond, not, List, refl, ap, sym, ◌∙◌, subst, arith, inl, inr, Option, Some, None}
-use Rattle.std.specs.Prelude.{◌⊎◌, is_some, ◌&&◌, if◌then◌else◌}
+use Rattle.std.proofs.Common.{◌≡◌, ◌≢◌, ℕ, ◌+◌, ◌*◌, ◌%◌, ◌<◌, Bool, true, false, cond, not, List, refl, ap, sym, ◌∙◌, arith, inl, inr, Option, Some, None}
+use Rattle.std.specs.Prelude.{is_some, if◌then◌else◌}
 use Rattle.std.specs.Option.{option_and_then, option_map}
 use Rattle.std.specs.List.{list_any}
 use Rattle.page_words.specs.Addresses.{slot_number}
@@ -13,13 +13,11 @@ use Rattle.page_map.specs.declared.PageEntry.{PageEntry}
 use Rattle.page_map.specs.Entries.{entry_at}
 use Rattle.address_space.specs.Spaces.{Slot, slot_order, Cell, Spaces, cost, cost_of, need, pages_of, regions_of, without, is_slot, with_holders}
 use Rattle.address_space.specs.Slots.{user_slots}
-use Rattle.address_space.specs.Cells.{Entries}
 use Rattle.address_space.specs.Sound.{directory_of, entry_in, entries_in, spaces_in, IsAlone, IsShared}
 use Rattle.address_space.proofs.Costs.{contains-pages_of, same_pages, cost-insert}
 use Rattle.address_space.proofs.CostSteps.{region_there, region_member, keys}
 use Rattle.address_space.proofs.EntrySteps.{get-entries_in}
 use Rattle.address_space.proofs.UserSlots.{in_user_slots}
-use Rattle.address_space.proofs.Steps.{some_is}
 
 module _ (S : Spaces) (p page : ℕ) where
   abbrev slot : Slot

@@ -1,5 +1,5 @@
 -- A map without a key, and the key put back.
-use Rattle.std.proofs.Common.{◌≡◌, Bool, true, false, cond, refl, ap, sym, ◌∙◌, inl, inr, Option, Some, None}
+use Rattle.std.proofs.Common.{◌≡◌, true, cond, ap, sym, ◌∙◌, inl, inr, Some, None}
 use Rattle.std.specs.Prelude.{not}
 use Rattle.page_words.specs.FiniteMap as map_of
 use Rattle.page_words.specs.FiniteMap.{Map}

@@ -1,12 +1,11 @@
 -- Directories, memory and roles that agree stand for their spaces, and for no others.
-use Rattle.std.proofs.Common.{◌≡◌, ◌≢◌, ℕ, ◌+◌, ◌*◌, ◌/◌, ◌%◌, ◌<◌, ◌≤◌, Bool, true, false, cond, List, [], ◌∷◌, length, drop, refl, ap, sym, ◌∙◌, subst, arith, inl, inr, Option, Some, None, length-drop, get_or}
-use Rattle.std.specs.Prelude.{◌⊎◌, ◌↔◌, ◌&&◌, ◌==◌, slice_get, slice_index, nat_lt, nat_le, IsTrue, if◌then◌else◌}
+use Rattle.std.proofs.Common.{◌≡◌, ℕ, ◌+◌, ◌*◌, ◌<◌, ◌≤◌, Bool, true, false, cond, List, [], ◌∷◌, length, drop, refl, ap, sym, ◌∙◌, subst, arith, inl, inr, Option, Some, None, length-drop}
+use Rattle.std.specs.Prelude.{◌⊎◌, ◌↔◌, ◌&&◌, slice_get, slice_index, nat_lt, nat_le, IsTrue, if◌then◌else◌}
 use Rattle.std.specs.Cmp.{both_ways}
-use Rattle.std.specs.Option.{option_and_then, option_map, unwrap_or}
+use Rattle.std.specs.Option.{option_and_then, option_map}
 use Rattle.std.specs.List.{list_any}
 use Rattle.std.proofs.lemmas.Bool.{cases_lt}
 use Rattle.std.proofs.lemmas.Bool.Decides.{nat_tests}
-use Rattle.std.proofs.lemmas.List.{get_or-drop}
 use Rattle.std.proofs.lemmas.Option.{slice_get_within}
 use Rattle.page_words.specs.Addresses.{slot_number, index_number}
 use Rattle.page_words.specs.Words.{frame_number, is_present}
@@ -16,14 +15,14 @@ use Rattle.page_words.specs.FiniteSet as set
 use Rattle.page_words.proofs.MapLemmas.{same_map, same_set}
 use Rattle.phys_memory.specs.Bytes.{frame_bytes, word_at, word_in}
 use Rattle.alloc_table.specs.declared.Role.{Role}
-use Rattle.alloc_table.specs.declared.Role.TheVariants.{Reserved, Free, Directory, Table, Page}
+use Rattle.alloc_table.specs.declared.Role.TheVariants.{Directory, Table, Page}
 use Rattle.page_map.specs.declared.PageEntry.{PageEntry}
 use Rattle.page_map.specs.Entries.{Frames, dir_word, word_table, table_of, word_entry, entry_from}
-use Rattle.address_space.specs.Spaces.{Slot, slot_order, Cell, Spaces}
+use Rattle.address_space.specs.Spaces.{Slot, slot_order, Cell}
 use Rattle.address_space.specs.Slots.{user_slots}
 use Rattle.address_space.specs.Cells.{Entries, names, cell_of, spaces_of, holders_of}
-use Rattle.address_space.specs.Image.{Image, directory_at, word_of, is_user_slot, named_by, table_at, present_word, page_word, page_frame, IsCount, IsSoundImage, CellStands, SlotStands, StandsFor, StandsForOne}
-use Rattle.address_space.specs.Sound.{Directories, Roles, directory_of, table_in, entry_in, entries_in, spaces_in, Tables, Pages, IsSound, IsSpaces}
+use Rattle.address_space.specs.Image.{Image, word_of, is_user_slot, named_by, table_at, present_word, page_word, page_frame, IsSoundImage, SlotStands, StandsFor, StandsForOne}
+use Rattle.address_space.specs.Sound.{Directories, directory_of, table_in, entry_in, entries_in, spaces_in, IsSound, IsSpaces}
 use Rattle.address_space.proofs.UserSlots.{in_user_slots}
 use Rattle.address_space.proofs.EntrySteps.{get-entries_in, entry_by_table}
 use Rattle.address_space.proofs.Refinement.{get-spaces_of, contains-holders_of}

@@ -1,13 +1,13 @@
 -- What each step of the code leaves.
-use Rattle.std.proofs.Common.{◌≡◌, ◌≢◌, ℕ, ◌+◌, ◌*◌, ◌^◌, ◌<◌, ◌≤◌, Bool, true, false, List, length, replicate, refl, ap, sym, ◌∙◌, subst, arith, inl, inr, Option, Some, None, length-set}
-use Rattle.std.specs.Prelude.{◌⊎◌, is_some, slice_get, slice_set, if◌then◌else◌}
+use Rattle.std.proofs.Common.{◌≡◌, ◌≢◌, ℕ, ◌+◌, ◌*◌, ◌^◌, ◌<◌, ◌≤◌, Bool, true, false, List, length, replicate, refl, ap, sym, ◌∙◌, subst, arith, inr, Option, Some, None, length-set}
+use Rattle.std.specs.Prelude.{is_some, slice_get, slice_set, if◌then◌else◌}
 use Rattle.std.specs.Option.{option_and_then, unwrap_or}
 use Rattle.std.proofs.lemmas.Option.{slice_get_within}
-use Rattle.page_words.specs.Addresses.{slot_number, index_number}
+use Rattle.page_words.specs.Addresses.{slot_number}
 use Rattle.page_words.specs.Words.{is_present, frame_number}
 use Rattle.phys_memory.specs.Bytes.{frame_bytes, word_in, with_frame, with_frame_bytes}
 use Rattle.alloc_table.specs.declared.Role.{Role}
-use Rattle.alloc_table.specs.declared.Role.TheVariants.{Reserved, Free, Directory, Table, Page}
+use Rattle.alloc_table.specs.declared.Role.TheVariants.{Free, Directory, Table, Page}
 use Rattle.alloc_table.specs.Roles.{frames_weight, IsTaken}
 use Rattle.alloc_table.proofs.RoleLemmas.{get-set_same, get-set_other, weight-taken}
 use Rattle.phys_memory.proofs.Frames.{with_frame-same, with_frame-other, frames-with_frame_bytes}
@@ -18,13 +18,13 @@ use Rattle.std.specs.Option.{option_map}
 use Rattle.page_map.specs.declared.PageEntry.{PageEntry}
 use Rattle.page_map.specs.Entries.{Frames, dir_word, word_table, table_of, with_table, with_entry, entry_word, IsPageMap}
 use Rattle.page_words.specs.FiniteMap as map
-use Rattle.address_space.specs.Spaces.{Slot, Spaces, fresh}
+use Rattle.address_space.specs.Spaces.{Slot, fresh}
 use Rattle.address_space.specs.Cells.{Entries, cell_of, spaces_of}
-use Rattle.address_space.specs.Sound.{Directories, Roles, directory_of, table_in, entries_in, spaces_in, Tables, Pages, IsSound, TableGiven, PageAdded, table_need, InUseAt, total_cost, SlotJoined, Inside}
-use Rattle.address_space.proofs.CostSteps.{total-entry, total-kept}
-use Rattle.address_space.proofs.EntrySteps.{Loose, tables_kept, entries-insert, tables-entry, use_own, use_kept}
-use Rattle.address_space.proofs.FrameSteps.{here_or_not, tables-linked, linked-entries, linked-own, linked-others, linked-other, kept_table, loose-directory, loose-tables, loose-table, loose-entries, tables-loose, tables-role, use_loose}
-use Rattle.address_space.proofs.PageSteps.{same_bytes, unused, pages-role, pages-fresh, pages-same, pages-join}
+use Rattle.address_space.specs.Sound.{Directories, Roles, directory_of, table_in, entries_in, spaces_in, Tables, Pages, IsSound, TableGiven, PageAdded, table_need, InUseAt, total_cost, Inside}
+use Rattle.address_space.proofs.CostSteps.{total-entry}
+use Rattle.address_space.proofs.EntrySteps.{Loose, entries-insert, tables-entry, use_own, use_kept}
+use Rattle.address_space.proofs.FrameSteps.{tables-linked, linked-entries, linked-own, linked-others, linked-other, kept_table, loose-directory, loose-tables, loose-entries, tables-loose, tables-role, use_loose}
+use Rattle.address_space.proofs.PageSteps.{same_bytes, unused, pages-role, pages-fresh}
 
 -- a frame with a role lies in memory
 inside_by : (bytes : List ℕ) (roles : List Role) (f : ℕ) (r : Role) → length bytes ≡ 4096 * length roles → length roles ≤ 4096 → slice_get roles f ≡ Some r → Inside bytes f

@@ -1,23 +1,22 @@
 -- What a store through a slot and a joining slot leave.
-use Rattle.std.proofs.Common.{◌≡◌, ◌≢◌, ℕ, zero, suc, ◌+◌, ◌*◌, ◌/◌, ◌%◌, ◌^◌, ◌<◌, ◌≤◌, Bool, true, false, cond, List, [], ◌∷◌, ◌++◌, length, take, drop, replicate, refl, ap, sym, ◌∙◌, subst, arith, inl, inr, Option, Some, None, length-set, append_assoc}
-use Rattle.std.specs.Prelude.{◌⊎◌, is_some, slice_get, slice_set, if◌then◌else◌, ◌==◌}
-use Rattle.std.specs.Option.{option_and_then, option_map, unwrap_or}
-use Rattle.std.specs.List.{list_any, splice, range_with_len}
+use Rattle.std.proofs.Common.{◌≡◌, ◌≢◌, ℕ, zero, suc, ◌+◌, ◌*◌, ◌/◌, ◌%◌, ◌^◌, ◌<◌, ◌≤◌, Bool, true, false, cond, List, [], ◌∷◌, ◌++◌, length, take, drop, refl, ap, sym, ◌∙◌, subst, arith, inl, inr, Option, Some, None, length-set, append_assoc}
+use Rattle.std.specs.Prelude.{is_some, slice_get, slice_set, if◌then◌else◌}
+use Rattle.std.specs.Option.{option_and_then, option_map}
+use Rattle.std.specs.List.{list_any, range_with_len}
 use Rattle.std.proofs.Math.Nat.{add-mul}
-use Rattle.std.proofs.lemmas.Option.{slice_get_within}
 use Rattle.byteorder.specs.Endian.{little_bytes}
 use Rattle.page_words.specs.Addresses.{slot_number, index_number, byte_count}
 use Rattle.page_words.specs.declared.addresses.Size.{Size}
 use Rattle.page_words.specs.declared.addresses.Size.TheVariants.{One, Four}
-use Rattle.page_words.specs.Words.{is_present, frame_number, IsKernelTableWord, is_writable, has_may, is_dirty, is_accessed}
-use Rattle.phys_memory.specs.Bytes.{frame_bytes, word_in, with_word, with_word_in, with_frame}
-use Rattle.phys_memory.proofs.Frames.{with_frame-same, with_frame-other, frames-with_word, frames-with_byte, by_frame, length-with_word_in}
+use Rattle.page_words.specs.Words.{is_present, frame_number, IsKernelTableWord}
+use Rattle.phys_memory.specs.Bytes.{frame_bytes, word_in, with_word, with_frame}
+use Rattle.phys_memory.proofs.Frames.{with_frame-other, frames-with_word, frames-with_byte, by_frame, length-with_word_in}
 use Rattle.alloc_table.specs.declared.Role.{Role}
-use Rattle.alloc_table.specs.declared.Role.TheVariants.{Reserved, Free, Directory, Table, Page}
+use Rattle.alloc_table.specs.declared.Role.TheVariants.{Table, Page}
 use Rattle.alloc_table.specs.Roles.{frames_weight}
 use Rattle.alloc_table.proofs.RoleLemmas.{weight-set}
 use Rattle.page_map.specs.declared.PageEntry.{PageEntry}
-use Rattle.page_map.specs.Entries.{Frames, dir_word, word_table, table_of, word_entry, entry_from, entry_at, with_entry, entry_word}
+use Rattle.page_map.specs.Entries.{Frames, dir_word, table_of, word_entry, entry_from, entry_at, with_entry, entry_word}
 use Rattle.page_map.proofs.WordLaws.{entry_word-names, entry_word-lt, entry_word-present, word_entry-entry_word}
 use Rattle.page_words.specs.FiniteMap as map
 use Rattle.page_words.specs.FiniteMap.{change_each}
@@ -34,7 +33,7 @@ use Rattle.address_space.proofs.UserSlots.{in_user_slots}
 use Rattle.address_space.specs.Cells.{Entries, names, cell_of, spaces_of, holders_of, nothing}
 use Rattle.address_space.specs.Sound.{Directories, Roles, directory_of, table_in, entry_in, entries_in, spaces_in, Tables, Pages, IsSound, InUseAt, total_cost, SlotJoined, Touched, Names, Inside, InUse}
 use Rattle.address_space.proofs.CostSteps.{total-entry, total-kept}
-use Rattle.address_space.proofs.EntrySteps.{Loose, get-entries_in, entry_by_table, entries-insert, tables-entry, use_own, use_kept}
+use Rattle.address_space.proofs.EntrySteps.{Loose, get-entries_in, entries-insert, tables-entry, use_own, use_kept}
 use Rattle.address_space.proofs.FrameSteps.{loose-tables, loose-entries, tables-loose, tables-role, use_loose}
 use Rattle.address_space.proofs.PageSteps.{same_bytes, pages-same, pages-join}
 use Rattle.address_space.proofs.Refinement.{get-spaces_of, store_refines, join_refines, flags_refine, cell_at}

@@ -6,7 +6,7 @@ use Rattle.std.specs.declared.cmp.Ordering.TheVariants.{Less, Equal, Greater}
 use Rattle.std.specs.List.{list_any, range_with_len}
 use Rattle.page_words.specs.FiniteMap.{same, nat_order}
 use Rattle.page_words.proofs.MapLemmas.{same_or_not, same_itself, list_any-map}
-use Rattle.address_space.specs.Spaces.{Slot, slot_order}
+use Rattle.address_space.specs.Spaces.{slot_order}
 use Rattle.address_space.specs.Slots.{user_slots, slots_below, at_pid}
 
 or_true : (a : Bool) → (a || true) ≡ true

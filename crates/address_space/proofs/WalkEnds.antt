@@ -1,6 +1,6 @@
 -- Every walk ends as the spaces say.
-use Rattle.std.proofs.Common.{◌≡◌, ℕ, ◌+◌, ◌*◌, ◌^◌, ◌<◌, ◌≤◌, Bool, true, false, not, List, length, refl, ap, sym, ◌∙◌, subst, arith, Option, Some, None}
-use Rattle.std.specs.Prelude.{◌&&◌, nat_le, if◌then◌else◌, slice_get, MatchBool, Result, Ok, Err}
+use Rattle.std.proofs.Common.{◌≡◌, ℕ, Bool, true, false, not, List, refl, ap, sym, ◌∙◌, subst, arith, Option, Some, None}
+use Rattle.std.specs.Prelude.{◌&&◌, if◌then◌else◌, MatchBool, Ok, Err}
 use Rattle.std.specs.Option.{option_and_then, option_map}
 use Rattle.std.proofs.lemmas.Bool.Decides.{nat_tests}
 use Rattle.page_words.specs.Addresses.{page_number}
@@ -9,14 +9,13 @@ use Rattle.phys_memory.specs.Bytes.{frame_bytes}
 use Rattle.alloc_table.specs.declared.Role.{Role}
 use Rattle.alloc_table.specs.declared.Role.TheVariants.{Page}
 use Rattle.table_walk.specs.declared.Access.{Access}
-use Rattle.table_walk.specs.declared.WalkEnd.{WalkEnd}
 use Rattle.table_walk.specs.declared.WalkEnd.TheVariants.{Outside}
-use Rattle.table_walk.specs.Walk.{walk_of, is_write, is_outside, not_present, not_allowed}
+use Rattle.table_walk.specs.Walk.{walk_of, is_write, is_outside, not_allowed}
 use Rattle.page_map.specs.declared.PageEntry.{PageEntry}
 use Rattle.page_map.specs.Entries.{entry_at}
 use Rattle.page_map.specs.Laws.{end_at_entry}
 use Rattle.page_map.proofs.LawProofs.{walks_read_entries}
-use Rattle.address_space.specs.Spaces.{Slot, Cell, Spaces, slot_at}
+use Rattle.address_space.specs.Spaces.{slot_at}
 use Rattle.address_space.specs.Cells.{cell_of}
 use Rattle.address_space.specs.Walks.{FindsBytes, WalkEndsBy, WalksAgree}
 use Rattle.address_space.specs.Sound.{directory_of, entries_in, spaces_in, IsSound, IsSpaces}

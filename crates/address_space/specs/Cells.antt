@@ -1,5 +1,5 @@
 -- What a finite map from slots to page entries, with bytes for each frame, stands for.
-use Rattle.std.proofs.Common.{◌≡◌, ℕ, Bool, true, false, ◌==◌, List, Option, Some, None}
+use Rattle.std.proofs.Common.{ℕ, Bool, false, ◌==◌, List, Option, Some, None}
 use Rattle.page_words.specs.FiniteMap as map
 use Rattle.page_words.specs.FiniteMap.{Order, Map}
 use Rattle.page_words.specs.FiniteSet.{Set}

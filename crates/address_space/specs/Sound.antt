@@ -1,5 +1,5 @@
 -- When directories, memory and roles agree, and the spaces that they stand for.
-use Rattle.std.specs.Prelude.{◌≡◌, ◌≢◌, ℕ, zero, suc, ◌+◌, ◌*◌, ◌^◌, ◌<◌, ◌≤◌, Bool, true, false, if◌then◌else◌, List, length, replicate, Option, Some, None, is_some, slice_get, ◌⊎◌, sum_by, refl}
+use Rattle.std.specs.Prelude.{◌≡◌, ◌≢◌, ℕ, zero, suc, ◌+◌, ◌*◌, ◌^◌, ◌<◌, ◌≤◌, Bool, true, if◌then◌else◌, List, length, replicate, Option, Some, None, is_some, slice_get, ◌⊎◌, sum_by, refl}
 use Rattle.std.specs.Coded.{Coded, code_by, coded×, coded_list, coded_ℕ, coded_option}
 use Rattle.address_space.specs.Codes.{spaces_code}
 use Rattle.std.specs.Option.{option_and_then, unwrap_or}
@@ -9,12 +9,12 @@ use Rattle.page_words.specs.Words.{IsKernelDirWord, IsKernelTableWord, is_presen
 use Rattle.phys_memory.specs.Bytes.{frame_bytes, word_in}
 use Rattle.alloc_table.specs.declared.Role.{Role}
 use Rattle.alloc_table.specs.declared.Role.TheVariants.{Reserved, Free, Directory, Table, Page}
-use Rattle.alloc_table.specs.Roles.{free_frames, frames_weight, IsReleased}
+use Rattle.alloc_table.specs.Roles.{frames_weight, IsReleased}
 use Rattle.page_map.specs.declared.PageEntry.{PageEntry}
 use Rattle.page_map.specs.Entries.{Frames, dir_word, table_of, entry_at}
 use Rattle.page_words.specs.FiniteMap as map
 use Rattle.page_words.specs.FiniteSet as set
-use Rattle.address_space.specs.Spaces.{Slot, slot_order, Cell, Spaces, cost, need, fresh, joined, stored, bytes_of, without, is_slot}
+use Rattle.address_space.specs.Spaces.{Slot, Spaces, cost, need, fresh, joined, without, is_slot}
 use Rattle.page_words.specs.FiniteMap.{collect}
 use Rattle.address_space.specs.Slots.{user_slots}
 use Rattle.address_space.specs.Cells.{Entries, holders_of, spaces_of}

@@ -1,16 +1,14 @@
 -- What a call that comes to a plan leaves and costs.
-use Rattle.std.proofs.Common.{◌≡◌, ℕ, ◌+◌, Bool, true, false, List, refl, ap, sym, ◌∙◌, Option, Some, None}
-use Rattle.std.specs.Prelude.{if◌then◌else◌, is_some}
+use Rattle.std.proofs.Common.{◌≡◌, ℕ, ◌+◌, Bool, true, refl, ap, ◌∙◌, Option, Some, None}
+use Rattle.std.specs.Prelude.{if◌then◌else◌}
 use Rattle.page_words.specs.Addresses.{page_number, offset_number, byte_count}
 use Rattle.page_words.specs.declared.addresses.Size.{Size}
-use Rattle.page_words.specs.FiniteMap as map
-use Rattle.address_space.specs.Spaces.{Slot, slot_at, fresh, cost, need, bytes_of}
+use Rattle.address_space.specs.Spaces.{slot_at, fresh, cost, need, bytes_of}
 use Rattle.address_space.proofs.Costs.{cost-insert}
 use Rattle.address_space.proofs.AccessCosts.{cost-accessed_mapped, cost-accessed_new, cost-stored_mapped, cost-stored_new}
-use Rattle.table_walk.specs.declared.Access.{Access}
 use Rattle.table_walk.specs.declared.Access.TheVariants.{Read, Write}
 use Rattle.table_walk.specs.declared.PageFault.{PageFault}
-use Rattle.kernel_calls.specs.State.{State, is_mapped, has_no_room}
+use Rattle.kernel_calls.specs.State.{State}
 use Rattle.kernel_calls.specs.Calls.{at_page, map_refusal, unmap_refusal, plan_of, loaded}
 use Rattle.kernel_calls.specs.Machine.{answer_of, after, completes, refused_or, planned_or}
 use Rattle.kernel_calls.specs.Decisions.{refused_plan, plan_of_call, after_call}

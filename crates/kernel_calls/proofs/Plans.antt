@@ -1,10 +1,10 @@
 -- What follows where an access comes to a plan.
-use Rattle.std.proofs.Common.{◌≡◌, ℕ, zero, suc, ◌+◌, ◌*◌, ◌≤◌, ◌<◌, Bool, true, false, not, List, [], ◌∷◌, take, drop, replicate, refl, ap, sym, ◌∙◌, Option, Some, None, unwrap_or, arith}
+use Rattle.std.proofs.Common.{◌≡◌, ℕ, zero, suc, Bool, true, false, not, List, take, drop, replicate, refl, ap, ◌∙◌, Option, Some, None, unwrap_or, arith}
 use Rattle.std.specs.Prelude.{if◌then◌else◌, is_some}
 use Rattle.page_words.specs.Addresses.{page_number, offset_number, byte_count, is_user_page}
 use Rattle.page_words.specs.declared.addresses.Size.{Size}
 use Rattle.page_words.specs.FiniteMap as map
-use Rattle.address_space.specs.Spaces.{Slot, Spaces, Cell, slot_at, fresh, cell_or_fresh, value_of, bytes_at, zeros}
+use Rattle.address_space.specs.Spaces.{Cell, slot_at, fresh, cell_or_fresh, value_of, bytes_at, zeros}
 use Rattle.table_walk.specs.declared.Access.{Access}
 use Rattle.table_walk.specs.declared.Access.TheVariants.{Read, Write}
 use Rattle.kernel_calls.specs.State.{State, is_mapped, has_no_room}

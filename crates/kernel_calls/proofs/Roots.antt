@@ -1,12 +1,12 @@
 -- The state of address spaces of which process 0 alone has one.
-use Rattle.std.proofs.Common.{◌≡◌, ◌≢◌, ℕ, ◌+◌, ◌-◌, ◌≤◌, Bool, true, false, cond, refl, ap, sym, ◌∙◌, length, Option, Some, None, inl, inr}
-use Rattle.std.specs.Prelude.{is_some, ◌⊎◌}
+use Rattle.std.proofs.Common.{◌≡◌, ◌≢◌, ℕ, ◌-◌, Bool, true, false, cond, refl, ap, sym, ◌∙◌, length, Some, None, inl, inr}
+use Rattle.std.specs.Prelude.{is_some}
 use Rattle.page_words.specs.FiniteMap as map
 use Rattle.page_words.specs.FiniteMap.{same, nat_order, Map}
 use Rattle.page_words.proofs.MapLemmas.{get-insert, same_itself, same_or_not}
-use Rattle.address_space.specs.Spaces.{Slot, Cell, Spaces, slot_order, fresh}
+use Rattle.address_space.specs.Spaces.{Slot, Cell, Spaces, slot_order}
 use Rattle.address_space.specs.Sound.{View, directory_of}
-use Rattle.kernel_calls.specs.State.{State, is_live}
+use Rattle.kernel_calls.specs.State.{is_live}
 use Rattle.quota_tree.specs.Book.{Member, Book}
 use Rattle.kernel_calls.specs.Kernel.{root_state}
 

@@ -1,5 +1,5 @@
 -- What each call is refused for, in order, and what it does.
-use Rattle.std.proofs.Common.{ℕ, Bool, not, ◌&&◌, if◌then◌else◌, ◌==◌, ◌%◌, Option, Some, None}
+use Rattle.std.proofs.Common.{ℕ, Bool, not, if◌then◌else◌, ◌==◌, ◌%◌, Option, Some, None}
 use Rattle.page_words.specs.Addresses.{page_number, offset_number, byte_count, is_user_page}
 use Rattle.page_words.specs.declared.addresses.Size.{Size}
 use Rattle.page_words.specs.FiniteMap as map

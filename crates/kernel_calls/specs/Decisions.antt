@@ -1,5 +1,5 @@
 -- What is decided of an event before anything changes: its plan, its reply, and the charge of its process afterwards.
-use Rattle.std.proofs.Common.{ℕ, Bool, if◌then◌else◌, Option, Some, None}
+use Rattle.std.proofs.Common.{ℕ, if◌then◌else◌, Option, Some, None}
 use Rattle.address_space.specs.Spaces.{cost}
 use Rattle.kernel_calls.specs.State.{State, is_live}
 use Rattle.kernel_calls.specs.Calls.{map_refusal, unmap_refusal, plan_of}

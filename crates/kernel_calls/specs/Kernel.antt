@@ -1,7 +1,7 @@
 -- What a core is seen as: the machine's state, and what memory itself holds of it.
-use Rattle.std.proofs.Common.{◌≡◌, ℕ, ◌+◌, ◌-◌, ◌≤◌, ◌≢◌, true, List, Option, Some, None, refl, length}
+use Rattle.std.proofs.Common.{◌≡◌, ℕ, ◌+◌, ◌-◌, ◌≤◌, ◌≢◌, true, List, Option, None, refl, length}
 use Rattle.std.specs.Prelude.{is_some}
-use Rattle.std.specs.Coded.{Coded, code_by, coded×, coded_list, coded_ℕ, coded_option, coded_bool}
+use Rattle.std.specs.Coded.{Coded, code_by, coded×, coded_list, coded_ℕ, coded_option}
 use Rattle.page_words.specs.FiniteMap as map
 use Rattle.alloc_table.specs.declared.Role.{Role}
 use Rattle.address_space.specs.Spaces.{Spaces, cost}

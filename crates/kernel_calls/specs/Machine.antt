@@ -1,6 +1,6 @@
 -- The machine: the answer to an event, the next state, and runs.
 use Rattle.std.proofs.Common.{ℕ, Bool, true, false, if◌then◌else◌, List, [], ◌∷◌, Option, Some, None}
-use Rattle.kernel_calls.specs.State.{State, open_with, is_live}
+use Rattle.kernel_calls.specs.State.{State, is_live}
 use Rattle.kernel_calls.specs.Calls.{map_refusal, unmap_refusal, plan_of, loaded, after_load, after_store, after_map, after_unmap}
 use Rattle.table_walk.specs.declared.Access.TheVariants.{Read, Write}
 use Rattle.kernel_calls.specs.declared.calls.Cause.{Cause}

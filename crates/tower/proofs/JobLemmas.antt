@@ -1,6 +1,6 @@
 -- The job of what was found behind a subcommand.
-use Rattle.std.proofs.Common.{◌≡◌, ℕ, true, List, Option, Some, None, option_map, subst, sym, refl, codes}
-use Rattle.clap.specs.Words.{App, Row, Text, is_simple, one_of, subcommand_of}
+use Rattle.std.proofs.Common.{◌≡◌, ℕ, true, List, Option, Some, None, option_map, subst, refl, codes}
+use Rattle.clap.specs.Words.{Row, Text, is_simple, one_of}
 use Rattle.clap.proofs.OnLiterals.{clap_on_literals}
 use Rattle.tower.specs.declared.jobs.Job.TheVariants.{Run}
 use Rattle.tower.specs.Jobs.{tower_app, IsFrames, IsJobOf}

@@ -1,16 +1,14 @@
 -- The value of digits, as a loop over them builds it.
-use Rattle.std.proofs.Common.{◌≡◌, ℕ, zero, suc, ◌+◌, ◌*◌, ◌^◌, ◌<◌, ◌≤◌, Bool, true, false, ◌&&◌, cond, List, [], ◌∷◌, ◌++◌, length, get_or, take, Option, Some, None, refl, sym, ap, ◌∙◌, arith, rules, inl, inr}
-use Rattle.std.specs.Prelude.{nat_lt, nat_le}
+use Rattle.std.proofs.Common.{◌≡◌, ℕ, zero, suc, ◌+◌, ◌*◌, ◌^◌, ◌<◌, ◌≤◌, true, false, ◌&&◌, cond, List, [], ◌∷◌, length, get_or, take, Some, None, refl, sym, ap, ◌∙◌, arith, inl, inr}
+use Rattle.std.specs.Prelude.{nat_le}
 use Rattle.std.specs.Char.{digit_value, is_digit}
-use Rattle.std.specs.List.{list_all}
 use Rattle.std.specs.Str.Parse.{digits_value, AllDigits}
 use Rattle.std.proofs.lemmas.Int.Digits.{digits_value-lt, digits_value_more}
 use Rattle.std.proofs.lemmas.Bool.{and_parts, and_from, and_right, ltb-true, lt-ltb, le-ltb, leb-true, cases_Bool}
 use Rattle.std.proofs.lemmas.List.{take_more}
 use Rattle.std.proofs.lemmas.List.Folds.{list_all-append}
-use Rattle.std.proofs.lemmas.Grind.{common_steps}
 use Rattle.std.proofs.Math.Nat.{pow-le-pow_left, pow-le-pow_right, mul-le-mul}
-use Rattle.tower.specs.Numbers.{are_digits, number_of, hexadecimal_number}
+use Rattle.tower.specs.Numbers.{are_digits, number_of}
 
 -- the test, as std's fact
 all_digits : (radix : ℕ) (ds : List ℕ) → are_digits radix ds ≡ true → AllDigits radix ds
@@ -50,13 +48,13 @@ pub hexadecimal_fits : (token : List ℕ) (n : ℕ) → number_of 16 8 token ≡
 hexadecimal_fits token n e =
     elim (cases_Bool (nat_le 1 (length token) && nat_le (length token) 8 && are_digits 16 token)) [
       | inl is ↦
-        let outer = and_parts (nat_le 1 (length token) && nat_le (length token) 8) (are_digits 16 token) is in
-        let inner = and_parts (nat_le 1 (length token)) (nat_le (length token) 8) outer.0 in
-        let value : Some (digits_value 16 token) ≡ Some n = sym (ap (λ t. cond t (Some (digits_value 16 token)) None) is) ∙ e in
-        let same : digits_value 16 token ≡ n = cc in
-        let bound : digits_value 16 token < 16 ^ 8 = digits_bound 16 8 token (omega arith) (leb-true _ _ inner.1) outer.1 in
-        omega arith
+          let outer = and_parts (nat_le 1 (length token) && nat_le (length token) 8) (are_digits 16 token) is in
+          let inner = and_parts (nat_le 1 (length token)) (nat_le (length token) 8) outer.0 in
+          let value : Some (digits_value 16 token) ≡ Some n = sym (ap (λ t. cond t (Some (digits_value 16 token)) None) is) ∙ e in
+          let same : digits_value 16 token ≡ n = cc in
+          let bound : digits_value 16 token < 16 ^ 8 = digits_bound 16 8 token (omega arith) (leb-true _ _ inner.1) outer.1 in
+          omega arith
       | inr not_so ↦
-        let none : None ≡ Some n = sym (ap (λ t. cond t (Some (digits_value 16 token)) None) not_so) ∙ e in
-        cc
+          let none : None ≡ Some n = sym (ap (λ t. cond t (Some (digits_value 16 token)) None) not_so) ∙ e in
+          cc
     ]

@@ -1,13 +1,13 @@
 -- A session goes on by a piece, by a line, or stops at one.
-use Rattle.std.proofs.Common.{◌≡◌, ℕ, suc, ◌+◌, ◌-◌, ◌<◌, ◌≤◌, Bool, true, false, List, [], ◌∷◌, ◌++◌, length, take, drop, get_or, refl, sym, ap, subst, ◌∙◌, arith, rules, append_assoc, append-nil, length-append, take-append-drop, inl, inr, Option, Some, None}
-use Rattle.std.specs.Io.KnownBytes.{Appends, Keeps}
+use Rattle.std.proofs.Common.{◌≡◌, ℕ, ◌+◌, ◌-◌, ◌<◌, ◌≤◌, true, false, List, [], ◌∷◌, ◌++◌, length, take, drop, get_or, refl, sym, ap, subst, ◌∙◌, arith, append_assoc, append-nil, length-append, take-append-drop, inl, inr, Option}
+use Rattle.std.specs.Io.KnownBytes.{Keeps}
 use Rattle.std.specs.List.{list_all, All}
-use Rattle.std.proofs.KnownBytes.{Appends-trans, Appends-nil, Appends-kept}
+use Rattle.std.proofs.KnownBytes.{Appends-trans, Appends-kept}
 use Rattle.std.proofs.lemmas.Bool.{lt-ltb, eqb-true, cases_Bool}
 use Rattle.std.proofs.lemmas.List.{length-take-le, get_or-take, get_or_default, take_all, drop_more, take_rest}
 use Rattle.std.proofs.lemmas.List.Splits.{slice_split_none}
 use Rattle.memchr.specs.Find.{is_byte, Nowhere, NoneBefore, Passes}
-use Rattle.kernel_calls.specs.State.{State, open_with}
+use Rattle.kernel_calls.specs.State.{open_with}
 use Rattle.kernel_calls.specs.Machine.{end_of}
 use Rattle.tower.specs.declared.faults.ScriptFault.{ScriptFault}
 use Rattle.tower.specs.declared.faults.ScriptFault.TheVariants.{BadSize, NoMemory, Malformed, TooLong, ReadFailed, WriteFailed}
@@ -26,7 +26,8 @@ one_line_before : (bytes : List ℕ) (n : ℕ) → n ≤ length bytes → Nowher
 unfolding IsOneLine lines_of
 one_line_before bytes n fits nowhere = slice_split_none is_line_feed (take n bytes) none where
   no_feed : (k : ℕ) → k < n → is_line_feed (get_or bytes k 0) ≡ false
-  no_feed k below = elim (cases_Bool (is_line_feed (get_or bytes k 0))) [ | inl is ↦ absurd (nowhere k (omega arith) below is) | inr not_so ↦ not_so ]
+  no_feed k below = elim (cases_Bool (is_line_feed (get_or bytes k 0))) [ inl is ↦ absurd (nowhere k (omega arith) below is) | inr not_so ↦ not_so ]
+
   none : All (λ b. is_line_feed b ≡ false) (take n bytes)
   none k d inside =
       let size : length (take n bytes) ≡ n = length-take-le n bytes fits in
@@ -53,11 +54,14 @@ wrote_on a b c text more waited waits before after = record {
 }
 
 pub wrote_front : (a b c : Option (List ℕ)) (text waited : List ℕ) → LeavesUnwritten a b text waited → AppendsFront b c waited → AppendsFront a c text
-wrote_front a b c text waited before after = (after.0, record {
-  written = before.written ++ after.1.written;
-  whole = before.whole ∙ ap (λ bytes. before.written ++ bytes) after.1.whole ∙ sym (append_assoc before.written after.1.written after.0);
-  grown = Appends-trans a b c before.written after.1.written before.grown after.1.grown;
-})
+wrote_front a b c text waited before after = (
+  after.0,
+  record {
+    written = before.written ++ after.1.written;
+    whole = before.whole ∙ ap (λ bytes. before.written ++ bytes) after.1.whole ∙ sym (append_assoc before.written after.1.written after.0);
+    grown = Appends-trans a b c before.written after.1.written before.grown after.1.grown;
+  },
+)
 
 pub wrote_none : (a b c : Option (List ℕ)) (text waits : List ℕ) → LeavesUnwritten a b text waits → Keeps b c → LeavesUnwritten a c text waits
 wrote_none a b c text waits before kept = record { written = before.written; whole = before.whole; grown = Appends-kept a b c before.written before.grown kept }
@@ -104,7 +108,7 @@ keeps_piece frames read piece old new start now one reached core output lines li
       lines = lines ∙ reached.lines ∙ sym (ap length same);
       state = ap (λ c. c.state) core ∙ reached.state ∙ sym (ap (λ ls. end_of (open_with frames) (events_in ls)) same);
       text = subst (λ (text : List ℕ). LeavesUnwritten start now text new.output) (sym (ap (λ ls. replies_text frames (events_in ls)) same))
-      (subst (λ (waits : List ℕ). LeavesUnwritten start now (replies_text frames (events_in (closed_lines read))) waits) (sym output) reached.text);
+          (subst (λ (waits : List ℕ). LeavesUnwritten start now (replies_text frames (events_in (closed_lines read))) waits) (sym output) reached.text);
     }
 
 pub refuses_piece : (frames : ℕ) (read piece : List ℕ) (session : Session) (start now : Option (List ℕ)) → IsOneLine piece → Reached frames read session start now
@@ -193,9 +197,11 @@ after_line read all taken rest line after whole cut =
 
 pub takes_line : (frames : ℕ) (read all taken rest line after : List ℕ) (session : Session) (start now : Option (List ℕ)) → all ≡ taken ++ rest → rest ≡ line ++ 10 ∷ after
     → Reached frames ((read ++ taken) ++ (line ++ 10 ∷ [])) session start now → (more : List ℕ) × (all ≡ more ++ after) × Reached frames (read ++ more) session start now
-takes_line frames read all taken rest line after session start now whole cut reached =
-    (taken ++ (line ++ 10 ∷ []), whole ∙ ap (λ bs. taken ++ bs) (cut ∙ sym (append_assoc line (10 ∷ []) after)) ∙ sym (append_assoc taken (line ++ 10 ∷ []) after),
-    subst (λ (bs : List ℕ). Reached frames bs session start now) (append_assoc read taken (line ++ 10 ∷ [])) reached)
+takes_line frames read all taken rest line after session start now whole cut reached = (
+  taken ++ (line ++ 10 ∷ []),
+  whole ∙ ap (λ bs. taken ++ bs) (cut ∙ sym (append_assoc line (10 ∷ []) after)) ∙ sym (append_assoc taken (line ++ 10 ∷ []) after),
+  subst (λ (bs : List ℕ). Reached frames bs session start now) (append_assoc read taken (line ++ 10 ∷ [])) reached,
+)
 
 pub stops_within : (frames : ℕ) (read all taken rest line after : List ℕ) (fault : ScriptFault) (waits : List ℕ) (start now : Option (List ℕ)) → all ≡ taken ++ rest → rest ≡ line ++ 10 ∷ after
     → Stops frames ((read ++ taken) ++ (line ++ 10 ∷ [])) fault waits start now → Stops frames (read ++ all) fault waits start now

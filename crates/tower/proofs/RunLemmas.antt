@@ -1,12 +1,11 @@
 -- What a whole run comes to, from what was read of the script.
-use Rattle.std.proofs.Common.{◌≡◌, ℕ, ◌+◌, ◌-◌, ◌<◌, ◌≤◌, Bool, true, false, List, [], ◌∷◌, ◌++◌, length, take, refl, sym, ap, subst, ◌∙◌, arith, append_assoc, append-nil, length-append, Option, Some, None, IfSome, Result, Ok, Err, ◌↔◌}
+use Rattle.std.proofs.Common.{◌≡◌, ℕ, ◌+◌, ◌<◌, ◌≤◌, true, false, List, [], ◌∷◌, ◌++◌, length, take, refl, sym, ap, subst, ◌∙◌, arith, append_assoc, append-nil, Option, Some, None, IfSome, Result, Ok, Err, ◌↔◌}
 use Rattle.std.specs.Result.{IsErrOf, OnOk, IfErr}
 use Rattle.std.specs.Io.KnownBytes.{Appends, Keeps, Consumes, IsAtEnd}
 use Rattle.std.specs.List.{list_all}
-use Rattle.std.proofs.KnownBytes.{Consumes-trans, Consumes-kept, Consumes-nil, Keeps-refl, Appends-nil, Appends-trans}
+use Rattle.std.proofs.KnownBytes.{Consumes-trans, Consumes-kept, Appends-nil, Appends-trans}
 use Rattle.std.proofs.lemmas.Bool.{le-ltb}
-use Rattle.std.proofs.lemmas.List.{length-take-le}
-use Rattle.kernel_calls.specs.State.{State, open_with}
+use Rattle.kernel_calls.specs.State.{open_with}
 use Rattle.kernel_calls.specs.Machine.{answers, end_of}
 use Rattle.tower.specs.declared.faults.ScriptFault.{ScriptFault}
 use Rattle.tower.specs.declared.faults.ScriptFault.TheVariants.{BadSize, NoMemory, Malformed, TooLong, ReadFailed, WriteFailed}
@@ -15,7 +14,7 @@ use Rattle.tower.specs.Lines.{line_of, is_too_long}
 use Rattle.tower.specs.Output.{LeavesUnwritten, AppendsFront}
 use Rattle.tower.specs.Replies.{text_of}
 use Rattle.tower.specs.Script.{limit, lines_of, closed_lines, open_line, is_malformed, is_sound, events_in, events_of, fault_of, replies_text}
-use Rattle.tower.specs.Progress.{state_after, text_after, LineFails, Reached, Begins, Breaks, Stops, Finished, StopsAtLast, Ran, EndsWhole, ReadSome, RanInto, EndsBy, IsBeforeReading}
+use Rattle.tower.specs.Progress.{state_after, text_after, LineFails, Reached, Begins, Stops, Finished, StopsAtLast, Ran, EndsWhole, ReadSome, RanInto, EndsBy, IsBeforeReading}
 use Rattle.tower.proofs.ProgressLemmas.{wrote_on, wrote_front, wrote_none, begins_at}
 use Rattle.tower.proofs.ScriptLemmas.{end_one_more, text_one_more, sound_one_more, replies_text-append, fault_malformed, events_before_malformed, events_begin, fault_at_end, events_at_end, fault_at_last, events_at_last, fault_past, events_past}
 
@@ -55,9 +54,12 @@ finishes frames read bytes old new start held holds reached is sound state text 
 
 pub stops_at_last : (frames : ℕ) (read bytes : List ℕ) (old : Session) (fault : ScriptFault) (waits : List ℕ) (start held holds : Option (List ℕ)) → Reached frames read old start held
     → bytes ≡ old.line.items → LineFails fault (old.lines + 1) bytes old.output waits held holds → StopsAtLast frames read fault waits start holds
-stops_at_last frames read bytes old (Malformed found) waits start held holds reached is fails =
-    (reached.sound, ap is_malformed (sym (is ∙ reached.line)) ∙ fails.1, fails.0 ∙ ap (λ n. n + 1) reached.lines,
-    subst (λ (w : List ℕ). LeavesUnwritten start holds (replies_text frames (events_in (closed_lines read))) w) (sym fails.2) (wrote_none start held holds _ _ reached.text fails.3))
+stops_at_last frames read bytes old (Malformed found) waits start held holds reached is fails = (
+  reached.sound,
+  ap is_malformed (sym (is ∙ reached.line)) ∙ fails.1,
+  fails.0 ∙ ap (λ n. n + 1) reached.lines,
+  subst (λ (w : List ℕ). LeavesUnwritten start holds (replies_text frames (events_in (closed_lines read))) w) (sym fails.2) (wrote_none start held holds _ _ reached.text fails.3),
+)
 stops_at_last frames read bytes old WriteFailed waits start held holds reached is fails = (fails.0, begins_at read reached.sound, wrote_front start held holds _ _ reached.text fails.1)
 stops_at_last frames read bytes old BadSize waits start held holds reached is fails = absurd fails
 stops_at_last frames read bytes old NoMemory waits start held holds reached is fails = absurd fails
@@ -89,12 +91,14 @@ front_of_all : (frames : ℕ) (read rest : List ℕ) (good : List (List ℕ)) (s
 front_of_all frames read rest good start now fits begins front =
     let more = events_begin read rest good fits begins in
     let added = text_of (answers (end_of (open_with frames) (events_in good)) more.0) in
-    let text = ap (replies_text frames) more.1 ∙ replies_text-append frames (events_in good) more.0 in
-    (front.0 ++ added, record {
-      written = front.1.written;
-      whole = text ∙ ap (λ t. t ++ added) front.1.whole ∙ append_assoc front.1.written front.0 added;
-      grown = front.1.grown;
-    })
+    let text = ap (replies_text frames) more.1 ∙ replies_text-append frames (events_in good) more.0 in (
+      front.0 ++ added,
+      record {
+        written = front.1.written;
+        whole = text ∙ ap (λ t. t ++ added) front.1.whole ∙ append_assoc front.1.written front.0 added;
+        grown = front.1.grown;
+      },
+    )
 
 -- ---- Ends
 
@@ -169,12 +173,14 @@ front_of_nothing (x ∷ xs) ys e = cc
 
 nothing_cut : (a b c : Option (List ℕ)) (text waits : List ℕ) → AppendsFront a b text → waits ≡ [] → AppendsFront b c waits → AppendsFront a c text
 nothing_cut a b c text waits front none after =
-    let parts : after.1.written ++ after.0 ≡ [] = sym after.1.whole ∙ none in
-    (front.0, record {
-      written = front.1.written;
-      whole = front.1.whole;
-      grown = subst (Appends a c) (ap (λ bs. front.1.written ++ bs) (front_of_nothing after.1.written after.0 parts) ∙ append-nil front.1.written) (Appends-trans a b c front.1.written after.1.written front.1.grown after.1.grown);
-    })
+    let parts : after.1.written ++ after.0 ≡ [] = sym after.1.whole ∙ none in (
+      front.0,
+      record {
+        written = front.1.written;
+        whole = front.1.whole;
+        grown = subst (Appends a c) (ap (λ bs. front.1.written ++ bs) (front_of_nothing after.1.written after.0 parts) ∙ append-nil front.1.written) (Appends-trans a b c front.1.written after.1.written front.1.grown after.1.grown);
+      },
+    )
 
 pub ends_whole : (frames : ℕ) (remained : Option (List ℕ)) (ran ended : Session) (start now last : Option (List ℕ)) → ended.core ≡ ran.core → Ran frames remained ran start now → Appends now last ran.output → EndsWhole frames remained ended start last
 ends_whole frames remained ran ended start now last core run written =

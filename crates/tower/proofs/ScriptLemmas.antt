@@ -1,14 +1,14 @@
 -- Events, replies and faults of lines, one after the other.
-use Rattle.std.proofs.Common.{◌≡◌, ℕ, zero, suc, ◌+◌, ◌-◌, ◌<◌, ◌≤◌, Bool, true, false, not, ◌&&◌, ◌||◌, cond, List, [], ◌∷◌, ◌++◌, length, take, refl, sym, ap, subst, ◌∙◌, arith, rules, append_assoc, append-nil, length-append, Option, Some, None, position}
-use Rattle.std.specs.Prelude.{filter, nat_lt, nat_le, take_while}
+use Rattle.std.proofs.Common.{◌≡◌, ℕ, ◌+◌, ◌-◌, ◌<◌, ◌≤◌, Bool, true, false, not, cond, List, [], ◌∷◌, ◌++◌, length, take, refl, ap, ◌∙◌, arith, append-nil, length-append, Option, Some, None, position}
+use Rattle.std.specs.Prelude.{nat_lt, take_while}
 use Rattle.std.specs.Option.{option_map, option_or}
-use Rattle.std.specs.List.{list_all, filter_map, prefix_len, position_or_len, flat_map}
-use Rattle.std.proofs.lemmas.Bool.{and_parts, and_from, ltb-true, ltb-false, lt-ltb, le-ltb, le-leb, lt-leb}
+use Rattle.std.specs.List.{list_all, prefix_len, position_or_len, flat_map}
+use Rattle.std.proofs.lemmas.Bool.{and_parts, and_from, lt-ltb, le-ltb, le-leb, lt-leb}
 use Rattle.std.proofs.lemmas.List.Folds.{list_all-append}
 use Rattle.std.proofs.lemmas.List.Elements.{filter_map-append}
 use Rattle.std.proofs.lemmas.List.Concat.{flat_map-append}
 use Rattle.std.proofs.lemmas.List.{take_at, take_all}
-use Rattle.std.proofs.Math.Numerals.{one-add, add-one}
+use Rattle.std.proofs.Math.Numerals.{one-add}
 use Rattle.std.proofs.Math.Seq.{take-append-add}
 use Rattle.kernel_calls.specs.State.{State, open_with}
 use Rattle.kernel_calls.specs.Machine.{answer, answers, next, end_of}
@@ -19,7 +19,7 @@ use Rattle.tower.specs.declared.lines.Line.{Line}
 use Rattle.tower.specs.declared.lines.Line.TheVariants as line
 use Rattle.tower.specs.Lines.{line_of, is_too_long}
 use Rattle.tower.specs.Replies.{reply_line, text_of}
-use Rattle.tower.specs.Script.{limit, closed_lines, open_line, judged_to, is_whole, judged, says_malformed, said_event, is_malformed, is_sound, events_in, events_of, fault_of, replies_text}
+use Rattle.tower.specs.Script.{limit, closed_lines, open_line, judged_to, is_whole, judged, said_event, is_malformed, is_sound, events_in, events_of, fault_of, replies_text}
 use Rattle.tower.proofs.LineLemmas.{judged_whole, judged_cut}
 use Rattle.tower.specs.Progress.{state_after, text_after, Begins, Breaks}
 

@@ -1,9 +1,9 @@
 -- The first token of a line, and those after it.
-use Rattle.std.proofs.Common.{◌≡◌, ℕ, zero, suc, ◌+◌, ◌<◌, ◌≤◌, Bool, true, false, not, cond, List, [], ◌∷◌, length, take, drop, refl, sym, ap, subst, ◌∙◌, arith, rules, inl, inr, Option, Some, None, unwrap_or, position}
+use Rattle.std.proofs.Common.{◌≡◌, ℕ, suc, ◌<◌, ◌≤◌, Bool, true, false, not, cond, List, [], ◌∷◌, length, take, drop, refl, sym, ap, subst, ◌∙◌, arith, Some, None, unwrap_or, position}
 use Rattle.std.specs.Prelude.{filter, nat_lt}
-use Rattle.std.specs.List.{slice_split, onto_first, position_or_len, prefix_len}
-use Rattle.std.proofs.lemmas.Bool.{cases_Bool, ltb-true, ltb-false}
-use Rattle.std.proofs.lemmas.List.{take_all, drop_all}
+use Rattle.std.specs.List.{slice_split, onto_first, position_or_len}
+use Rattle.std.proofs.lemmas.Bool.{ltb-true, ltb-false}
+use Rattle.std.proofs.lemmas.List.{drop_all}
 use Rattle.std.proofs.lemmas.List.Sums.{prefix_len-le-length}
 use Rattle.std.proofs.lemmas.List.Splits.{slice_split-cons_yes, slice_split-cons_no}
 use Rattle.std.proofs.Math.Numerals.{one-add}

@@ -5,7 +5,7 @@
 --     Finished, StopsAtLast      the last line, without a line feed, was carried out too;  why it was not
 --     Ran, RanInto      what a run came to, with replies that wait to be written
 --     EndsBy      what a run that ended by a fault did
-use Rattle.std.specs.Prelude.{◌≡◌, ℕ, ◌+◌, ◌≤◌, Bool, true, false, List, [], ◌∷◌, ◌++◌, length, Option, Some, None, IfSome}
+use Rattle.std.specs.Prelude.{◌≡◌, ℕ, ◌+◌, ◌≤◌, Bool, true, List, [], ◌∷◌, ◌++◌, length, Option, Some, None, IfSome}
 use Rattle.std.specs.List.{list_all}
 use Rattle.std.specs.Io.KnownBytes.{Appends, Keeps, Consumes}
 use Rattle.kernel_calls.specs.State.{State, open_with}

@@ -6,8 +6,8 @@
 --     replies_text frames events      the replies to events from the boot of a machine, a line for each
 use Rattle.std.specs.Prelude.{ℕ, ◌+◌, Bool, true, false, not, ◌||◌, ◌==◌, nat_le, List, [], ◌∷◌, ◌++◌, length, take, filter, position, take_while, Option, None, Some, if◌then◌else◌}
 use Rattle.std.specs.Option.{option_map, option_or}
-use Rattle.std.specs.List.{slice_split, list_all, filter_map}
-use Rattle.kernel_calls.specs.State.{State, open_with}
+use Rattle.std.specs.List.{slice_split, filter_map}
+use Rattle.kernel_calls.specs.State.{open_with}
 use Rattle.kernel_calls.specs.Machine.{answers}
 use Rattle.kernel_calls.specs.declared.calls.Event.{Event}
 use Rattle.tower.specs.declared.faults.ScriptFault.{ScriptFault}

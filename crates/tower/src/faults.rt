@@ -1,7 +1,7 @@
 //! Why a script's run ends early.
 
-use kernel_calls::BootFault;
 use super::output::WriteFailed;
+use kernel_calls::BootFault;
 use std::alloc::AllocError;
 use std::error::Error;
 use std::fmt;

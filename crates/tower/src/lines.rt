@@ -38,7 +38,11 @@ fn process_of(token: &[u8]) -> Option<Pid>
     ensures { result ≡ process_of token.now }
 {
     let number = decimal(token)?;
-    if number < 64 { Pid::new(number as u8) } else { None }
+    if number < 64 {
+        Pid::new(number as u8)
+    } else {
+        None
+    }
 }
 
 fn is_word(token: &[u8], word: &str) -> bool

@@ -13,10 +13,9 @@ mod output;
 mod replies;
 mod script;
 mod session;
-mod tokens;
-
 #[cfg(test)]
 mod tests;
+mod tokens;
 
 use clap::error::ErrorKind;
 use faults::ScriptFault;

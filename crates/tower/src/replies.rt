@@ -27,7 +27,11 @@ fn last_digit(n: u32) -> u8
     ensures { result ≡ digit_char (n % 16) }
 {
     let digit = (n % 16) as u8;
-    if digit < 10 { b'0' + digit } else { b'a' - 10 + digit }
+    if digit < 10 {
+        b'0' + digit
+    } else {
+        b'a' - 10 + digit
+    }
 }
 
 /// Eight hexadecimal digits in lower case.

@@ -7,9 +7,9 @@ ghost use Rattle.kernel_calls.specs.Machine.{end_of};
 ghost use Rattle.tower.specs.Script.{events_of, fault_of, replies_text};
 ghost use Rattle.tower.specs.Progress.{EndsBy};
 
-use kernel_calls::Core;
 use super::faults::ScriptFault;
 use super::session::Session;
+use kernel_calls::Core;
 use std::alloc::Global;
 use std::io::{Read, Write};
 

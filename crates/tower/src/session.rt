@@ -7,12 +7,12 @@ ghost use Rattle.tower.specs.Output.{LeavesUnwritten};
 ghost use Rattle.tower.specs.Script.{is_malformed};
 ghost use Rattle.tower.specs.Progress.{state_after, text_after, LineFails, IsOneLine, Reached, Stops, Finished, StopsAtLast, Ran, RanInto, EndsWhole, EndsBy, IsBeforeReading};
 
-use kernel_calls::Core;
 use super::faults::ScriptFault;
 use super::lines::{LINE, Line, line_of};
 use super::output::Output;
 use super::replies::reply_line;
 use arrayvec::ArrayVec;
+use kernel_calls::Core;
 use memchr::memchr;
 use std::alloc::Global;
 use std::io::{Read, Write};
@@ -109,7 +109,13 @@ impl Session {
         ensures err { (frames : ℕ) (read : List ℕ) (start : Option (List ℕ)) → Reached frames read self.old start (W.contents writer.old) → IfErr result (λ fault. StopsAtLast frames read fault self.new.output start (W.contents writer.new)) }
     {
         let line = self.line.as_slice();
-        carry_out(&mut self.core, &mut self.output, line, self.lines + 1, writer)?;
+        carry_out(
+            &mut self.core,
+            &mut self.output,
+            line,
+            self.lines + 1,
+            writer,
+        )?;
         Ok(())
     }
 

@@ -7,7 +7,8 @@ use std::io;
 use std::io::{Read, Write};
 use std::test::Fail;
 
-const MAP_STORE_LOAD: &[u8] = b"0 0 map 40000 rw\n0 0 store 40000ffc 4 deadbeef\n0 0 load 40000ffc 4\n0 0 map 40000 ro\n0 0 load 3ffffffc 4\n";
+const MAP_STORE_LOAD: &[u8] =
+    b"0 0 map 40000 rw\n0 0 store 40000ffc 4 deadbeef\n0 0 load 40000ffc 4\n0 0 map 40000 ro\n0 0 load 3ffffffc 4\n";
 
 const REPLIES: &[u8] = b"done\ndone\nvalue deadbeef\nrefused Mapped\nfault 3ffffffc 4\n";
 
@@ -226,7 +227,11 @@ fn takes_lines_of_100_bytes_and_no_more(rt: HostRuntime) -> Result<(), Fail> {
             script.insert(50, b' ')?;
             let (written, fault) = run(rt.alloc(), script.as_slice())?;
             assert_eq!(rt; written.as_slice(), b"".as_slice(), "{front:?}");
-            assert_eq!(rt; fault, Some(ScriptFault::Malformed { line: 1 }), "{front:?}");
+            assert_eq!(rt;
+                fault,
+                Some(ScriptFault::Malformed { line: 1 }),
+                "{front:?}"
+            );
         }
     }
     Ok(())
@@ -252,7 +257,11 @@ fn takes_no_byte_more(rt: HostRuntime) {
 
 #[test]
 fn asks_for_16_to_4096_frames(rt: HostRuntime) {
-    for (frames, want) in [(15, Some(ScriptFault::BadSize)), (4096, None), (4097, Some(ScriptFault::BadSize))] {
+    for (frames, want) in [
+        (15, Some(ScriptFault::BadSize)),
+        (4096, None),
+        (4097, Some(ScriptFault::BadSize)),
+    ] {
         let mut reader: &[u8] = b"0 0 lode";
         let mut written = Vec::new(rt.alloc());
         let fault = run_script(rt.alloc(), &mut reader, &mut written, frames).err();

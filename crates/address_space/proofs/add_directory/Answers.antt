@@ -1,5 +1,5 @@
-use Rattle.std.proofs.Common.{◌≡◌, ◌+◌, ◌*◌, ◌<◌, ◌≤◌, ap, sym, ◌∙◌, subst, Some, arith}
-use Rattle.std.specs.Prelude.{slice_set, length}
+use Rattle.std.proofs.Common.{◌<◌, sym, subst, Some, arith}
+use Rattle.std.specs.Prelude.{slice_set}
 use Rattle.alloc_table.specs.declared.Role.TheVariants.{Free}
 use Rattle.address_space.specs.Sound.{SpaceAdded}
 use Rattle.address_space.proofs.Openings.{space_added, room_for_directory}

@@ -1,10 +1,8 @@
-use Rattle.std.proofs.Common.{◌≡◌, ap, sym, ◌∙◌, None, Some, arith}
+use Rattle.std.proofs.Common.{◌≡◌, ap, sym, ◌∙◌, None, Some}
 use Rattle.std.specs.Prelude.{slice_get}
 use Rattle.std.specs.Option.{option_map, option_and_then}
-use Rattle.page_words.specs.FiniteSet as set
 use Rattle.phys_memory.specs.Bytes.{frame_bytes}
 use Rattle.page_map.specs.Entries.{entry_at}
-use Rattle.address_space.specs.declared.Cell.{Cell}
 use Rattle.address_space.specs.Shown.{shown}
 use Rattle.address_space.specs.Cells.{cell_of}
 use Rattle.address_space.specs.Sound.{directory_of, entries_in}

@@ -1,4 +1,4 @@
-use Rattle.std.proofs.Common.{◌≡◌, ap, sym, ◌∙◌}
+use Rattle.std.proofs.Common.{ap, sym, ◌∙◌}
 use Rattle.page_words.specs.Addresses.{byte_count}
 use Rattle.address_space.specs.Spaces.{Cell, value_of, bytes_at}
 use Rattle.address_space.proofs.Steps.{page_map_of, live_small}

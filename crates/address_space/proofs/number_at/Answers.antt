@@ -1,4 +1,4 @@
-use Rattle.std.proofs.Common.{◌≡◌, ◌+◌, ◌*◌, ◌%◌, ap, sym, ◌∙◌}
+use Rattle.std.proofs.Common.{◌≡◌, ◌+◌, ◌*◌, ◌%◌, ap, ◌∙◌}
 use Rattle.std.specs.Prelude.{slice_index}
 use Rattle.phys_memory.specs.Bytes.{word_at}
 use Rattle.address_space.proofs.Readings.{word_read_in, byte_read_in}

@@ -1,4 +1,4 @@
-use Rattle.std.proofs.Common.{◌≡◌, ap, sym, ◌∙◌, subst, replicate, length, None}
+use Rattle.std.proofs.Common.{ap, sym, ◌∙◌, subst, replicate, length, None}
 use Rattle.phys_memory.specs.Bytes.{blank_bytes}
 use Rattle.address_space.specs.Sound.{IsSpaces, spaces_in}
 use Rattle.address_space.proofs.Openings.{opening_is_sound, opening_spaces, opening_length, opening_cost}

@@ -1,9 +1,7 @@
-use Rattle.std.proofs.Common.{◌≡◌, ap, sym, ◌∙◌, Some, refl}
-use Rattle.std.specs.Prelude.{slice_get, is_some}
+use Rattle.std.proofs.Common.{sym, ◌∙◌, refl}
 use Rattle.alloc_table.specs.declared.Role.TheVariants.{Page}
-use Rattle.std.proofs.lemmas.Option.{slice_get_within}
-use Rattle.address_space.proofs.Steps.{page_map_of, present_by_table}
-use Rattle.address_space.proofs.Stores.{stored_place, named_entry, page_of_name}
+use Rattle.address_space.proofs.Steps.{page_map_of}
+use Rattle.address_space.proofs.Stores.{named_entry, page_of_name}
 use Rattle.address_space.proofs.Leaves.{slot_removed, freed_table}
 use Rattle.address_space.proofs.remove_entry.Goals as goal
 

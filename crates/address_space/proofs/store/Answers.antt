@@ -1,11 +1,10 @@
-use Rattle.std.proofs.Common.{◌≡◌, ap, sym, ◌∙◌, Some, List, length, ℕ}
-use Rattle.std.specs.Prelude.{slice_get, is_some}
+use Rattle.std.proofs.Common.{ap, sym, ◌∙◌}
+use Rattle.std.specs.Prelude.{is_some}
 use Rattle.phys_memory.specs.Bytes.{frame_bytes}
 use Rattle.page_words.specs.Addresses.{slot_number, byte_count}
 use Rattle.address_space.specs.Spaces.{bytes_of}
-use Rattle.address_space.specs.Sound.{directory_of}
-use Rattle.address_space.proofs.Steps.{page_map_of, map_kept, present_by_table, page_loose}
-use Rattle.address_space.proofs.Stores.{page_stored, stored_place, Place, written_long}
+use Rattle.address_space.proofs.Steps.{page_map_of, map_kept, present_by_table}
+use Rattle.address_space.proofs.Stores.{page_stored, stored_place, written_long}
 use Rattle.address_space.proofs.store.Goals as goal
 
 pub entry-requires-clause-map : goal.entry-requires-clause-map

@@ -1,4 +1,4 @@
-use Rattle.std.proofs.Common.{◌≡◌, sym, ◌∙◌, true, refl}
+use Rattle.std.proofs.Common.{sym, ◌∙◌}
 use Rattle.address_space.proofs.Steps.{page_map_of}
 use Rattle.address_space.proofs.Stores.{touched, stored_place}
 use Rattle.address_space.proofs.touch.Goals as goal

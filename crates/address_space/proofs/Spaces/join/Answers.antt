@@ -1,7 +1,5 @@
-use Rattle.std.proofs.Common.{◌≡◌, ap, sym, ◌∙◌, Some, None, subst, true, refl, arith}
+use Rattle.std.proofs.Common.{◌≡◌, sym, ◌∙◌, subst, true, refl}
 use Rattle.std.specs.Prelude.{is_some}
-use Rattle.std.specs.Option.{IsSome}
-use Rattle.page_map.specs.declared.PageEntry.{PageEntry}
 use Rattle.page_words.specs.FiniteMap as map
 use Rattle.address_space.specs.Sound.{View, TableGiven, Names}
 use Rattle.address_space.proofs.Costed.{Room, room_for_table, mapped}

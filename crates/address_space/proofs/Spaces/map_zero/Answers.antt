@@ -1,4 +1,4 @@
-use Rattle.std.proofs.Common.{subst, sym, arith}
+use Rattle.std.proofs.Common.{subst, sym}
 use Rattle.address_space.specs.Sound.{View, TableGiven}
 use Rattle.address_space.proofs.Costed.{Room, room_for_page, room_for_table, mapped}
 use Rattle.address_space.proofs.Spaces.map_zero.Goals as goal

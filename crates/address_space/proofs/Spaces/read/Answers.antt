@@ -1,4 +1,4 @@
-use Rattle.std.proofs.Common.{◌≡◌, ap, sym, ◌∙◌, Some, subst, true}
+use Rattle.std.proofs.Common.{◌≡◌, ap, sym, subst, true}
 use Rattle.std.specs.Prelude.{is_some}
 use Rattle.page_words.specs.Addresses.{page_number}
 use Rattle.page_words.specs.FiniteMap as map

@@ -1,5 +1,4 @@
-use Rattle.std.proofs.Common.{◌≡◌, ◌+◌, ap, sym, ◌∙◌, None, arith}
-use Rattle.page_words.specs.Addresses.{page_number}
+use Rattle.std.proofs.Common.{◌≡◌, ◌+◌, ap, sym, ◌∙◌, None}
 use Rattle.table_walk.specs.declared.Access.TheVariants.{Read, Write}
 use Rattle.address_space.specs.Spaces.{cost, need}
 use Rattle.kernel_calls.specs.declared.calls.Plan.TheVariants as plan
@@ -7,7 +6,7 @@ use Rattle.kernel_calls.specs.State.{State}
 use Rattle.kernel_calls.specs.Calls.{map_refusal, plan_of}
 use Rattle.kernel_calls.specs.Decisions.{plan_of_call, after_call}
 use Rattle.kernel_calls.specs.Kernel.{root_state}
-use Rattle.kernel_calls.proofs.Charges.{after-refused, after-fault, load_charged, load_free, store_charged, store_free, map_charged, none_refused}
+use Rattle.kernel_calls.proofs.Charges.{after-refused, load_charged, load_free, store_charged, store_free, map_charged, none_refused}
 use Rattle.kernel_calls.proofs.kernel.charge_of.Goals as goal
 
 pub returns-in-Refused : goal.returns-in-Refused

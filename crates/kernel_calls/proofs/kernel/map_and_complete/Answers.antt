@@ -1,6 +1,6 @@
 use Rattle.std.proofs.Common.{◌≡◌, ap, sym, ◌∙◌, true}
 use Rattle.std.specs.Prelude.{is_some, length}
-use Rattle.page_words.specs.Addresses.{page_number, offset_number, byte_count}
+use Rattle.page_words.specs.Addresses.{offset_number, byte_count}
 use Rattle.page_words.specs.FiniteMap as map
 use Rattle.address_space.specs.Spaces.{Slot, slot_at, fresh, accessed, stored, bytes_of}
 use Rattle.address_space.proofs.MapFirst.{accessed-fresh, stored-fresh}

@@ -1,6 +1,6 @@
-use Rattle.std.proofs.Common.{◌≡◌, ℕ, List, Option, map, option_map, codes, ap, subst, sym, ◌∙◌}
+use Rattle.std.proofs.Common.{◌≡◌, Option, map, option_map, codes, ap, subst, ◌∙◌}
 use Rattle.std.proofs.lemmas.Result.{err_from_is_err_and}
-use Rattle.clap.specs.Words.{App, Row, Text, found_of, is_simple, one_text, rows_of, subcommand_of, subcommand_rows_of, takes}
+use Rattle.clap.specs.Words.{App, Text, found_of, is_simple, rows_of, subcommand_of, subcommand_rows_of, takes}
 use Rattle.clap.proofs.WalkLemmas.{one_text-rows}
 use Rattle.tower.specs.Jobs.{tower_app, IsFrames}
 use Rattle.tower.proofs.JobLemmas.{tower_is_simple, job_from}

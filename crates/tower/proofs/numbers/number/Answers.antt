@@ -1,5 +1,4 @@
-use Rattle.std.proofs.Common.{◌<◌, ◌≤◌, ◌^◌, ◌*◌, arith, length, take, length-take}
-use Rattle.std.proofs.lemmas.List.{length-take-le}
+use Rattle.std.proofs.Common.{◌<◌, ◌≤◌, ◌^◌, arith, length, take, length-take}
 use Rattle.tower.proofs.NumberLemmas.{value_fits, scaled_fits}
 use Rattle.tower.proofs.numbers.number.Goals as goal
 

@@ -1,4 +1,4 @@
-use Rattle.std.proofs.Common.{◌≡◌, ◌<◌, ◌^◌, ◌/◌, ◌%◌, ◌+◌, ◌++◌, ◌∷◌, [], List, ℕ, ap, sym, ◌∙◌, append_assoc, arith, decimal}
+use Rattle.std.proofs.Common.{◌/◌, ◌%◌, ◌+◌, ◌++◌, ◌∷◌, [], List, ℕ, ap, sym, ◌∙◌, append_assoc, arith, decimal}
 use Rattle.tower.proofs.ReplyLemmas.{last_digit}
 use Rattle.tower.proofs.replies.+push_decimal.Goals as goal
 

@@ -1,4 +1,4 @@
-use Rattle.std.proofs.Common.{rules, ◌≡◌, Some, None, position, length, take, drop, ◌-◌}
+use Rattle.std.proofs.Common.{◌≡◌, Some, None, position, length, take, drop, ◌-◌}
 use Rattle.std.proofs.lemmas.List.{take_rest}
 use Rattle.tower.specs.Tokens.{is_visible}
 use Rattle.tower.proofs.TokenLemmas.{no_tokens, first_of_tokens}

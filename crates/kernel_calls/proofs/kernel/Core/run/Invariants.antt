@@ -1,4 +1,4 @@
-use Rattle.std.proofs.Common.{◌≡◌, ◌++◌, take, drop, length}
+use Rattle.std.proofs.Common.{◌≡◌, ◌++◌, take, drop}
 use Rattle.kernel_calls.specs.Machine.{answers, end_of}
 use Rattle.kernel_calls.proofs.kernel.Core.run.Given as goal
 

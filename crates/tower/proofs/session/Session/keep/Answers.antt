@@ -1,4 +1,4 @@
-use Rattle.std.proofs.Common.{◌≡◌, ◌<◌, ◌≤◌, ◌+◌, length, refl, inl, inr, true, false}
+use Rattle.std.proofs.Common.{◌<◌, ◌+◌, length, refl, inl, inr}
 use Rattle.std.proofs.lemmas.Bool.{cases_lt, false≢true}
 use Rattle.tower.proofs.ProgressLemmas.{keeps_piece, refuses_piece}
 use Rattle.tower.proofs.session.Session.keep.Goals as goal

@@ -1,6 +1,5 @@
-use Rattle.std.proofs.Common.{refl}
-use Rattle.std.proofs.lemmas.Result.{err_from_is_err_and, MatchResult-weaker}
-use Rattle.tower.proofs.RunLemmas.{ends_whole, ends_by, cut_at_end}
+use Rattle.std.proofs.lemmas.Result.{err_from_is_err_and}
+use Rattle.tower.proofs.RunLemmas.{cut_at_end}
 use Rattle.tower.proofs.session.Session.run.Goals as goal
 
 pub returns-in_err-flush-clause-err : goal.returns-in_err-flush-clause-err

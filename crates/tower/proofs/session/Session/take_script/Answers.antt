@@ -1,5 +1,4 @@
-use Rattle.std.proofs.Common.{◌≡◌, ℕ, ◌+◌, ◌-◌, ◌<◌, ◌≤◌, ◌++◌, [], List, length, take, subst, sym, ap, ◌∙◌, arith, length-append}
-use Rattle.std.specs.Io.KnownBytes.{Consumes}
+use Rattle.std.proofs.Common.{◌≡◌, ◌≤◌, ◌++◌, length, take, ◌∙◌, arith, length-append}
 use Rattle.std.proofs.KnownBytes.{Consumes-trans}
 use Rattle.std.proofs.lemmas.List.{length-take-le}
 use Rattle.std.proofs.lemmas.Result.{err_from_is_err_and, on_ok_weaker, MatchResult-weaker}
@@ -47,9 +46,9 @@ loop-total-preserved g c = record {
   reached = λ frames reached.
       let far = c.loop-total.invariant.reached frames reached in
       let more = take c.in_ok-count.count c.read_some.new.block in
-      let size : length more ≡ c.in_ok-count.count = length-take-le c.in_ok-count.count c.read_some.new.block c.in_ok-count.ensures.bound.1 in
-      (
-        far.0 ++ more, length-append far.0 more ∙ omega (arith, far.1),
+      let size : length more ≡ c.in_ok-count.count = length-take-le c.in_ok-count.count c.read_some.new.block c.in_ok-count.ensures.bound.1 in (
+        far.0 ++ more,
+        length-append far.0 more ∙ omega (arith, far.1),
         Consumes-trans (g.R.Read.remaining c.args.reader.now) (g.R.Read.remaining c.loop-total.reader) (g.R.Read.remaining c.read_some.new.reader) far.0 more far.2 c.in_ok-count.ensures.bytes,
         c.in_ok-feed.ensures.ok frames far.0 _ far.3,
       );
