@@ -17,3 +17,6 @@ pub mod Relief
 pub mod AccessCosts
 pub mod MapFirst
 pub mod WalkEnds
+pub mod Departures
+pub mod ChargeLemmas
+pub mod Totals

@@ -46,6 +46,10 @@ slot_order = record { cmp = slot_cmp; total = slot_total; same = slot_same }
 abbrev pub is_slot : ℕ → ℕ → Slot → Bool
 is_slot p page slot = same slot_order (record { pid = p; page = page }) slot
 
+-- whether a slot is of this process
+abbrev pub is_of : ℕ → Slot → Bool
+is_of p slot = slot.pid == p
+
 -- ---- Cells
 
 -- what a process has at a mapped page
@@ -138,6 +142,10 @@ write_at bytes at new = take at bytes ++ new ++ drop (at + length new) bytes
 -- after an access that completes: accessed is set in the slot's own cell
 abbrev pub accessed : Spaces → Slot → Spaces
 accessed spaces slot = map.insert spaces slot (record (cell_or_fresh spaces slot) { accessed = true })
+
+-- after a change of the right to write: it is set or cleared in the slot's own cell
+abbrev pub protected : Spaces → Slot → Bool → Spaces
+protected spaces slot write = map.insert spaces slot (record (cell_or_fresh spaces slot) { write = write })
 
 -- the group of a slot's cell has these bytes, and the cell both flags
 abbrev pub store_in : Spaces → Slot → Cell → List ℕ → Spaces

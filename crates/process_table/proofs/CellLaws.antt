@@ -1,0 +1,222 @@
+-- Cells stay well formed where one is mapped, where a group gets other bytes, and where some slots go.
+use Rattle.std.proofs.Common.{◌≡◌, ◌≢◌, ℕ, ◌<◌, ◌&&◌, ◌||◌, not, Bool, true, false, cond, List, length, refl, sym, ap, subst, ◌∙◌, Option, Some, None, is_some, unwrap_or, inl, inr}
+use Rattle.std.specs.Prelude.{IsTrue}
+use Rattle.std.specs.Option.{option_map}
+use Rattle.std.specs.List.{All}
+use Rattle.page_words.specs.Addresses.{IsUserPage}
+use Rattle.page_words.specs.FiniteMap as map
+use Rattle.page_words.specs.FiniteMap.{same}
+use Rattle.page_words.specs.FiniteSet as set
+use Rattle.page_words.specs.FiniteSet.{Set}
+use Rattle.page_words.proofs.MapLemmas.{same_itself, same-true, get-insert, get-retain_keys, get-map_values, contains-insert, contains-retain}
+use Rattle.page_words.proofs.SetLemmas.{same_cases}
+use Rattle.address_space.specs.Spaces.{Slot, slot_order, Cell, Spaces, without, with_holders}
+use Rattle.process_table.specs.WellFormed.{IsCellAt}
+
+-- each cell is well formed
+abbrev pub AreCells : Spaces → Type 0
+AreCells S = (slot : Slot) (cell : Cell) → map.get S slot ≡ Some cell → IsCellAt S slot cell
+
+-- a value that stands at one place is the one that stands there
+pub same_Some : {A : Type 0} (x y : A) → Some x ≡ Some y → x ≡ y
+same_Some x y e = ap (λ o. unwrap_or o x) e
+
+-- what is there is a value
+pub some_value : {A : Type 0} (x : Option A) → is_some x ≡ true → (a : A) × (x ≡ Some a)
+some_value None h = cc
+some_value (Some a) h = (a, refl)
+
+-- two tests that both pass
+pub both_true : (a b : Bool) → (a && b) ≡ true → (a ≡ true) × (b ≡ true)
+both_true true b h = (refl, h)
+both_true false b h = cc
+
+-- a test whose opposite passes
+pub not_true : (b : Bool) → not b ≡ true → b ≡ false
+not_true true h = cc
+not_true false h = refl
+
+-- what was put at a key stands there
+pub get-inserted : (S : Spaces) (slot : Slot) (c : Cell) → map.get (map.insert S slot c) slot ≡ Some c
+get-inserted S slot c = get-insert S slot c slot ∙ ap (λ b. cond b (Some c) (map.get S slot)) (same_itself slot_order slot)
+
+-- and at the others what stood there
+pub get-inserted_other : (S : Spaces) (slot : Slot) (c : Cell) (q : Slot) → q ≢ slot → map.get (map.insert S slot c) q ≡ map.get S q
+get-inserted_other S slot c q n = get-insert S slot c q ∙ elim (same_cases slot_order q slot) [
+  | inl is ↦ absurd (n is.0)
+  | inr other ↦ ap (λ b. cond b (Some c) (map.get S q)) other.1
+]
+
+-- ---- One cell more
+
+-- a cell that holds its group alone
+pub lone-cell : (T : Spaces) (slot : Slot) (c : Cell) → map.get T slot ≡ Some c → IsUserPage slot.page → length c.bytes ≡ 4096 → All (λ b. b < 256) c.bytes
+    → (IsTrue c.write → IsTrue c.may) → (IsTrue c.dirty → IsTrue c.accessed) → c.holders ≡ set.insert set.empty slot → IsCellAt T slot c
+lone-cell T slot c now user long small write dirty alone = record {
+  user = user;
+  long = long;
+  small = small;
+  write_may = write;
+  dirty_accessed = dirty;
+  own = ap (λ (h : Set slot_order). set.contains h slot) alone ∙ contains-insert {o = slot_order} set.empty slot slot ∙ ap (λ b. b || false) (same_itself slot_order slot);
+  alike = λ other h. (c, only other h, refl, refl);
+}
+  where
+    or_false : (b : Bool) → (b || false) ≡ b
+    or_false true = refl
+    or_false false = refl
+
+    only : (other : Slot) → IsTrue (set.contains c.holders other) → map.get T other ≡ Some c
+    only other h =
+        let e = same-true slot_order other slot (sym (or_false (same slot_order other slot)) ∙ sym (contains-insert {o = slot_order} set.empty slot other) ∙ sym (ap (λ (g : Set slot_order). set.contains g other) alone) ∙ h) in
+        ap (map.get T) e ∙ now
+
+-- the other cells do not see it
+pub cells-lone : (S T : Spaces) (slot : Slot) (c : Cell) → map.get S slot ≡ None → map.get T slot ≡ Some c → ((q : Slot) → q ≢ slot → map.get T q ≡ map.get S q) → AreCells S → IsCellAt T slot c → AreCells T
+cells-lone S T slot c none now others cells new q e found = elim (same_cases slot_order q slot) [
+  | inl is ↦ subst (λ (x : Slot). IsCellAt T x e) (sym is.0) (subst (IsCellAt T slot) (same_Some c e (sym now ∙ ap (map.get T) (sym is.0) ∙ found)) new)
+  | inr other ↦ old q e (sym (others q other.0) ∙ found)
+]
+  where
+    apart : (o : Slot) (d : Cell) → map.get S o ≡ Some d → o ≢ slot
+    apart o d h e = let x : Some d ≡ None = sym h ∙ ap (map.get S) e ∙ none in cc
+
+    old : (q : Slot) (e : Cell) → map.get S q ≡ Some e → IsCellAt T q e
+    old q e h =
+        let was = cells q e h in
+        record {
+          user = was.user;
+          long = was.long;
+          small = was.small;
+          write_may = was.write_may;
+          dirty_accessed = was.dirty_accessed;
+          own = was.own;
+          alike = λ other inside. let o = was.alike other inside in (o.0, others other (apart other o.0 o.1) ∙ o.1, o.2, o.3);
+        }
+
+-- ---- A group gets other bytes
+
+-- a cell that is left as it was, but for its bytes where it is in the group, and for its flags
+pub record IsRenewed (group : Set slot_order) (bytes : List ℕ) (q : Slot) (d e : Cell) : Type 0 where
+  pub holders : e.holders ≡ d.holders
+  pub bytes_in : set.contains group q ≡ true → e.bytes ≡ bytes
+  pub bytes_out : set.contains group q ≡ false → e.bytes ≡ d.bytes
+  pub write : e.write ≡ d.write
+  pub may : e.may ≡ d.may
+  pub dirty : (IsTrue d.dirty → IsTrue d.accessed) → IsTrue e.dirty → IsTrue e.accessed
+
+module _ (S T : Spaces) (slot : Slot) (c : Cell) (bytes : List ℕ) (at : map.get S slot ≡ Some c)
+    (forth : (q : Slot) (d : Cell) → map.get S q ≡ Some d → (e : Cell) × (map.get T q ≡ Some e) × IsRenewed c.holders bytes q d e)
+    (back : (q : Slot) (e : Cell) → map.get T q ≡ Some e → (d : Cell) × (map.get S q ≡ Some d))
+    (cells : AreCells S) (long : length bytes ≡ 4096) (small : All (λ b. b < 256) bytes) where
+  -- a slot of the group holds the group
+  in_group : (q : Slot) (d : Cell) → map.get S q ≡ Some d → set.contains c.holders q ≡ true → d.holders ≡ c.holders
+  in_group q d h inside =
+      let o = (cells slot c at).alike q inside in
+      ap (λ (x : Cell). x.holders) (same_Some d o.0 (sym h ∙ o.1)) ∙ o.2
+
+  bytes_of_one : (q : Slot) (d e : Cell) (b : Bool) → set.contains c.holders q ≡ b → IsRenewed c.holders bytes q d e → e.bytes ≡ cond b bytes d.bytes
+  bytes_of_one q d e true is r = r.bytes_in is
+  bytes_of_one q d e false is r = r.bytes_out is
+
+  -- two slots of one group are both in the group that changes, or neither is
+  together : (q other : Slot) (d o : Cell) → map.get S q ≡ Some d → map.get S other ≡ Some o → o.holders ≡ d.holders → set.contains d.holders other ≡ true → set.contains c.holders other ≡ set.contains c.holders q
+  together q other d o at_q at_other shared inside = by (set.contains c.holders q) (set.contains c.holders other) refl refl
+    where
+      by : (a b : Bool) → set.contains c.holders q ≡ a → set.contains c.holders other ≡ b → b ≡ a
+      by true b is_q is_other = sym is_other ∙ ap (λ (g : Set slot_order). set.contains g other) (sym (in_group q d at_q is_q)) ∙ inside
+      by false false is_q is_other = refl
+      by false true is_q is_other =
+          let g : d.holders ≡ c.holders = sym shared ∙ in_group other o at_other is_other in
+          let own : set.contains c.holders q ≡ true = ap (λ (g : Set slot_order). set.contains g q) (sym g) ∙ (cells q d at_q).own in
+          cc
+
+  renewed_long : (q : Slot) (d e : Cell) (b : Bool) → set.contains c.holders q ≡ b → length d.bytes ≡ 4096 → IsRenewed c.holders bytes q d e → length e.bytes ≡ 4096
+  renewed_long q d e true is l r = ap length (r.bytes_in is) ∙ long
+  renewed_long q d e false is l r = ap length (r.bytes_out is) ∙ l
+
+  renewed_small : (q : Slot) (d e : Cell) (b : Bool) → set.contains c.holders q ≡ b → All (λ b. b < 256) d.bytes → IsRenewed c.holders bytes q d e → All (λ b. b < 256) e.bytes
+  renewed_small q d e true is l r = subst (λ (x : List ℕ). All (λ b. b < 256) x) (sym (r.bytes_in is)) small
+  renewed_small q d e false is l r = subst (λ (x : List ℕ). All (λ b. b < 256) x) (sym (r.bytes_out is)) l
+
+  one_renewed : (q : Slot) (d e : Cell) → map.get S q ≡ Some d → IsRenewed c.holders bytes q d e → IsCellAt T q e
+  one_renewed q d e at_q r =
+      let was = cells q d at_q in
+      record {
+        user = was.user;
+        long = renewed_long q d e (set.contains c.holders q) refl was.long r;
+        small = renewed_small q d e (set.contains c.holders q) refl was.small r;
+        write_may = λ h. r.may ∙ was.write_may (sym r.write ∙ h);
+        dirty_accessed = r.dirty was.dirty_accessed;
+        own = ap (λ (g : Set slot_order). set.contains g q) r.holders ∙ was.own;
+        alike = alike;
+      }
+    where
+      alike : (other : Slot) → IsTrue (set.contains e.holders other) → (f : Cell) × (map.get T other ≡ Some f) × (f.holders ≡ e.holders) × (f.bytes ≡ e.bytes)
+      alike other inside =
+          let inside_d : set.contains d.holders other ≡ true = ap (λ (g : Set slot_order). set.contains g other) (sym r.holders) ∙ inside in
+          let o = (cells q d at_q).alike other inside_d in
+          let f = forth other o.0 o.1 in
+          let same_test = together q other d o.0 at_q o.1 o.2 inside_d in (
+            f.0,
+            f.1,
+            f.2.holders ∙ o.2 ∙ sym r.holders,
+            bytes_of_one other o.0 f.0 (set.contains c.holders other) refl f.2
+                ∙ (λ i. cond (same_test i) bytes (o.3 i))
+                ∙ sym (bytes_of_one q d e (set.contains c.holders q) refl r),
+          )
+
+  -- where a group gets other bytes, all cells stay well formed
+  pub cells-renewed : AreCells T
+  cells-renewed q e found =
+      let d = back q e found in
+      let f = forth q d.0 d.1 in
+      subst (IsCellAt T q) (same_Some f.0 e (sym f.1 ∙ found)) (one_renewed q d.0 f.0 d.1 f.2)
+
+-- ---- Some slots go
+
+module _ (S : Spaces) (gone : Slot → Bool) where
+  abbrev left_in : Cell → Cell
+  left_in cell = with_holders cell (set.retain cell.holders (λ s. not (gone s)))
+
+  get-without : (q : Slot) → map.get (without S gone) q ≡ option_map left_in (cond (not (gone q)) (map.get S q) None)
+  get-without q = get-map_values slot_order (λ slot cell. left_in cell) (map.retain_keys S (λ s. not (gone s))) q ∙ ap (option_map left_in) (get-retain_keys S (λ s. not (gone s)) q)
+
+  -- a slot that is left keeps its cell, but for who is gone
+  pub without-stays : (q : Slot) (d : Cell) → map.get S q ≡ Some d → gone q ≡ false → map.get (without S gone) q ≡ Some (with_holders d (set.retain d.holders (λ s. not (gone s))))
+  without-stays q d h stays = get-without q ∙ (λ i. option_map left_in (cond (not (stays i)) (h i) None))
+
+  -- what is left was there
+  pub without-was : (q : Slot) (e : Cell) → map.get (without S gone) q ≡ Some e → (d : Cell) × (map.get S q ≡ Some d) × (gone q ≡ false) × (with_holders d (set.retain d.holders (λ s. not (gone s))) ≡ e)
+  without-was q e h = by (gone q) refl (map.get S q) refl (sym (get-without q) ∙ h)
+    where
+      by : (b : Bool) → gone q ≡ b → (x : Option Cell) → map.get S q ≡ x → option_map left_in (cond (not b) x None) ≡ Some e → (d : Cell) × (map.get S q ≡ Some d) × (gone q ≡ false) × (left_in d ≡ e)
+      by true is x at k = cc
+      by false is None at k = cc
+      by false is (Some d) at k = (d, at, is, same_Some (left_in d) e k)
+
+  -- where slots go, the cells that are left stay well formed
+  pub cells-without : AreCells S → AreCells (without S gone)
+  cells-without cells q e found =
+      let l = without-was q e found in
+      subst (IsCellAt (without S gone) q) l.3 (kept l.0 l.1 l.2)
+    where
+      kept : (d : Cell) → map.get S q ≡ Some d → gone q ≡ false → IsCellAt (without S gone) q (left_in d)
+      kept d at stays =
+          let was = cells q d at in
+          record {
+            user = was.user;
+            long = was.long;
+            small = was.small;
+            write_may = was.write_may;
+            dirty_accessed = was.dirty_accessed;
+            own = contains-retain d.holders (λ s. not (gone s)) q ∙ (λ i. was.own i && not (stays i));
+            alike = alike;
+          }
+        where
+          alike : (other : Slot) → IsTrue (set.contains (set.retain d.holders (λ s. not (gone s))) other)
+              → (f : Cell) × (map.get (without S gone) other ≡ Some f) × (f.holders ≡ set.retain d.holders (λ s. not (gone s))) × (f.bytes ≡ d.bytes)
+          alike other inside =
+              let a = both_true (set.contains d.holders other) (not (gone other)) (sym (contains-retain d.holders (λ s. not (gone s)) other) ∙ inside) in
+              let o = (cells q d at).alike other a.0 in
+              (left_in o.0, without-stays other o.0 o.1 (not_true (gone other) a.1), ap (λ (h : Set slot_order). set.retain h (λ s. not (gone s))) o.2, o.3)

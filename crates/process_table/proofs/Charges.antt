@@ -1,0 +1,183 @@
+-- What each call leaves of the charges, and that the frames it needs are there.
+use Rattle.std.proofs.Common.{◌≡◌, ◌≢◌, ℕ, ◌+◌, ◌-◌, ◌<◌, ◌≤◌, ◌==◌, Bool, true, false, cond, not, refl, sym, ap, ◌∙◌, inl, inr, Option, Some, None, unwrap_or, is_some, length, sum_by, arith}
+use Rattle.std.specs.Prelude.{if◌then◌else◌}
+use Rattle.std.specs.List.{range_with_len}
+use Rattle.std.specs.Option.{option_map}
+use Rattle.std.proofs.lemmas.Bool.{cases_eq}
+use Rattle.page_words.specs.FiniteMap as map
+use Rattle.page_words.specs.FiniteMap.{same, nat_order}
+use Rattle.page_words.specs.FiniteSet as set
+use Rattle.page_words.proofs.MapLemmas.{same_or_not, same_itself, get-insert, get-retain_keys, get-map_values}
+use Rattle.address_space.specs.Spaces.{Slot, slot_order, Cell, Spaces, cost, cost_of, need, without, with_holders, is_slot, is_of}
+use Rattle.address_space.specs.Sound as frames
+use Rattle.address_space.specs.Sound.{directory_of, live_cost, total_cost}
+use Rattle.address_space.proofs.Costs.{same_pages}
+use Rattle.address_space.proofs.CostSteps.{sum_one}
+use Rattle.quota_tree.specs.Book.{Member, quota_of}
+use Rattle.quota_tree.specs.Containers.{Containers, IsLive, used_of, with_used, after_close, total_used}
+use Rattle.process_table.specs.View.{IsProcesses}
+use Rattle.process_table.proofs.Ranges.{found, sum-range}
+use borrow.Author.Tests.{eqb-true}
+
+-- ---- The costs of processes that do not act
+
+-- slots that stay are mapped as before
+pub key-without : (S : Spaces) (gone : Slot → Bool) (slot : Slot) → gone slot ≡ false → map.contains_key (without S gone) slot ≡ map.contains_key S slot
+key-without S gone slot stays =
+    ap is_some (get-map_values slot_order (λ s c. with_holders c (set.retain c.holders (λ s. not (gone s)))) (map.retain_keys S (λ s. not (gone s))) slot)
+    ∙ mapped (map.get (map.retain_keys S (λ s. not (gone s))) slot)
+    ∙ ap is_some (get-retain_keys S (λ s. not (gone s)) slot ∙ ap (λ b. cond (not b) (map.get S slot) None) stays)
+  where
+    mapped : (x : Option Cell) → is_some (option_map (λ c. with_holders c (set.retain c.holders (λ s. not (gone s)))) x) ≡ is_some x
+    mapped None = refl
+    mapped (Some c) = refl
+
+pub cost-without_other : (S : Spaces) (gone : Slot → Bool) (q : ℕ) → ((page : ℕ) → gone (record { pid = q; page = page }) ≡ false) → cost (without S gone) q ≡ cost S q
+cost-without_other S gone q stays = ap cost_of (same_pages (without S gone) S q q (λ page. key-without S gone (record { pid = q; page = page }) (stays page)))
+
+pub is_slot-other : (p page q other : ℕ) → q ≢ p → is_slot p page (record { pid = q; page = other }) ≡ false
+is_slot-other p page q other n = elim (same_or_not slot_order (record { pid = p; page = page }) (record { pid = q; page = other })) [
+  | inl h ↦ absurd (n (sym (ap (λ (s : Slot). s.pid) h.0)))
+  | inr h ↦ h
+]
+
+pub is_of-other : (p q other : ℕ) → q ≢ p → is_of p (record { pid = q; page = other }) ≡ false
+is_of-other p q other n = by (q == p) refl
+  where
+    by : (b : Bool) → (q == p) ≡ b → b ≡ false
+    by true is = absurd (n (eqb-true q p is))
+    by false is = refl
+
+-- ---- What is used, after a change
+
+pub used-itself : (c : Containers) (p u : ℕ) → used_of (with_used c p u) p ≡ u
+used-itself c p u = ap (λ x. unwrap_or x 0) (get-insert c.used p u p ∙ ap (λ b. cond b (Some u) (map.get c.used p)) (same_itself nat_order p))
+
+pub used-other : (c : Containers) (p u q : ℕ) → same nat_order q p ≡ false → used_of (with_used c p u) q ≡ used_of c q
+used-other c p u q n = ap (λ x. unwrap_or x 0) (get-insert c.used p u q ∙ ap (λ b. cond b (Some u) (map.get c.used q)) n)
+
+pub differ : (q p : ℕ) → same nat_order q p ≡ false → q ≢ p
+differ q p n e = let a : same nat_order q p ≡ true = ap (λ x. same nat_order x p) e ∙ same_itself nat_order p in cc
+
+-- a process is charged what it costs now, and the others cost what they did
+pub charged-one : (v w : frames.View) (c : Containers) (p u : ℕ) → IsProcesses v c → w.directories ≡ v.directories → length w.roles ≡ length v.roles
+    → u ≡ cost w.spaces p → ((q : ℕ) → q ≢ p → cost w.spaces q ≡ cost v.spaces q) → IsProcesses w (with_used c p u)
+charged-one v w c p u kept dirs long own others = record {
+  live = λ q. ap (λ ds. is_some (directory_of ds q)) dirs ∙ kept.live q;
+  charged = λ q l. elim (same_or_not nat_order q p) [
+    | inl h ↦ ap (used_of (with_used c p u)) h.0 ∙ used-itself c p u ∙ own ∙ ap (cost w.spaces) (sym h.0)
+    | inr h ↦ used-other c p u q h ∙ kept.charged q l ∙ sym (others q (differ q p h))
+  ];
+  root = kept.root ∙ sym long;
+}
+
+-- no process's cost changed
+pub charged-same : (v w : frames.View) (c : Containers) → IsProcesses v c → w.directories ≡ v.directories → length w.roles ≡ length v.roles
+    → ((q : ℕ) → cost w.spaces q ≡ cost v.spaces q) → IsProcesses w c
+charged-same v w c kept dirs long same_costs = record {
+  live = λ q. ap (λ ds. is_some (directory_of ds q)) dirs ∙ kept.live q;
+  charged = λ q l. kept.charged q l ∙ sym (same_costs q);
+  root = kept.root ∙ sym long;
+}
+
+-- ---- Room
+
+-- where charges that are one process's k more stay within the root's quota, there are k frames more
+pub room-for : (v : frames.View) (c c' : Containers) (p k : ℕ) → IsProcesses v c → p < 64
+    → ((q : ℕ) → map.contains_key c'.book q ≡ true → q < 64)
+    → found (λ _. used_of c' p) (map.get c'.book p) ≡ live_cost (directory_of v.directories) v.spaces p + k
+    → ((q : ℕ) → q ≢ p → map.get c'.book q ≡ map.get c.book q) → ((q : ℕ) → q ≢ p → used_of c' q ≡ used_of c q)
+    → quota_of c'.book 0 ≡ quota_of c.book 0 → total_used c' ≤ quota_of c'.book 0
+    → 1 + total_cost v.directories v.spaces + k ≤ length v.roles
+unfolding total_cost
+room-for v c c' p k kept low small own members used root within =
+    let sum = sum_one after before p k 0 64 (omega arith) (omega (arith, low)) own others in
+    let range = sum-range c'.book (λ q _. used_of c' q) 64 (λ q x is. small q (ap is_some is)) in
+    let is = kept.root in
+    omega (arith, sum, range, is, root, within)
+  where
+    after : ℕ → ℕ
+    after q = found (λ _. used_of c' q) (map.get c'.book q)
+
+    before : ℕ → ℕ
+    before = live_cost (directory_of v.directories) v.spaces
+
+    each : (q : ℕ) (m : Option Member) (d : Option ℕ) → map.get c.book q ≡ m → is_some d ≡ is_some m → found (λ _. used_of c q) m ≡ cond (is_some d) (cost v.spaces q) 0
+    each q None None is h = refl
+    each q None (Some d) is h = cc
+    each q (Some m) None is h = cc
+    each q (Some m) (Some d) is h = kept.charged q (ap is_some is)
+
+    others : (q : ℕ) → q ≢ p → after q ≡ before q
+    others q n =
+        (λ i. found (λ _. used q n i) (members q n i))
+        ∙ each q (map.get c.book q) (directory_of v.directories q) refl (kept.live q)
+
+-- a live process was charged for k frames more
+pub room-taken : (v : frames.View) (c c' : Containers) (p k : ℕ) → IsProcesses v c → IsLive c p → c' ≡ with_used c p (used_of c p + k)
+    → ((q : ℕ) → map.contains_key c'.book q ≡ true → q < 64) → total_used c' ≤ quota_of c'.book 0
+    → 1 + total_cost v.directories v.spaces + k ≤ length v.roles
+room-taken v c c' p k kept live is small within =
+    room-for v c c' p k kept (small p (ap (λ (x : Containers). map.contains_key x.book p) is ∙ live)) small
+    own
+    (λ q n. ap (λ (x : Containers). map.get x.book q) is)
+    (λ q n. ap (λ x. used_of x q) is ∙ used-other c p (used_of c p + k) q (apart q n))
+    (ap (λ (x : Containers). quota_of x.book 0) is) within
+  where
+    apart : (q : ℕ) → q ≢ p → same nat_order q p ≡ false
+    apart q n = elim (same_or_not nat_order q p) [
+      | inl h ↦ absurd (n h.0)
+      | inr h ↦ h
+    ]
+
+    there : (u : ℕ) (m : Option Member) (d : Option ℕ) → is_some m ≡ true → is_some d ≡ is_some m → u ≡ cost v.spaces p + k → found (λ _. u) m ≡ cond (is_some d) (cost v.spaces p) 0 + k
+    there u None d l h e = cc
+    there u (Some m) None l h e = cc
+    there u (Some m) (Some d) l h e = e
+
+    own : found (λ _. used_of c' p) (map.get c'.book p) ≡ live_cost (directory_of v.directories) v.spaces p + k
+    own =
+        ap (λ (x : Containers). found (λ _. used_of c' p) (map.get x.book p)) is
+        ∙ there (used_of c' p) (map.get c.book p) (directory_of v.directories p) live (kept.live p)
+        (ap (λ x. used_of x p) is ∙ used-itself c p (used_of c p + k) ∙ ap (λ n. n + k) (kept.charged p live))
+
+-- ---- A process that is gone
+
+removed-other : {X : Type 0} (m : map.Map nat_order X) (p q : ℕ) → same nat_order p q ≡ false → map.get (map.remove m p) q ≡ map.get m q
+removed-other m p q n = get-retain_keys m (λ j. not (same nat_order p j)) q ∙ ap (λ b. cond (not b) (map.get m q) None) n
+
+removed-itself : {X : Type 0} (m : map.Map nat_order X) (p : ℕ) → map.get (map.remove m p) p ≡ None
+removed-itself m p = get-retain_keys m (λ j. not (same nat_order p j)) p ∙ ap (λ b. cond (not b) (map.get m p) None) (same_itself nat_order p)
+
+differ-back : (p q : ℕ) → same nat_order p q ≡ false → q ≢ p
+differ-back p q n e = let a : same nat_order p q ≡ true = ap (same nat_order p) e ∙ same_itself nat_order p in cc
+
+apart-root : (p : ℕ) → p ≢ 0 → same nat_order p 0 ≡ false
+apart-root p n = elim (same_or_not nat_order p 0) [
+  | inl h ↦ absurd (n h.0)
+  | inr h ↦ h
+]
+
+pub charged-exit : (v w : frames.View) (c : Containers) (p : ℕ) → IsProcesses v c → p ≢ 0 → w.spaces ≡ without v.spaces (is_of p) → length w.roles ≡ length v.roles
+    → directory_of w.directories p ≡ None → ((q : ℕ) → q ≢ p → directory_of w.directories q ≡ directory_of v.directories q) → IsProcesses w (after_close c p)
+charged-exit v w c p kept child spaces long none others = record {
+  live = λ q. elim (same_or_not nat_order p q) [
+    | inl h ↦ ap (λ x. is_some (directory_of w.directories x)) (sym h.0) ∙ ap is_some none ∙ sym (ap (map.contains_key (after_close c p).book) (sym h.0) ∙ ap is_some (removed-itself c.book p))
+    | inr h ↦ ap is_some (others q (differ-back p q h)) ∙ kept.live q ∙ sym (ap is_some (removed-other c.book p q h))
+  ];
+  charged = λ q l. elim (same_or_not nat_order p q) [
+    | inl h ↦ absurd (gone q h.0 l)
+    | inr h ↦ ap (λ x. unwrap_or x 0) (removed-other c.used p q h) ∙ kept.charged q (sym (ap is_some (removed-other c.book p q h)) ∙ l)
+        ∙ sym (ap (λ S. cost S q) spaces ∙ cost-without_other v.spaces (is_of p) q (λ page. is_of-other p q page (differ-back p q h)))
+  ];
+  root = ap (λ (x : Option Member). 1 + unwrap_or (option_map (λ m. m.quota) x) 0) (removed-other c.book p 0 (apart-root p child)) ∙ kept.root ∙ sym long;
+}
+  where
+    gone : (q : ℕ) → p ≡ q → map.contains_key (after_close c p).book q ≡ true → ⊥
+    gone q e l = let a = sym (ap is_some (removed-itself c.book p)) ∙ ap (map.contains_key (after_close c p).book) e ∙ l in cc
+
+-- ---- Readings of a cell
+
+pub is_some-map : {A B : Type 0} (f : A → B) (x : Option A) → is_some (option_map f x) ≡ is_some x
+is_some-map f None = refl
+is_some-map f (Some a) = refl

@@ -1,0 +1,184 @@
+-- What memory and the book together stand for: the image of a view is sound, and stands for one state.
+use Rattle.std.proofs.Common.{◌≡◌, ℕ, ◌+◌, ◌*◌, ◌<◌, ◌≤◌, ◌&&◌, Bool, true, false, cond, List, [], ◌∷◌, length, filter, refl, sym, ap, subst, ◌∙◌, Option, Some, None, is_some, sum_by, arith}
+use Rattle.std.specs.Prelude.{nat_lt, if◌then◌else◌}
+use Rattle.std.specs.Option.{option_and_then, option_map, unwrap_or}
+use Rattle.std.specs.List.{range_with_len}
+use Rattle.std.proofs.lemmas.Bool.Decides.{nat_tests}
+use Rattle.std.proofs.lemmas.List.Sums.{sum_by-cons}
+use Rattle.std.proofs.lemmas.Option.{slice_get_within}
+use Rattle.page_words.specs.Addresses.{slot_number, index_number}
+use Rattle.page_words.specs.FiniteMap as map
+use Rattle.page_words.specs.FiniteMap.{nat_order}
+use Rattle.page_words.specs.FiniteSet as set
+use Rattle.page_words.specs.FiniteSet.{Set}
+use Rattle.page_words.proofs.MapLemmas.{same_map}
+use Rattle.alloc_table.specs.declared.Role.TheVariants.{Table}
+use Rattle.address_space.specs.Spaces.{Slot, Cell, Spaces, pages_of, regions_of, cost}
+use Rattle.address_space.specs.Image as memory
+use Rattle.address_space.specs.Image.{directory_at, table_at, page_word, present_word, word_of}
+use Rattle.address_space.specs.Sound.{directory_of}
+use Rattle.address_space.proofs.Costs.{contains-pages_of}
+use Rattle.address_space.proofs.CostSteps.{region_member, region_there}
+use Rattle.address_space.proofs.Standing.{stands_for_one}
+use Rattle.quota_tree.specs.declared.Container.{Container}
+use Rattle.quota_tree.specs.Book.{Member, is_child, given, quota_of}
+use Rattle.process_table.specs.State.{State, is_live, shown, container_of}
+use Rattle.process_table.specs.View.{View}
+use Rattle.process_table.specs.Image.{image_of, IsCharge, quota_from, IsSoundImage, StandsFor, StandsForOne}
+use Rattle.process_table.proofs.Ranges.{found, sum-same, sum-range}
+
+-- ---- What a process is charged for
+
+module _ (M : memory.Image) (S : Spaces) (stands : memory.StandsFor M S) (p : ℕ) where
+  abbrev page_at : ℕ → Slot
+  page_at page = record { pid = p; page = page }
+
+  both_or_none : (w : Option ℕ) (c : Option Cell) → memory.SlotStands M w c → is_some c ≡ is_some w
+  both_or_none None None h = refl
+  both_or_none None (Some c) h = absurd h
+  both_or_none (Some w) None h = absurd h
+  both_or_none (Some w) (Some c) h = refl
+
+  page_is : (page : ℕ) → set.contains (pages_of S p) page ≡ is_some (page_word M (page_at page))
+  page_is page = contains-pages_of S p page ∙ both_or_none (page_word M (page_at page)) (map.get S (page_at page)) (stands.cells (page_at page))
+
+  through : (x : Option ℕ) (f : ℕ → Option ℕ) → is_some (option_and_then f x) ≡ true → is_some x ≡ true
+  through None f h = cc
+  through (Some t) f h = refl
+
+  -- the table of a mapped page is named
+  named-region : (s : ℕ) → set.contains (regions_of (pages_of S p)) s ≡ true → is_some (table_at M p s) ≡ true
+  named-region s h =
+      let r = region_member (pages_of S p) s h in
+      subst (λ n. is_some (table_at M p n) ≡ true) r.1
+      (through (table_at M p (slot_number r.0)) (λ t. present_word M t (word_of M t (index_number r.0))) (sym (page_is r.0) ∙ r.2))
+
+  -- a table that is named has a present word, which is a mapped page of its region
+  region-named : (s t : ℕ) → table_at M p s ≡ Some t → set.contains (regions_of (pages_of S p)) s ≡ true
+  region-named s t is =
+      let used = stands.sound.in_use p s t is in
+      let page : ℕ = s * 1024 + used.0 in
+      let region : slot_number page ≡ s = omega (arith, used.1) in
+      let index : index_number page ≡ used.0 = omega (arith, used.1) in
+      let inside = slice_get_within M.roles t (Table p s) ((stands.sound.tables t p s).1 is) in
+      let small : nat_lt t (length M.roles) ≡ true = grind (arith, nat_tests) in
+      let word : is_some (page_word M (page_at page)) ≡ true =
+      ap (λ x. is_some (option_and_then (λ t. present_word M t (word_of M t (index_number page))) x)) (ap (table_at M p) region ∙ is)
+      ∙ ap (λ i. is_some (present_word M t (word_of M t i))) index
+      ∙ (λ i. is_some (if small i && used.2 i then Some (word_of M t used.0) else None)) in
+      subst (λ n. set.contains (regions_of (pages_of S p)) n ≡ true) region (region_there (pages_of S p) page (page_is page ∙ word))
+
+  region-some : (s : ℕ) (x : Option ℕ) → table_at M p s ≡ x → is_some x ≡ true → set.contains (regions_of (pages_of S p)) s ≡ true
+  region-some s None is h = cc
+  region-some s (Some t) is h = region-named s t is
+
+  -- a process's cost counts its directory, tables and pages
+  pub charge-stands : IsCharge M p (cost S p)
+  charge-stands = record {
+    tables = set.len (regions_of (pages_of S p));
+    pages = set.len (pages_of S p);
+    named = record { members = regions_of (pages_of S p); are = λ s. (named-region s, λ h. region-some s (table_at M p s) refl h); count = refl };
+    mapped = record { members = pages_of S p; are = λ page. (λ h. sym (page_is page) ∙ h, λ h. page_is page ∙ h); count = refl };
+    sum = refl;
+  }
+
+-- ---- What a process gives
+
+chosen : {A : Type 0} (f : A → ℕ) (b : Bool) (e : A) (rest : List A) → sum_by f (cond b (e ∷ rest) rest) ≡ cond b (f e) 0 + sum_by f rest
+chosen f true e rest = sum_by-cons f e rest
+chosen f false e rest = omega arith
+
+-- a sum over what passes a test is one with 0 for the others
+pub sum-filter : {A : Type 0} (f : A → ℕ) (t : A → Bool) (es : List A) → sum_by f (filter t es) ≡ sum_by (λ e. cond (t e) (f e) 0) es
+sum-filter f t [] = refl
+sum-filter f t (e ∷ es) =
+    chosen f (t e) e (filter t es)
+    ∙ ap (λ n. cond (t e) (f e) 0 + n) (sum-filter f t es)
+    ∙ sym (sum_by-cons (λ e. cond (t e) (f e) 0) e es)
+
+given-range : (s : State) (p : ℕ) → ((k : ℕ) (m : Member) → map.get s.book k ≡ Some m → k < 64) → given s.book p ≡ sum_by (λ q. quota_from p q (container_of s q)) (range_with_len 0 64)
+given-range s p small =
+    sum-filter (λ (e : ℕ × Member). e.1.quota) (is_child p) s.book.entries
+    ∙ sum-range s.book (λ k m. cond (is_child p (k, m)) m.quota 0) 64 small
+    ∙ sum-same (λ k. found (λ m. cond (is_child p (k, m)) m.quota 0) (map.get s.book k)) (λ q. quota_from p q (container_of s q)) (range_with_len 0 64) (λ q. each q (map.get s.book q))
+  where
+    each : (q : ℕ) (x : Option Member) → found (λ m. cond (is_child p (q, m)) m.quota 0) x ≡ quota_from p q (option_map (λ m. shown s q m) x)
+    each q None = refl
+    each q (Some m) = refl
+
+-- ---- The image of a view
+
+from_some : {A B : Type 0} (f : A → B) (x : Option A) (c : B) → option_map f x ≡ Some c → (a : A) × (x ≡ Some a) × (f a ≡ c)
+from_some f None c h = cc
+from_some f (Some a) c h = (a, refl, ap (λ o. unwrap_or o (f a)) h)
+
+some_map : {A B : Type 0} (f : A → B) (x : Option A) → is_some (option_map f x) ≡ is_some x
+some_map f None = refl
+some_map f (Some a) = refl
+
+is_there : {A : Type 0} (x : Option A) → is_some x ≡ true → (a : A) × (x ≡ Some a)
+is_there None h = cc
+is_there (Some a) h = (a, refl)
+
+abbrev memory_of : View → memory.Image
+memory_of v = record { directories = v.directories; bytes = v.bytes; roles = v.roles }
+
+module _ (v : View) (stands : memory.StandsFor (memory_of v) v.state.spaces) (live : (p : ℕ) → is_some (directory_of v.directories p) ≡ is_live v.state p)
+    (root_quota : 1 + quota_of v.state.book 0 ≡ length v.roles) (root : is_live v.state 0 ≡ true)
+    (members : (p : ℕ) (member : Member) → map.get v.state.book p ≡ Some member → (p < 64) × (is_live v.state member.parent ≡ true))
+    (rooms : (p : ℕ) → is_live v.state p ≡ true → cost v.state.spaces p + given v.state.book p ≤ quota_of v.state.book p) where
+  quota_is : (p : ℕ) (m : Member) → map.get v.state.book p ≡ Some m → quota_of v.state.book p ≡ m.quota
+  quota_is p m h = ap (λ o. unwrap_or (option_map (λ (m : Member). m.quota) o) 0) h
+
+  root_there : (m : Member) × (map.get v.state.book 0 ≡ Some m)
+  root_there = is_there (map.get v.state.book 0) root
+
+  member_of : (p : ℕ) (c : Container) → container_of v.state p ≡ Some c → (m : Member) × (map.get v.state.book p ≡ Some m) × (shown v.state p m ≡ c)
+  member_of p c h = from_some (λ m. shown v.state p m) (map.get v.state.book p) c h
+
+  parent_there : (p : ℕ) (c : Container) → container_of v.state p ≡ Some c → is_some (container_of v.state c.parent) ≡ true
+  parent_there p c h =
+      let m = member_of p c h in
+      some_map (λ m. shown v.state c.parent m) (map.get v.state.book c.parent) ∙ ap (λ (c : Container). is_live v.state c.parent) (sym m.2) ∙ (members p m.0 m.1).1
+
+  within_quota : (p : ℕ) (c : Container) → container_of v.state p ≡ Some c → c.used + c.given ≤ c.quota
+  within_quota p c h =
+      let m = member_of p c h in
+      let a = rooms p (ap is_some m.1) in
+      let b = quota_is p m.0 m.1 in
+      subst (λ (c : Container). c.used + c.given ≤ c.quota) m.2 (omega (arith, a, b))
+
+  sound_image : IsSoundImage (image_of v)
+  sound_image = record {
+    memory = stands.sound;
+    root = (shown v.state 0 root_there.0, ap (option_map (λ m. shown v.state 0 m)) root_there.1, ap suc_of (sym (quota_is 0 root_there.0 root_there.1)) ∙ root_quota);
+    live = λ p. some_map (λ m. shown v.state p m) (map.get v.state.book p) ∙ sym (live p);
+    parents = parent_there;
+    given = λ p c h. ap (λ (c : Container). c.given) (sym (member_of p c h).2) ∙ given-range v.state p (λ k m is. (members k m is).0);
+    within = within_quota;
+    used = λ p c h. subst (λ (c : Container). IsCharge (memory_of v) p c.used) (member_of p c h).2 (charge-stands (memory_of v) v.state.spaces stands p);
+  }
+    where
+      suc_of : ℕ → ℕ
+      suc_of n = 1 + n
+
+  -- the image of a view is sound and stands for its state, where memory and the book agree
+  pub image_stands : StandsFor (image_of v) v.state
+  image_stands = record { sound = sound_image; memory = stands; containers = λ p. refl }
+
+-- ---- One state at most
+
+same_member : (s t : State) (p : ℕ) (x y : Option Member) → option_map (λ m. shown s p m) x ≡ option_map (λ m. shown t p m) y → x ≡ y
+same_member s t p None None h = refl
+same_member s t p None (Some n) h = cc
+same_member s t p (Some m) None h = cc
+same_member s t p (Some m) (Some n) h =
+    let c = ap (λ o. unwrap_or o (shown s p m)) h in
+    λ i. Some (record { parent = (c i).parent; quota = (c i).quota })
+
+-- an image stands for at most one pair of spaces and book
+pub stands_for_one_state : StandsForOne
+stands_for_one_state image s t f g = (
+  stands_for_one image.memory s.spaces t.spaces f.memory g.memory,
+  same_map s.book t.book (λ p. same_member s t p (map.get s.book p) (map.get t.book p) (sym (f.containers p) ∙ g.containers p)),
+)

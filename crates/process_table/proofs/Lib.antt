@@ -1,0 +1,10 @@
+pub mod BookFacts
+pub mod BookLaws
+pub mod CellLaws
+pub mod Charges
+pub mod ImageStanding
+pub mod Ranges
+pub mod Refusals
+pub mod Sizes
+pub mod SpaceLaws
+pub mod Spawns

@@ -1,0 +1,103 @@
+-- Sums over a map's entries as sums over the numbers below a bound.
+use Rattle.std.proofs.Common.{◌≡◌, ◌≢◌, ℕ, ◌+◌, ◌<◌, ◌&&◌, ◌==◌, Bool, true, false, cond, T, List, [], ◌∷◌, refl, sym, ap, subst, ◌∙◌, Option, Some, None, is_some, sum_by, arith, inl, inr}
+use Rattle.std.specs.declared.cmp.Ordering.{Ordering}
+use Rattle.std.specs.declared.cmp.Ordering.TheVariants.{Less, Equal, Greater}
+use Rattle.std.specs.Ordering.{nat_cmp, is_lt, is_eq}
+use Rattle.std.specs.Cmp.{unsigned_tied}
+use Rattle.std.specs.List.{range_with_len}
+use Rattle.std.specs.FinMap.Entries.{find, below_all, is_sorted}
+use Rattle.std.proofs.lemmas.Bool.{cases_eq}
+use Rattle.std.proofs.lemmas.List.Sums.{sum_by-cons}
+use Rattle.page_words.specs.FiniteMap as map
+use Rattle.page_words.specs.FiniteMap.{Map, nat_order}
+use Rattle.address_space.specs.Spaces.{cost}
+use Rattle.address_space.specs.Sound.{directory_of, live_cost, total_cost}
+use Rattle.address_space.proofs.CostSteps.{sum_one}
+use Rattle.quota_tree.specs.Book.{Member}
+use Rattle.process_table.specs.State.{State, is_live}
+use Rattle.process_table.specs.WellFormed.{total}
+use borrow.Author.Tests.{eqb-true, eq-eqb}
+
+-- what g gives of a value, and 0 of none
+abbrev pub found : {X : Type 0} → (X → ℕ) → Option X → ℕ
+found g None = 0
+found g (Some x) = g x
+
+-- sums of the same terms are the same
+pub sum-same : {A : Type 0} (f g : A → ℕ) (xs : List A) → ((x : A) → f x ≡ g x) → sum_by f xs ≡ sum_by g xs
+sum-same f g [] is = refl
+sum-same f g (x ∷ xs) is = sum_by-cons f x xs ∙ (λ i. is x i + sum-same f g xs is i) ∙ sym (sum_by-cons g x xs)
+
+-- a sum of zeros is 0
+pub sum-zero : {A : Type 0} (xs : List A) → 0 ≡ sum_by (λ (_ : A). 0) xs
+sum-zero [] = refl
+sum-zero {A} (x ∷ xs) = let a = sum_by-cons (λ (_ : A). 0) x xs in let d = sum-zero xs in omega (arith, a, d)
+
+both : (a b : Bool) → T (a && b) → T a × T b
+both true b h = (tt, h)
+both false b h = absurd h
+
+lt_not_eq : (r : Ordering) → T (is_lt r) → is_eq r ≡ false
+lt_not_eq Less h = refl
+lt_not_eq Equal h = absurd h
+lt_not_eq Greater h = refl
+
+module _ {X : Type 0} where
+  -- a key below all entries is none of them
+  find-below : (k : ℕ) (es : List (ℕ × X)) → T (below_all nat_cmp k es) → find nat_cmp k es ≡ None
+  find-below k [] h = refl
+  find-below k (e ∷ es) h = ap (λ b. cond b (Some e.1) (find nat_cmp k es)) (lt_not_eq (nat_cmp k e.0) (both _ _ h).0) ∙ find-below k es (both _ _ h).1
+
+  find-head : (e : ℕ × X) (es : List (ℕ × X)) → find nat_cmp e.0 (e ∷ es) ≡ Some e.1
+  find-head e es = ap (λ b. cond b (Some e.1) (find nat_cmp e.0 es)) (unsigned_tied e.0 e.0 ∙ eq-eqb e.0 e.0 refl)
+
+  find-other : (k : ℕ) (e : ℕ × X) (es : List (ℕ × X)) → k ≢ e.0 → find nat_cmp k (e ∷ es) ≡ find nat_cmp k es
+  find-other k e es n = ap (λ b. cond b (Some e.1) (find nat_cmp k es)) (unsigned_tied k e.0 ∙ by (k == e.0) refl)
+    where
+      by : (b : Bool) → (k == e.0) ≡ b → b ≡ false
+      by true is = absurd (n (eqb-true k e.0 is))
+      by false is = refl
+
+  sum-entries : (f : ℕ → X → ℕ) (n : ℕ) (es : List (ℕ × X)) → T (is_sorted nat_cmp es) → ((k : ℕ) (x : X) → find nat_cmp k es ≡ Some x → k < n)
+      → sum_by (λ e. f e.0 e.1) es ≡ sum_by (λ k. found (f k) (find nat_cmp k es)) (range_with_len 0 n)
+  sum-entries f n [] h keys = sum-zero (range_with_len 0 n)
+  sum-entries f n (e ∷ es) h keys =
+      let none = find-below e.0 es (both _ _ h).0 in
+      let small : e.0 < n = keys e.0 e.1 (find-head e es) in
+      let a = sum_by-cons (λ (e : ℕ × X). f e.0 e.1) e es in
+      let b = sum-entries f n es sorted later in
+      let c = sum_one (λ k. found (f k) (find nat_cmp k (e ∷ es))) (λ k. found (f k) (find nat_cmp k es)) e.0 (f e.0 e.1) 0 n (omega arith) (omega (arith, small)) own (λ q differ. ap (found (f q)) (find-other q e es differ)) in
+      omega (arith, a, b, c)
+    where
+      sorted : T (is_sorted nat_cmp es)
+      sorted = (both (below_all nat_cmp e.0 es) (is_sorted nat_cmp es) h).1
+
+      later : (k : ℕ) (x : X) → find nat_cmp k es ≡ Some x → k < n
+      later k x is = elim (cases_eq k e.0) [
+        | inl same ↦ subst (λ j. j < n) (sym same) (keys e.0 e.1 (find-head e es))
+        | inr differ ↦ keys k x (find-other k e es differ ∙ is)
+      ]
+
+      own : found (f e.0) (find nat_cmp e.0 (e ∷ es)) ≡ found (f e.0) (find nat_cmp e.0 es) + f e.0 e.1
+      own =
+          let a = ap (found (f e.0)) (find-head e es) in
+          let b = ap (found (f e.0)) (find-below e.0 es (both _ _ h).0) in
+          omega (arith, a, b)
+
+  -- a sum over a map's entries is one over the numbers below n, where all its keys are
+  pub sum-range : (m : Map nat_order X) (f : ℕ → X → ℕ) (n : ℕ) → ((k : ℕ) (x : X) → map.get m k ≡ Some x → k < n)
+      → sum_by (λ e. f e.0 e.1) m.entries ≡ sum_by (λ k. found (f k) (map.get m k)) (range_with_len 0 n)
+  sum-range m f n keys = sum-entries f n m.entries m.sorted keys
+
+one-cost : (n : ℕ) (d : Option ℕ) (m : Option Member) → is_some d ≡ is_some m → cond (is_some d) n 0 ≡ found (λ _. n) m
+one-cost n None None h = refl
+one-cost n None (Some m) h = cc
+one-cost n (Some d) None h = cc
+one-cost n (Some d) (Some m) h = refl
+
+-- costs summed over directories are those summed over the book
+pub total-book : (directories : List (Option ℕ)) (s : State) → ((p : ℕ) → is_some (directory_of directories p) ≡ is_live s p) → ((p : ℕ) → is_live s p ≡ true → p < 64) → total_cost directories s.spaces ≡ total s
+unfolding total_cost
+total-book directories s live small =
+    sum-same (live_cost (directory_of directories) s.spaces) (λ k. found (λ _. cost s.spaces k) (map.get s.book k)) (range_with_len 0 64) (λ p. one-cost (cost s.spaces p) (directory_of directories p) (map.get s.book p) (live p))
+    ∙ sym (sum-range s.book (λ k _. cost s.spaces k) 64 (λ k x is. small k (ap is_some is)))

@@ -1,0 +1,278 @@
+-- States stay well formed where their spaces alone change: by a map, an access, or an unmap with its offers.
+use Rattle.std.proofs.Common.{◌≡◌, ◌≢◌, ℕ, ◌+◌, ◌/◌, ◌%◌, ◌<◌, ◌≤◌, ◌&&◌, not, Bool, true, false, List, ◌++◌, length, take, drop, refl, sym, ap, subst, ◌∙◌, Option, Some, None, is_some, unwrap_or, arith, inl, inr, zero, suc}
+use Rattle.std.proofs.lemmas.List.{length-replicate}
+use Rattle.std.specs.Prelude.{if◌then◌else◌, nat_lt, nat_le}
+use Rattle.std.specs.Option.{option_map}
+use Rattle.std.specs.List.{All}
+use Rattle.std.proofs.lemmas.Bool.{cases_lt, cases_eq}
+use Rattle.std.proofs.lemmas.Bool.Decides.{nat_tests}
+use Rattle.std.proofs.lemmas.List.Elements.{All-nil, All-cons, All-append, All-take, All-drop, All-replicate}
+use Rattle.page_words.specs.Addresses.{IsUserPage, is_user_page, byte_count, offset_number, page_number}
+use Rattle.page_words.specs.declared.addresses.Size.{Size}
+use Rattle.page_words.specs.declared.addresses.Size.TheVariants.{One, Four}
+use Rattle.page_words.specs.FiniteMap as map
+use Rattle.page_words.specs.FiniteMap.{same}
+use Rattle.page_words.specs.FiniteSet as set
+use Rattle.page_words.specs.FiniteSet.{Set}
+use Rattle.page_words.proofs.MapLemmas.{get-map_values}
+use Rattle.page_words.proofs.SetLemmas.{same_cases}
+use Rattle.address_space.specs.Spaces.{Slot, slot_order, Cell, Spaces, cost, cost_of, need, fresh, accessed, store_in, set_bytes, with_bytes, write_at, bytes_of, slot_at}
+use Rattle.address_space.proofs.Costs.{same_pages, cost-insert}
+use Rattle.address_space.proofs.MapFirst.{accessed-fresh, stored-fresh}
+use Rattle.address_space.proofs.Stores.{written_long}
+use Rattle.quota_tree.specs.Book.{given, quota_of}
+use Rattle.page_sharing.specs.Offers.{OfferKey}
+use Rattle.process_table.specs.State.{State, is_live, is_mapped, has_no_room, room}
+use Rattle.process_table.specs.Calls.{at_page, map_refusal, after_map, after_load, after_store}
+use Rattle.process_table.specs.declared.causes.Cause.TheVariants.{BadPage, Mapped, Quota}
+use Rattle.process_table.specs.Laws.{IsReachable}
+use Rattle.process_table.specs.WellFormed.{IsCellAt, IsOfferIn, IsWellFormed}
+use Rattle.process_table.proofs.CellLaws.{AreCells, same_Some, some_value, get-inserted, get-inserted_other, lone-cell, cells-lone, IsRenewed, cells-renewed}
+use Rattle.process_table.proofs.Sizes.{cost-fewer}
+
+-- what a test of order that fails says
+pub not_less : (a b : ℕ) → nat_lt a b ≡ false → b ≤ a
+not_less a b h = elim (cases_lt a b) [
+  | inl less ↦ absurd (let t : nat_lt a b ≡ true = grind (arith, nat_tests) in cc)
+  | inr least ↦ least
+]
+
+-- a page that passes the test is one of the user range
+pub user_page : (page : ℕ) → is_user_page page ≡ true → IsUserPage page
+user_page page h = elim (cases_lt page 0x40000) [
+  | inl below ↦ absurd (let f : nat_le 0x40000 page ≡ false = grind (arith, nat_tests) in let g : is_user_page page ≡ false = (λ i. f i && nat_le page 0xeffff) in cc)
+  | inr low ↦ elim (cases_lt page 0xf0000) [
+    | inl high ↦ (low, high)
+    | inr past ↦ absurd (let f : nat_le page 0xeffff ≡ false = grind (arith, nat_tests) in let a : nat_le 0x40000 page ≡ true = grind (arith, nat_tests) in let g : is_user_page page ≡ false = (λ i. a i && f i) in cc)
+  ]
+]
+
+-- a state with other spaces, where each process has room, each slot an owner, each cell is well formed, and
+-- what was mapped still is, with its right
+pub with-spaces : (s : State) (T : Spaces) → IsWellFormed s
+    → ((p : ℕ) → is_live s p ≡ true → cost T p + given s.book p ≤ quota_of s.book p)
+    → ((slot : Slot) (cell : Cell) → map.get T slot ≡ Some cell → is_live s slot.pid ≡ true)
+    → AreCells T
+    → ((slot : Slot) (c : Cell) → map.get s.spaces slot ≡ Some c → (d : Cell) × (map.get T slot ≡ Some d) × (d.may ≡ c.may))
+    → IsWellFormed (record s { spaces = T })
+with-spaces s T w rooms owners cells keeps = record {
+  root = w.root;
+  root_parent = w.root_parent;
+  processes = w.processes;
+  rooms = rooms;
+  owners = owners;
+  cells = cells;
+  offers = offers;
+  few = w.few;
+}
+  where
+    offers : (key : OfferKey) (right : Bool) → map.get s.offers key ≡ Some right → IsOfferIn (record s { spaces = T }) key right
+    offers key right h =
+        let old = w.offers key right h in
+        let k = keeps (record { pid = key.offerer; page = key.page }) old.offered.0 old.offered.1 in
+        record { target = old.target; another = old.another; offered = (k.0, k.1, λ r. k.2 ∙ old.offered.2 r) }
+
+-- ---- A page of zeros more
+
+module _ (s : State) (slot : Slot) (write : Bool) (w : IsWellFormed s) (live : is_live s slot.pid ≡ true) (user : IsUserPage slot.page) (none : map.get s.spaces slot ≡ None) (has_room : has_no_room s slot ≡ false) where
+  abbrev more : Spaces
+  more = map.insert s.spaces slot (fresh slot write)
+
+  room_more : (p : ℕ) → is_live s p ≡ true → cost more p + given s.book p ≤ quota_of s.book p
+  room_more p h = elim (cases_eq p slot.pid) [
+    | inl own ↦ subst (λ n. cost more n + given s.book n ≤ quota_of s.book n) (sym own) owner
+    | inr differ ↦
+        let e : cost more p ≡ cost s.spaces p = ap cost_of (same_pages more s.spaces p p (λ page. ap is_some (get-inserted_other s.spaces slot (fresh slot write) (record { pid = p; page = page }) (λ is. differ (ap (λ (q : Slot). q.pid) is))))) in
+        let old = w.rooms p h in
+        omega (arith, e, old)
+  ]
+    where
+      owner : cost more slot.pid + given s.book slot.pid ≤ quota_of s.book slot.pid
+      owner =
+          let a = cost-insert s.spaces slot (fresh slot write) none in
+          let b = not_less (room s slot.pid) (need s.spaces slot.pid slot.page) has_room in
+          let c = w.rooms slot.pid live in
+          omega (arith, a, b, c)
+
+  owner_more : (q : Slot) (c : Cell) → map.get more q ≡ Some c → is_live s q.pid ≡ true
+  owner_more q c h = elim (same_cases slot_order q slot) [
+    | inl is ↦ ap (λ (x : Slot). is_live s x.pid) is.0 ∙ live
+    | inr other ↦ w.owners q c (sym (get-inserted_other s.spaces slot (fresh slot write) q other.0) ∙ h)
+  ]
+
+  kept_more : (q : Slot) (c : Cell) → map.get s.spaces q ≡ Some c → (d : Cell) × (map.get more q ≡ Some d) × (d.may ≡ c.may)
+  kept_more q c h = (c, get-inserted_other s.spaces slot (fresh slot write) q apart ∙ h, refl)
+    where
+      apart : q ≢ slot
+      apart is = let x : Some c ≡ None = sym h ∙ ap (map.get s.spaces) is ∙ none in cc
+
+  fresh_cell : IsCellAt more slot (fresh slot write)
+  fresh_cell =
+      lone-cell more slot (fresh slot write) (get-inserted s.spaces slot (fresh slot write)) user (length-replicate {A = ℕ} 4096 0) (All-replicate (λ b. b < 256) 4096 0 (omega arith)) (λ h. refl) (λ h. absurd (let x : false ≡ true = h in cc)) refl
+
+  -- a page of zeros at a slot of a live process that has room for it
+  pub well_formed-inserted : IsWellFormed (record s { spaces = map.insert s.spaces slot (fresh slot write) })
+  well_formed-inserted =
+      with-spaces s more w room_more owner_more
+      (cells-lone s.spaces more slot (fresh slot write) none (get-inserted s.spaces slot (fresh slot write)) (get-inserted_other s.spaces slot (fresh slot write)) w.cells fresh_cell)
+      kept_more
+
+map_allowed : (a b c : Bool) → (if not a then Some BadPage else if b then Some Mapped else if c then Some Quota else None) ≡ None → (a ≡ true) × (b ≡ false) × (c ≡ false)
+map_allowed false b c h = cc
+map_allowed true true c h = cc
+map_allowed true false true h = cc
+map_allowed true false false h = (refl, refl, refl)
+
+-- what is not there is no value
+pub no_value : {A : Type 0} (x : Option A) → is_some x ≡ false → x ≡ None
+no_value None h = refl
+no_value (Some a) h = cc
+
+-- a map that is not refused
+pub well_formed-map : (s : State) (p page : ℕ) (write : Bool) → IsWellFormed s → is_live s p ≡ true → map_refusal s p page ≡ None → IsWellFormed (after_map s p page write)
+well_formed-map s p page write w live allowed =
+    let a = map_allowed (is_user_page page) (is_mapped s (at_page p page)) (has_no_room s (at_page p page)) allowed in
+    well_formed-inserted s (at_page p page) write w live (user_page page a.0) (no_value (map.get s.spaces (at_page p page)) a.1) a.2
+
+-- ---- An access to a mapped page
+
+module _ (s : State) (T : Spaces) (slot : Slot) (c : Cell) (bytes : List ℕ) (at : map.get s.spaces slot ≡ Some c)
+    (forth : (q : Slot) (d : Cell) → map.get s.spaces q ≡ Some d → (e : Cell) × (map.get T q ≡ Some e) × IsRenewed c.holders bytes q d e)
+    (back : (q : Slot) (e : Cell) → map.get T q ≡ Some e → (d : Cell) × (map.get s.spaces q ≡ Some d))
+    (w : IsWellFormed s) (long : length bytes ≡ 4096) (small : All (λ b. b < 256) bytes) where
+  was_there : (q : Slot) → map.contains_key T q ≡ true → map.contains_key s.spaces q ≡ true
+  was_there q h = let e = some_value (map.get T q) h in let d = back q e.0 e.1 in ap is_some d.1
+
+  -- where a group gets other bytes
+  pub well_formed-renewed : IsWellFormed (record s { spaces = T })
+  well_formed-renewed =
+      with-spaces s T w
+      (λ p h. let a = cost-fewer s.spaces T p was_there in let b = w.rooms p h in omega (arith, a, b))
+      (λ q e h. let d = back q e h in w.owners q d.0 d.1)
+      (cells-renewed s.spaces T slot c bytes at forth back w.cells long small)
+      (λ q d h. let e = forth q d h in (e.0, e.1, e.2.may))
+
+module _ (s : State) (slot : Slot) (c : Cell) (at : map.get s.spaces slot ≡ Some c) (w : IsWellFormed s) where
+  abbrev read_cell : Cell
+  read_cell = record c { accessed = true }
+
+  abbrev read_spaces : Spaces
+  read_spaces = map.insert s.spaces slot read_cell
+
+  read_forth : (q : Slot) (d : Cell) → map.get s.spaces q ≡ Some d → (e : Cell) × (map.get read_spaces q ≡ Some e) × IsRenewed c.holders c.bytes q d e
+  read_forth q d h = elim (same_cases slot_order q slot) [
+    | inl is ↦ (read_cell, ap (map.get read_spaces) is.0 ∙ get-inserted s.spaces slot read_cell, subst (λ (x : Cell). IsRenewed c.holders c.bytes q x read_cell) (same_Some c d (sym at ∙ ap (map.get s.spaces) (sym is.0) ∙ h)) own)
+    | inr other ↦ (d, get-inserted_other s.spaces slot read_cell q other.0 ∙ h, alike)
+  ]
+    where
+      own : IsRenewed c.holders c.bytes q c read_cell
+      own = record { holders = refl; bytes_in = λ _. refl; bytes_out = λ _. refl; write = refl; may = refl; dirty = λ _ _. refl }
+
+      shared : set.contains c.holders q ≡ true → d.bytes ≡ c.bytes
+      shared inside = let o = (w.cells slot c at).alike q inside in ap (λ (x : Cell). x.bytes) (same_Some d o.0 (sym h ∙ o.1)) ∙ o.3
+
+      alike : IsRenewed c.holders c.bytes q d d
+      alike = record { holders = refl; bytes_in = shared; bytes_out = λ _. refl; write = refl; may = refl; dirty = λ f. f }
+
+  read_back : (q : Slot) (e : Cell) → map.get read_spaces q ≡ Some e → (d : Cell) × (map.get s.spaces q ≡ Some d)
+  read_back q e h = elim (same_cases slot_order q slot) [
+    | inl is ↦ (c, ap (map.get s.spaces) is.0 ∙ at)
+    | inr other ↦ (e, sym (get-inserted_other s.spaces slot read_cell q other.0) ∙ h)
+  ]
+
+  well_formed-read : IsWellFormed (record s { spaces = accessed s.spaces slot })
+  well_formed-read =
+      subst (λ (x : Cell). IsWellFormed (record s { spaces = map.insert s.spaces slot (record x { accessed = true }) })) (sym (ap (λ (x : Option Cell). unwrap_or x (fresh slot true)) at))
+      (well_formed-renewed s read_spaces slot c c.bytes at read_forth read_back w (w.cells slot c at).long (w.cells slot c at).small)
+
+  module _ (bytes : List ℕ) (long : length bytes ≡ 4096) (small : All (λ b. b < 256) bytes) where
+    abbrev written_cell : Cell
+    written_cell = record c { bytes = bytes; accessed = true; dirty = true }
+
+    abbrev changed_in : Slot → Cell → Cell
+    changed_in q d = if set.contains c.holders q then with_bytes d bytes else d
+
+    abbrev written_spaces : Spaces
+    written_spaces = store_in s.spaces slot c bytes
+
+    written_other : (q : Slot) → q ≢ slot → map.get written_spaces q ≡ option_map (changed_in q) (map.get s.spaces q)
+    written_other q n = get-inserted_other (set_bytes s.spaces c.holders bytes) slot written_cell q n ∙ get-map_values slot_order changed_in s.spaces q
+
+    written_forth : (q : Slot) (d : Cell) → map.get s.spaces q ≡ Some d → (e : Cell) × (map.get written_spaces q ≡ Some e) × IsRenewed c.holders bytes q d e
+    written_forth q d h = elim (same_cases slot_order q slot) [
+      | inl is ↦ (written_cell, ap (map.get written_spaces) is.0 ∙ get-inserted (set_bytes s.spaces c.holders bytes) slot written_cell, subst (λ (x : Cell). IsRenewed c.holders bytes q x written_cell) (same_Some c d (sym at ∙ ap (map.get s.spaces) (sym is.0) ∙ h)) (own is.0))
+      | inr other ↦ (changed_in q d, written_other q other.0 ∙ ap (option_map (changed_in q)) h, by (set.contains c.holders q) refl)
+    ]
+      where
+        own : q ≡ slot → IsRenewed c.holders bytes q c written_cell
+        own is = record { holders = refl; bytes_in = λ _. refl; bytes_out = λ out. absurd (let x : set.contains c.holders q ≡ true = ap (set.contains c.holders) is ∙ (w.cells slot c at).own in cc); write = refl; may = refl; dirty = λ _ _. refl }
+
+        by : (b : Bool) → set.contains c.holders q ≡ b → IsRenewed c.holders bytes q d (if b then with_bytes d bytes else d)
+        by true is = record { holders = refl; bytes_in = λ _. refl; bytes_out = λ out. absurd (cc); write = refl; may = refl; dirty = λ f. f }
+        by false is = record { holders = refl; bytes_in = λ inside. absurd (cc); bytes_out = λ _. refl; write = refl; may = refl; dirty = λ f. f }
+
+    written_back : (q : Slot) (e : Cell) → map.get written_spaces q ≡ Some e → (d : Cell) × (map.get s.spaces q ≡ Some d)
+    written_back q e h = elim (same_cases slot_order q slot) [
+      | inl is ↦ (c, ap (map.get s.spaces) is.0 ∙ at)
+      | inr other ↦ by (map.get s.spaces q) (sym (written_other q other.0) ∙ h)
+    ]
+      where
+        by : (x : Option Cell) → option_map (changed_in q) x ≡ Some e → (d : Cell) × (x ≡ Some d)
+        by None k = cc
+        by (Some d) k = (d, refl)
+
+    well_formed-written : IsWellFormed (record s { spaces = store_in s.spaces slot c bytes })
+    well_formed-written = well_formed-renewed s written_spaces slot c bytes at written_forth written_back w long small
+
+-- ---- Loads and stores, mapped or not
+
+room_where_unmapped : (s : State) (slot : Slot) → map.get s.spaces slot ≡ None → IsReachable s slot → has_no_room s slot ≡ false
+room_where_unmapped s slot none (inl mapped) = absurd (let x : false ≡ true = sym (ap is_some none) ∙ mapped in cc)
+room_where_unmapped s slot none (inr has_room) = has_room
+
+-- a load of a page of the user range that is mapped, or for which there is room
+pub well_formed-load : (s : State) (p address : ℕ) → IsWellFormed s → is_live s p ≡ true → is_user_page (page_number address) ≡ true → IsReachable s (slot_at p address) → IsWellFormed (after_load s p address)
+well_formed-load s p address w live user reachable = by (map.get s.spaces (slot_at p address)) refl
+  where
+    by : (x : Option Cell) → map.get s.spaces (slot_at p address) ≡ x → IsWellFormed (after_load s p address)
+    by (Some c) at = well_formed-read s (slot_at p address) c at w
+    by None none =
+        let first = well_formed-inserted s (slot_at p address) true w live (user_page (page_number address) user) none (room_where_unmapped s (slot_at p address) none reachable) in
+        let there = get-inserted s.spaces (slot_at p address) (fresh (slot_at p address) true) in
+        subst (λ (T : Spaces). IsWellFormed (record s { spaces = T })) (accessed-fresh s.spaces (slot_at p address) none)
+        (well_formed-read (record s { spaces = map.insert s.spaces (slot_at p address) (fresh (slot_at p address) true) }) (slot_at p address) (fresh (slot_at p address) true) there first)
+
+small_bytes : (k value : ℕ) → All (λ b. b < 256) (bytes_of k value)
+small_bytes zero value = All-nil (λ b. b < 256)
+small_bytes (suc k) value = All-cons (λ b. b < 256) (value % 256) (bytes_of k (value / 256)) (omega arith) (small_bytes k (value / 256))
+
+small_written : (bytes : List ℕ) (at k value : ℕ) → All (λ b. b < 256) bytes → All (λ b. b < 256) (write_at bytes at (bytes_of k value))
+small_written bytes at k value h =
+    All-append (λ b. b < 256) (take at bytes ++ bytes_of k value) (drop (at + length (bytes_of k value)) bytes)
+    (All-append (λ b. b < 256) (take at bytes) (bytes_of k value) (All-take (λ b. b < 256) at bytes h) (small_bytes k value))
+    (All-drop (λ b. b < 256) (at + length (bytes_of k value)) bytes h)
+
+aligned_within : (address : ℕ) (size : Size) → address % byte_count size ≡ 0 → offset_number address % byte_count size ≡ 0
+aligned_within address One h = omega arith
+aligned_within address Four h = omega arith
+
+module _ (s : State) (p address : ℕ) (size : Size) (value : ℕ) (aligned : address % byte_count size ≡ 0) where
+  well_formed-stored : (s : State) (c : Cell) → map.get s.spaces (slot_at p address) ≡ Some c → IsWellFormed s → IsWellFormed (after_store s p address size value)
+  well_formed-stored s c at w =
+      let was = w.cells (slot_at p address) c at in
+      let long = written_long c.bytes (offset_number address) size value was.long (omega arith) (aligned_within address size aligned) in
+      let small = small_written c.bytes (offset_number address) (byte_count size) value was.small in
+      subst (λ (x : Cell). IsWellFormed (record s { spaces = store_in s.spaces (slot_at p address) x (write_at x.bytes (offset_number address) (bytes_of (byte_count size) value)) })) (sym (ap (λ (x : Option Cell). unwrap_or x (fresh (slot_at p address) true)) at))
+      (well_formed-written s (slot_at p address) c at w (write_at c.bytes (offset_number address) (bytes_of (byte_count size) value)) long small)
+
+-- a store of any value at an aligned address of such a page
+pub well_formed-store : (s : State) (p address : ℕ) (size : Size) (value : ℕ) → IsWellFormed s → is_live s p ≡ true → is_user_page (page_number address) ≡ true → address % byte_count size ≡ 0 → IsReachable s (slot_at p address) → IsWellFormed (after_store s p address size value)
+well_formed-store s p address size value w live user aligned reachable = by (map.get s.spaces (slot_at p address)) refl
+  where
+    by : (x : Option Cell) → map.get s.spaces (slot_at p address) ≡ x → IsWellFormed (after_store s p address size value)
+    by (Some c) at = well_formed-stored s p address size value aligned s c at w
+    by None none =
+        let first = well_formed-inserted s (slot_at p address) true w live (user_page (page_number address) user) none (room_where_unmapped s (slot_at p address) none reachable) in
+        let there = get-inserted s.spaces (slot_at p address) (fresh (slot_at p address) true) in
+        subst (λ (T : Spaces). IsWellFormed (record s { spaces = T })) (stored-fresh s.spaces (slot_at p address) (offset_number address) (bytes_of (byte_count size) value) none)
+        (well_formed-stored s p address size value aligned (record s { spaces = map.insert s.spaces (slot_at p address) (fresh (slot_at p address) true) }) (fresh (slot_at p address) true) there first)

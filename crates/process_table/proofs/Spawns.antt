@@ -1,0 +1,223 @@
+-- What the test of a spawn answers, and what a child's charge is.
+use Rattle.std.proofs.Common.{◌≡◌, ◌≢◌, ℕ, ◌+◌, ◌-◌, ◌<◌, ◌≤◌, ◌==◌, Bool, true, false, cond, not, refl, sym, ap, subst, ◌∙◌, inl, inr, List, [], ◌∷◌, Option, Some, None, unwrap_or, is_some, is_none, length, Result, Ok, Err, arith}
+use Rattle.std.specs.Prelude.{if◌then◌else◌, nat_lt, IsOk}
+use Rattle.std.specs.List.{find, range_with_len}
+use Rattle.std.specs.Option.{option_map}
+use Rattle.page_words.specs.declared.addresses.Pid.{Pid}
+use Rattle.page_words.specs.FiniteMap as map
+use Rattle.page_words.specs.FiniteMap.{same, nat_order}
+use Rattle.page_words.specs.FiniteSet as set
+use Rattle.page_words.specs.FiniteSet.{Set}
+use Rattle.page_words.proofs.MapLemmas.{same_or_not, same_itself, same_set, get-insert}
+use Rattle.address_space.specs.Spaces.{Slot, Cell, Spaces, cost, cost_of, pages_of}
+use Rattle.address_space.specs.Image as memory
+use Rattle.address_space.specs.Image.{Image, StandsFor, SlotStands, directory_at, page_word}
+use Rattle.address_space.specs.Sound as frames
+use Rattle.address_space.specs.Sound.{directory_of, live_cost, total_cost}
+use Rattle.address_space.proofs.Costs.{contains-pages_of}
+use Rattle.quota_tree.specs.declared.QuotaFault.{QuotaFault}
+use Rattle.quota_tree.specs.declared.QuotaFault.TheVariants as quota
+use Rattle.quota_tree.specs.Book.{Book, Member, given, quota_of, next_number}
+use Rattle.quota_tree.specs.Containers.{Containers, IsLive, used_of, room_of, total_used, fitting, split_answer, after_split, opening}
+use Rattle.page_sharing.specs.Offers.{Offers}
+use Rattle.process_table.specs.State.{State, is_live, room, child_of}
+use Rattle.process_table.specs.Calls.{spawn_refusal}
+use Rattle.process_table.specs.Answers.{first_cause, child_unless, spawn_answer}
+use Rattle.process_table.specs.View.{state_of, IsProcesses}
+use Rattle.process_table.specs.declared.causes.Cause.{Cause}
+use Rattle.process_table.specs.declared.causes.Cause.TheVariants as cause
+use Rattle.process_table.proofs.Charges.{differ, room-for}
+use Rattle.process_table.proofs.Ranges.{found}
+
+-- a quota's fault, as the kernel names it
+abbrev pub translated : Result Pid QuotaFault → Result Pid Cause
+translated (Ok child) = Ok child
+translated (Err quota.BadQuota) = Err cause.BadQuota
+translated (Err quota.TableFull) = Err cause.TableFull
+translated (Err quota.NoRoom) = Err cause.Quota
+
+room-is : (v : frames.View) (c : Containers) (o : Offers) (p : ℕ) → IsProcesses v c → IsLive c p → room_of c p ≡ room (state_of v c o) p
+room-is v c o p kept live = ap (λ u. quota_of c.book p - u - given c.book p) (kept.charged p live)
+
+abbrev refused : Bool → Option ℕ → Bool → Option Cause
+refused none next over = if none then Some cause.BadQuota else if is_none next then Some cause.TableFull else if over then Some cause.Quota else None
+
+-- the test of a spawn answers as the quotas do
+pub spawn-split : (v : frames.View) (c : Containers) (o : Offers) (p asked : ℕ) → IsProcesses v c → IsLive c p → spawn_answer (state_of v c o) p asked ≡ translated (split_answer c p asked)
+spawn-split v c o p asked kept live =
+    ap (λ b. child_unless (if b then spawn_refusal (state_of v c o) p asked else Some cause.NoProcess) (unwrap_or (next_number c.book) 0)) live
+    ∙ ap (λ r. child_unless (refused (asked == 0) (next_number c.book) (nat_lt r asked)) (unwrap_or (next_number c.book) 0)) (sym (room-is v c o p kept live))
+    ∙ by (asked == 0) (next_number c.book) (nat_lt (room_of c p) asked) refl
+  where
+    by : (b : Bool) (next : Option ℕ) (over : Bool) → nat_lt (room_of c p) asked ≡ over
+        → child_unless (refused b next over) (unwrap_or next 0) ≡ translated (if b then Err quota.BadQuota else fitting c p asked next)
+    by true next over is = refl
+    by false None over is = refl
+    by false (Some child) true is = ap (λ b. translated (if b then Err quota.NoRoom else Ok child)) (sym is)
+    by false (Some child) false is = ap (λ b. translated (if b then Err quota.NoRoom else Ok child)) (sym is)
+
+-- where a spawn may be, its process is live and the quotas can be split
+pub spawn-may : (v : frames.View) (c : Containers) (o : Offers) (p asked : ℕ) → IsProcesses v c → IsOk (spawn_answer (state_of v c o) p asked) → (IsLive c p) × IsOk (split_answer c p asked)
+spawn-may v c o p asked kept ok = by (map.contains_key c.book p) refl ok
+  where
+    whole : (r : Result Pid QuotaFault) → IsOk (translated r) → IsOk r
+    whole (Ok child) h = h
+    whole (Err quota.BadQuota) h = cc
+    whole (Err quota.TableFull) h = cc
+    whole (Err quota.NoRoom) h = cc
+
+    by : (b : Bool) → map.contains_key c.book p ≡ b → IsOk (child_unless (if b then spawn_refusal (state_of v c o) p asked else Some cause.NoProcess) (child_of (state_of v c o))) → (IsLive c p) × IsOk (split_answer c p asked)
+    by true live h = (live, whole (split_answer c p asked) (subst IsOk (spawn-split v c o p asked kept live) ok))
+    by false dead h = cc
+
+-- ---- The child's number
+
+-- a child that a split gives has the next number
+next-of : (c : Containers) (p asked child : ℕ) → split_answer c p asked ≡ Ok child → next_number c.book ≡ Some child
+next-of c p asked child h = by (asked == 0) (next_number c.book) refl h
+  where
+    by : (b : Bool) (o : Option ℕ) → next_number c.book ≡ o → cond b (Err quota.BadQuota) (fitting c p asked o) ≡ Ok child → next_number c.book ≡ Some child
+    by true o next e = cc
+    by false None next e = cc
+    by false (Some k) next e = room (nat_lt (room_of c p) asked) e
+      where
+        room : (b : Bool) → cond b (Err quota.NoRoom) (Ok k) ≡ Ok child → next_number c.book ≡ Some child
+        room true e = cc
+        room false e = let same : k ≡ child = cc in next ∙ ap Some same
+
+found-passes : (p : ℕ → Bool) (xs : List ℕ) (x : ℕ) → find p xs ≡ Some x → p x ≡ true
+found-passes p [] x h = cc
+found-passes p (y ∷ xs) x h = by (λ e. found-passes p xs x e) (p y) refl h
+  where
+    by : (find p xs ≡ Some x → p x ≡ true) → (b : Bool) → p y ≡ b → cond b (Some y) (find p xs) ≡ Some x → p x ≡ true
+    by rest true is e = let same : y ≡ x = cc in ap p (sym same) ∙ is
+    by rest false is e = rest e
+
+of_not : (b : Bool) → not b ≡ true → b ≡ false
+of_not true h = cc
+of_not false h = refl
+
+-- it is not live
+pub child-absent : (c : Containers) (p asked child : ℕ) → split_answer c p asked ≡ Ok child → map.contains_key c.book child ≡ false
+child-absent c p asked child is =
+    of_not (map.contains_key c.book child) (found-passes (λ q. not (map.contains_key c.book q)) (range_with_len 0 64) child (next-of c p asked child is))
+
+pub child-is : (v : frames.View) (c : Containers) (o : Offers) (p asked child : ℕ) → split_answer c p asked ≡ Ok child → child_of (state_of v c o) ≡ child
+child-is v c o p asked child is = ap (λ x. unwrap_or x 0) (next-of c p asked child is)
+
+no_directory : (d : Option ℕ) → is_some d ≡ false → d ≡ None
+no_directory None h = refl
+no_directory (Some f) h = cc
+
+pub child-has_none : (v : frames.View) (c : Containers) (p asked child : ℕ) → IsProcesses v c → split_answer c p asked ≡ Ok child → directory_of v.directories child ≡ None
+child-has_none v c p asked child kept is = no_directory (directory_of v.directories child) (kept.live child ∙ child-absent c p asked child is)
+
+-- ---- The child's charge
+
+-- a process without a directory has nothing mapped
+nothing-mapped : (image : Image) (S : Spaces) (p page : ℕ) → StandsFor image S → directory_at image p ≡ None → map.contains_key S (record { pid = p; page = page }) ≡ false
+nothing-mapped image S p page stands none = by (map.get S slot) (subst (λ x. SlotStands image x (map.get S slot)) absent (stands.cells slot))
+  where
+    slot : Slot
+    slot = record { pid = p; page = page }
+
+    absent : page_word image slot ≡ None
+    absent = rw none refl
+
+    by : (x : Option Cell) → SlotStands image None x → is_some x ≡ false
+    by None h = refl
+    by (Some cell) h = absurd h
+
+-- a process with nothing mapped is charged for its directory
+cost-nothing : (S : Spaces) (p : ℕ) → ((page : ℕ) → map.contains_key S (record { pid = p; page = page }) ≡ false) → cost S p ≡ 1
+cost-nothing S p none = ap cost_of (same_set (pages_of S p) set.empty (λ page. contains-pages_of S p page ∙ none page))
+
+pub cost-child : (v : frames.View) (p : ℕ) → StandsFor (record { directories = v.directories; bytes = v.bytes; roles = v.roles }) v.spaces → directory_of v.directories p ≡ None → cost v.spaces p ≡ 1
+cost-child v p stands none = cost-nothing v.spaces p (λ page. nothing-mapped (record { directories = v.directories; bytes = v.bytes; roles = v.roles }) v.spaces p page stands none)
+
+root_not : (c : Containers) (child : ℕ) → IsLive c 0 → map.contains_key c.book child ≡ false → 0 ≢ child
+root_not c child live absent e = let a : map.contains_key c.book child ≡ true = ap (map.contains_key c.book) (sym e) ∙ live in cc
+
+module _ (v : frames.View) (c : Containers) (p asked child : ℕ) (kept : IsProcesses v c) (root : IsLive c 0) (is : split_answer c p asked ≡ Ok child) where
+  absent : map.contains_key c.book child ≡ false
+  absent = child-absent c p asked child is
+
+  abbrev pub after : Containers
+  after = after_split c p asked child
+
+  member-other : (q : ℕ) → same nat_order q child ≡ false → map.get after.book q ≡ map.get c.book q
+  member-other q n = get-insert c.book child (record { parent = p; quota = asked }) q ∙ ap (λ b. cond b (Some (record { parent = p; quota = asked })) (map.get c.book q)) n
+
+  member-child : map.get after.book child ≡ Some (record { parent = p; quota = asked })
+  member-child = get-insert c.book child (record { parent = p; quota = asked }) child ∙ ap (λ b. cond b (Some (record { parent = p; quota = asked })) (map.get c.book child)) (same_itself nat_order child)
+
+  used-child : used_of after child ≡ 1
+  used-child = ap (λ x. unwrap_or x 0) (get-insert c.used child 1 child ∙ ap (λ b. cond b (Some 1) (map.get c.used child)) (same_itself nat_order child))
+
+  used-others : (q : ℕ) → same nat_order q child ≡ false → used_of after q ≡ used_of c q
+  used-others q n = ap (λ x. unwrap_or x 0) (get-insert c.used child 1 q ∙ ap (λ b. cond b (Some 1) (map.get c.used q)) n)
+
+  apart : (q : ℕ) → q ≢ child → same nat_order q child ≡ false
+  apart q n = elim (same_or_not nat_order q child) [
+    | inl h ↦ absurd (n h.0)
+    | inr h ↦ h
+  ]
+
+  root-quota : quota_of after.book 0 ≡ quota_of c.book 0
+  root-quota = ap (λ (x : Option Member). unwrap_or (option_map (λ m. m.quota) x) 0) (member-other 0 (apart 0 (root_not c child root absent)))
+
+  -- there is a frame for the child's directory
+  pub room-child : child < 64 → ((q : ℕ) → map.contains_key after.book q ≡ true → q < 64) → total_used after ≤ quota_of after.book 0 → 2 + total_cost v.directories v.spaces ≤ length v.roles
+  room-child low small within =
+      let r = room-for v c after child 1 kept low small
+          (ap (found (λ _. used_of after child)) member-child ∙ used-child ∙ sym (ap (λ d. (if is_some d then cost v.spaces child else 0) + 1) (child-has_none v c p asked child kept is)))
+          (λ q n. member-other q (apart q n)) (λ q n. used-others q (apart q n)) root-quota within in
+      omega (arith, r)
+
+  -- the child has a directory and is charged for it
+  pub charged-child : (w : frames.View) → StandsFor (record { directories = v.directories; bytes = v.bytes; roles = v.roles }) v.spaces → w.spaces ≡ v.spaces → length w.roles ≡ length v.roles
+      → is_some (directory_of w.directories child) ≡ true → ((q : ℕ) → q ≢ child → directory_of w.directories q ≡ directory_of v.directories q) → IsProcesses w after
+  charged-child w stands spaces long live others = record {
+    live = λ q. elim (same_or_not nat_order q child) [
+      | inl h ↦ ap (λ x. is_some (directory_of w.directories x)) h.0 ∙ live ∙ sym (ap (map.contains_key after.book) h.0 ∙ ap is_some member-child)
+      | inr h ↦ ap is_some (others q (differ q child h)) ∙ kept.live q ∙ sym (ap is_some (member-other q h))
+    ];
+    charged = λ q l. elim (same_or_not nat_order q child) [
+      | inl h ↦ ap (used_of after) h.0 ∙ used-child ∙ sym (ap (cost w.spaces) h.0 ∙ ap (λ S. cost S child) spaces ∙ cost-child v child stands (child-has_none v c p asked child kept is))
+      | inr h ↦ used-others q h ∙ kept.charged q (sym (ap is_some (member-other q h)) ∙ l) ∙ sym (ap (λ S. cost S q) spaces)
+    ];
+    root = ap (λ n. 1 + n) root-quota ∙ kept.root ∙ sym long;
+  }
+
+-- the child is live
+pub now_live : (c : Containers) (p asked child : ℕ) → map.contains_key (after_split c p asked child).book child ≡ true
+now_live c p asked child = ap is_some (get-insert c.book child (record { parent = p; quota = asked }) child ∙ ap (λ b. cond b (Some (record { parent = p; quota = asked })) (map.get c.book child)) (same_itself nat_order child))
+
+-- ---- Process 0 alone
+
+-- process 0 has a directory, alone, and is charged for it
+pub charged-root : (w : frames.View) (c : Containers) (n : ℕ) → c ≡ opening n → w.spaces ≡ map.empty → 1 + n ≡ length w.roles
+    → is_some (directory_of w.directories 0) ≡ true → ((q : ℕ) → q ≢ 0 → directory_of w.directories q ≡ None) → IsProcesses w c
+charged-root w c n is empty long live others = subst (IsProcesses w) (sym is) (record {
+  live = λ q. elim (same_or_not nat_order q 0) [
+    | inl h ↦ ap (λ x. is_some (directory_of w.directories x)) h.0 ∙ live ∙ sym (book-at q ∙ ap (λ b. is_some (cond b (Some root) (map.get no_book q))) h.1)
+    | inr h ↦ ap is_some (others q (differ q 0 h)) ∙ sym (book-at q ∙ ap (λ b. is_some (cond b (Some root) (map.get no_book q))) h)
+  ];
+  charged = λ q l. elim (same_or_not nat_order q 0) [
+    | inl h ↦ ap (used_of (opening n)) h.0 ∙ sym (ap (cost w.spaces) h.0 ∙ ap (λ S. cost S 0) empty)
+    | inr h ↦ absurd (dead q h l)
+  ];
+  root = long;
+})
+  where
+    root : Member
+    root = record { parent = 0; quota = n }
+
+    no_book : Book
+    no_book = map.empty
+
+    book-at : (q : ℕ) → map.contains_key (opening n).book q ≡ is_some (cond (same nat_order q 0) (Some root) (map.get no_book q))
+    book-at q = ap is_some (get-insert no_book 0 root q)
+
+    dead : (q : ℕ) → same nat_order q 0 ≡ false → map.contains_key (opening n).book q ≡ true → ⊥
+    dead q n l = let a = sym l ∙ book-at q ∙ ap (λ b. is_some (cond b (Some root) (map.get no_book q))) n in cc

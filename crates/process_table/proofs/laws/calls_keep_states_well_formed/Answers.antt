@@ -1,0 +1,30 @@
+use Rattle.process_table.proofs.BookLaws.{well_formed-open, well_formed-unmap, well_formed-spawn, well_formed-exit, root-spawn, root-exit, total-within}
+use Rattle.process_table.proofs.SpaceLaws.{well_formed-map, well_formed-load, well_formed-store}
+use Rattle.process_table.proofs.laws.calls_keep_states_well_formed.Goals as goal
+
+pub returns-clause-opening : goal.returns-clause-opening
+returns-clause-opening c = well_formed-open
+
+pub returns-clause-map : goal.returns-clause-map
+returns-clause-map c = well_formed-map
+
+pub returns-clause-unmap : goal.returns-clause-unmap
+returns-clause-unmap c = well_formed-unmap
+
+pub returns-clause-spawn : goal.returns-clause-spawn
+returns-clause-spawn c = well_formed-spawn
+
+pub returns-clause-exit : goal.returns-clause-exit
+returns-clause-exit c = well_formed-exit
+
+pub returns-clause-load : goal.returns-clause-load
+returns-clause-load c = well_formed-load
+
+pub returns-clause-store : goal.returns-clause-store
+returns-clause-store c = well_formed-store
+
+pub returns-clause-root : goal.returns-clause-root
+returns-clause-root c = (root-spawn, root-exit)
+
+pub returns-clause-total : goal.returns-clause-total
+returns-clause-total c = total-within

@@ -1,0 +1,22 @@
+use Rattle.std.proofs.Common.{◌≡◌, ◌+◌, ap, sym, subst, ◌∙◌}
+use Rattle.page_words.specs.FiniteMap as map
+use Rattle.address_space.specs.Spaces.{Slot, cost, need, fresh}
+use Rattle.address_space.proofs.Costs.{cost-insert}
+use Rattle.quota_tree.specs.Containers.{used_of, with_used}
+use Rattle.process_table.specs.View.{IsProcesses}
+use Rattle.address_space.proofs.Totals.{cost-insert_other}
+use Rattle.process_table.proofs.Charges.{charged-one}
+use Rattle.process_table.proofs.processes.add_page.Goals as goal
+
+pub returns-clause-kept : goal.returns-clause-kept
+returns-clause-kept c =
+    let v = c.args.spaces.now in
+    let q = c.args.quotas.now in
+    let p = c.args.pid in
+    let slot : Slot = record { pid = p; page = c.args.page } in
+    let cell = fresh slot c.args.write in
+    let used = used_of q p + c.need-need.result in
+    subst (IsProcesses c.map_zero.new.self) (sym c.take_room.ensures.quotas)
+    (charged-one v c.map_zero.new.self q p used c.requires.kept c.map_zero.ensures.directories c.map_zero.ensures.frames
+    ((λ i. c.requires.kept.charged p c.requires.live i + c.need-need.ensures.value i) ∙ sym (cost-insert v.spaces slot cell c.requires.unmapped) ∙ sym (ap (λ S. cost S p) c.map_zero.ensures.spaces))
+    (λ other n. ap (λ S. cost S other) c.map_zero.ensures.spaces ∙ cost-insert_other v.spaces slot cell other n))

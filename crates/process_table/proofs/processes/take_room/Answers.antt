@@ -1,0 +1,11 @@
+use Rattle.std.proofs.Common.{◌≡◌, ◌+◌, refl, ap, sym, ◌∙◌, true, subst}
+use Rattle.std.specs.Prelude.{is_some}
+use Rattle.page_words.specs.FiniteMap as map
+use Rattle.quota_tree.specs.Containers.{Containers, with_used, used_of, total_used}
+use Rattle.quota_tree.specs.Book.{quota_of}
+use Rattle.process_table.proofs.Charges.{room-taken}
+use Rattle.process_table.proofs.processes.take_room.Goals as goal
+
+pub returns-clause-room : goal.returns-clause-room
+returns-clause-room c =
+    room-taken c.args.spaces.now c.args.quotas.now c.charge.new.self c.args.pid c.args.frames c.requires.kept c.requires.live c.charge.ensures c.within.ensures.numbers c.within.ensures.total

@@ -1,0 +1,51 @@
+-- What the test of each call answers: the first cause against it, or else what comes of it.
+use Rattle.std.proofs.Common.{ℕ, Bool, true, if◌then◌else◌, Option, Some, None, Result, Ok, Err}
+use Rattle.page_words.specs.declared.addresses.Pid.{Pid}
+use Rattle.address_space.specs.Spaces.{cost}
+use Rattle.process_table.specs.State.{State, is_live, child_of}
+use Rattle.process_table.specs.Calls.{map_refusal, unmap_refusal, protect_refusal, offer_refusal, withdraw_refusal, accept_refusal, spawn_refusal, exit_refusal, after_map, after_unmap, after_accept}
+use Rattle.process_table.specs.declared.causes.Cause.{Cause}
+use Rattle.process_table.specs.declared.causes.Cause.TheVariants.{NoProcess}
+
+-- that the process is not live, and else the call's own cause
+abbrev pub first_cause : State → ℕ → Option Cause → Option Cause
+first_cause s p cause = if is_live s p then cause else Some NoProcess
+
+-- the cause where there is one, and else this number
+abbrev pub number_unless : Option Cause → ℕ → Result ℕ Cause
+number_unless (Some cause) number = Err cause
+number_unless None number = Ok number
+
+abbrev pub child_unless : Option Cause → ℕ → Result Pid Cause
+child_unless (Some cause) child = Err cause
+child_unless None child = Ok child
+
+-- the charge of the process after a map; its right has no effect on that
+abbrev pub map_answer : State → ℕ → ℕ → Result ℕ Cause
+map_answer s p page = number_unless (first_cause s p (map_refusal s p page)) (cost (after_map s p page true).spaces p)
+
+-- the charge of the process after an unmap
+abbrev pub unmap_answer : State → ℕ → ℕ → Result ℕ Cause
+unmap_answer s p page = number_unless (first_cause s p (unmap_refusal s p page)) (cost (after_unmap s p page).spaces p)
+
+-- the charge stays as it is
+abbrev pub protect_answer : State → ℕ → ℕ → Bool → Result ℕ Cause
+protect_answer s p page write = number_unless (first_cause s p (protect_refusal s p page write)) (cost s.spaces p)
+
+abbrev pub offer_answer : State → ℕ → ℕ → ℕ → Bool → Result ℕ Cause
+offer_answer s p page target write = number_unless (first_cause s p (offer_refusal s p page target write)) (cost s.spaces p)
+
+abbrev pub withdraw_answer : State → ℕ → ℕ → ℕ → Result ℕ Cause
+withdraw_answer s p page target = number_unless (first_cause s p (withdraw_refusal s p page target)) (cost s.spaces p)
+
+-- the charge of the process after an accept
+abbrev pub accept_answer : State → ℕ → ℕ → ℕ → ℕ → Result ℕ Cause
+accept_answer s p giver giver_page page = number_unless (first_cause s p (accept_refusal s p giver giver_page page)) (cost (after_accept s p giver giver_page page).spaces p)
+
+-- the child's number
+abbrev pub spawn_answer : State → ℕ → ℕ → Result Pid Cause
+spawn_answer s p quota = child_unless (first_cause s p (spawn_refusal s p quota)) (child_of s)
+
+-- a process that is gone is charged nothing
+abbrev pub exit_answer : State → ℕ → Result ℕ Cause
+exit_answer s p = number_unless (first_cause s p (exit_refusal s p)) 0

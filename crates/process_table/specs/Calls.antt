@@ -1,0 +1,145 @@
+-- What each call of a live process is refused for, in order, and what it does.
+use Rattle.std.proofs.Common.{ℕ, Bool, false, not, ◌&&◌, if◌then◌else◌, ◌==◌, ◌%◌, nat_lt, nat_le, Option, Some, None, is_none, unwrap_or}
+use Rattle.page_words.specs.Addresses.{offset_number, byte_count, is_user_page}
+use Rattle.page_words.specs.declared.addresses.Size.{Size}
+use Rattle.page_words.specs.FiniteMap as map
+use Rattle.address_space.specs.Spaces.{Slot, cell_or_fresh, fresh, without, is_slot, is_of, slot_at, accessed, stored, protected, joined, bytes_at, value_of, bytes_of}
+use Rattle.quota_tree.specs.Book.{next_number, number_of_children}
+use Rattle.page_sharing.specs.Offers.{offer_of, pending, without_page, without_process}
+use Rattle.table_walk.specs.declared.Access.{Access}
+use Rattle.table_walk.specs.declared.Access.TheVariants.{Read, Write}
+use Rattle.process_table.specs.State.{State, is_live, is_mapped, has_no_room, room, child_of}
+use Rattle.process_table.specs.declared.causes.Cause.{Cause}
+use Rattle.process_table.specs.declared.causes.Cause.TheVariants.{BadPage, NotMapped, Mapped, Quota, Rights, SelfOffer, NoTarget, OfferPending, TooManyOffers, NoOffer, TableFull, BadQuota, HasChildren, RootExit}
+
+abbrev pub at_page : ℕ → ℕ → Slot
+at_page p page = record { pid = p; page = page }
+
+-- ---- Why a call is refused: the first cause that applies
+
+abbrev pub map_refusal : State → ℕ → ℕ → Option Cause
+map_refusal s p page =
+    if not (is_user_page page) then Some BadPage else
+    if is_mapped s (at_page p page) then Some Mapped else
+    if has_no_room s (at_page p page) then Some Quota else
+    None
+
+abbrev pub unmap_refusal : State → ℕ → ℕ → Option Cause
+unmap_refusal s p page =
+    if not (is_user_page page) then Some BadPage else
+    if not (is_mapped s (at_page p page)) then Some NotMapped else
+    None
+
+-- also of a look at a page, with no right asked
+abbrev pub protect_refusal : State → ℕ → ℕ → Bool → Option Cause
+protect_refusal s p page write =
+    if not (is_user_page page) then Some BadPage else
+    if not (is_mapped s (at_page p page)) then Some NotMapped else
+    if write && not (cell_or_fresh s.spaces (at_page p page)).may then Some Rights else
+    None
+
+abbrev pub offer_refusal : State → ℕ → ℕ → ℕ → Bool → Option Cause
+offer_refusal s p page target write =
+    if not (is_user_page page) then Some BadPage else
+    if not (is_mapped s (at_page p page)) then Some NotMapped else
+    if target == p then Some SelfOffer else
+    if not (is_live s target) then Some NoTarget else
+    if write && not (cell_or_fresh s.spaces (at_page p page)).may then Some Rights else
+    if map.contains_key s.offers (offer_of p page target) then Some OfferPending else
+    if nat_le 32 (map.len (pending s.offers p)) then Some TooManyOffers else
+    None
+
+abbrev pub withdraw_refusal : State → ℕ → ℕ → ℕ → Option Cause
+withdraw_refusal s p page target =
+    if not (is_user_page page) then Some BadPage else
+    if not (map.contains_key s.offers (offer_of p page target)) then Some NoOffer else
+    None
+
+abbrev pub accept_refusal : State → ℕ → ℕ → ℕ → ℕ → Option Cause
+accept_refusal s p giver giver_page page =
+    if not (is_user_page page) then Some BadPage else
+    if not (map.contains_key s.offers (offer_of giver giver_page p)) then Some NoOffer else
+    if is_mapped s (at_page p page) then Some Mapped else
+    if has_no_room s (at_page p page) then Some Quota else
+    None
+
+abbrev pub spawn_refusal : State → ℕ → ℕ → Option Cause
+spawn_refusal s p quota =
+    if quota == 0 then Some BadQuota else
+    if is_none (next_number s.book) then Some TableFull else
+    if nat_lt (room s p) quota then Some Quota else
+    None
+
+abbrev pub exit_refusal : State → ℕ → Option Cause
+exit_refusal s p =
+    if p == 0 then Some RootExit else
+    if nat_lt 0 (number_of_children s.book p) then Some HasChildren else
+    None
+
+-- ---- What a call does
+
+abbrev pub is_misaligned : ℕ → Size → Bool
+is_misaligned address size = not (address % byte_count size == 0)
+
+-- the value that a load gives: the bytes, or zeros where nothing is mapped
+abbrev pub loaded : State → ℕ → ℕ → Size → ℕ
+loaded s p address size = value_of (bytes_at (cell_or_fresh s.spaces (slot_at p address)).bytes (offset_number address) (byte_count size))
+
+abbrev pub after_load : State → ℕ → ℕ → State
+after_load s p address = record s { spaces = accessed s.spaces (slot_at p address) }
+
+abbrev pub after_store : State → ℕ → ℕ → Size → ℕ → State
+after_store s p address size value = record s { spaces = stored s.spaces (slot_at p address) (offset_number address) (bytes_of (byte_count size) value) }
+
+-- the value that an access gives: a read what it reads, a write 0
+abbrev pub access_value : State → ℕ → ℕ → Size → Access → ℕ
+access_value s p address size Read = loaded s p address size
+access_value s p address size Write = 0
+
+-- after an access that completes: of an unmapped page, it is mapped first
+abbrev pub after_access : State → ℕ → ℕ → Size → Access → ℕ → State
+after_access s p address size Read value = after_load s p address
+after_access s p address size Write value = after_store s p address size value
+
+abbrev pub after_map : State → ℕ → ℕ → Bool → State
+after_map s p page write = record s { spaces = map.insert s.spaces (at_page p page) (fresh (at_page p page) write) }
+
+-- the slot leaves its group, and its offers go
+abbrev pub after_unmap : State → ℕ → ℕ → State
+after_unmap s p page = record s {
+  spaces = without s.spaces (is_slot p page);
+  offers = without_page s.offers p page;
+}
+
+-- the slot may be written to from now on, or not
+abbrev pub after_protect : State → ℕ → ℕ → Bool → State
+after_protect s p page write = record s { spaces = protected s.spaces (at_page p page) write }
+
+abbrev pub after_offer : State → ℕ → ℕ → ℕ → Bool → State
+after_offer s p page target write = record s { offers = map.insert s.offers (offer_of p page target) write }
+
+abbrev pub after_withdraw : State → ℕ → ℕ → ℕ → State
+after_withdraw s p page target = record s { offers = map.remove s.offers (offer_of p page target) }
+
+-- the right that a pending offer gives
+abbrev pub offered : State → ℕ → ℕ → ℕ → Bool
+offered s giver giver_page p = unwrap_or (map.get s.offers (offer_of giver giver_page p)) false
+
+-- the slot joins the giver's group with the offer's right, and the offer goes
+abbrev pub after_accept : State → ℕ → ℕ → ℕ → ℕ → State
+after_accept s p giver giver_page page = record s {
+  spaces = joined s.spaces (at_page giver giver_page) (at_page p page) (offered s giver giver_page p);
+  offers = map.remove s.offers (offer_of giver giver_page p);
+}
+
+-- a child, which has the least number that is not live
+abbrev pub after_spawn : State → ℕ → ℕ → State
+after_spawn s p quota = record s { book = map.insert s.book (child_of s) (record { parent = p; quota = quota }) }
+
+-- the process, its slots, its offers and the offers to it go
+abbrev pub after_exit : State → ℕ → State
+after_exit s p = record {
+  spaces = without s.spaces (is_of p);
+  book = map.remove s.book p;
+  offers = without_process s.offers p;
+}

@@ -1,0 +1,48 @@
+-- Laws on the calls: each that is not refused keeps states well formed, and such states cost no more than the root's quota.
+use Rattle.std.proofs.Common.{◌≡◌, ◌≤◌, ◌⊎◌, ℕ, ◌%◌, Bool, true, false, None}
+use Rattle.page_words.specs.Addresses.{byte_count, is_user_page, page_number}
+use Rattle.page_words.specs.declared.addresses.Size.{Size}
+use Rattle.page_words.specs.FiniteMap as map
+use Rattle.address_space.specs.Spaces.{Slot, slot_at}
+use Rattle.quota_tree.specs.Book.{quota_of}
+use Rattle.process_table.specs.State.{State, open_with, is_live, is_mapped, has_no_room}
+use Rattle.process_table.specs.Calls.{map_refusal, spawn_refusal, exit_refusal, after_map, after_unmap, after_spawn, after_exit, after_load, after_store}
+use Rattle.process_table.specs.WellFormed.{IsWellFormed, total}
+
+-- a machine of two frames or more, as it boots
+abbrev pub OpeningIsWellFormed : Type 0
+OpeningIsWellFormed = (n : ℕ) → 2 ≤ n → IsWellFormed (open_with n)
+
+abbrev pub MapKeeps : Type 0
+MapKeeps = (s : State) (p page : ℕ) (write : Bool) → IsWellFormed s → is_live s p ≡ true → map_refusal s p page ≡ None → IsWellFormed (after_map s p page write)
+
+-- an unmap of any page, mapped or not
+abbrev pub UnmapKeeps : Type 0
+UnmapKeeps = (s : State) (p page : ℕ) → IsWellFormed s → IsWellFormed (after_unmap s p page)
+
+abbrev pub SpawnKeeps : Type 0
+SpawnKeeps = (s : State) (p quota : ℕ) → IsWellFormed s → is_live s p ≡ true → spawn_refusal s p quota ≡ None → IsWellFormed (after_spawn s p quota)
+
+abbrev pub ExitKeeps : Type 0
+ExitKeeps = (s : State) (p : ℕ) → IsWellFormed s → is_live s p ≡ true → exit_refusal s p ≡ None → IsWellFormed (after_exit s p)
+
+-- a slot is mapped, or its process has room for it
+abbrev pub IsReachable : State → Slot → Type 0
+IsReachable s slot = (is_mapped s slot ≡ true) ⊎ (has_no_room s slot ≡ false)
+
+abbrev pub LoadKeeps : Type 0
+LoadKeeps = (s : State) (p address : ℕ) → IsWellFormed s → is_live s p ≡ true → is_user_page (page_number address) ≡ true → IsReachable s (slot_at p address) → IsWellFormed (after_load s p address)
+
+-- a store of any value, with the right to write or without it
+abbrev pub StoreKeeps : Type 0
+StoreKeeps = (s : State) (p address : ℕ) (size : Size) (value : ℕ) → IsWellFormed s → is_live s p ≡ true → is_user_page (page_number address) ≡ true → address % byte_count size ≡ 0 → IsReachable s (slot_at p address) → IsWellFormed (after_store s p address size value)
+
+-- a spawn and an exit leave the root's entry; the other calls leave the whole book
+abbrev pub RootStays : Type 0
+RootStays =
+    ((s : State) (p quota : ℕ) → IsWellFormed s → is_live s p ≡ true → spawn_refusal s p quota ≡ None → map.get (after_spawn s p quota).book 0 ≡ map.get s.book 0)
+    × ((s : State) (p : ℕ) → IsWellFormed s → is_live s p ≡ true → exit_refusal s p ≡ None → map.get (after_exit s p).book 0 ≡ map.get s.book 0)
+
+-- what all live processes cost together is at most the root's quota
+abbrev pub TotalIsWithin : Type 0
+TotalIsWithin = (s : State) → IsWellFormed s → total s ≤ quota_of s.book 0

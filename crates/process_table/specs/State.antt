@@ -1,0 +1,49 @@
+-- The machine's state: spaces, book and offers, what a process has room for, and what is known of it.
+use Rattle.std.proofs.Common.{ℕ, ◌-◌, Bool, nat_lt, Option}
+use Rattle.std.specs.Option.{option_map, unwrap_or}
+use Rattle.page_words.specs.FiniteMap as map
+use Rattle.address_space.specs.Spaces.{Slot, Spaces, cost, need}
+use Rattle.quota_tree.specs.Book.{Book, Member, given, quota_of, number_of_children, next_number}
+use Rattle.quota_tree.specs.declared.Container.{Container}
+use Rattle.page_sharing.specs.Offers.{Offers}
+
+pub record State : Type 0 where
+  pub spaces : Spaces
+  pub book : Book
+  pub offers : Offers
+
+-- a machine of n frames as it boots: process 0 alone, with all frames but frame 0 as its quota
+abbrev pub open_with : ℕ → State
+open_with n = record { spaces = map.empty; book = map.insert map.empty 0 (record { parent = 0; quota = n - 1 }); offers = map.empty }
+
+abbrev pub is_live : State → ℕ → Bool
+is_live s p = map.contains_key s.book p
+
+abbrev pub is_mapped : State → Slot → Bool
+is_mapped s slot = map.contains_key s.spaces slot
+
+-- what is left of a process's quota after its own cost and what it gave away
+abbrev pub room : State → ℕ → ℕ
+room s p = quota_of s.book p - cost s.spaces p - given s.book p
+
+-- the process has no room for this page too
+abbrev pub has_no_room : State → Slot → Bool
+has_no_room s slot = nat_lt (room s slot.pid) (need s.spaces slot.pid slot.page)
+
+-- the number of the next child, where one is free
+abbrev pub child_of : State → ℕ
+child_of s = unwrap_or (next_number s.book) 0
+
+-- what is known of a live process whose entry in the book this is
+abbrev pub shown : State → ℕ → Member → Container
+shown s p member = record {
+  parent = member.parent;
+  quota = member.quota;
+  used = cost s.spaces p;
+  given = given s.book p;
+  children = number_of_children s.book p;
+}
+
+-- what is known of a process, where it is live
+abbrev pub container_of : State → ℕ → Option Container
+container_of s p = option_map (λ member. shown s p member) (map.get s.book p)

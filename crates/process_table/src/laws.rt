@@ -1,0 +1,23 @@
+//! Laws of the machine's definitions. Each is the contract of a function that computes nothing.
+
+ghost use Rattle.process_table.specs.Image.{StandsForOne};
+ghost use Rattle.process_table.specs.Laws.{OpeningIsWellFormed, MapKeeps, UnmapKeeps, SpawnKeeps, ExitKeeps, LoadKeeps, StoreKeeps, RootStays, TotalIsWithin};
+
+/// An image stands for at most one pair of spaces and book. It computes nothing.
+pub fn images_stand_for_one()
+    ensures { StandsForOne }
+{}
+
+/// The machine boots in a well formed state, and each call that is not refused keeps states well
+/// formed; in such a state the live processes cost no more than the root's quota. It computes nothing.
+pub fn calls_keep_states_well_formed()
+    ensures opening { OpeningIsWellFormed }
+    ensures map { MapKeeps }
+    ensures unmap { UnmapKeeps }
+    ensures spawn { SpawnKeeps }
+    ensures exit { ExitKeeps }
+    ensures load { LoadKeeps }
+    ensures store { StoreKeeps }
+    ensures root { RootStays }
+    ensures total { TotalIsWithin }
+{}

@@ -1,0 +1,510 @@
+ghost use Rattle.std.specs.Prelude.{◌≡◌, ◌≢◌, ◌↔◌, ℕ, ◌+◌, ◌≤◌, ◌<◌, ◌%◌, Bool, true, false, not, Some, None, Ok, IsOk, IfOk, IsErrOf, length, is_some, replicate, slice_get};
+ghost use Rattle.page_words.specs.Addresses.{page_number, byte_count, IsUserPage, is_user_page};
+ghost use Rattle.page_words.specs.FiniteMap as map;
+ghost use Rattle.alloc_table.specs.Roles.{opening_roles};
+ghost use Rattle.address_space.specs.Spaces.{cost, need, slot_at, fresh, without, is_slot, is_of, cell_or_fresh};
+ghost use Rattle.address_space.specs.Sound.{directory_of, total_cost};
+ghost use Rattle.quota_tree.specs.Containers.{IsLive, used_of, room_of, with_used, split_answer, after_split, opening};
+ghost use Rattle.process_table.specs.State.{is_live, is_mapped, has_no_room, container_of, open_with};
+ghost use Rattle.process_table.specs.Calls.{at_page, map_refusal, unmap_refusal, exit_refusal, after_map, after_unmap, after_spawn, after_exit, after_load, after_access, access_value, is_misaligned};
+ghost use Rattle.process_table.specs.Answers.{map_answer, unmap_answer, spawn_answer, exit_answer};
+ghost use Rattle.process_table.specs.View.{state_of, IsProcesses};
+ghost use Rattle.process_table.specs.Image.{StandsFor, image_of};
+ghost use Rattle.process_table.specs.WellFormed.{total};
+ghost use Rattle.address_space.specs.Walks.{WalksAgree};
+ghost use Rattle.quota_tree.specs.Book.{number_of_children};
+ghost use Rattle.table_walk.specs.declared.Access.TheVariants as access_variant;
+
+use crate::causes::Cause;
+use address_space::{Spaces, SpacesFault};
+use page_sharing::Offers;
+use page_words::{Page, Pid, Size, Vaddr, in_user_range, page_of};
+use quota_tree::{Container, QuotaFault, Quotas};
+use std::alloc::Global;
+use std::marker::Model;
+use table_walk::Access;
+
+/// Why there are no processes.
+#[derive(Clone, Copy, Debug, PartialEq, Eq)]
+pub enum ProcessesFault {
+    /// The number of frames is not 16 to 4,096.
+    BadSize,
+    /// There was no memory for the frames or for what is kept of them.
+    NoMemory,
+}
+
+/// All live processes: their address spaces, quotas and offers.
+#[derive(Drop)]
+pub struct Processes {
+    spaces: Spaces,
+    quotas: Quotas,
+    offers: Offers,
+}
+
+impl Model for Processes {
+    ghost use Rattle.process_table.specs.View.{View, view_code, view_of, IsProcesses};
+
+    ghost Value = { View };
+
+    ghost coded = { view_code };
+
+    ghost view = { λ p. view_of p.spaces p.quotas p.offers };
+
+    ghost invariant = { λ p. IsProcesses p.spaces p.quotas };
+}
+
+fn root_pid() -> Pid
+    ensures { result ≡ 0 }
+{
+    Pid::new(0).unwrap()
+}
+
+fn is_process(quotas: &Quotas, pid: Pid) -> bool
+    ensures { result ≡ map.contains_key quotas.now.book pid }
+{
+    quotas.get(pid).is_some()
+}
+
+/// What a live process is charged for.
+fn charge_of(spaces: &Spaces, quotas: &Quotas, pid: Pid) -> u32
+    requires kept { IsProcesses spaces.now quotas.now }
+    requires live { IsLive quotas.now pid }
+    ensures charge { result ≡ cost spaces.now.spaces pid }
+    ensures few { result < 4096 }
+{
+    spaces.stands();
+    quotas.get(pid).unwrap().used
+}
+
+/// What a live process is charged for once a page is mapped that is not.
+fn charge_with(spaces: &Spaces, quotas: &Quotas, pid: Pid, page: Page) -> u32
+    requires kept { IsProcesses spaces.now quotas.now }
+    requires live { IsLive quotas.now pid }
+    requires user { IsUserPage page }
+    ensures { result ≡ cost spaces.now.spaces pid + need spaces.now.spaces pid page }
+{
+    charge_of(spaces, quotas, pid) + spaces.need(pid, page)
+}
+
+/// What a live process is charged for once a mapped page is gone.
+fn charge_without(spaces: &Spaces, quotas: &Quotas, pid: Pid, page: Page) -> u32
+    requires kept { IsProcesses spaces.now quotas.now }
+    requires live { IsLive quotas.now pid }
+    requires user { IsUserPage page }
+    requires mapped { is_some (map.get spaces.now.spaces (record { pid = pid; page = page })) ≡ true }
+    ensures { result ≡ cost (without spaces.now.spaces (is_slot pid page)) pid }
+{
+    charge_of(spaces, quotas, pid) - spaces.relief(pid, page)
+}
+
+/// Whether a live process has no room for one more page.
+fn is_full(spaces: &Spaces, quotas: &Quotas, offers: &Offers, pid: Pid, page: Page) -> bool
+    requires kept { IsProcesses spaces.now quotas.now }
+    requires live { IsLive quotas.now pid }
+    requires user { IsUserPage page }
+    ensures { result ≡ has_no_room (state_of spaces.now quotas.now offers.now) (at_page pid page) }
+{
+    quotas.room(pid) < spaces.need(pid, page)
+}
+
+/// Why a live process may not map a page, where it may not.
+fn map_check(spaces: &Spaces, quotas: &Quotas, offers: &Offers, pid: Pid, page: Page) -> Option<Cause>
+    requires kept { IsProcesses spaces.now quotas.now }
+    requires live { IsLive quotas.now pid }
+    ensures { result ≡ map_refusal (state_of spaces.now quotas.now offers.now) pid page }
+{
+    let is_bad = !in_user_range(page);
+    if is_bad {
+        Some(Cause::BadPage)
+    } else if spaces.cell(pid, page).is_some() {
+        Some(Cause::Mapped)
+    } else if is_full(spaces, quotas, offers, pid, page) {
+        Some(Cause::Quota)
+    } else {
+        None
+    }
+}
+
+/// Why a live process may not unmap a page, where it may not.
+fn unmap_check(spaces: &Spaces, quotas: &Quotas, offers: &Offers, pid: Pid, page: Page) -> Option<Cause>
+    ensures { result ≡ unmap_refusal (state_of spaces.now quotas.now offers.now) pid page }
+{
+    if !in_user_range(page) {
+        Some(Cause::BadPage)
+    } else if spaces.cell(pid, page).is_none() {
+        Some(Cause::NotMapped)
+    } else {
+        None
+    }
+}
+
+/// The charge of a live process after a map, or the cause against it.
+fn map_test(spaces: &Spaces, quotas: &Quotas, offers: &Offers, pid: Pid, page: Page) -> Result<u32, Cause>
+    requires kept { IsProcesses spaces.now quotas.now }
+    requires live { IsLive quotas.now pid }
+    ensures { result ≡ map_answer (state_of spaces.now quotas.now offers.now) pid page }
+{
+    match map_check(spaces, quotas, offers, pid, page) {
+        Some(cause) => Err(cause),
+        None => Ok(charge_with(spaces, quotas, pid, page)),
+    }
+}
+
+/// The charge of a live process after an unmap, or the cause against it.
+fn unmap_test(spaces: &Spaces, quotas: &Quotas, offers: &Offers, pid: Pid, page: Page) -> Result<u32, Cause>
+    requires kept { IsProcesses spaces.now quotas.now }
+    requires live { IsLive quotas.now pid }
+    ensures { result ≡ unmap_answer (state_of spaces.now quotas.now offers.now) pid page }
+{
+    match unmap_check(spaces, quotas, offers, pid, page) {
+        Some(cause) => Err(cause),
+        None => Ok(charge_without(spaces, quotas, pid, page)),
+    }
+}
+
+/// The number of a live process's next child of that quota, or the cause against it.
+fn spawn_test(spaces: &Spaces, quotas: &Quotas, offers: &Offers, pid: Pid, quota: u32) -> Result<Pid, Cause>
+    requires kept { IsProcesses spaces.now quotas.now }
+    requires live { IsLive quotas.now pid }
+    ensures { result ≡ spawn_answer (state_of spaces.now quotas.now offers.now) pid quota }
+{
+    match quotas.can_split(pid, quota) {
+        Ok(child) => Ok(child),
+        Err(QuotaFault::BadQuota) => Err(Cause::BadQuota),
+        Err(QuotaFault::TableFull) => Err(Cause::TableFull),
+        Err(QuotaFault::NoRoom) => Err(Cause::Quota),
+    }
+}
+
+/// Charges a live process for frames that it has room for, which are then free.
+fn take_room(spaces: &Spaces, quotas: &mut Quotas, pid: Pid, frames: u32)
+    requires kept { IsProcesses spaces.now quotas.old }
+    requires live { IsLive quotas.old pid }
+    requires room { frames ≤ room_of quotas.old pid }
+    ensures quotas { quotas.new ≡ with_used quotas.old pid (used_of quotas.old pid + frames) }
+    ensures room { 1 + total_cost spaces.now.directories spaces.now.spaces + frames ≤ length spaces.now.roles }
+{
+    quotas.charge(pid, frames);
+    quotas.within();
+}
+
+/// Maps a page of zeros.
+fn add_page(spaces: &mut Spaces, quotas: &mut Quotas, pid: Pid, page: Page, write: bool)
+    requires kept { IsProcesses spaces.old quotas.old }
+    requires live { IsLive quotas.old pid }
+    requires user { IsUserPage page }
+    requires unmapped { map.get spaces.old.spaces (record { pid = pid; page = page }) ≡ None }
+    requires room { need spaces.old.spaces pid page ≤ room_of quotas.old pid }
+    ensures kept { IsProcesses spaces.new quotas.new }
+    ensures spaces { spaces.new.spaces ≡ map.insert spaces.old.spaces (record { pid = pid; page = page }) (fresh (record { pid = pid; page = page }) write) }
+    ensures book { quotas.new.book ≡ quotas.old.book }
+{
+    let need = spaces.need(pid, page);
+    take_room(spaces, quotas, pid, need);
+    spaces.map_zero(pid, page, write);
+}
+
+/// Takes a mapped page away.
+fn remove_page(spaces: &mut Spaces, quotas: &mut Quotas, pid: Pid, page: Page)
+    requires kept { IsProcesses spaces.old quotas.old }
+    requires live { IsLive quotas.old pid }
+    requires user { IsUserPage page }
+    requires mapped { is_some (map.get spaces.old.spaces (record { pid = pid; page = page })) ≡ true }
+    ensures kept { IsProcesses spaces.new quotas.new }
+    ensures spaces { spaces.new.spaces ≡ without spaces.old.spaces (is_slot pid page) }
+    ensures book { quotas.new.book ≡ quotas.old.book }
+{
+    let relief = spaces.relief(pid, page);
+    spaces.unmap(pid, page);
+    quotas.refund(pid, relief);
+}
+
+/// Makes a child with a space of its own.
+fn add_process(spaces: &mut Spaces, quotas: &mut Quotas, pid: Pid, quota: u32) -> Pid
+    requires kept { IsProcesses spaces.old quotas.old }
+    requires live { IsLive quotas.old pid }
+    requires can { IsOk (split_answer quotas.old pid quota) }
+    ensures kept { IsProcesses spaces.new quotas.new }
+    ensures child { split_answer quotas.old pid quota ≡ Ok result }
+    ensures spaces { spaces.new.spaces ≡ spaces.old.spaces }
+    ensures quotas { quotas.new ≡ after_split quotas.old pid quota result }
+{
+    spaces.stands();
+    quotas.within();
+    let child = quotas.split(pid, quota);
+    quotas.within();
+    spaces.fresh(child);
+    child
+}
+
+/// Why a live process may not exit, where it may not.
+fn exit_check(spaces: &Spaces, quotas: &Quotas, offers: &Offers, pid: Pid) -> Option<Cause>
+    requires live { IsLive quotas.now pid }
+    ensures { result ≡ exit_refusal (state_of spaces.now quotas.now offers.now) pid }
+{
+    if pid.number() == 0 {
+        Some(Cause::RootExit)
+    } else if quotas.get(pid).unwrap().children > 0 {
+        Some(Cause::HasChildren)
+    } else {
+        None
+    }
+}
+
+/// That a live process that exits is charged nothing then, or the cause against it.
+fn exit_test(spaces: &Spaces, quotas: &Quotas, offers: &Offers, pid: Pid) -> Result<u32, Cause>
+    requires live { IsLive quotas.now pid }
+    ensures { result ≡ exit_answer (state_of spaces.now quotas.now offers.now) pid }
+{
+    match exit_check(spaces, quotas, offers, pid) {
+        Some(cause) => Err(cause),
+        None => Ok(0),
+    }
+}
+
+/// Takes a process away, whose quota returns to its parent.
+fn remove_process(spaces: &mut Spaces, quotas: &mut Quotas, pid: Pid)
+    requires kept { IsProcesses spaces.old quotas.old }
+    requires live { IsLive quotas.old pid }
+    requires not_root { pid ≢ 0 }
+    requires childless { number_of_children quotas.old.book pid ≡ 0 }
+    ensures kept { IsProcesses spaces.new quotas.new }
+    ensures spaces { spaces.new.spaces ≡ without spaces.old.spaces (is_of pid) }
+    ensures book { quotas.new.book ≡ map.remove quotas.old.book pid }
+{
+    spaces.drop_space(pid);
+    quotas.close(pid);
+}
+
+/// An access through a mapped page.
+fn complete_access(
+    spaces: &mut Spaces,
+    quotas: &Quotas,
+    offers: &Offers,
+    pid: Pid,
+    address: Vaddr,
+    size: Size,
+    access: Access,
+    value: u32,
+) -> u32
+    requires kept { IsProcesses spaces.old quotas.now }
+    requires user { IsUserPage (page_number address) }
+    requires mapped { is_some (map.get spaces.old.spaces (slot_at pid address)) ≡ true }
+    requires aligned { is_misaligned address size ≡ false }
+    ensures kept { IsProcesses spaces.new quotas.now }
+    ensures value { result ≡ access_value (state_of spaces.old quotas.now offers.now) pid address size access }
+    ensures state { state_of spaces.new quotas.now offers.now ≡ after_access (state_of spaces.old quotas.now offers.now) pid address size access value }
+{
+    match access {
+        Access::Read => spaces.read(pid, address, size),
+        Access::Write => {
+            spaces.write(pid, address, size, value);
+            0
+        }
+    }
+}
+
+/// What a live process is charged for once the page of an address is mapped.
+fn charge_at(spaces: &Spaces, quotas: &Quotas, offers: &Offers, pid: Pid, address: Vaddr) -> u32
+    requires kept { IsProcesses spaces.now quotas.now }
+    requires live { IsLive quotas.now pid }
+    requires user { IsUserPage (page_number address) }
+    ensures { result ≡ cost (after_load (state_of spaces.now quotas.now offers.now) pid address).spaces pid }
+{
+    let page = page_of(address);
+    if spaces.cell(pid, page).is_some() {
+        charge_of(spaces, quotas, pid)
+    } else {
+        charge_with(spaces, quotas, pid, page)
+    }
+}
+
+/// Process 0 alone.
+fn opened(mut spaces: Spaces) -> Processes
+    requires spaces { spaces.spaces ≡ map.empty }
+    requires directories { spaces.directories ≡ replicate 64 None }
+    requires costs { total_cost spaces.directories spaces.spaces ≡ 0 }
+    requires frames { 16 ≤ length spaces.roles }
+    ensures { result.state ≡ open_with (length spaces.roles) }
+{
+    let quota = spaces.frames() - 1;
+    spaces.fresh(root_pid());
+    Processes {
+        spaces,
+        quotas: Quotas::new(quota),
+        offers: Offers::new(),
+    }
+}
+
+impl Processes {
+    /// Process 0 alone, over that many frames, 16 to 4,096; its quota is one less.
+    pub fn new(alloc: Global, frames: u32) -> Result<Processes, ProcessesFault>
+        ensures opening { IfOk result (λ new. new.state ≡ open_with frames) }
+        ensures size { IsErrOf result ProcessesFault.BadSize ↔ (16 ≤ frames → frames ≤ 4096 → ⊥) }
+    {
+        match Spaces::new(alloc, frames) {
+            Ok(spaces) => Ok(opened(spaces)),
+            Err(SpacesFault::BadSize) => Err(ProcessesFault::BadSize),
+            Err(SpacesFault::NoMemory) => Err(ProcessesFault::NoMemory),
+        }
+    }
+
+    /// Whether a process is live.
+    pub fn live(&self, pid: Pid) -> bool
+        ensures { result ≡ is_live self.now.state pid }
+    {
+        is_process(&self.quotas, pid)
+    }
+
+    /// What a process may use, uses and gives; None where it is not live.
+    pub fn container(&self, pid: Pid) -> Option<Container>
+        ensures { result ≡ container_of self.now.state pid }
+    {
+        self.quotas.get(pid)
+    }
+
+    /// The address spaces.
+    pub fn spaces(&self) -> &Spaces
+        ensures spaces { result.now.spaces ≡ self.now.state.spaces }
+        ensures directories { result.now.directories ≡ self.now.directories }
+        ensures bytes { result.now.bytes ≡ self.now.bytes }
+        ensures roles { result.now.roles ≡ self.now.roles }
+    {
+        &self.spaces
+    }
+
+    /// What a process would be charged for once it has mapped a page, or the first cause against it:
+    /// NoProcess, BadPage, Mapped, Quota.
+    pub fn can_map(&self, pid: Pid, page: Page) -> Result<u32, Cause>
+        ensures { result ≡ map_answer self.now.state pid page }
+    {
+        if !self.live(pid) {
+            return Err(Cause::NoProcess);
+        }
+        map_test(&self.spaces, &self.quotas, &self.offers, pid, page)
+    }
+
+    /// Maps a page of zeros that the process may map, with the right to write as asked.
+    pub fn map(&mut self, pid: Pid, page: Page, write: bool)
+        requires { IsOk (map_answer self.old.state pid page) }
+        ensures { self.new.state ≡ after_map self.old.state pid page write }
+    {
+        add_page(&mut self.spaces, &mut self.quotas, pid, page, write);
+    }
+
+    /// What a process would be charged for once a page is unmapped, or the first cause against it:
+    /// NoProcess, BadPage, NotMapped.
+    pub fn can_unmap(&self, pid: Pid, page: Page) -> Result<u32, Cause>
+        ensures { result ≡ unmap_answer self.now.state pid page }
+    {
+        if !self.live(pid) {
+            return Err(Cause::NoProcess);
+        }
+        unmap_test(&self.spaces, &self.quotas, &self.offers, pid, page)
+    }
+
+    /// Takes a page away that the process may unmap; the offers of it go.
+    pub fn unmap(&mut self, pid: Pid, page: Page)
+        requires { IsOk (unmap_answer self.old.state pid page) }
+        ensures { self.new.state ≡ after_unmap self.old.state pid page }
+    {
+        remove_page(&mut self.spaces, &mut self.quotas, pid, page);
+        self.offers.drop_page(pid, page);
+    }
+
+    /// The number that a process's child of that quota would have, or the first cause against it:
+    /// NoProcess, BadQuota, TableFull, Quota.
+    pub fn can_spawn(&self, pid: Pid, quota: u32) -> Result<Pid, Cause>
+        ensures { result ≡ spawn_answer self.now.state pid quota }
+    {
+        if !self.live(pid) {
+            return Err(Cause::NoProcess);
+        }
+        spawn_test(&self.spaces, &self.quotas, &self.offers, pid, quota)
+    }
+
+    /// Makes a child of a process that may have it, with that quota and an empty space, and gives its
+    /// number.
+    pub fn spawn(&mut self, pid: Pid, quota: u32) -> Pid
+        requires { IsOk (spawn_answer self.old.state pid quota) }
+        ensures child { spawn_answer self.old.state pid quota ≡ Ok result }
+        ensures state { self.new.state ≡ after_spawn self.old.state pid quota }
+    {
+        add_process(&mut self.spaces, &mut self.quotas, pid, quota)
+    }
+
+    /// That a process that exits is charged nothing then, or the first cause against it: NoProcess,
+    /// RootExit, HasChildren.
+    pub fn can_exit(&self, pid: Pid) -> Result<u32, Cause>
+        ensures { result ≡ exit_answer self.now.state pid }
+    {
+        if !self.live(pid) {
+            return Err(Cause::NoProcess);
+        }
+        exit_test(&self.spaces, &self.quotas, &self.offers, pid)
+    }
+
+    /// Takes away a process that may exit: its space, its offers and the offers to it go, and its quota
+    /// returns to its parent.
+    pub fn exit(&mut self, pid: Pid)
+        requires { IsOk (exit_answer self.old.state pid) }
+        ensures { self.new.state ≡ after_exit self.old.state pid }
+    {
+        remove_process(&mut self.spaces, &mut self.quotas, pid);
+        self.offers.drop_process(pid);
+    }
+
+    /// What a live process is charged for once the page of an access is mapped. The address is a
+    /// multiple of the size, and lies in the user range.
+    pub fn access_charge(&self, pid: Pid, address: Vaddr, size: Size) -> u32
+        requires live { is_live self.now.state pid ≡ true }
+        requires user { IsUserPage (page_number address) }
+        requires aligned { is_misaligned address size ≡ false }
+        ensures { result ≡ cost (after_load self.now.state pid address).spaces pid }
+    {
+        let _ = size;
+        charge_at(&self.spaces, &self.quotas, &self.offers, pid, address)
+    }
+
+    /// An access through a mapped page that the process may access so, at a multiple of the size: the
+    /// value read, and accessed is set; or the low bytes of the value are written, accessed and dirty
+    /// are set, and the result is 0.
+    pub fn access(
+        &mut self,
+        pid: Pid,
+        address: Vaddr,
+        size: Size,
+        access: Access,
+        value: u32,
+    ) -> u32
+        requires mapped { is_mapped self.old.state (slot_at pid address) ≡ true }
+        requires user { IsUserPage (page_number address) }
+        requires aligned { is_misaligned address size ≡ false }
+        requires right { access ≡ Access.Write → (cell_or_fresh self.old.state.spaces (slot_at pid address)).write ≡ true }
+        ensures value { result ≡ access_value self.old.state pid address size access }
+        ensures state { self.new.state ≡ after_access self.old.state pid address size access value }
+    {
+        complete_access(
+            &mut self.spaces,
+            &self.quotas,
+            &self.offers,
+            pid,
+            address,
+            size,
+            access,
+            value,
+        )
+    }
+
+    /// What memory's own words and the containers say of this state, and that all processes together
+    /// cost at most all frames but frame 0. It computes nothing.
+    pub fn stands(&self)
+        ensures image { StandsFor (image_of self.now) self.now.state }
+        ensures walks { WalksAgree (record { directories = self.now.directories; bytes = self.now.bytes; roles = self.now.roles }) self.now.state.spaces }
+        ensures total { 1 + total self.now.state ≤ length self.now.roles }
+        ensures few { length self.now.roles ≤ 4096 }
+    {
+        self.spaces.stands();
+        self.quotas.within();
+    }
+}
