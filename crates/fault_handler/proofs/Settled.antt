@@ -1,0 +1,123 @@
+-- An access that goes on: what its plan tells, and that mapping its page first leaves what the definition says.
+use Rattle.std.proofs.Common.{◌≡◌, ◌≢◌, ℕ, Bool, true, false, not, ◌&&◌, cond, refl, sym, ap, subst, ◌∙◌, inl, inr, Option, Some, None, is_some, unwrap_or}
+use Rattle.std.specs.Prelude.{if◌then◌else◌, ◌⊎◌}
+use Rattle.page_words.specs.Addresses.{page_number, offset_number, byte_count, is_user_page}
+use Rattle.page_words.specs.declared.addresses.Size.{Size}
+use Rattle.page_words.specs.FiniteMap as map
+use Rattle.page_words.proofs.MapLemmas.{get-insert, same_itself}
+use Rattle.address_space.specs.Spaces.{Slot, Cell, Spaces, slot_order, slot_at, cell_or_fresh, fresh, accessed, stored, bytes_of, bytes_at, value_of}
+use Rattle.address_space.proofs.MapFirst.{accessed-fresh, stored-fresh}
+use Rattle.table_walk.specs.declared.Access.{Access}
+use Rattle.table_walk.specs.declared.Access.TheVariants.{Read, Write}
+use Rattle.table_walk.specs.Walk.{is_write}
+use Rattle.process_table.specs.State.{State, is_mapped, has_no_room}
+use Rattle.process_table.specs.Calls.{is_misaligned, access_value, after_access, after_map}
+use Rattle.process_table.specs.declared.causes.Cause.TheVariants.{Misaligned, Quota}
+use Rattle.fault_handler.specs.declared.plans.Plan.{Plan}
+use Rattle.fault_handler.specs.declared.plans.Plan.TheVariants as plan
+use Rattle.fault_handler.specs.Plans.{plan_of, absent, goes_on}
+
+-- a line that stops does not apply where the plan goes on
+skip : (b : Bool) (x y : Plan) → goes_on x ≡ false → goes_on (if b then x else y) ≡ true → (b ≡ false) × (goes_on y ≡ true) × ((if b then x else y) ≡ y)
+skip true x y stops g = let a : false ≡ true = sym stops ∙ g in cc
+skip false x y stops g = (refl, g, refl)
+
+-- the page is mapped and the process has the right
+abbrev pub IsAllowed : State → Slot → Access → Type 0
+IsAllowed s slot access = (is_mapped s slot ≡ true) × ((is_write access && not (cell_or_fresh s.spaces slot).write) ≡ false)
+
+-- an access that goes on is allowed at once, or its page is not mapped and there is room
+pub ready : (s : State) (p address : ℕ) (size : Size) (access : Access) → goes_on (plan_of s p address size access) ≡ true
+    → ((plan_of s p address size access ≡ plan.Complete) × IsAllowed s (slot_at p address) access)
+    ⊎ ((plan_of s p address size access ≡ plan.MapZero) × (map.contains_key s.spaces (slot_at p address) ≡ false))
+ready s p address size access g =
+    let a = skip (is_misaligned address size) (plan.Refused Misaligned) _ refl g in
+    let b = skip (not (is_user_page (page_number address))) (plan.Fault (record { addr = address; code = absent access })) _ refl a.1 in
+    by (a.2 ∙ b.2) (is_mapped s slot) refl b.1
+  where
+    slot : Slot
+    slot = slot_at p address
+
+    mapped_plan : Plan
+    mapped_plan = if is_write access && not (cell_or_fresh s.spaces slot).write then plan.Fault (record { addr = address; code = 7 }) else plan.Complete
+
+    unmapped_plan : Plan
+    unmapped_plan = if has_no_room s slot then plan.Refused Quota else plan.MapZero
+
+    by : (plan_of s p address size access ≡ (if is_mapped s slot then mapped_plan else unmapped_plan)) → (m : Bool) → is_mapped s slot ≡ m → goes_on (if is_mapped s slot then mapped_plan else unmapped_plan) ≡ true
+        → ((plan_of s p address size access ≡ plan.Complete) × IsAllowed s slot access) ⊎ ((plan_of s p address size access ≡ plan.MapZero) × (map.contains_key s.spaces slot ≡ false))
+    by is true m h =
+        let e : (if is_mapped s slot then mapped_plan else unmapped_plan) ≡ mapped_plan = ap (λ b. if b then mapped_plan else unmapped_plan) m in
+        let k = skip (is_write access && not (cell_or_fresh s.spaces slot).write) (plan.Fault (record { addr = address; code = 7 })) plan.Complete refl (sym (ap goes_on e) ∙ h) in
+        inl (is ∙ e ∙ k.2, (m, k.0))
+    by is false m h =
+        let e : (if is_mapped s slot then mapped_plan else unmapped_plan) ≡ unmapped_plan = ap (λ b. if b then mapped_plan else unmapped_plan) m in
+        let k = skip (has_no_room s slot) (plan.Refused Quota) plan.MapZero refl (sym (ap goes_on e) ∙ h) in
+        inr (is ∙ e ∙ k.2, m)
+
+-- the state before the access itself: its page is mapped with the right, and the access gives and leaves what it would have
+pub record IsSettled (s t : State) (p address : ℕ) (size : Size) (access : Access) : Type 0 where
+  pub mapped : is_mapped t (slot_at p address) ≡ true
+  pub right : access ≡ Write → (cell_or_fresh t.spaces (slot_at p address)).write ≡ true
+  pub value : access_value t p address size access ≡ access_value s p address size access
+  pub state : (value : ℕ) → after_access t p address size access value ≡ after_access s p address size access value
+
+may_write : (access : Access) (w : Bool) → (is_write access && not w) ≡ false → access ≡ Write → w ≡ true
+may_write Read w h e = cc
+may_write Write true h e = refl
+may_write Write false h e = cc
+
+settled-at_once : (s t : State) (p address : ℕ) (size : Size) (access : Access) → IsAllowed s (slot_at p address) access → t ≡ s → IsSettled s t p address size access
+settled-at_once s t p address size access allowed same = subst (λ x. IsSettled s x p address size access) (sym same) (record {
+  mapped = allowed.0;
+  right = may_write access (cell_or_fresh s.spaces (slot_at p address)).write allowed.1;
+  value = refl;
+  state = λ value. refl;
+})
+
+none : (x : Option Cell) → is_some x ≡ false → x ≡ None
+none None h = refl
+none (Some c) h = cc
+
+module _ (s : State) (p address : ℕ) (absent : map.contains_key s.spaces (slot_at p address) ≡ false) where
+  abbrev slot : Slot
+  slot = slot_at p address
+
+  abbrev first : State
+  first = after_map s p (page_number address) true
+
+  there : map.get first.spaces slot ≡ Some (fresh slot true)
+  there = get-insert s.spaces slot (fresh slot true) slot ∙ ap (λ b. cond b (Some (fresh slot true)) (map.get s.spaces slot)) (same_itself slot_order slot)
+
+  unmapped : map.get s.spaces slot ≡ None
+  unmapped = none (map.get s.spaces slot) absent
+
+  same_cell : cell_or_fresh first.spaces slot ≡ cell_or_fresh s.spaces slot
+  same_cell = ap (λ (x : Option Cell). unwrap_or x (fresh slot true)) there ∙ sym (ap (λ (x : Option Cell). unwrap_or x (fresh slot true)) unmapped)
+
+  same_value : (size : Size) (access : Access) → access_value first p address size access ≡ access_value s p address size access
+  same_value size Read = ap (λ (c : Cell). value_of (bytes_at c.bytes (offset_number address) (byte_count size))) same_cell
+  same_value size Write = refl
+
+  same_state : (size : Size) (access : Access) (value : ℕ) → after_access first p address size access value ≡ after_access s p address size access value
+  same_state size Read value = ap (λ S. record s { spaces = S }) (accessed-fresh s.spaces slot unmapped)
+  same_state size Write value = ap (λ S. record s { spaces = S }) (stored-fresh s.spaces slot (offset_number address) (bytes_of (byte_count size) value) unmapped)
+
+  settled-first : (t : State) (size : Size) (access : Access) → t ≡ first → IsSettled s t p address size access
+  settled-first t size access same = subst (λ x. IsSettled s x p address size access) (sym same) (record {
+    mapped = ap is_some there;
+    right = λ _. ap (λ (x : Option Cell). (unwrap_or x (fresh slot true)).write) there;
+    value = same_value size access;
+    state = same_state size access;
+  })
+
+complete_first : (x : Plan) → x ≡ plan.Complete → x ≢ plan.MapZero
+complete_first x e f = cc
+
+-- a page that is to be mapped first is mapped now
+pub settled : (s t : State) (x : Plan) (p address : ℕ) (size : Size) (access : Access) → x ≡ plan_of s p address size access → goes_on x ≡ true
+    → (x ≢ plan.MapZero → t ≡ s) → (x ≡ plan.MapZero → t ≡ after_map s p (page_number address) true) → IsSettled s t p address size access
+settled s t x p address size access is g other first = elim (ready s p address size access (sym (ap goes_on is) ∙ g)) [
+  | inl h ↦ settled-at_once s t p address size access h.1 (other (complete_first x (is ∙ h.0)))
+  | inr h ↦ settled-first s p address h.1 t size access (first (is ∙ h.0))
+]

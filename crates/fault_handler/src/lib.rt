@@ -1,0 +1,104 @@
+//! An access of a process: what it comes to, and how that is carried out.
+//!
+//! A plan is made of a state before anything changes. It is a refusal or a page fault, which change
+//! nothing; or the access completes, at once or after its page has been mapped.
+#![tactic(auto)]
+
+ghost use Rattle.std.specs.Prelude.{◌≡◌, ◌≢◌, Bool, true, false, not, IsOk};
+ghost use Rattle.page_words.specs.Addresses.{page_number, IsUserPage};
+ghost use Rattle.address_space.specs.Spaces.{slot_at};
+ghost use Rattle.process_table.specs.State.{is_live, is_mapped};
+ghost use Rattle.process_table.specs.Answers.{map_answer};
+ghost use Rattle.process_table.specs.Calls.{is_misaligned, access_value, after_access, after_map};
+ghost use Rattle.fault_handler.specs.Plans.{plan_of, absent, goes_on};
+
+mod plans;
+
+pub use plans::Plan;
+
+use page_words::{Page, Pid, Size, Vaddr, in_user_range, page_of};
+use process_table::{Cause, Processes};
+use table_walk::{Access, PageFault};
+
+fn is_aligned(address: Vaddr, size: Size) -> bool
+    ensures { result ≡ not (is_misaligned address size) }
+{
+    address.0 % size.bytes() == 0
+}
+
+/// The error code of an access to a page that is not mapped and can't be.
+fn absent_code(access: Access) -> u8
+    ensures { result ≡ absent access }
+{
+    match access {
+        Access::Read => 4,
+        Access::Write => 6,
+    }
+}
+
+/// What an access of a live process comes to.
+///
+/// The first that applies: Misaligned where the address is no multiple of the size; a fault of code 4
+/// (a read) or 6 (a write) outside the user range; a fault of code 7 for a write where the page is
+/// mapped without the right to write; Quota where the page is not mapped and there is no room for it.
+pub fn plan(
+    processes: &Processes,
+    pid: Pid,
+    address: Vaddr,
+    size: Size,
+    access: Access,
+) -> Plan
+    requires live { is_live processes.now.state pid ≡ true }
+    ensures { result ≡ plan_of processes.now.state pid address size access }
+{
+    if !is_aligned(address, size) {
+        return Plan::Refused(Cause::Misaligned);
+    }
+    let page = page_of(address);
+    if !in_user_range(page) {
+        return Plan::Fault(PageFault {
+            addr: address,
+            code: absent_code(access),
+        });
+    }
+    match processes.spaces().cell(pid, page) {
+        Some(cell) if access == Access::Write && !cell.write => Plan::Fault(PageFault {
+            addr: address,
+            code: 7,
+        }),
+        Some(_) => Plan::Complete,
+        None if processes.can_map(pid, page).is_err() => Plan::Refused(Cause::Quota),
+        None => Plan::MapZero,
+    }
+}
+
+/// Maps the page of an access that is to be mapped first.
+fn map_first(processes: &mut Processes, plan: Plan, pid: Pid, address: Vaddr)
+    requires page { plan ≡ Plan.MapZero → IsOk (map_answer processes.old.state pid (page_number address)) }
+    ensures other { plan ≢ Plan.MapZero → processes.new ≡ processes.old }
+    ensures mapped { plan ≡ Plan.MapZero → processes.new.state ≡ after_map processes.old.state pid (page_number address) true }
+{
+    if plan == Plan::MapZero {
+        processes.map(pid, page_of(address), true);
+    }
+}
+
+/// Carries out an access that completes, by the plan of this state: the value read, or 0 after a write.
+pub fn settle(
+    processes: &mut Processes,
+    plan: Plan,
+    pid: Pid,
+    address: Vaddr,
+    size: Size,
+    access: Access,
+    value: u32,
+) -> u32
+    requires live { is_live processes.old.state pid ≡ true }
+    requires plan { plan ≡ plan_of processes.old.state pid address size access }
+    requires completes { goes_on plan ≡ true }
+    ensures value { result ≡ access_value processes.old.state pid address size access }
+    ensures state { processes.new.state ≡ after_access processes.old.state pid address size access value }
+{
+    map_first(processes, plan, pid, address);
+    processes.access(pid, address, size, access, value)
+}

@@ -1,0 +1,15 @@
+use process_table::Cause;
+use table_walk::PageFault;
+
+/// What an access comes to.
+#[derive(Clone, Copy, Debug, PartialEq, Eq)]
+pub enum Plan {
+    /// The page is mapped with the right that the access needs.
+    Complete,
+    /// A fresh page of zeros is mapped first.
+    MapZero,
+    /// A page fault, with the processor's error code.
+    Fault(PageFault),
+    Refused(Cause),
+}
+
