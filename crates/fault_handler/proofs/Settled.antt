@@ -55,6 +55,17 @@ ready s p address size access g =
         let k = skip (has_no_room s slot) (plan.Refused Quota) plan.MapZero refl (sym (ap goes_on e) ∙ h) in
         inr (is ∙ e ∙ k.2, m)
 
+of_not : (b : Bool) → not b ≡ false → b ≡ true
+of_not true h = refl
+of_not false h = cc
+
+-- an access that goes on is aligned and lies in the user range
+pub reached : (s : State) (p address : ℕ) (size : Size) (access : Access) → goes_on (plan_of s p address size access) ≡ true → (is_misaligned address size ≡ false) × (is_user_page (page_number address) ≡ true)
+reached s p address size access g =
+    let a = skip (is_misaligned address size) (plan.Refused Misaligned) _ refl g in
+    let b = skip (not (is_user_page (page_number address))) (plan.Fault (record { addr = address; code = absent access })) _ refl a.1 in
+    (a.0, of_not _ b.0)
+
 -- the state before the access itself: its page is mapped with the right, and the access gives and leaves what it would have
 pub record IsSettled (s t : State) (p address : ℕ) (size : Size) (access : Access) : Type 0 where
   pub mapped : is_mapped t (slot_at p address) ≡ true

@@ -1,95 +1,57 @@
--- What a call that comes to a plan leaves and costs.
-use Rattle.std.proofs.Common.{◌≡◌, ℕ, ◌+◌, Bool, true, refl, ap, ◌∙◌, Option, Some, None}
-use Rattle.std.specs.Prelude.{if◌then◌else◌}
-use Rattle.page_words.specs.Addresses.{page_number, offset_number, byte_count}
+-- What a process is charged for after its own call.
+use Rattle.std.proofs.Common.{◌≡◌, ℕ, ◌+◌, Bool, true, false, cond, not, List, refl, ap, sym, ◌∙◌, inl, inr, Option, Some, None, is_some}
+use Rattle.std.specs.Prelude.{◌⊎◌}
+use Rattle.page_words.specs.Addresses.{offset_number, byte_count}
 use Rattle.page_words.specs.declared.addresses.Size.{Size}
-use Rattle.address_space.specs.Spaces.{slot_at, fresh, cost, need, bytes_of}
-use Rattle.address_space.proofs.Costs.{cost-insert}
-use Rattle.address_space.proofs.AccessCosts.{cost-accessed_mapped, cost-accessed_new, cost-stored_mapped, cost-stored_new}
-use Rattle.table_walk.specs.declared.Access.TheVariants.{Read, Write}
-use Rattle.table_walk.specs.declared.PageFault.{PageFault}
-use Rattle.kernel_calls.specs.State.{State}
-use Rattle.kernel_calls.specs.Calls.{at_page, map_refusal, unmap_refusal, plan_of, loaded}
-use Rattle.kernel_calls.specs.Machine.{answer_of, after, completes, refused_or, planned_or}
-use Rattle.kernel_calls.specs.Decisions.{refused_plan, plan_of_call, after_call}
-use Rattle.kernel_calls.specs.declared.calls.Cause.{Cause}
-use Rattle.kernel_calls.specs.declared.calls.Plan.{Plan}
-use Rattle.kernel_calls.specs.declared.calls.Plan.TheVariants as plan
-use Rattle.kernel_calls.specs.declared.calls.Call.{Call}
-use Rattle.kernel_calls.specs.declared.calls.Call.TheVariants as call
-use Rattle.kernel_calls.specs.declared.calls.Reply.{Reply}
-use Rattle.kernel_calls.specs.declared.calls.Reply.TheVariants as reply
-use Rattle.kernel_calls.proofs.Plans.{unmapped, complete, allowed}
+use Rattle.page_words.specs.FiniteMap as map
+use Rattle.page_words.specs.FiniteMap.{same, nat_order}
+use Rattle.page_words.proofs.MapLemmas.{get-insert, get-retain_keys, same_itself, same_or_not}
+use Rattle.address_space.specs.Spaces.{Slot, Cell, Spaces, slot_order, slot_at, cost, need, fresh, accessed, stored, bytes_of}
+use Rattle.address_space.proofs.AccessCosts.{cost-same, cost-accessed_mapped, cost-accessed_new, cost-stored_mapped, cost-stored_new}
+use Rattle.quota_tree.specs.Book.{Member}
+use Rattle.process_table.specs.State.{State, is_live, child_of}
+use Rattle.process_table.specs.Calls.{at_page, after_load, after_store, after_map, after_spawn, after_exit}
+use Rattle.process_table.proofs.BookFacts.{contains_key-insert}
 
--- ---- Refusals and faults change nothing
+none : (x : Option Cell) → is_some x ≡ false → x ≡ None
+none None h = refl
+none (Some c) h = cc
 
-refused_is : (x : Option Cause) (k : Cause) (r : Reply) → refused_plan x ≡ plan.Refused k → refused_or x r ≡ reply.Refused k
-refused_is None k r h = cc
-refused_is (Some c) k r h = let e : c ≡ k = cc in ap reply.Refused e
+-- a store is charged as a load is
+pub store_charge : (s : State) (p address : ℕ) (size : Size) (value : ℕ) → cost (after_store s p address size value).spaces p ≡ cost (after_load s p address).spaces p
+store_charge s p address size value = by (map.contains_key s.spaces slot) refl
+  where
+    slot : Slot
+    slot = slot_at p address
 
-pub refused_answer : (s : State) (p : ℕ) (c : Call) (k : Cause) → plan_of_call s p c ≡ plan.Refused k → answer_of s p c ≡ reply.Refused k
-refused_answer s p (call.Load addr size) k h = ap (λ x. planned_or x (reply.Value (loaded s p addr size))) h
-refused_answer s p (call.Store addr size value) k h = ap (λ x. planned_or x reply.Done) h
-refused_answer s p (call.Map page write) k h = refused_is (map_refusal s p page) k reply.Done h
-refused_answer s p (call.Unmap page) k h = refused_is (unmap_refusal s p page) k reply.Done h
+    new : List ℕ
+    new = bytes_of (byte_count size) value
 
-no_fault : (x : Option Cause) (f : PageFault) → refused_plan x ≡ plan.Fault f → ⊥
-no_fault None f h = cc
-no_fault (Some c) f h = cc
+    by : (b : Bool) → map.contains_key s.spaces slot ≡ b → cost (stored s.spaces slot (offset_number address) new) p ≡ cost (accessed s.spaces slot) p
+    by true is = cost-stored_mapped s.spaces slot (offset_number address) new is ∙ sym (cost-accessed_mapped s.spaces slot is)
+    by false is = let n = none (map.get s.spaces slot) is in cost-stored_new s.spaces slot (offset_number address) new n ∙ sym (cost-accessed_new s.spaces slot n)
 
-pub fault_answer : (s : State) (p : ℕ) (c : Call) (f : PageFault) → plan_of_call s p c ≡ plan.Fault f → answer_of s p c ≡ reply.Fault f.addr f.code
-fault_answer s p (call.Load addr size) f h = ap (λ x. planned_or x (reply.Value (loaded s p addr size))) h
-fault_answer s p (call.Store addr size value) f h = ap (λ x. planned_or x reply.Done) h
-fault_answer s p (call.Map page write) f h = absurd (no_fault (map_refusal s p page) f h)
-fault_answer s p (call.Unmap page) f h = absurd (no_fault (unmap_refusal s p page) f h)
+-- a page is charged whatever its right
+pub map_charge : (s : State) (p page : ℕ) (write : Bool) → cost (after_map s p page write).spaces p ≡ cost (after_map s p page true).spaces p
+map_charge s p page write = cost-same (after_map s p page write).spaces (after_map s p page true).spaces p at
+  where
+    slot : Slot
+    slot = at_page p page
 
-pub after-refused : (s : State) (p : ℕ) (c : Call) (k : Cause) → plan_of_call s p c ≡ plan.Refused k → after_call s p c ≡ s
-after-refused s p c k h = ap (λ r. if completes r then after s p c else s) (refused_answer s p c k h)
+    some : (b : Bool) (c d : Cell) (x : Option Cell) → is_some (cond b (Some c) x) ≡ is_some (cond b (Some d) x)
+    some true c d x = refl
+    some false c d x = refl
 
-pub after-fault : (s : State) (p : ℕ) (c : Call) (f : PageFault) → plan_of_call s p c ≡ plan.Fault f → after_call s p c ≡ s
-after-fault s p c f h = ap (λ r. if completes r then after s p c else s) (fault_answer s p c f h)
+    at : (q : Slot) → map.contains_key (map.insert s.spaces slot (fresh slot write)) q ≡ map.contains_key (map.insert s.spaces slot (fresh slot true)) q
+    at q =
+        ap is_some (get-insert s.spaces slot (fresh slot write) q)
+        ∙ some (same slot_order q slot) (fresh slot write) (fresh slot true) (map.get s.spaces q)
+        ∙ sym (ap is_some (get-insert s.spaces slot (fresh slot true) q))
 
--- ---- What completes
+-- a process that has a child is live
+pub spawn_lives : (s : State) (p quota : ℕ) → is_live s p ≡ true → is_live (after_spawn s p quota) p ≡ true
+spawn_lives s p quota live = contains_key-insert s.book (child_of s) (record { parent = p; quota = quota }) p live
 
-abbrev done : State → ℕ → Call → Type 0
-done s p c = after_call s p c ≡ after s p c
-
-pub load_done : (s : State) (p addr : ℕ) (size : Size) (x : Plan) → plan_of_call s p (call.Load addr size) ≡ x → completes (planned_or x (reply.Value 0)) ≡ true → after_call s p (call.Load addr size) ≡ after s p (call.Load addr size)
-load_done s p addr size (plan.Refused k) h t = cc
-load_done s p addr size (plan.Fault f) h t = cc
-load_done s p addr size plan.Complete h t = ap (λ x. if completes (planned_or x (reply.Value (loaded s p addr size))) then after s p (call.Load addr size) else s) h
-load_done s p addr size plan.MapZero h t = ap (λ x. if completes (planned_or x (reply.Value (loaded s p addr size))) then after s p (call.Load addr size) else s) h
-
-pub store_done : (s : State) (p addr : ℕ) (size : Size) (value : ℕ) (x : Plan) → plan_of_call s p (call.Store addr size value) ≡ x → completes (planned_or x reply.Done) ≡ true → after_call s p (call.Store addr size value) ≡ after s p (call.Store addr size value)
-store_done s p addr size value (plan.Refused k) h t = cc
-store_done s p addr size value (plan.Fault f) h t = cc
-store_done s p addr size value plan.Complete h t = ap (λ x. if completes (planned_or x reply.Done) then after s p (call.Store addr size value) else s) h
-store_done s p addr size value plan.MapZero h t = ap (λ x. if completes (planned_or x reply.Done) then after s p (call.Store addr size value) else s) h
-
-pub none_refused : (x : Option Cause) → refused_plan x ≡ plan.Complete → x ≡ None
-none_refused None h = refl
-none_refused (Some c) h = cc
-
-pub map_done : (s : State) (p page : ℕ) (write : Bool) → plan_of_call s p (call.Map page write) ≡ plan.Complete → after_call s p (call.Map page write) ≡ after s p (call.Map page write)
-map_done s p page write h = ap (λ x. if completes (refused_or x reply.Done) then after s p (call.Map page write) else s) (none_refused (map_refusal s p page) h)
-
-pub unmap_done : (s : State) (p page : ℕ) → plan_of_call s p (call.Unmap page) ≡ plan.Complete → after_call s p (call.Unmap page) ≡ after s p (call.Unmap page)
-unmap_done s p page h = ap (λ x. if completes (refused_or x reply.Done) then after s p (call.Unmap page) else s) (none_refused (unmap_refusal s p page) h)
-
--- ---- Charges
-
-pub load_charged : (s : State) (p addr : ℕ) (size : Size) → plan_of s p addr size Read ≡ plan.MapZero → cost (after_call s p (call.Load addr size)).spaces p ≡ cost s.spaces p + need s.spaces p (page_number addr)
-load_charged s p addr size h = ap (λ (t : State). cost t.spaces p) (load_done s p addr size plan.MapZero h refl) ∙ cost-accessed_new s.spaces (slot_at p addr) (unmapped s p addr size Read h).none
-
-pub load_free : (s : State) (p addr : ℕ) (size : Size) → plan_of s p addr size Read ≡ plan.Complete → cost (after_call s p (call.Load addr size)).spaces p ≡ cost s.spaces p
-load_free s p addr size h = ap (λ (t : State). cost t.spaces p) (load_done s p addr size plan.Complete h refl) ∙ cost-accessed_mapped s.spaces (slot_at p addr) (complete s p addr size Read h).mapped
-
-pub store_charged : (s : State) (p addr : ℕ) (size : Size) (value : ℕ) → plan_of s p addr size Write ≡ plan.MapZero → cost (after_call s p (call.Store addr size value)).spaces p ≡ cost s.spaces p + need s.spaces p (page_number addr)
-store_charged s p addr size value h = ap (λ (t : State). cost t.spaces p) (store_done s p addr size value plan.MapZero h refl) ∙ cost-stored_new s.spaces (slot_at p addr) (offset_number addr) (bytes_of (byte_count size) value) (unmapped s p addr size Write h).none
-
-pub store_free : (s : State) (p addr : ℕ) (size : Size) (value : ℕ) → plan_of s p addr size Write ≡ plan.Complete → cost (after_call s p (call.Store addr size value)).spaces p ≡ cost s.spaces p
-store_free s p addr size value h = ap (λ (t : State). cost t.spaces p) (store_done s p addr size value plan.Complete h refl) ∙ cost-stored_mapped s.spaces (slot_at p addr) (offset_number addr) (bytes_of (byte_count size) value) (complete s p addr size Write h).mapped
-
-pub map_charged : (s : State) (p page : ℕ) (write : Bool) → map_refusal s p page ≡ None → cost (after_call s p (call.Map page write)).spaces p ≡ cost s.spaces p + need s.spaces p page
-map_charged s p page write h =
-    ap (λ (t : State). cost t.spaces p) (map_done s p page write (ap refused_plan h)) ∙ cost-insert s.spaces (at_page p page) (fresh (at_page p page) write) (allowed s p page h).none
+-- a process that has gone is not live
+pub exit_gone : (s : State) (p : ℕ) → is_live (after_exit s p) p ≡ false
+exit_gone s p = ap is_some (get-retain_keys s.book (λ j. not (same nat_order p j)) p ∙ ap (λ b. cond (not b) (map.get s.book p) None) (same_itself nat_order p))

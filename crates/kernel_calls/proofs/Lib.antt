@@ -1,3 +1,3 @@
 pub mod Charges
-pub mod Plans
-pub mod Roots
+pub mod Decided
+pub mod Zeros

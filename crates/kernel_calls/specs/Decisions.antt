@@ -1,18 +1,23 @@
 -- What is decided of an event before anything changes: its plan, its reply, and the charge of its process afterwards.
-use Rattle.std.proofs.Common.{ℕ, if◌then◌else◌, Option, Some, None}
+use Rattle.std.proofs.Common.{ℕ, if◌then◌else◌, Option, Some, None, Result, Ok, Err}
+use Rattle.page_words.specs.declared.addresses.Pid.{Pid}
 use Rattle.address_space.specs.Spaces.{cost}
-use Rattle.kernel_calls.specs.State.{State, is_live}
-use Rattle.kernel_calls.specs.Calls.{map_refusal, unmap_refusal, plan_of}
-use Rattle.kernel_calls.specs.Machine.{answer, answer_of, after, completes, next}
+use Rattle.quota_tree.specs.declared.Container.{Container}
+use Rattle.process_table.specs.State.{State, is_live}
+use Rattle.process_table.specs.Calls.{map_refusal, unmap_refusal, spawn_refusal, exit_refusal}
+use Rattle.process_table.specs.declared.causes.Cause.{Cause}
+use Rattle.process_table.specs.declared.causes.Cause.TheVariants as cause
+use Rattle.fault_handler.specs.Plans.{plan_of}
+use Rattle.fault_handler.specs.declared.plans.Plan.{Plan}
+use Rattle.fault_handler.specs.declared.plans.Plan.TheVariants as plan
 use Rattle.table_walk.specs.declared.Access.TheVariants.{Read, Write}
-use Rattle.kernel_calls.specs.declared.calls.Cause.{Cause}
-use Rattle.kernel_calls.specs.declared.calls.Cause.TheVariants as cause
-use Rattle.kernel_calls.specs.declared.calls.Plan.{Plan}
-use Rattle.kernel_calls.specs.declared.calls.Plan.TheVariants as plan
+use Rattle.kernel_calls.specs.Machine.{answer, next}
 use Rattle.kernel_calls.specs.declared.calls.Call.{Call}
 use Rattle.kernel_calls.specs.declared.calls.Call.TheVariants as call
 use Rattle.kernel_calls.specs.declared.calls.Event.{Event}
 use Rattle.kernel_calls.specs.declared.calls.Decision.{Decision}
+use Rattle.kernel_calls.specs.declared.calls.Reply.{Reply}
+use Rattle.kernel_calls.specs.declared.calls.Reply.TheVariants as reply
 
 -- a refusal where there is a cause
 abbrev pub refused_plan : Option Cause → Plan
@@ -25,17 +30,51 @@ plan_of_call s p (call.Load addr size) = plan_of s p addr size Read
 plan_of_call s p (call.Store addr size value) = plan_of s p addr size Write
 plan_of_call s p (call.Map page write) = refused_plan (map_refusal s p page)
 plan_of_call s p (call.Unmap page) = refused_plan (unmap_refusal s p page)
+plan_of_call s p (call.Spawn quota) = refused_plan (spawn_refusal s p quota)
+plan_of_call s p call.Exit = refused_plan (exit_refusal s p)
+plan_of_call s p call.Quota = plan.Complete
 
 abbrev pub plan_of_event : State → Event → Plan
 plan_of_event s e = if is_live s e.pid then plan_of_call s e.pid e.call else plan.Refused cause.NoProcess
 
--- the state after a call of a live process
-abbrev pub after_call : State → ℕ → Call → State
-after_call s p c = if completes (answer_of s p c) then after s p c else s
+-- what a process is charged for, 0 where it is not live
+abbrev pub charge_in : State → ℕ → ℕ
+charge_in s p = if is_live s p then cost s.spaces p else 0
 
--- the charge of the event's process after it, 0 where it is not live then
+-- the charge of the event's process after it
 abbrev pub charge_after : State → Event → ℕ
-charge_after s e = let t = next s e in if is_live t e.pid then cost t.spaces e.pid else 0
+charge_after s e = charge_in (next s e) e.pid
 
 abbrev pub decision_of : State → Event → Decision
 decision_of s e = record { event = e; plan = plan_of_event s e; reply = answer s e; used_after = charge_after s e }
+
+-- ---- By the test of a call
+
+-- a refusal, which leaves the process charged as it is
+abbrev pub refusal_of : Event → Cause → ℕ → Decision
+refusal_of e cause used = record { event = e; plan = plan.Refused cause; reply = reply.Refused cause; used_after = used }
+
+-- a reply, with the charge afterwards
+abbrev pub reply_of : Event → Reply → ℕ → Decision
+reply_of e r used = record { event = e; plan = plan.Complete; reply = r; used_after = used }
+
+-- done with the charge that the test gives, or refused
+abbrev pub tested : Event → Result ℕ Cause → ℕ → Decision
+tested e (Err cause) used = refusal_of e cause used
+tested e (Ok charge) used = reply_of e reply.Done charge
+
+-- the child that the test gives, or refused
+abbrev pub spawned : Event → Result Pid Cause → ℕ → Decision
+spawned e (Err cause) used = refusal_of e cause used
+spawned e (Ok child) used = reply_of e (reply.Child child) used
+
+-- a refusal, a fault, or this reply and charge
+abbrev pub planned : Event → Plan → Reply → ℕ → ℕ → Decision
+planned e (plan.Refused cause) r charge used = refusal_of e cause used
+planned e (plan.Fault fault) r charge used = record { event = e; plan = plan.Fault fault; reply = reply.Fault fault.addr fault.code; used_after = used }
+planned e plan.Complete r charge used = record { event = e; plan = plan.Complete; reply = r; used_after = charge }
+planned e plan.MapZero r charge used = record { event = e; plan = plan.MapZero; reply = r; used_after = charge }
+
+-- the reply to a process that asks for its quota
+abbrev pub told : Container → Reply
+told c = reply.Quota c.quota c.used c.given

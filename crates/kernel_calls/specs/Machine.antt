@@ -1,12 +1,15 @@
 -- The machine: the answer to an event, the next state, and runs.
 use Rattle.std.proofs.Common.{ℕ, Bool, true, false, if◌then◌else◌, List, [], ◌∷◌, Option, Some, None}
-use Rattle.kernel_calls.specs.State.{State, is_live}
-use Rattle.kernel_calls.specs.Calls.{map_refusal, unmap_refusal, plan_of, loaded, after_load, after_store, after_map, after_unmap}
+use Rattle.address_space.specs.Spaces.{cost}
+use Rattle.quota_tree.specs.Book.{given, quota_of}
+use Rattle.process_table.specs.State.{State, is_live, child_of}
+use Rattle.process_table.specs.Calls.{map_refusal, unmap_refusal, spawn_refusal, exit_refusal, loaded, after_load, after_store, after_map, after_unmap, after_spawn, after_exit}
+use Rattle.process_table.specs.declared.causes.Cause.{Cause}
+use Rattle.process_table.specs.declared.causes.Cause.TheVariants as cause
+use Rattle.fault_handler.specs.Plans.{plan_of}
+use Rattle.fault_handler.specs.declared.plans.Plan.{Plan}
+use Rattle.fault_handler.specs.declared.plans.Plan.TheVariants as plan
 use Rattle.table_walk.specs.declared.Access.TheVariants.{Read, Write}
-use Rattle.kernel_calls.specs.declared.calls.Cause.{Cause}
-use Rattle.kernel_calls.specs.declared.calls.Cause.TheVariants as cause
-use Rattle.kernel_calls.specs.declared.calls.Plan.{Plan}
-use Rattle.kernel_calls.specs.declared.calls.Plan.TheVariants as plan
 use Rattle.kernel_calls.specs.declared.calls.Call.{Call}
 use Rattle.kernel_calls.specs.declared.calls.Call.TheVariants as call
 use Rattle.kernel_calls.specs.declared.calls.Event.{Event}
@@ -31,6 +34,9 @@ answer_of s p (call.Load addr size) = planned_or (plan_of s p addr size Read) (r
 answer_of s p (call.Store addr size value) = planned_or (plan_of s p addr size Write) reply.Done
 answer_of s p (call.Map page write) = refused_or (map_refusal s p page) reply.Done
 answer_of s p (call.Unmap page) = refused_or (unmap_refusal s p page) reply.Done
+answer_of s p (call.Spawn quota) = refused_or (spawn_refusal s p quota) (reply.Child (child_of s))
+answer_of s p call.Exit = refused_or (exit_refusal s p) reply.Done
+answer_of s p call.Quota = reply.Quota (quota_of s.book p) (cost s.spaces p) (given s.book p)
 
 -- the reply to an event
 abbrev pub answer : State → Event → Reply
@@ -42,6 +48,9 @@ after s p (call.Load addr size) = after_load s p addr
 after s p (call.Store addr size value) = after_store s p addr size value
 after s p (call.Map page write) = after_map s p page write
 after s p (call.Unmap page) = after_unmap s p page
+after s p (call.Spawn quota) = after_spawn s p quota
+after s p call.Exit = after_exit s p
+after s p call.Quota = s
 
 -- neither a refusal nor a fault
 abbrev pub completes : Reply → Bool

@@ -6,8 +6,8 @@ use Rattle.kernel_calls.specs.declared.calls.Call.TheVariants as call
 use Rattle.kernel_calls.specs.declared.calls.Event.{Event}
 use Rattle.kernel_calls.specs.declared.calls.Reply.{Reply}
 use Rattle.kernel_calls.specs.declared.calls.Reply.TheVariants as reply
-use Rattle.kernel_calls.specs.declared.calls.Cause.TheVariants as cause
-use Rattle.kernel_calls.specs.State.{open_with}
+use Rattle.process_table.specs.declared.causes.Cause.TheVariants as cause
+use Rattle.process_table.specs.State.{open_with}
 use Rattle.kernel_calls.specs.Machine.{answers}
 
 abbrev pub event : ℕ → ℕ → Call → Event

@@ -1,0 +1,22 @@
+use Rattle.std.proofs.Common.{◌≡◌, ap, sym, ◌∙◌, Option, Some, None, unwrap_or}
+use Rattle.std.specs.Option.{option_map}
+use Rattle.page_words.specs.FiniteMap as map
+use Rattle.address_space.specs.Spaces.{cost}
+use Rattle.process_table.specs.State.{State, container_of}
+use Rattle.kernel_calls.specs.Decisions.{tested, spawned}
+use Rattle.kernel_calls.proofs.Decided.{decided-map, decided-spawn, used-container}
+use Rattle.kernel_calls.proofs.decisions.decide_live.Goals as goal
+
+pub returns-in-Map : goal.returns-in-Map
+returns-in-Map c =
+    let s = c.args.processes.now.state in
+    let e = c.args.event.now in
+    c.done_or_refused.ensures ∙ ap (λ t. tested e t c.args.container.now.used) c.can_map.ensures
+    ∙ decided-map s e c.in-Map.page c.in-Map.write c.args.container.now.used c.in-Map.is c.requires.live (used-container s e.pid c.args.container.now c.requires.container)
+
+pub returns-in-Spawn : goal.returns-in-Spawn
+returns-in-Spawn c =
+    let s = c.args.processes.now.state in
+    let e = c.args.event.now in
+    c.child_or_refused.ensures ∙ ap (λ t. spawned e t c.args.container.now.used) c.can_spawn.ensures
+    ∙ decided-spawn s e c.in-Spawn.quota c.args.container.now.used c.in-Spawn.is c.requires.live (used-container s e.pid c.args.container.now c.requires.container)

@@ -1,0 +1,6 @@
+use Rattle.std.proofs.Common.{◌≡◌, sym, ◌∙◌}
+use Rattle.kernel_calls.proofs.Zeros.{loaded-first}
+use Rattle.kernel_calls.proofs.decisions.value_by.Goals as goal
+
+pub returns-in-MapZero : goal.returns-in-MapZero
+returns-in-MapZero c = λ goes. sym (loaded-first c.args.processes.now.state c.args.pid c.args.address c.args.size (sym c.requires.plan ∙ c.in-MapZero.is))

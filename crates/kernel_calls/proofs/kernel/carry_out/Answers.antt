@@ -1,0 +1,46 @@
+use Rattle.std.proofs.Common.{◌≡◌, ap, sym, ◌∙◌, true, false}
+use Rattle.fault_handler.specs.Plans.{goes_on}
+use Rattle.kernel_calls.specs.Machine.{answer, completes}
+use Rattle.kernel_calls.specs.declared.calls.Decision.{Decision}
+use Rattle.kernel_calls.proofs.Decided.{goes-decided, next-stays, next-goes}
+use Rattle.kernel_calls.proofs.kernel.carry_out.Goals as goal
+
+pub returns-in-Refused-clause-state : goal.returns-in-Refused-clause-state
+returns-in-Refused-clause-state c =
+    let s = c.args.processes.now.state in
+    let d = c.args.decision.now in
+    sym (next-stays s d.event (goes-decided s d false c.requires.decided (ap goes_on c.in-Refused.is)))
+
+pub returns-in-Fault-clause-state : goal.returns-in-Fault-clause-state
+returns-in-Fault-clause-state c =
+    let s = c.args.processes.now.state in
+    let d = c.args.decision.now in
+    sym (next-stays s d.event (goes-decided s d false c.requires.decided (ap goes_on c.in-Fault.is)))
+
+pub returns-in-Complete-clause-state : goal.returns-in-Complete-clause-state
+returns-in-Complete-clause-state c =
+    let s = c.args.processes.now.state in
+    let d = c.args.decision.now in
+    c.complete.ensures ∙ sym (next-goes s d.event (goes-decided s d true c.requires.decided (ap goes_on c.in-Complete.is)))
+
+pub returns-in-Complete-clause-kept : goal.returns-in-Complete-clause-kept
+returns-in-Complete-clause-kept c = λ stops.
+    let s = c.args.processes.now.state in
+    let d = c.args.decision.now in
+    let goes : completes (answer s d.event) ≡ true = goes-decided s d true c.requires.decided (ap goes_on c.in-Complete.is) in
+    let same : false ≡ true = sym stops ∙ ap (λ (x : Decision). completes x.reply) c.requires.decided ∙ goes in
+    cc
+
+pub returns-in-MapZero-clause-state : goal.returns-in-MapZero-clause-state
+returns-in-MapZero-clause-state c =
+    let s = c.args.processes.now.state in
+    let d = c.args.decision.now in
+    c.complete-in-MapZero.ensures ∙ sym (next-goes s d.event (goes-decided s d true c.requires.decided (ap goes_on c.in-MapZero.is)))
+
+pub returns-in-MapZero-clause-kept : goal.returns-in-MapZero-clause-kept
+returns-in-MapZero-clause-kept c = λ stops.
+    let s = c.args.processes.now.state in
+    let d = c.args.decision.now in
+    let goes : completes (answer s d.event) ≡ true = goes-decided s d true c.requires.decided (ap goes_on c.in-MapZero.is) in
+    let same : false ≡ true = sym stops ∙ ap (λ (x : Decision). completes x.reply) c.requires.decided ∙ goes in
+    cc

@@ -1,0 +1,203 @@
+//! What is decided of an event: its plan, its reply and the charge of its process afterwards.
+
+ghost use Rattle.std.specs.Prelude.{◌≡◌, ◌≢◌, true, false, Some};
+ghost use Rattle.address_space.specs.Spaces.{cost};
+ghost use Rattle.process_table.specs.State.{is_live, container_of};
+ghost use Rattle.process_table.specs.Calls.{after_load, loaded};
+ghost use Rattle.fault_handler.specs.Plans.{plan_of, goes_on};
+ghost use Rattle.table_walk.specs.declared.Access.TheVariants as access;
+ghost use Rattle.kernel_calls.specs.declared.calls.Call.TheVariants as call;
+ghost use Rattle.kernel_calls.specs.declared.calls.Reply.TheVariants as reply;
+ghost use Rattle.kernel_calls.specs.Decisions.{decision_of, refusal_of, reply_of, tested, spawned, planned, told};
+
+use crate::calls::{Call, Decision, Event, Reply};
+use fault_handler::Plan;
+use page_words::{Pid, Size, Vaddr};
+use process_table::{Cause, Processes};
+use quota_tree::Container;
+use table_walk::{Access, PageFault};
+
+fn refusal(event: &Event, cause: Cause, used: u32) -> Decision
+    ensures { result ≡ refusal_of event.now cause used }
+{
+    Decision {
+        event: *event,
+        plan: Plan::Refused(cause),
+        reply: Reply::Refused(cause),
+        used_after: used,
+    }
+}
+
+fn answered(event: &Event, reply: Reply, used_after: u32) -> Decision
+    ensures { result ≡ reply_of event.now reply used_after }
+{
+    Decision {
+        event: *event,
+        plan: Plan::Complete,
+        reply,
+        used_after,
+    }
+}
+
+fn fault_told(fault: &PageFault) -> Reply
+    ensures { result ≡ reply.Fault fault.now.addr fault.now.code }
+{
+    Reply::Fault {
+        addr: fault.addr,
+        code: fault.code,
+    }
+}
+
+/// Done with the charge that a call's test gives, or refused.
+fn done_or_refused(event: &Event, test: Result<u32, Cause>, used: u32) -> Decision
+    ensures { result ≡ tested event.now test used }
+{
+    match test {
+        Ok(charge) => answered(event, Reply::Done, charge),
+        Err(cause) => refusal(event, cause, used),
+    }
+}
+
+/// The child that the test of a spawn gives, or a refusal.
+fn child_or_refused(event: &Event, test: Result<Pid, Cause>, used: u32) -> Decision
+    ensures { result ≡ spawned event.now test used }
+{
+    match test {
+        Ok(child) => answered(event, Reply::Child(child), used),
+        Err(cause) => refusal(event, cause, used),
+    }
+}
+
+/// A decision of these parts.
+fn made(event: &Event, plan: &Plan, reply: &Reply, used_after: u32) -> Decision
+    ensures { result ≡ record { event = event.now; plan = plan.now; reply = reply.now; used_after = used_after } }
+{
+    Decision {
+        event: *event,
+        plan: *plan,
+        reply: *reply,
+        used_after,
+    }
+}
+
+/// An access as it was planned: a refusal, a fault, or this reply and charge.
+fn by_plan(event: &Event, plan: &Plan, reply: &Reply, charge: u32, used: u32) -> Decision
+    ensures { result ≡ planned event.now plan.now reply.now charge used }
+{
+    match plan {
+        Plan::Refused(cause) => refusal(event, *cause, used),
+        Plan::Fault(fault) => made(event, plan, &fault_told(fault), used),
+        Plan::Complete => made(event, plan, reply, charge),
+        Plan::MapZero => made(event, plan, reply, charge),
+    }
+}
+
+/// What an access of a live process is charged for, where it goes on.
+fn charge_by(
+    processes: &Processes,
+    plan: &Plan,
+    pid: Pid,
+    address: Vaddr,
+    size: Size,
+    access: Access,
+    used: u32,
+) -> u32
+    requires live { is_live processes.now.state pid ≡ true }
+    requires plan { plan.now ≡ plan_of processes.now.state pid address size access }
+    ensures { goes_on plan.now ≡ true → result ≡ cost (after_load processes.now.state pid address).spaces pid }
+{
+    match plan {
+        Plan::Complete => processes.access_charge(pid, address, size),
+        Plan::MapZero => processes.access_charge(pid, address, size),
+        _ => used,
+    }
+}
+
+/// What a load of a live process gives, where it goes on.
+fn value_by(processes: &Processes, plan: &Plan, pid: Pid, address: Vaddr, size: Size) -> u32
+    requires plan { plan.now ≡ plan_of processes.now.state pid address size access.Read }
+    ensures { goes_on plan.now ≡ true → result ≡ loaded processes.now.state pid address size }
+{
+    match plan {
+        Plan::Complete => processes.spaces().peek(pid, address, size),
+        Plan::MapZero => 0,
+        Plan::Refused(_) => 0,
+        Plan::Fault(_) => 0,
+    }
+}
+
+fn decide_load(processes: &Processes, event: &Event, address: Vaddr, size: Size, used: u32) -> Decision
+    requires live { is_live processes.now.state event.now.pid ≡ true }
+    requires load { event.now.call ≡ call.Load address size }
+    requires used { used ≡ cost processes.now.state.spaces event.now.pid }
+    ensures { result ≡ decision_of processes.now.state event.now }
+{
+    let pid = event.pid;
+    let plan = fault_handler::plan(processes, pid, address, size, Access::Read);
+    let value = value_by(processes, &plan, pid, address, size);
+    let charge = charge_by(processes, &plan, pid, address, size, Access::Read, used);
+    by_plan(event, &plan, &Reply::Value(value), charge, used)
+}
+
+#[tactic(auto, using(crate::proofs::Charges::store_charge))]
+fn decide_store(
+    processes: &Processes,
+    event: &Event,
+    address: Vaddr,
+    size: Size,
+    value: u32,
+    used: u32,
+) -> Decision
+    requires live { is_live processes.now.state event.now.pid ≡ true }
+    requires store { event.now.call ≡ call.Store address size value }
+    requires used { used ≡ cost processes.now.state.spaces event.now.pid }
+    ensures { result ≡ decision_of processes.now.state event.now }
+{
+    let pid = event.pid;
+    let plan = fault_handler::plan(processes, pid, address, size, Access::Write);
+    let charge = charge_by(processes, &plan, pid, address, size, Access::Write, used);
+    by_plan(event, &plan, &Reply::Done, charge, used)
+}
+
+/// The reply to a process that asks for its quota.
+fn quota_told(container: &Container) -> Reply
+    ensures { result ≡ told container.now }
+{
+    Reply::Quota {
+        quota: container.quota,
+        used: container.used,
+        given: container.given,
+    }
+}
+
+/// What is decided of an event of a live process, which has this container.
+#[tactic(auto, using(crate::proofs::Charges::map_charge, crate::proofs::Charges::spawn_lives, crate::proofs::Charges::exit_gone))]
+fn decide_live(processes: &Processes, event: &Event, container: &Container) -> Decision
+    requires live { is_live processes.now.state event.now.pid ≡ true }
+    requires container { container_of processes.now.state event.now.pid ≡ Some container.now }
+    ensures { result ≡ decision_of processes.now.state event.now }
+{
+    let pid = event.pid;
+    let used = container.used;
+    match event.call {
+        Call::Load { addr, size } => decide_load(processes, event, addr, size, used),
+        Call::Store { addr, size, value } => {
+            decide_store(processes, event, addr, size, value, used)
+        }
+        Call::Map { page, .. } => done_or_refused(event, processes.can_map(pid, page), used),
+        Call::Unmap { page } => done_or_refused(event, processes.can_unmap(pid, page), used),
+        Call::Spawn { quota } => child_or_refused(event, processes.can_spawn(pid, quota), used),
+        Call::Exit => done_or_refused(event, processes.can_exit(pid), used),
+        Call::Quota => answered(event, quota_told(container), used),
+    }
+}
+
+/// What is decided of an event.
+pub(crate) fn decide_on(processes: &Processes, event: &Event) -> Decision
+    ensures { result ≡ decision_of processes.now.state event.now }
+{
+    match processes.container(event.pid) {
+        Some(container) => decide_live(processes, event, &container),
+        None => refusal(event, Cause::NoProcess, 0),
+    }
+}
