@@ -17,3 +17,4 @@ pub mod Relief
 pub mod AccessCosts
 pub mod MapFirst
 pub mod WalkEnds
+pub mod Departures

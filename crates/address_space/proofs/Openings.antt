@@ -121,7 +121,7 @@ no_pages D m p page none = get-entries_in D m (record { pid = p; page = page }) 
     either true = refl
     either false = refl
 
-empty_cost : (S : Spaces) (p : ℕ) → ((page : ℕ) → map.get S (record { pid = p; page = page }) ≡ None) → cost S p ≡ 1
+pub empty_cost : (S : Spaces) (p : ℕ) → ((page : ℕ) → map.get S (record { pid = p; page = page }) ≡ None) → cost S p ≡ 1
 empty_cost S p none = ap cost_of (same_set (pages_of S p) set.empty (λ page. contains-pages_of S p page ∙ ap is_some (none page)))
 
 total-directory : (directories : List (Option ℕ)) (S : Spaces) (p f : ℕ) → p < 64 → p < length directories → directory_of directories p ≡ None → ((page : ℕ) → map.get S (record { pid = p; page = page }) ≡ None)

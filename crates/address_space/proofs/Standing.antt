@@ -55,7 +55,7 @@ stands_for_one image s t f g = same_map s t (λ slot. one_cell image (page_word 
 -- ---- Tables and pages, as the image names them
 
 -- past its 1,024 words a frame has none
-past_end : (xs : List ℕ) (s : ℕ) → length xs ≡ 4096 → 1024 ≤ s → word_in xs s ≡ 0
+pub past_end : (xs : List ℕ) (s : ℕ) → length xs ≡ 4096 → 1024 ≤ s → word_in xs s ≡ 0
 unfolding word_at
 past_end xs s long high = ends (drop (4 * s) xs) (let n = length-drop (4 * s) xs in omega (arith, n))
   where

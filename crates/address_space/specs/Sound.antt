@@ -14,7 +14,7 @@ use Rattle.page_map.specs.declared.PageEntry.{PageEntry}
 use Rattle.page_map.specs.Entries.{Frames, dir_word, table_of, entry_at}
 use Rattle.page_words.specs.FiniteMap as map
 use Rattle.page_words.specs.FiniteSet as set
-use Rattle.address_space.specs.Spaces.{Slot, Spaces, cost, need, fresh, joined, without, is_slot}
+use Rattle.address_space.specs.Spaces.{Slot, Spaces, cost, need, fresh, joined, without, is_slot, is_of}
 use Rattle.page_words.specs.FiniteMap.{collect}
 use Rattle.address_space.specs.Slots.{user_slots}
 use Rattle.address_space.specs.Cells.{Entries, holders_of, spaces_of}
@@ -181,6 +181,42 @@ pub record TableFreed (roles : List Role) (freed : Option ℕ) (roles' : List Ro
 pub record SlotRemoved (directories : List (Option ℕ)) (p page : ℕ) (bytes : List ℕ) (roles : List Role) (bytes' : List ℕ) (roles' : List Role) : Type 0 where
   pub after : IsSpaces directories bytes' roles'
   pub spaces : spaces_in directories bytes' ≡ without (spaces_in directories bytes) (is_slot p page)
+  pub length : length roles' ≡ length roles
+
+-- no page of a process is mapped
+abbrev pub IsEmptySpace : Spaces → ℕ → Type 0
+IsEmptySpace spaces p = (page : ℕ) → map.get spaces (record { pid = p; page = page }) ≡ None
+
+-- the pages of a process below one have left their groups
+pub record ClearedBelow (directories : List (Option ℕ)) (p from : ℕ) (bytes : List ℕ) (roles : List Role) (bytes' : List ℕ) (roles' : List Role) : Type 0 where
+  pub after : IsSpaces directories bytes' roles'
+  pub spaces : without (spaces_in directories bytes') (is_of p) ≡ without (spaces_in directories bytes) (is_of p)
+  pub below : (page : ℕ) → page < from → map.get (spaces_in directories bytes') (record { pid = p; page = page }) ≡ None
+  pub length : length roles' ≡ length roles
+  pub low : 0x40000 ≤ from
+  pub high : from ≤ 0xf0000
+
+-- all pages of a process have left their groups
+pub record SpaceCleared (directories : List (Option ℕ)) (p : ℕ) (bytes : List ℕ) (roles : List Role) (bytes' : List ℕ) (roles' : List Role) : Type 0 where
+  pub after : IsSpaces directories bytes' roles'
+  pub spaces : spaces_in directories bytes' ≡ without (spaces_in directories bytes) (is_of p)
+  pub empty : IsEmptySpace (spaces_in directories bytes') p
+  pub length : length roles' ≡ length roles
+
+-- a process's directory, without any page, went
+pub record DirectoryRemoved (directories : List (Option ℕ)) (p : ℕ) (bytes : List ℕ) (roles : List Role) (directories' : List (Option ℕ)) (roles' : List Role) : Type 0 where
+  pub after : IsSpaces directories' bytes roles'
+  pub spaces : spaces_in directories' bytes ≡ spaces_in directories bytes
+  pub none : directory_of directories' p ≡ None
+  pub others : (q : ℕ) → q ≢ p → directory_of directories' q ≡ directory_of directories q
+  pub length : length roles' ≡ length roles
+
+-- a process's space went
+pub record SpaceDropped (directories : List (Option ℕ)) (p : ℕ) (bytes : List ℕ) (roles : List Role) (directories' : List (Option ℕ)) (bytes' : List ℕ) (roles' : List Role) : Type 0 where
+  pub after : IsSpaces directories' bytes' roles'
+  pub spaces : spaces_in directories' bytes' ≡ without (spaces_in directories bytes) (is_of p)
+  pub none : directory_of directories' p ≡ None
+  pub others : (q : ℕ) → q ≢ p → directory_of directories' q ≡ directory_of directories q
   pub length : length roles' ≡ length roles
 
 -- a role as three numbers

@@ -46,6 +46,10 @@ slot_order = record { cmp = slot_cmp; total = slot_total; same = slot_same }
 abbrev pub is_slot : ℕ → ℕ → Slot → Bool
 is_slot p page slot = same slot_order (record { pid = p; page = page }) slot
 
+-- whether a slot is of this process
+abbrev pub is_of : ℕ → Slot → Bool
+is_of p slot = slot.pid == p
+
 -- ---- Cells
 
 -- what a process has at a mapped page

@@ -12,12 +12,14 @@ ghost use Rattle.phys_memory.specs.Bytes.{blank_bytes, frame_bytes, with_frame};
 ghost use Rattle.alloc_table.specs.Roles.{free_frames, CanBeTaken, IsTaken, IsPageBelow, IsInUse, opening_roles};
 ghost use Rattle.page_map.specs.Entries.{table_of, entry_at, IsPageMap};
 ghost use Rattle.page_words.specs.FiniteMap as map;
-ghost use Rattle.address_space.specs.Spaces.{need, fresh, joined, stored, write_at, bytes_of, without, slot_at, value_of, bytes_at, cell_or_fresh, accessed, cost, is_slot};
+ghost use Rattle.address_space.specs.Spaces.{need, fresh, joined, stored, write_at, bytes_of, without, slot_at, value_of, bytes_at, cell_or_fresh, accessed, cost, is_slot, is_of};
 ghost use Rattle.address_space.specs.Image.{StandsFor, StandsForOne};
 ghost use Rattle.address_space.specs.Walks.{WalksAgree};
 ghost use Rattle.address_space.specs.Shown.{shown};
 ghost use Rattle.std.specs.Option.{option_map};
 ghost use Rattle.address_space.specs.Sound.{IsSound, directory_of, table_in, entries_in, spaces_in, total_cost, table_need, TableGiven, PageAdded, SlotJoined, Touched, Names, Inside, IsSpaces, TableFreed, SlotRemoved, SpaceAdded, IsAlone, IsShared};
+
+mod drops;
 
 use alloc_table::{FrameTable, Role};
 use page_map::PageEntry;
@@ -693,6 +695,23 @@ impl Spaces {
             pid,
             directory,
             page,
+        );
+    }
+
+    /// Takes away a process's space: its pages leave their groups, and the frames of its pages that
+    /// nobody else holds, its tables and its directory come free.
+    pub fn drop_space(&mut self, pid: Pid)
+        requires live { is_some (directory_of self.old.directories pid) ≡ true }
+        ensures spaces { self.new.spaces ≡ without self.old.spaces (is_of pid) }
+        ensures none { directory_of self.new.directories pid ≡ None }
+        ensures others { (other : ℕ) → other ≢ pid → directory_of self.new.directories other ≡ directory_of self.old.directories other }
+        ensures frames { length self.new.roles ≡ length self.old.roles }
+    {
+        drops::remove_space(
+            &mut self.memory,
+            &mut self.frames,
+            &mut self.directories,
+            pid,
         );
     }
 
