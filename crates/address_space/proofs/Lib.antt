@@ -18,3 +18,4 @@ pub mod AccessCosts
 pub mod MapFirst
 pub mod WalkEnds
 pub mod Departures
+pub mod ChargeLemmas

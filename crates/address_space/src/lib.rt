@@ -19,6 +19,7 @@ ghost use Rattle.address_space.specs.Shown.{shown};
 ghost use Rattle.std.specs.Option.{option_map};
 ghost use Rattle.address_space.specs.Sound.{IsSound, directory_of, table_in, entries_in, spaces_in, total_cost, table_need, TableGiven, PageAdded, SlotJoined, Touched, Names, Inside, IsSpaces, TableFreed, SlotRemoved, SpaceAdded, IsAlone, IsShared};
 
+mod charges;
 mod drops;
 
 use alloc_table::{FrameTable, Role};
@@ -613,6 +614,15 @@ impl Spaces {
         ensures most { result ≤ 2 }
     {
         need_in(&self.memory, &self.frames, &self.directories, pid, page)
+    }
+
+    /// What a process is charged for: 1 for its directory, 1 for each region of 1,024 pages with a
+    /// mapped page, 1 for each mapped page.
+    pub fn cost(&self, pid: Pid) -> u32
+        requires live { is_some (directory_of self.now.directories pid) ≡ true }
+        ensures { result ≡ cost self.now.spaces pid }
+    {
+        charges::cost_in(&self.memory, &self.frames, &self.directories, pid)
     }
 
     /// What a process's cost falls by when a mapped page goes: 2 where it is the last of its region of

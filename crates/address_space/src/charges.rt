@@ -1,0 +1,72 @@
+//! What a process is charged for.
+
+ghost use Rattle.std.specs.Prelude.{◌≡◌, ◌+◌, ◌<◌, ◌≤◌, true, Some, is_some};
+ghost use Rattle.page_words.specs.FiniteSet as set;
+ghost use Rattle.phys_memory.specs.Bytes.{frame_bytes};
+ghost use Rattle.page_map.specs.Entries.{table_of, IsPageMap};
+ghost use Rattle.page_map.specs.Pages.{counted};
+ghost use Rattle.address_space.specs.Spaces.{cost, pages_of, regions_of};
+ghost use Rattle.address_space.specs.Sound.{directory_of, spaces_in, IsSpaces};
+
+use crate::home;
+use alloc_table::FrameTable;
+use page_words::{Frame, Pid};
+use phys_memory::Memory;
+
+/// 1 where a slot has a table, and else 0.
+fn table_count(memory: &Memory, directory: Frame, slot: u32) -> u32
+    requires slot { slot < 1024 }
+    requires map { IsPageMap memory.now directory }
+    ensures count { result ≡ counted (is_some (table_of (frame_bytes memory.now) directory slot)) }
+    ensures bound { result ≤ 1 }
+{
+    if page_map::has_table(memory, directory, slot) {
+        1
+    } else {
+        0
+    }
+}
+
+/// How many tables a process has, one for each region of 1,024 pages with a mapped page.
+fn tables_in(
+    memory: &Memory,
+    frames: &FrameTable,
+    directories: &[Option<Frame>; 64],
+    pid: Pid,
+    directory: Frame,
+) -> u32
+    requires spaces { IsSpaces directories.now memory.now frames.now }
+    requires live { directory_of directories.now pid ≡ Some directory }
+    ensures { result ≡ set.len (regions_of (pages_of (spaces_in directories.now memory.now) pid)) }
+{
+    let mut tables = 0;
+    for slot in 256..960 {
+        tables += table_count(memory, directory, slot);
+    }
+    tables
+}
+
+/// A process's directory, tables and pages together.
+fn sum(tables: u32, pages: u32) -> u32
+    requires { 1 + tables + pages ≤ 4096 }
+    ensures { result ≡ 1 + tables + pages }
+{
+    1 + tables + pages
+}
+
+/// What a process is charged for.
+pub fn cost_in(
+    memory: &Memory,
+    frames: &FrameTable,
+    directories: &[Option<Frame>; 64],
+    pid: Pid,
+) -> u32
+    requires spaces { IsSpaces directories.now memory.now frames.now }
+    requires live { is_some (directory_of directories.now pid) ≡ true }
+    ensures { result ≡ cost (spaces_in directories.now memory.now) pid }
+{
+    let directory = home(directories, pid);
+    let tables = tables_in(memory, frames, directories, pid, directory);
+    let pages = page_map::pages(memory, directory);
+    sum(tables, pages)
+}
