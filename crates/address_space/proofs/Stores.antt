@@ -24,7 +24,7 @@ use Rattle.page_words.specs.FiniteSet as set
 use Rattle.std.specs.FinMap.Entries.{where_key}
 use Rattle.std.proofs.Common.{map as map_list, length-append}
 use Rattle.std.proofs.lemmas.List.{length-map, set_split}
-use Rattle.address_space.specs.Spaces.{Slot, slot_order, Spaces, Cell, cell_or_fresh, write_at, bytes_of, stored, joined, accessed as accessed_in}
+use Rattle.address_space.specs.Spaces.{Slot, slot_order, Spaces, Cell, cell_or_fresh, write_at, bytes_of, stored, joined, accessed as accessed_in, protected}
 use Rattle.page_words.specs.FiniteMap.{collect, put_some}
 use Rattle.address_space.specs.Slots.{user_slots, slots_below, at_pid}
 use Rattle.page_words.specs.FiniteMap.{same}
@@ -463,6 +463,24 @@ touched directories bytes two roles p d page e sound live low high is_entry is_t
       sound = h.sound;
       spaces = h.spaces ∙ ap (map.insert (spaces_in directories bytes) slot)
           (ap (λ (c : Cell). record c { write = e.write; accessed = true }) cell ∙ sym (ap (λ (c : Cell). record c { accessed = true }) cell));
+      cost = h.cost;
+      in_use = h.in_use;
+    }
+
+-- the right to write was set or cleared in a slot, and nothing else changed
+pub page_protected : (directories : List (Option ℕ)) (bytes two : List ℕ) (roles : List Role) (p d page : ℕ) (e : PageEntry) (write : Bool) → IsSound directories bytes roles → directory_of directories p ≡ Some d
+    → 0x40000 ≤ page → page < 0xf0000 → entry_at (frame_bytes bytes) d page ≡ Some e → (write ≡ true → (cell_or_fresh (spaces_in directories bytes) (record { pid = p; page = page })).may ≡ true)
+    → frame_bytes two ≡ with_entry (frame_bytes bytes) (frame_number (dir_word (frame_bytes bytes) d (slot_number page))) page (record e { write = write }) → length two ≡ length bytes
+    → Touched directories (protected (spaces_in directories bytes) (record { pid = p; page = page }) write) bytes roles two
+page_protected directories bytes two roles p d page e write sound live low high is_entry right is_two long_two =
+    let rules = entry_rules directories bytes roles p d page e sound live is_entry in
+    let slot : Slot = record { pid = p; page = page } in
+    let cell = cell_read directories bytes p d page e live (live_small directories p d sound.pids live) low high is_entry in
+    let h = flags_set directories bytes two roles p d page e write e.accessed sound live low high is_entry (λ w. sym (ap (λ (c : Cell). c.may) cell) ∙ right w) rules.touched is_two long_two in
+    record {
+      sound = h.sound;
+      spaces = h.spaces ∙ ap (map.insert (spaces_in directories bytes) slot)
+          (ap (λ (c : Cell). record c { write = write; accessed = e.accessed }) cell ∙ sym (ap (λ (c : Cell). record c { write = write }) cell));
       cost = h.cost;
       in_use = h.in_use;
     }

@@ -143,6 +143,10 @@ write_at bytes at new = take at bytes ++ new ++ drop (at + length new) bytes
 abbrev pub accessed : Spaces → Slot → Spaces
 accessed spaces slot = map.insert spaces slot (record (cell_or_fresh spaces slot) { accessed = true })
 
+-- after a change of the right to write: it is set or cleared in the slot's own cell
+abbrev pub protected : Spaces → Slot → Bool → Spaces
+protected spaces slot write = map.insert spaces slot (record (cell_or_fresh spaces slot) { write = write })
+
 -- the group of a slot's cell has these bytes, and the cell both flags
 abbrev pub store_in : Spaces → Slot → Cell → List ℕ → Spaces
 store_in spaces slot cell bytes = map.insert (set_bytes spaces cell.holders bytes) slot (record cell { bytes = bytes; accessed = true; dirty = true })

@@ -1,16 +1,18 @@
-//! What a process is charged for.
+//! What a process is charged for, and what its charge falls by when a page goes.
 
-ghost use Rattle.std.specs.Prelude.{◌≡◌, ◌+◌, ◌<◌, ◌≤◌, true, Some, is_some};
+ghost use Rattle.std.specs.Prelude.{◌≡◌, ◌+◌, ◌<◌, ◌≤◌, true, false, Some, is_some};
+ghost use Rattle.page_words.specs.Addresses.{IsUserPage};
+ghost use Rattle.page_words.specs.FiniteMap as map;
 ghost use Rattle.page_words.specs.FiniteSet as set;
 ghost use Rattle.phys_memory.specs.Bytes.{frame_bytes};
 ghost use Rattle.page_map.specs.Entries.{table_of, IsPageMap};
 ghost use Rattle.page_map.specs.Pages.{counted};
-ghost use Rattle.address_space.specs.Spaces.{cost, pages_of, regions_of};
-ghost use Rattle.address_space.specs.Sound.{directory_of, spaces_in, IsSpaces};
+ghost use Rattle.address_space.specs.Spaces.{cost, pages_of, regions_of, without, is_slot};
+ghost use Rattle.address_space.specs.Sound.{directory_of, spaces_in, IsSound, IsSpaces, IsAlone, IsShared};
 
 use crate::home;
 use alloc_table::FrameTable;
-use page_words::{Frame, Pid};
+use page_words::{Frame, Page, Pid, slot_of};
 use phys_memory::Memory;
 
 /// 1 where a slot has a table, and else 0.
@@ -69,4 +71,43 @@ pub fn cost_in(
     let tables = tables_in(memory, frames, directories, pid, directory);
     let pages = page_map::pages(memory, directory);
     sum(tables, pages)
+}
+
+/// Whether no other page of a page's region is mapped.
+fn is_alone(memory: &Memory, directory: Frame, page: Page) -> bool
+    requires user { IsUserPage page }
+    requires map { IsPageMap memory.now directory }
+    ensures alone { result ≡ true → IsAlone (frame_bytes memory.now) directory page }
+    ensures shared { result ≡ false → IsShared (frame_bytes memory.now) directory page }
+{
+    let first = slot_of(page) * 1024;
+    for index in 0..1024u32 {
+        let other = Page(first + index);
+        if other != page && page_map::entry(memory, directory, other).is_some() {
+            return false;
+        }
+    }
+    true
+}
+
+/// What a process's cost falls by when a mapped page goes.
+pub fn relief_in(
+    memory: &Memory,
+    frames: &FrameTable,
+    directories: &[Option<Frame>; 64],
+    pid: Pid,
+    page: Page,
+) -> u32
+    requires sound { IsSound directories.now memory.now frames.now }
+    requires live { is_some (directory_of directories.now pid) ≡ true }
+    requires mapped { is_some (map.get (spaces_in directories.now memory.now) (record { pid = pid; page = page })) ≡ true }
+    requires user { IsUserPage page }
+    ensures { cost (without (spaces_in directories.now memory.now) (is_slot pid page)) pid + result ≡ cost (spaces_in directories.now memory.now) pid }
+{
+    let directory = home(directories, pid);
+    if is_alone(memory, directory, page) {
+        2
+    } else {
+        1
+    }
 }

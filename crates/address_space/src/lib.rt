@@ -12,15 +12,16 @@ ghost use Rattle.phys_memory.specs.Bytes.{blank_bytes, frame_bytes, with_frame};
 ghost use Rattle.alloc_table.specs.Roles.{free_frames, CanBeTaken, IsTaken, IsPageBelow, IsInUse, opening_roles};
 ghost use Rattle.page_map.specs.Entries.{table_of, entry_at, IsPageMap};
 ghost use Rattle.page_words.specs.FiniteMap as map;
-ghost use Rattle.address_space.specs.Spaces.{need, fresh, joined, stored, write_at, bytes_of, without, slot_at, value_of, bytes_at, cell_or_fresh, accessed, cost, is_slot, is_of};
+ghost use Rattle.address_space.specs.Spaces.{need, fresh, joined, stored, write_at, bytes_of, without, slot_at, value_of, bytes_at, cell_or_fresh, accessed, protected, cost, is_slot, is_of};
 ghost use Rattle.address_space.specs.Image.{StandsFor, StandsForOne};
 ghost use Rattle.address_space.specs.Walks.{WalksAgree};
 ghost use Rattle.address_space.specs.Shown.{shown};
 ghost use Rattle.std.specs.Option.{option_map};
-ghost use Rattle.address_space.specs.Sound.{IsSound, directory_of, table_in, entries_in, spaces_in, total_cost, table_need, TableGiven, PageAdded, SlotJoined, Touched, Names, Inside, IsSpaces, TableFreed, SlotRemoved, SpaceAdded, IsAlone, IsShared};
+ghost use Rattle.address_space.specs.Sound.{IsSound, directory_of, table_in, entries_in, spaces_in, total_cost, table_need, TableGiven, PageAdded, SlotJoined, Touched, Names, Inside, IsSpaces, TableFreed, SlotRemoved, SpaceAdded};
 
 mod charges;
 mod drops;
+mod rights;
 
 use alloc_table::{FrameTable, Role};
 use page_map::PageEntry;
@@ -416,45 +417,6 @@ fn need_in(
     }
 }
 
-/// Whether no other page of a page's region is mapped.
-fn is_alone(memory: &Memory, directory: Frame, page: Page) -> bool
-    requires user { IsUserPage page }
-    requires map { IsPageMap memory.now directory }
-    ensures alone { result ≡ true → IsAlone (frame_bytes memory.now) directory page }
-    ensures shared { result ≡ false → IsShared (frame_bytes memory.now) directory page }
-{
-    let first = slot_of(page) * 1024;
-    for index in 0..1024u32 {
-        let other = Page(first + index);
-        if other != page && page_map::entry(memory, directory, other).is_some() {
-            return false;
-        }
-    }
-    true
-}
-
-/// What a process's cost falls by when a mapped page goes.
-fn relief_in(
-    memory: &Memory,
-    frames: &FrameTable,
-    directories: &[Option<Frame>; 64],
-    pid: Pid,
-    page: Page,
-) -> u32
-    requires sound { IsSound directories.now memory.now frames.now }
-    requires live { is_some (directory_of directories.now pid) ≡ true }
-    requires mapped { is_some (map.get (spaces_in directories.now memory.now) (record { pid = pid; page = page })) ≡ true }
-    requires user { IsUserPage page }
-    ensures { cost (without (spaces_in directories.now memory.now) (is_slot pid page)) pid + result ≡ cost (spaces_in directories.now memory.now) pid }
-{
-    let directory = home(directories, pid);
-    if is_alone(memory, directory, page) {
-        2
-    } else {
-        1
-    }
-}
-
 /// Why there are no address spaces.
 #[derive(Clone, Copy, Debug, PartialEq, Eq)]
 pub enum SpacesFault {
@@ -632,7 +594,7 @@ impl Spaces {
         requires user { IsUserPage page }
         ensures { cost (without self.now.spaces (is_slot pid page)) pid + result ≡ cost self.now.spaces pid }
     {
-        relief_in(&self.memory, &self.frames, &self.directories, pid, page)
+        charges::relief_in(&self.memory, &self.frames, &self.directories, pid, page)
     }
 
     /// The number at an address of a mapped page, the lowest byte first. It sets no flag.
@@ -687,6 +649,27 @@ impl Spaces {
             page,
         );
         value
+    }
+
+    /// Sets whether a process may write to a mapped page; to set it, the process must be allowed to.
+    pub fn protect(&mut self, pid: Pid, page: Page, write: bool)
+        requires mapped { is_some (map.get self.old.spaces (record { pid = pid; page = page })) ≡ true }
+        requires user { IsUserPage page }
+        requires right { write ≡ true → (cell_or_fresh self.old.spaces (record { pid = pid; page = page })).may ≡ true }
+        ensures spaces { self.new.spaces ≡ protected self.old.spaces (record { pid = pid; page = page }) write }
+        ensures directories { self.new.directories ≡ self.old.directories }
+        ensures roles { self.new.roles ≡ self.old.roles }
+    {
+        let directory = home(&self.directories, pid);
+        rights::set_right(
+            &mut self.memory,
+            &self.frames,
+            &self.directories,
+            pid,
+            directory,
+            page,
+            write,
+        );
     }
 
     /// Takes a slot out of its group.

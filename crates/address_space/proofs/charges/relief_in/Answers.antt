@@ -4,7 +4,7 @@ use Rattle.address_space.specs.Spaces.{cost, without, is_slot}
 use Rattle.address_space.specs.Sound.{spaces_in}
 use Rattle.address_space.proofs.Steps.{page_map_of, live_small, some_is}
 use Rattle.address_space.proofs.Relief.{cost_left, relief_alone, relief_shared}
-use Rattle.address_space.proofs.relief_in.Goals as goal
+use Rattle.address_space.proofs.charges.relief_in.Goals as goal
 
 pub is_alone-requires-clause-map : goal.is_alone-requires-clause-map
 is_alone-requires-clause-map c = page_map_of c.args.directories.now c.args.memory.now c.args.frames.now c.args.pid c.home-directory.result c.requires.sound c.home-directory.ensures
