@@ -14,7 +14,7 @@ use Rattle.address_space.proofs.Costs.{same_pages, cost-insert}
 pub cost-same : (S T : Spaces) (p : ℕ) → ((q : Slot) → map.contains_key S q ≡ map.contains_key T q) → cost S p ≡ cost T p
 cost-same S T p is = ap cost_of (same_pages S T p p (λ page. is (record { pid = p; page = page })))
 
-key-insert : (S : Spaces) (slot : Slot) (c : Cell) (q : Slot) → map.contains_key (map.insert S slot c) q ≡ cond (same slot_order q slot) true (map.contains_key S q)
+pub key-insert : (S : Spaces) (slot : Slot) (c : Cell) (q : Slot) → map.contains_key (map.insert S slot c) q ≡ cond (same slot_order q slot) true (map.contains_key S q)
 key-insert S slot c q = ap is_some (get-insert S slot c q) ∙ by (same slot_order q slot)
   where
     by : (b : Bool) → is_some (cond b (Some c) (map.get S q)) ≡ cond b true (is_some (map.get S q))
@@ -29,10 +29,10 @@ key-set_bytes S group bytes q = ap is_some (get-map_values slot_order (λ slot c
     by (Some c) = refl
 
 -- a store maps the slots that an insertion maps
-key-stored : (S : Spaces) (slot : Slot) (at : ℕ) (new : List ℕ) (c : Cell) (q : Slot) → map.contains_key (stored S slot at new) q ≡ map.contains_key (map.insert S slot c) q
+pub key-stored : (S : Spaces) (slot : Slot) (at : ℕ) (new : List ℕ) (c : Cell) (q : Slot) → map.contains_key (stored S slot at new) q ≡ map.contains_key (map.insert S slot c) q
 key-stored S slot at new c q = key-insert (set_bytes S (cell_or_fresh S slot).holders _) slot _ q ∙ ap (cond (same slot_order q slot) true) (key-set_bytes S (cell_or_fresh S slot).holders _ q) ∙ sym (key-insert S slot c q)
 
-kept : (S : Spaces) (slot : Slot) (c : Cell) → is_some (map.get S slot) ≡ true → (q : Slot) → map.contains_key (map.insert S slot c) q ≡ map.contains_key S q
+pub kept : (S : Spaces) (slot : Slot) (c : Cell) → is_some (map.get S slot) ≡ true → (q : Slot) → map.contains_key (map.insert S slot c) q ≡ map.contains_key S q
 kept S slot c found q = key-insert S slot c q ∙ elim (same_or_not slot_order q slot) [
   | inl h ↦ ap (λ b. cond b true (map.contains_key S q)) h.1 ∙ sym (ap (map.contains_key S) h.0 ∙ found)
   | inr h ↦ ap (λ b. cond b true (map.contains_key S q)) h

@@ -64,7 +64,7 @@ pub total-same : (directories : List (Option ℕ)) (S S' : Spaces) → ((q : Slo
 unfolding total_cost
 total-same directories S S' is = sum_same _ _ 0 64 (λ p _. ap (λ n. if is_some (directory_of directories p) then n else 0) (ap cost_of (same_pages S' S p p (λ page. is (record { pid = p; page = page })))))
 
-other_slot : (S : Spaces) (slot : Slot) (cell : Cell) (p page : ℕ) → p ≢ slot.pid → map_of.contains_key (map_of.insert S slot cell) (record { pid = p; page = page }) ≡ map_of.contains_key S (record { pid = p; page = page })
+pub other_slot : (S : Spaces) (slot : Slot) (cell : Cell) (p page : ℕ) → p ≢ slot.pid → map_of.contains_key (map_of.insert S slot cell) (record { pid = p; page = page }) ≡ map_of.contains_key S (record { pid = p; page = page })
 other_slot S slot cell p page n = ap is_some (get-insert S slot cell (record { pid = p; page = page }) ∙ elim (same_or_not slot_order (record { pid = p; page = page }) slot) [
   | inl h ↦ absurd (n (ap (λ (s : Slot). s.pid) h.0))
   | inr h ↦ ap (λ b. cond b (Some cell) (map_of.get S (record { pid = p; page = page }))) h

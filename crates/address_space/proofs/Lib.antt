@@ -19,3 +19,4 @@ pub mod MapFirst
 pub mod WalkEnds
 pub mod Departures
 pub mod ChargeLemmas
+pub mod Totals

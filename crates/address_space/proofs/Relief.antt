@@ -42,7 +42,7 @@ module _ (S : Spaces) (p page : ℕ) where
       by true = refl
       by false = refl
 
-  is_gone : map.get left slot ≡ None
+  pub is_gone : map.get left slot ≡ None
   is_gone = none (map.get left slot) (key_left slot ∙ ap (λ b. cond (not b) (map.contains_key S slot) false) (same_itself slot_order slot))
     where
       none : (x : Option Cell) → is_some x ≡ false → x ≡ None
@@ -53,7 +53,7 @@ module _ (S : Spaces) (p page : ℕ) where
   others_left q h = key_left q ∙ ap (λ b. cond (not b) (map.contains_key S q) false) h
 
   -- with the slot back, the same is mapped as before
-  put_back_keys : (cell : Cell) → map.get S slot ≡ Some cell → (q : Slot) → map.contains_key (map.insert left slot cell) q ≡ map.contains_key S q
+  pub put_back_keys : (cell : Cell) → map.get S slot ≡ Some cell → (q : Slot) → map.contains_key (map.insert left slot cell) q ≡ map.contains_key S q
   put_back_keys cell found q =
       ap is_some (get-insert left slot cell q)
       ∙ elim (same_or_not slot_order q slot) [
