@@ -11,9 +11,10 @@ use Rattle.address_space.specs.Spaces.{Slot, slot_order, Cell, Spaces, cost, cos
 use Rattle.address_space.specs.Sound.{directory_of, live_cost, total_cost}
 use Rattle.address_space.proofs.AccessCosts.{cost-same, key-insert, key-stored, kept}
 use Rattle.address_space.proofs.Costs.{cost-insert, same_pages}
-use Rattle.address_space.proofs.CostSteps.{sum_one, total-same, total-insert, other_slot}
+use Rattle.address_space.proofs.CostSteps.{sum_one, total-same, total-insert, other_slot, need-most}
 use Rattle.address_space.proofs.Departures.{get-without}
 use Rattle.address_space.proofs.PageSteps.{not_same}
+use Rattle.address_space.proofs.Steps.{some_is}
 use Rattle.address_space.proofs.Relief.{is_gone, put_back_keys, cost_left}
 
 key-each : (f : Slot → Cell → Cell) (S : Spaces) (q : Slot) → map.contains_key (map.map_values f S) q ≡ map.contains_key S q
@@ -109,3 +110,12 @@ total-dropped directories directories' S p few live none others =
     let gone : live_cost D' T p ≡ 0 = ap (λ x. if is_some x then cost T p else 0) none in
     sum_one (live_cost D S) (live_cost D' T) p (cost S p) 0 64 (omega arith) (omega arith) (omega (arith, own, gone))
     (λ q n. sym (λ i. if is_some (others q n i) then cost-without_other S p q n i else 0))
+
+-- a new page costs at most two more
+pub total_mapped_most : (directories : List (Option ℕ)) (S : Spaces) (slot : Slot) (cell : Cell) → slot.pid < 64 → is_some (directory_of directories slot.pid) ≡ true → map.get S slot ≡ None
+    → total_cost directories (map.insert S slot cell) ≤ 2 + total_cost directories S
+total_mapped_most directories S slot cell few live none =
+    let d = some_is (directory_of directories slot.pid) live in
+    let t = total-insert directories S slot cell d.0 few d.1 none in
+    let most = need-most S slot.pid slot.page in
+    omega (arith, t, most)
