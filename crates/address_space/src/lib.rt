@@ -21,6 +21,7 @@ ghost use Rattle.address_space.specs.Sound.{IsSound, directory_of, table_in, ent
 
 mod charges;
 mod drops;
+mod entries;
 mod rights;
 
 use alloc_table::{FrameTable, Role};
@@ -234,16 +235,7 @@ fn store(
 {
     let entry = page_map::entry(memory, directory, page).unwrap();
     put_bytes(memory, entry.frame, at, size, value);
-    page_map::set_entry(
-        memory,
-        directory,
-        page,
-        PageEntry {
-            accessed: true,
-            dirty: true,
-            ..entry
-        },
-    );
+    page_map::set_entry(memory, directory, page, entries::written(entry));
 }
 
 /// Gives a process a blank directory.
@@ -384,15 +376,7 @@ fn touch(
     ensures { Touched directories.now (accessed (spaces_in directories.now memory.old) (record { pid = pid; page = page })) memory.old frames.now memory.new }
 {
     let entry = page_map::entry(memory, directory, page).unwrap();
-    page_map::set_entry(
-        memory,
-        directory,
-        page,
-        PageEntry {
-            accessed: true,
-            ..entry
-        },
-    );
+    page_map::set_entry(memory, directory, page, entries::loaded(entry));
 }
 
 /// What one more page costs a process.
