@@ -12,7 +12,7 @@ use Rattle.address_space.specs.Sound.{directory_of, live_cost, total_cost}
 use Rattle.address_space.proofs.AccessCosts.{cost-same, key-insert, key-stored, kept}
 use Rattle.address_space.proofs.Costs.{cost-insert, same_pages}
 use Rattle.address_space.proofs.CostSteps.{sum_one, total-same, total-insert, other_slot, need-most}
-use Rattle.address_space.proofs.Departures.{get-without}
+use Rattle.address_space.proofs.Departures.{get-without, slot_of_process}
 use Rattle.address_space.proofs.PageSteps.{not_same}
 use Rattle.address_space.proofs.Steps.{some_is}
 use Rattle.address_space.proofs.Relief.{is_gone, put_back_keys, cost_left}
@@ -97,6 +97,10 @@ key-without S gone q stays = ap is_some (get-without S gone q ∙ ap (λ b. cond
 -- other processes cost the same where a process's slots go
 pub cost-without_other : (S : Spaces) (p q : ℕ) → q ≢ p → cost (without S (is_of p)) q ≡ cost S q
 cost-without_other S p q n = cost-by-pages (without S (is_of p)) S q (λ page. key-without S (is_of p) (record { pid = q; page = page }) (not_same q p n))
+
+-- and where one of its slots goes
+pub cost-unmapped_other : (S : Spaces) (p page q : ℕ) → q ≢ p → cost (without S (is_slot p page)) q ≡ cost S q
+cost-unmapped_other S p page q n = cost-by-pages (without S (is_slot p page)) S q (λ other. key-without S (is_slot p page) (record { pid = q; page = other }) (slot_of_process p page (record { pid = q; page = other }) (not_same q p n)))
 
 -- what all cost falls by what the process cost
 pub total-dropped : (directories directories' : List (Option ℕ)) (S : Spaces) (p : ℕ) → p < 64 → is_some (directory_of directories p) ≡ true → directory_of directories' p ≡ None
