@@ -38,7 +38,7 @@ use borrow.Author.Tests.{eqb-true, eq-eqb}
 -- ---- Slots that leave
 
 -- a cell whose group some slots have left
-abbrev left : (Slot → Bool) → Cell → Cell
+abbrev pub left : (Slot → Bool) → Cell → Cell
 left gone cell = with_holders cell (set.retain cell.holders (λ s. not (gone s)))
 
 -- what stands at a slot after some have left
@@ -79,7 +79,7 @@ without-without S first all among = same_map _ _ (λ q. get-without (without S f
         ∙ ap (λ x. cond (not (all q)) x None) (twice (map.get S q))
 
 -- a slot is of its own process
-slot_of_process : (p page : ℕ) (q : Slot) → is_of p q ≡ false → is_slot p page q ≡ false
+pub slot_of_process : (p page : ℕ) (q : Slot) → is_of p q ≡ false → is_slot p page q ≡ false
 slot_of_process p page q other = elim (same_or_not slot_order (record { pid = p; page = page }) q) [
   | inl h ↦ absurd (let t : is_of p q ≡ true = ap (λ (x : Slot). x.pid == p) (sym h.0) ∙ eq-eqb p p refl in cc)
   | inr h ↦ h

@@ -11,9 +11,10 @@ use Rattle.address_space.specs.Spaces.{Slot, slot_order, Cell, Spaces, cost, cos
 use Rattle.address_space.specs.Sound.{directory_of, live_cost, total_cost}
 use Rattle.address_space.proofs.AccessCosts.{cost-same, key-insert, key-stored, kept}
 use Rattle.address_space.proofs.Costs.{cost-insert, same_pages}
-use Rattle.address_space.proofs.CostSteps.{sum_one, total-same, total-insert, other_slot}
-use Rattle.address_space.proofs.Departures.{get-without}
+use Rattle.address_space.proofs.CostSteps.{sum_one, total-same, total-insert, other_slot, need-most}
+use Rattle.address_space.proofs.Departures.{get-without, slot_of_process}
 use Rattle.address_space.proofs.PageSteps.{not_same}
+use Rattle.address_space.proofs.Steps.{some_is}
 use Rattle.address_space.proofs.Relief.{is_gone, put_back_keys, cost_left}
 
 key-each : (f : Slot → Cell → Cell) (S : Spaces) (q : Slot) → map.contains_key (map.map_values f S) q ≡ map.contains_key S q
@@ -97,6 +98,10 @@ key-without S gone q stays = ap is_some (get-without S gone q ∙ ap (λ b. cond
 pub cost-without_other : (S : Spaces) (p q : ℕ) → q ≢ p → cost (without S (is_of p)) q ≡ cost S q
 cost-without_other S p q n = cost-by-pages (without S (is_of p)) S q (λ page. key-without S (is_of p) (record { pid = q; page = page }) (not_same q p n))
 
+-- and where one of its slots goes
+pub cost-unmapped_other : (S : Spaces) (p page q : ℕ) → q ≢ p → cost (without S (is_slot p page)) q ≡ cost S q
+cost-unmapped_other S p page q n = cost-by-pages (without S (is_slot p page)) S q (λ other. key-without S (is_slot p page) (record { pid = q; page = other }) (slot_of_process p page (record { pid = q; page = other }) (not_same q p n)))
+
 -- what all cost falls by what the process cost
 pub total-dropped : (directories directories' : List (Option ℕ)) (S : Spaces) (p : ℕ) → p < 64 → is_some (directory_of directories p) ≡ true → directory_of directories' p ≡ None
     → ((q : ℕ) → q ≢ p → directory_of directories' q ≡ directory_of directories q) → total_cost directories S ≡ total_cost directories' (without S (is_of p)) + cost S p
@@ -109,3 +114,12 @@ total-dropped directories directories' S p few live none others =
     let gone : live_cost D' T p ≡ 0 = ap (λ x. if is_some x then cost T p else 0) none in
     sum_one (live_cost D S) (live_cost D' T) p (cost S p) 0 64 (omega arith) (omega arith) (omega (arith, own, gone))
     (λ q n. sym (λ i. if is_some (others q n i) then cost-without_other S p q n i else 0))
+
+-- a new page costs at most two more
+pub total_mapped_most : (directories : List (Option ℕ)) (S : Spaces) (slot : Slot) (cell : Cell) → slot.pid < 64 → is_some (directory_of directories slot.pid) ≡ true → map.get S slot ≡ None
+    → total_cost directories (map.insert S slot cell) ≤ 2 + total_cost directories S
+total_mapped_most directories S slot cell few live none =
+    let d = some_is (directory_of directories slot.pid) live in
+    let t = total-insert directories S slot cell d.0 few d.1 none in
+    let most = need-most S slot.pid slot.page in
+    omega (arith, t, most)

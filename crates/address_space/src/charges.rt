@@ -53,7 +53,7 @@ fn sum(tables: u32, pages: u32) -> u32
     requires { 1 + tables + pages ≤ 4096 }
     ensures { result ≡ 1 + tables + pages }
 {
-    1 + tables + pages
+    tables + pages + 1
 }
 
 /// What a process is charged for.

@@ -6,7 +6,7 @@
 //! costs allows.
 #![tactic(auto)]
 
-ghost use Rattle.std.specs.Prelude.{◌≡◌, ◌≢◌, ◌↔◌, IfOk, IsErrOf, replicate, ℕ, ◌+◌, ◌*◌, ◌<◌, ◌≤◌, ◌%◌, Some, None, length, slice_get, is_some, true, false};
+ghost use Rattle.std.specs.Prelude.{◌≡◌, ◌≢◌, ◌↔◌, IfOk, IsErrOf, replicate, ℕ, ◌+◌, ◌*◌, ◌<◌, ◌≤◌, ◌%◌, Some, None, length, slice_get, slice_set, is_some, true, false};
 ghost use Rattle.page_words.specs.Addresses.{slot_number, page_number, offset_number, byte_count, IsUserPage};
 ghost use Rattle.phys_memory.specs.Bytes.{blank_bytes, frame_bytes, with_frame};
 ghost use Rattle.alloc_table.specs.Roles.{free_frames, CanBeTaken, IsTaken, IsPageBelow, IsInUse, opening_roles};
@@ -21,6 +21,7 @@ ghost use Rattle.address_space.specs.Sound.{IsSound, directory_of, table_in, ent
 
 mod charges;
 mod drops;
+mod entries;
 mod rights;
 
 use alloc_table::{FrameTable, Role};
@@ -197,6 +198,15 @@ fn remove_entry(
     free_table(frames, freed);
 }
 
+/// Writes the lowest byte of a number.
+fn put_byte(memory: &mut Memory, place: usize, value: u32)
+    requires { place < length memory.old }
+    ensures bytes { memory.new ≡ slice_set memory.old place (value % 256) }
+    ensures length { length memory.new ≡ length memory.old }
+{
+    memory.write_byte(place, (value % 256) as u8);
+}
+
 /// The frame, the place in it and the bytes of a store: one byte, or a word at a multiple of four.
 fn put_bytes(memory: &mut Memory, frame: Frame, at: u32, size: Size, value: u32)
     requires frame { Inside memory.old frame }
@@ -207,7 +217,7 @@ fn put_bytes(memory: &mut Memory, frame: Frame, at: u32, size: Size, value: u32)
 {
     let place = frame.0 as usize * 4096 + at as usize;
     match size {
-        Size::One => memory.write_byte(place, (value % 256) as u8),
+        Size::One => put_byte(memory, place, value),
         Size::Four => memory.write_word(place, value),
     }
 }
@@ -234,16 +244,7 @@ fn store(
 {
     let entry = page_map::entry(memory, directory, page).unwrap();
     put_bytes(memory, entry.frame, at, size, value);
-    page_map::set_entry(
-        memory,
-        directory,
-        page,
-        PageEntry {
-            accessed: true,
-            dirty: true,
-            ..entry
-        },
-    );
+    page_map::set_entry(memory, directory, page, entries::written(entry));
 }
 
 /// Gives a process a blank directory.
@@ -384,15 +385,7 @@ fn touch(
     ensures { Touched directories.now (accessed (spaces_in directories.now memory.old) (record { pid = pid; page = page })) memory.old frames.now memory.new }
 {
     let entry = page_map::entry(memory, directory, page).unwrap();
-    page_map::set_entry(
-        memory,
-        directory,
-        page,
-        PageEntry {
-            accessed: true,
-            ..entry
-        },
-    );
+    page_map::set_entry(memory, directory, page, entries::loaded(entry));
 }
 
 /// What one more page costs a process.

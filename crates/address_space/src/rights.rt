@@ -7,8 +7,8 @@ ghost use Rattle.page_map.specs.Entries.{entry_at};
 ghost use Rattle.address_space.specs.Spaces.{cell_or_fresh, protected};
 ghost use Rattle.address_space.specs.Sound.{directory_of, spaces_in, IsSound, Touched};
 
+use crate::entries::with_right;
 use alloc_table::FrameTable;
-use page_map::PageEntry;
 use page_words::{Frame, Page, Pid};
 use phys_memory::Memory;
 
@@ -30,5 +30,5 @@ pub fn set_right(
     ensures { Touched directories.now (protected (spaces_in directories.now memory.old) (record { pid = pid; page = page }) write) memory.old frames.now memory.new }
 {
     let entry = page_map::entry(memory, directory, page).unwrap();
-    page_map::set_entry(memory, directory, page, PageEntry { write, ..entry });
+    page_map::set_entry(memory, directory, page, with_right(entry, write));
 }

@@ -1,5 +1,60 @@
+ghost use Rattle.std.specs.Prelude.{◌≡◌, ◌+◌, ◌≤◌, length};
+ghost use Rattle.page_words.specs.Addresses.{IsUserPage};
+ghost use Rattle.address_space.specs.Sound.{total_cost};
+
 use super::*;
+use std::process::Abort;
 use std::test::Fail;
+
+/// Maps a page of zeros of a process that has a space.
+#[tactic(auto, using(crate::proofs::Totals::total_mapped_most))]
+fn map_page(rt: &impl Abort, spaces: &mut Spaces, pid: Pid, page: Page)
+    requires user { IsUserPage page }
+    requires room { 3 + total_cost spaces.old.directories spaces.old.spaces ≤ length spaces.old.roles }
+    ensures costs { total_cost spaces.new.directories spaces.new.spaces ≤ 2 + total_cost spaces.old.directories spaces.old.spaces }
+    ensures frames { length spaces.new.roles ≡ length spaces.old.roles }
+{
+    assert!(rt; pid.number() < 64);
+    assert!(rt; spaces.directory(pid).is_some());
+    assert!(rt; spaces.cell(pid, page).is_none());
+    spaces.map_zero(pid, page, true);
+}
+
+/// Lets a page join the group of the same page of another process.
+fn share_page(rt: &impl Abort, spaces: &mut Spaces, giver: Pid, pid: Pid, page: Page)
+    requires user { IsUserPage page }
+    requires room { 3 + total_cost spaces.old.directories spaces.old.spaces ≤ length spaces.old.roles }
+{
+    assert!(rt; spaces.directory(pid).is_some());
+    assert!(rt; spaces.cell(giver, page).is_some());
+    assert!(rt; spaces.cell(pid, page).is_none());
+    spaces.join(giver, page, pid, page, false);
+}
+
+/// Gives a process an empty space.
+fn begin(rt: &impl Abort, spaces: &mut Spaces, pid: Pid)
+    requires room { 2 + total_cost spaces.old.directories spaces.old.spaces ≤ length spaces.old.roles }
+    ensures costs { total_cost spaces.new.directories spaces.new.spaces ≡ 1 + total_cost spaces.old.directories spaces.old.spaces }
+    ensures frames { length spaces.new.roles ≡ length spaces.old.roles }
+{
+    assert!(rt; spaces.directory(pid).is_none());
+    spaces.fresh(pid);
+}
+
+/// Takes away the space of a process that has one.
+fn end(rt: &impl Abort, spaces: &mut Spaces, pid: Pid)
+    ensures { length spaces.new.roles ≡ length spaces.old.roles }
+{
+    assert!(rt; spaces.directory(pid).is_some());
+    spaces.drop_space(pid);
+    assert!(rt; spaces.directory(pid).is_none());
+}
+
+/// What a process that has a space is charged for.
+fn charge(rt: &impl Abort, spaces: &Spaces, pid: Pid) -> u32 {
+    assert!(rt; spaces.directory(pid).is_some());
+    spaces.cost(pid)
+}
 
 #[test]
 fn takes_16_to_4096_frames(rt: HostRuntime) {
@@ -40,5 +95,78 @@ fn maps_writes_reads_and_unmaps(rt: HostRuntime) -> Result<(), Fail> {
     assert_eq!(rt; spaces.cell(root, page), None);
     assert_eq!(rt; spaces.memory().frames(), 16);
     assert_eq!(rt; spaces.role(Frame(0)), Role::Reserved);
+    Ok(())
+}
+
+#[test]
+fn charges_for_directory_tables_and_pages(rt: HostRuntime) -> Result<(), Fail> {
+    let mut spaces = Spaces::new(rt.alloc(), 16)?;
+    let root = Pid::new(0).ok_or("no root")?;
+    begin(&rt, &mut spaces, root);
+    assert_eq!(rt; charge(&rt, &spaces, root), 1);
+    map_page(&rt, &mut spaces, root, Page(0x40000));
+    assert_eq!(rt; charge(&rt, &spaces, root), 3);
+    map_page(&rt, &mut spaces, root, Page(0x403ff));
+    assert_eq!(rt; charge(&rt, &spaces, root), 4);
+    map_page(&rt, &mut spaces, root, Page(0x40400));
+    assert_eq!(rt; charge(&rt, &spaces, root), 6);
+    Ok(())
+}
+
+#[test]
+fn drops_a_space_and_keeps_what_is_shared(rt: HostRuntime) -> Result<(), Fail> {
+    let mut spaces = Spaces::new(rt.alloc(), 16)?;
+    let (root, child) = (
+        Pid::new(0).ok_or("no root")?,
+        Pid::new(1).ok_or("no child")?,
+    );
+    let page = Page(0x40000);
+    let address = Vaddr(0x4000_0010);
+    begin(&rt, &mut spaces, root);
+    begin(&rt, &mut spaces, child);
+    map_page(&rt, &mut spaces, root, page);
+    map_page(&rt, &mut spaces, root, Page(0xeffff));
+    share_page(&rt, &mut spaces, root, child, page);
+    assert!(rt; spaces.cell(root, page).is_some());
+    spaces.write(root, address, Size::Four, 0x00c0_ffee);
+    end(&rt, &mut spaces, root);
+    assert!(rt; spaces.cell(root, page).is_none());
+    assert!(rt; spaces.cell(child, page).is_some());
+    assert_eq!(rt; spaces.peek(child, address, Size::Four), 0x00c0_ffee);
+    assert_eq!(rt; charge(&rt, &spaces, child), 3);
+    let holders = spaces.cell(child, page).map(|cell| cell.holders);
+    assert_eq!(rt; holders, Some(1));
+    end(&rt, &mut spaces, child);
+    for frame in 1..spaces.frames() {
+        assert_eq!(rt; spaces.role(Frame(frame)), Role::Free);
+    }
+    Ok(())
+}
+
+#[test]
+fn protects_a_page_and_gives_the_right_back(rt: HostRuntime) -> Result<(), Fail> {
+    let mut spaces = Spaces::new(rt.alloc(), 16)?;
+    let root = Pid::new(0).ok_or("no root")?;
+    let page = Page(0x40000);
+    begin(&rt, &mut spaces, root);
+    map_page(&rt, &mut spaces, root, page);
+    assert!(rt; spaces.cell(root, page).is_some());
+    spaces.protect(root, page, false);
+    let shown = Cell {
+        write: false,
+        may: true,
+        accessed: false,
+        dirty: false,
+        holders: 1,
+    };
+    assert_eq!(rt; spaces.cell(root, page), Some(shown));
+    spaces.protect(root, page, true);
+    assert_eq!(rt;
+        spaces.cell(root, page),
+        Some(Cell {
+            write: true,
+            ..shown
+        })
+    );
     Ok(())
 }

@@ -10,8 +10,8 @@ returns-in-One-clause-frames c =
     let f = c.args.frame in
     let long = length-frame c.args.memory.now f c.requires.frame.fits in
     rw c.in-One.is
-    (byte_placed c.args.memory.now c.write_byte.new.self f c.args.at (c.args.value % 256) c.requires.frame c.requires.inside
-    (c.write_byte.ensures.bytes ∙ ap (λ g. slice_set c.args.memory.now (g * 4096 + c.args.at) (c.args.value % 256)) c.frame.view_is)
+    (byte_placed c.args.memory.now c.put_byte.new.memory f c.args.at (c.args.value % 256) c.requires.frame c.requires.inside
+    (c.put_byte.ensures.bytes ∙ ap (λ g. slice_set c.args.memory.now (g * 4096 + c.args.at) (c.args.value % 256)) c.frame.view_is)
     ∙ ap (with_frame (frame_bytes c.args.memory.now) f) (byte_is_write (frame_bytes c.args.memory.now f) c.args.at c.args.value (omega (arith, long, c.requires.inside))))
 
 pub returns-in-Four-clause-frames : goal.returns-in-Four-clause-frames

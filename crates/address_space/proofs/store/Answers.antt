@@ -1,4 +1,7 @@
-use Rattle.std.proofs.Common.{ap, sym, ◌∙◌}
+use Rattle.std.proofs.Common.{◌^◌, ◌<◌, ap, sym, ◌∙◌, subst}
+use Rattle.page_words.specs.Words.{frame_number}
+use Rattle.page_map.specs.declared.PageEntry.{PageEntry}
+use Rattle.page_map.specs.Entries.{dir_word, with_entry}
 use Rattle.std.specs.Prelude.{is_some}
 use Rattle.phys_memory.specs.Bytes.{frame_bytes}
 use Rattle.page_words.specs.Addresses.{slot_number, byte_count}
@@ -17,6 +20,7 @@ put_bytes-requires-clause-frame c =
 
 pub set_entry-requires-clause-frame : goal.set_entry-requires-clause-frame
 set_entry-requires-clause-frame c =
+    subst (λ (e : PageEntry). e.frame < 2 ^ 20) (sym c.written.ensures)
     (stored_place c.args.directories.now c.args.memory.now c.args.frames.now c.args.pid c.args.directory c.args.page c.unwrap-entry.result c.requires.sound c.requires.live c.requires.user.0 c.requires.user.1
     (sym c.entry.ensures.words ∙ c.unwrap-entry.ensures)).inside.small
 
@@ -36,9 +40,11 @@ set_entry-requires-clause-table c =
 
 pub returns : goal.returns
 returns c =
+    let m = frame_bytes c.put_bytes.new.memory in
     let place = stored_place c.args.directories.now c.args.memory.now c.args.frames.now c.args.pid c.args.directory c.args.page c.unwrap-entry.result c.requires.sound c.requires.live c.requires.user.0 c.requires.user.1
     (sym c.entry.ensures.words ∙ c.unwrap-entry.ensures) in
     page_stored c.args.directories.now c.args.memory.now c.put_bytes.new.memory c.set_entry.new.memory c.args.frames.now c.args.pid c.args.directory c.args.page c.args.at (bytes_of (byte_count c.args.size) c.args.value) c.unwrap-entry.result
     c.requires.sound c.requires.live c.requires.user.0 c.requires.user.1 (sym c.entry.ensures.words ∙ c.unwrap-entry.ensures)
     (written_long (frame_bytes c.args.memory.now c.unwrap-entry.result.frame) c.args.at c.args.size c.args.value place.long c.requires.inside c.requires.aligned)
-    c.put_bytes.ensures.frames c.put_bytes.ensures.length c.set_entry.ensures.frames c.set_entry.ensures.length
+    c.put_bytes.ensures.frames c.put_bytes.ensures.length
+    (c.set_entry.ensures.frames ∙ ap (with_entry m (frame_number (dir_word m c.args.directory (slot_number c.args.page))) c.args.page) c.written.ensures) c.set_entry.ensures.length
