@@ -5,6 +5,7 @@ pub mod Charges
 pub mod ImageStanding
 pub mod Ranges
 pub mod Refusals
+pub mod SharingLaws
 pub mod Sizes
 pub mod SpaceLaws
 pub mod Spawns
