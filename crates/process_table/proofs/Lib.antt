@@ -3,6 +3,7 @@ pub mod BookLaws
 pub mod CellLaws
 pub mod Charges
 pub mod ImageStanding
+pub mod Keeping
 pub mod Ranges
 pub mod Refusals
 pub mod SharingLaws

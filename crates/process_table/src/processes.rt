@@ -10,7 +10,7 @@ ghost use Rattle.process_table.specs.Calls.{at_page, map_refusal, unmap_refusal,
 ghost use Rattle.process_table.specs.Answers.{map_answer, unmap_answer, spawn_answer, exit_answer};
 ghost use Rattle.process_table.specs.View.{state_of, IsProcesses};
 ghost use Rattle.process_table.specs.Image.{StandsFor, image_of};
-ghost use Rattle.process_table.specs.WellFormed.{total};
+ghost use Rattle.process_table.specs.WellFormed.{IsWellFormed, total};
 ghost use Rattle.address_space.specs.Walks.{WalksAgree};
 ghost use Rattle.quota_tree.specs.Book.{number_of_children};
 ghost use Rattle.table_walk.specs.declared.Access.TheVariants as access_variant;
@@ -42,7 +42,7 @@ pub struct Processes {
 }
 
 impl Model for Processes {
-    ghost use Rattle.process_table.specs.View.{View, view_code, view_of, IsProcesses};
+    ghost use Rattle.process_table.specs.View.{View, view_code, view_of, IsWhole};
 
     ghost Value = { View };
 
@@ -50,7 +50,7 @@ impl Model for Processes {
 
     ghost view = { λ p. view_of p.spaces p.quotas p.offers };
 
-    ghost invariant = { λ p. IsProcesses p.spaces p.quotas };
+    ghost invariant = { λ p. IsWhole p.spaces p.quotas p.offers };
 }
 
 fn root_pid() -> Pid
@@ -496,13 +496,14 @@ impl Processes {
         )
     }
 
-    /// What memory's own words and the containers say of this state, and that all processes together
-    /// cost at most all frames but frame 0. It computes nothing.
+    /// What memory's own words and the containers say of this state, that all processes together cost
+    /// at most all frames but frame 0, and that the state is well formed. It computes nothing.
     pub fn stands(&self)
         ensures image { StandsFor (image_of self.now) self.now.state }
         ensures walks { WalksAgree (record { directories = self.now.directories; bytes = self.now.bytes; roles = self.now.roles }) self.now.state.spaces }
         ensures total { 1 + total self.now.state ≤ length self.now.roles }
         ensures few { length self.now.roles ≤ 4096 }
+        ensures well_formed { IsWellFormed self.now.state }
     {
         self.spaces.stands();
         self.quotas.within();
