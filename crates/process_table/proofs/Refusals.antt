@@ -4,12 +4,13 @@ use Rattle.std.specs.Prelude.{if◌then◌else◌, is_some, IsOk, nat_le}
 use Rattle.std.proofs.lemmas.Bool.Decides.{nat_tests}
 use Rattle.page_words.specs.Addresses.{is_user_page}
 use Rattle.page_words.specs.FiniteMap as map
-use Rattle.address_space.specs.Spaces.{Cell, fresh, cell_or_fresh, cost, need}
+use Rattle.address_space.specs.Spaces.{Cell, fresh, cell_or_fresh, joined, cost, need}
 use Rattle.address_space.proofs.Costs.{cost-insert}
+use Rattle.address_space.proofs.Totals.{cost-joined}
 use Rattle.page_sharing.specs.Offers.{offer_of, pending}
 use Rattle.process_table.specs.State.{State, is_live, is_mapped, has_no_room}
-use Rattle.process_table.specs.Calls.{at_page, map_refusal, unmap_refusal, protect_refusal, offer_refusal, withdraw_refusal, accept_refusal}
-use Rattle.process_table.specs.Answers.{first_cause, number_unless, map_answer}
+use Rattle.process_table.specs.Calls.{at_page, map_refusal, unmap_refusal, protect_refusal, offer_refusal, withdraw_refusal, accept_refusal, offered}
+use Rattle.process_table.specs.Answers.{first_cause, number_unless, map_answer, accept_answer}
 use Rattle.process_table.specs.declared.causes.Cause.{Cause}
 use Rattle.process_table.specs.declared.causes.Cause.TheVariants.{NoProcess}
 use borrow.Author.Tests.{eq-eqb}
@@ -145,3 +146,11 @@ map-charge s p page charge live free is =
     let e : first_cause s p (map_refusal s p page) ≡ None = ap (λ b. if b then map_refusal s p page else Some NoProcess) live ∙ free in
     ap (λ x. number_unless x (cost (map.insert s.spaces (at_page p page) (fresh (at_page p page) true)) p)) e
     ∙ ap Ok (cost-insert s.spaces (at_page p page) (fresh (at_page p page) true) (may_map s p page free).none ∙ sym is)
+
+-- the charge that the test of an accept answers
+pub accept-charge : (s : State) (p giver giver_page page charge : ℕ) → is_live s p ≡ true → accept_refusal s p giver giver_page page ≡ None → charge ≡ cost s.spaces p + need s.spaces p page → accept_answer s p giver giver_page page ≡ Ok charge
+accept-charge s p giver giver_page page charge live free is =
+    let right = offered s giver giver_page p in
+    let e : first_cause s p (accept_refusal s p giver giver_page page) ≡ None = ap (λ b. if b then accept_refusal s p giver giver_page page else Some NoProcess) live ∙ free in
+    ap (λ x. number_unless x (cost (joined s.spaces (at_page giver giver_page) (at_page p page) right) p)) e
+    ∙ ap Ok (cost-joined s.spaces (at_page giver giver_page) (at_page p page) right (may_accept s p giver giver_page page free).none ∙ sym is)

@@ -270,6 +270,10 @@ giver_mapped s p giver giver_page w there =
     let o = (w.offers (offer_of giver giver_page p) r.0 r.1).offered in
     (o.0, o.1)
 
+-- and its page is one of the user range
+pub giver_user : (s : State) (p giver giver_page : ℕ) → IsWellFormed s → map.contains_key s.offers (offer_of giver giver_page p) ≡ true → IsUserPage giver_page
+giver_user s p giver giver_page w there = let g = giver_mapped s p giver giver_page w there in (w.cells (at_page giver giver_page) g.0 g.1).user
+
 module _ (s : State) (p giver giver_page page : ℕ) (right : Bool) (g : Cell) (at : map.get s.spaces (at_page giver giver_page) ≡ Some g) (w : IsWellFormed s) (live : is_live s p ≡ true)
     (user : IsUserPage page) (none : map.get s.spaces (at_page p page) ≡ None) (has_room : has_no_room s (at_page p page) ≡ false) where
   abbrev after_join : Spaces

@@ -18,7 +18,7 @@ add_process-requires-clause-can c =
 pub returns-clause-child : goal.returns-clause-child
 returns-clause-child c =
     let may = spawn-may c.self.inside.spaces c.self.inside.quotas c.self.inside.offers c.args.pid c.args.quota c.self.invariant.kept
-        (subst (λ (v : View). IsOk (spawn_answer v.state c.args.pid c.args.quota)) (sym c.self.view_is) c.requires) in
+    (subst (λ (v : View). IsOk (spawn_answer v.state c.args.pid c.args.quota)) (sym c.self.view_is) c.requires) in
     ap (λ (v : View). spawn_answer v.state c.args.pid c.args.quota) (sym c.self.view_is)
     ∙ spawn-split c.self.inside.spaces c.self.inside.quotas c.self.inside.offers c.args.pid c.args.quota c.self.invariant.kept may.0
     ∙ ap translated c.add_process.ensures.child
