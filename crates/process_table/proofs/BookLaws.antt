@@ -27,7 +27,8 @@ use borrow.Author.Tests.{eq-eqb}
 without-keys : (S : Spaces) (gone : Slot → Bool) (slot : Slot) → map.contains_key (without S gone) slot ≡ true → map.contains_key S slot ≡ true
 without-keys S gone slot h = let e = some_value (map.get (without S gone) slot) h in let l = without-was S gone slot e.0 e.1 in ap is_some l.1
 
-retained : (offers : Offers) (stay : OfferKey → Bool) (key : OfferKey) (right : Bool) → map.get (map.retain_keys offers stay) key ≡ Some right → (stay key ≡ true) × (map.get offers key ≡ Some right)
+-- an offer that is left passes the test, and was there
+pub retained : (offers : Offers) (stay : OfferKey → Bool) (key : OfferKey) (right : Bool) → map.get (map.retain_keys offers stay) key ≡ Some right → (stay key ≡ true) × (map.get offers key ≡ Some right)
 retained offers stay key right h = by (stay key) refl (sym (get-retain_keys offers stay key) ∙ h)
   where
     by : (b : Bool) → stay key ≡ b → cond b (map.get offers key) None ≡ Some right → (stay key ≡ true) × (map.get offers key ≡ Some right)

@@ -101,7 +101,7 @@ pub record IsRenewed (group : Set slot_order) (bytes : List ℕ) (q : Slot) (d e
   pub holders : e.holders ≡ d.holders
   pub bytes_in : set.contains group q ≡ true → e.bytes ≡ bytes
   pub bytes_out : set.contains group q ≡ false → e.bytes ≡ d.bytes
-  pub write : e.write ≡ d.write
+  pub write : (IsTrue d.write → IsTrue d.may) → IsTrue e.write → IsTrue e.may
   pub may : e.may ≡ d.may
   pub dirty : (IsTrue d.dirty → IsTrue d.accessed) → IsTrue e.dirty → IsTrue e.accessed
 
@@ -146,7 +146,7 @@ module _ (S T : Spaces) (slot : Slot) (c : Cell) (bytes : List ℕ) (at : map.ge
         user = was.user;
         long = renewed_long q d e (set.contains c.holders q) refl was.long r;
         small = renewed_small q d e (set.contains c.holders q) refl was.small r;
-        write_may = λ h. r.may ∙ was.write_may (sym r.write ∙ h);
+        write_may = r.write was.write_may;
         dirty_accessed = r.dirty was.dirty_accessed;
         own = ap (λ (g : Set slot_order). set.contains g q) r.holders ∙ was.own;
         alike = alike;

@@ -3,8 +3,10 @@ pub mod BookLaws
 pub mod CellLaws
 pub mod Charges
 pub mod ImageStanding
+pub mod Keeping
 pub mod Ranges
 pub mod Refusals
+pub mod SharingLaws
 pub mod Sizes
 pub mod SpaceLaws
 pub mod Spawns

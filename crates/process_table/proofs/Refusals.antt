@@ -1,15 +1,19 @@
 -- What follows where a call is not refused.
-use Rattle.std.proofs.Common.{◌≡◌, ℕ, ◌+◌, Bool, true, false, not, refl, sym, ap, ◌∙◌, Option, Some, None, Result, Ok, Err}
-use Rattle.std.specs.Prelude.{if◌then◌else◌, is_some, IsOk}
+use Rattle.std.proofs.Common.{◌≡◌, ◌≢◌, ℕ, ◌+◌, ◌<◌, ◌&&◌, ◌==◌, Bool, true, false, not, refl, sym, ap, ◌∙◌, Option, Some, None, Result, Ok, Err, arith}
+use Rattle.std.specs.Prelude.{if◌then◌else◌, is_some, IsOk, nat_le}
+use Rattle.std.proofs.lemmas.Bool.Decides.{nat_tests}
 use Rattle.page_words.specs.Addresses.{is_user_page}
 use Rattle.page_words.specs.FiniteMap as map
-use Rattle.address_space.specs.Spaces.{Cell, fresh, cost, need}
+use Rattle.address_space.specs.Spaces.{Cell, fresh, cell_or_fresh, joined, cost, need}
 use Rattle.address_space.proofs.Costs.{cost-insert}
+use Rattle.address_space.proofs.Totals.{cost-joined}
+use Rattle.page_sharing.specs.Offers.{offer_of, pending}
 use Rattle.process_table.specs.State.{State, is_live, is_mapped, has_no_room}
-use Rattle.process_table.specs.Calls.{at_page, map_refusal, unmap_refusal}
-use Rattle.process_table.specs.Answers.{first_cause, number_unless, map_answer}
+use Rattle.process_table.specs.Calls.{at_page, map_refusal, unmap_refusal, protect_refusal, offer_refusal, withdraw_refusal, accept_refusal, offered}
+use Rattle.process_table.specs.Answers.{first_cause, number_unless, map_answer, accept_answer}
 use Rattle.process_table.specs.declared.causes.Cause.{Cause}
 use Rattle.process_table.specs.declared.causes.Cause.TheVariants.{NoProcess}
+use borrow.Author.Tests.{eq-eqb}
 
 of_not : (b : Bool) → not b ≡ false → b ≡ true
 of_not true h = refl
@@ -47,9 +51,106 @@ may_unmap s p page h =
     let b = choice (not (is_mapped s (at_page p page))) _ _ a.1 in
     record { user = of_not _ a.0; mapped = of_not _ b.0 }
 
+right_of_not : (write may : Bool) → (write && not may) ≡ false → write ≡ true → may ≡ true
+right_of_not true may h e = of_not may h
+right_of_not false may h e = cc
+
+-- a page's right may be set: what it tells
+pub record MayProtect (s : State) (p page : ℕ) (write : Bool) : Type 0 where
+  pub user : is_user_page page ≡ true
+  pub mapped : is_some (map.get s.spaces (at_page p page)) ≡ true
+  pub right : write ≡ true → (cell_or_fresh s.spaces (at_page p page)).may ≡ true
+
+pub may_protect : (s : State) (p page : ℕ) (write : Bool) → protect_refusal s p page write ≡ None → MayProtect s p page write
+may_protect s p page write h =
+    let may = (cell_or_fresh s.spaces (at_page p page)).may in
+    let a = choice (not (is_user_page page)) _ _ h in
+    let b = choice (not (is_mapped s (at_page p page))) _ _ a.1 in
+    let c = choice (write && not may) _ _ b.1 in
+    record { user = of_not _ a.0; mapped = of_not _ b.0; right = right_of_not write may c.0 }
+
+apart_of : (m n : ℕ) → (m == n) ≡ false → m ≢ n
+apart_of m n h e = let t = eq-eqb m n e in cc
+
+below_of : (n : ℕ) → nat_le 32 n ≡ false → n < 32
+below_of n h = grind (arith, nat_tests)
+
+-- a page may be offered: what it tells
+pub record MayOffer (s : State) (p page target : ℕ) (write : Bool) : Type 0 where
+  pub user : is_user_page page ≡ true
+  pub mapped : is_some (map.get s.spaces (at_page p page)) ≡ true
+  pub another : target ≢ p
+  pub live : is_live s target ≡ true
+  pub right : write ≡ true → (cell_or_fresh s.spaces (at_page p page)).may ≡ true
+  pub new : map.contains_key s.offers (offer_of p page target) ≡ false
+  pub few : map.len (pending s.offers p) < 32
+
+pub may_offer : (s : State) (p page target : ℕ) (write : Bool) → offer_refusal s p page target write ≡ None → MayOffer s p page target write
+may_offer s p page target write h =
+    let may = (cell_or_fresh s.spaces (at_page p page)).may in
+    let a = choice (not (is_user_page page)) _ _ h in
+    let b = choice (not (is_mapped s (at_page p page))) _ _ a.1 in
+    let c = choice (target == p) _ _ b.1 in
+    let d = choice (not (is_live s target)) _ _ c.1 in
+    let e = choice (write && not may) _ _ d.1 in
+    let f = choice (map.contains_key s.offers (offer_of p page target)) _ _ e.1 in
+    let g = choice (nat_le 32 (map.len (pending s.offers p))) _ _ f.1 in
+    record {
+      user = of_not _ a.0;
+      mapped = of_not _ b.0;
+      another = apart_of target p c.0;
+      live = of_not _ d.0;
+      right = right_of_not write may e.0;
+      new = f.0;
+      few = below_of (map.len (pending s.offers p)) g.0;
+    }
+
+-- an offer may be withdrawn: what it tells
+pub record MayWithdraw (s : State) (p page target : ℕ) : Type 0 where
+  pub user : is_user_page page ≡ true
+  pub there : map.contains_key s.offers (offer_of p page target) ≡ true
+
+pub may_withdraw : (s : State) (p page target : ℕ) → withdraw_refusal s p page target ≡ None → MayWithdraw s p page target
+may_withdraw s p page target h =
+    let a = choice (not (is_user_page page)) _ _ h in
+    let b = choice (not (map.contains_key s.offers (offer_of p page target))) _ _ a.1 in
+    record { user = of_not _ a.0; there = of_not _ b.0 }
+
+-- an offer may be accepted: what it tells
+pub record MayAccept (s : State) (p giver giver_page page : ℕ) : Type 0 where
+  pub user : is_user_page page ≡ true
+  pub there : map.contains_key s.offers (offer_of giver giver_page p) ≡ true
+  pub none : map.get s.spaces (at_page p page) ≡ None
+  pub room : has_no_room s (at_page p page) ≡ false
+
+pub may_accept : (s : State) (p giver giver_page page : ℕ) → accept_refusal s p giver giver_page page ≡ None → MayAccept s p giver giver_page page
+may_accept s p giver giver_page page h =
+    let a = choice (not (is_user_page page)) _ _ h in
+    let b = choice (not (map.contains_key s.offers (offer_of giver giver_page p))) _ _ a.1 in
+    let c = choice (is_mapped s (at_page p page)) _ _ b.1 in
+    let d = choice (has_no_room s (at_page p page)) _ _ c.1 in
+    record { user = of_not _ a.0; there = of_not _ b.0; none = no_cell _ c.0; room = d.0 }
+
+-- a test that answers a number has found no cause
+pub no_cause : (s : State) (p : ℕ) (cause : Option Cause) (number : ℕ) → IsOk (number_unless (first_cause s p cause) number) → (is_live s p ≡ true) × (cause ≡ None)
+no_cause s p cause number ok = by (is_live s p) cause ok refl refl
+  where
+    by : (live : Bool) (x : Option Cause) → IsOk (number_unless (if live then x else Some NoProcess) number) → is_live s p ≡ live → cause ≡ x → (is_live s p ≡ true) × (cause ≡ None)
+    by true None h live is = (live, is)
+    by true (Some c) h live is = cc
+    by false x h live is = cc
+
 -- the charge that the test of a map answers
 pub map-charge : (s : State) (p page charge : ℕ) → is_live s p ≡ true → map_refusal s p page ≡ None → charge ≡ cost s.spaces p + need s.spaces p page → map_answer s p page ≡ Ok charge
 map-charge s p page charge live free is =
     let e : first_cause s p (map_refusal s p page) ≡ None = ap (λ b. if b then map_refusal s p page else Some NoProcess) live ∙ free in
     ap (λ x. number_unless x (cost (map.insert s.spaces (at_page p page) (fresh (at_page p page) true)) p)) e
     ∙ ap Ok (cost-insert s.spaces (at_page p page) (fresh (at_page p page) true) (may_map s p page free).none ∙ sym is)
+
+-- the charge that the test of an accept answers
+pub accept-charge : (s : State) (p giver giver_page page charge : ℕ) → is_live s p ≡ true → accept_refusal s p giver giver_page page ≡ None → charge ≡ cost s.spaces p + need s.spaces p page → accept_answer s p giver giver_page page ≡ Ok charge
+accept-charge s p giver giver_page page charge live free is =
+    let right = offered s giver giver_page p in
+    let e : first_cause s p (accept_refusal s p giver giver_page page) ≡ None = ap (λ b. if b then accept_refusal s p giver giver_page page else Some NoProcess) live ∙ free in
+    ap (λ x. number_unless x (cost (joined s.spaces (at_page giver giver_page) (at_page p page) right) p)) e
+    ∙ ap Ok (cost-joined s.spaces (at_page giver giver_page) (at_page p page) right (may_accept s p giver giver_page page free).none ∙ sym is)

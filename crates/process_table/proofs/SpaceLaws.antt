@@ -153,37 +153,36 @@ module _ (s : State) (T : Spaces) (slot : Slot) (c : Cell) (bytes : List ℕ) (a
       (λ q d h. let e = forth q d h in (e.0, e.1, e.2.may))
 
 module _ (s : State) (slot : Slot) (c : Cell) (at : map.get s.spaces slot ≡ Some c) (w : IsWellFormed s) where
-  abbrev read_cell : Cell
-  read_cell = record c { accessed = true }
+  module _ (other_flags : Cell) (renewed : (q : Slot) → IsRenewed c.holders c.bytes q c other_flags) where
+    abbrev flags_spaces : Spaces
+    flags_spaces = map.insert s.spaces slot other_flags
 
-  abbrev read_spaces : Spaces
-  read_spaces = map.insert s.spaces slot read_cell
+    flags_forth : (q : Slot) (d : Cell) → map.get s.spaces q ≡ Some d → (e : Cell) × (map.get flags_spaces q ≡ Some e) × IsRenewed c.holders c.bytes q d e
+    flags_forth q d h = elim (same_cases slot_order q slot) [
+      | inl is ↦ (other_flags, ap (map.get flags_spaces) is.0 ∙ get-inserted s.spaces slot other_flags, subst (λ (x : Cell). IsRenewed c.holders c.bytes q x other_flags) (same_Some c d (sym at ∙ ap (map.get s.spaces) (sym is.0) ∙ h)) (renewed q))
+      | inr other ↦ (d, get-inserted_other s.spaces slot other_flags q other.0 ∙ h, alike)
+    ]
+      where
+        shared : set.contains c.holders q ≡ true → d.bytes ≡ c.bytes
+        shared inside = let o = (w.cells slot c at).alike q inside in ap (λ (x : Cell). x.bytes) (same_Some d o.0 (sym h ∙ o.1)) ∙ o.3
 
-  read_forth : (q : Slot) (d : Cell) → map.get s.spaces q ≡ Some d → (e : Cell) × (map.get read_spaces q ≡ Some e) × IsRenewed c.holders c.bytes q d e
-  read_forth q d h = elim (same_cases slot_order q slot) [
-    | inl is ↦ (read_cell, ap (map.get read_spaces) is.0 ∙ get-inserted s.spaces slot read_cell, subst (λ (x : Cell). IsRenewed c.holders c.bytes q x read_cell) (same_Some c d (sym at ∙ ap (map.get s.spaces) (sym is.0) ∙ h)) own)
-    | inr other ↦ (d, get-inserted_other s.spaces slot read_cell q other.0 ∙ h, alike)
-  ]
-    where
-      own : IsRenewed c.holders c.bytes q c read_cell
-      own = record { holders = refl; bytes_in = λ _. refl; bytes_out = λ _. refl; write = refl; may = refl; dirty = λ _ _. refl }
+        alike : IsRenewed c.holders c.bytes q d d
+        alike = record { holders = refl; bytes_in = shared; bytes_out = λ _. refl; write = λ f. f; may = refl; dirty = λ f. f }
 
-      shared : set.contains c.holders q ≡ true → d.bytes ≡ c.bytes
-      shared inside = let o = (w.cells slot c at).alike q inside in ap (λ (x : Cell). x.bytes) (same_Some d o.0 (sym h ∙ o.1)) ∙ o.3
+    flags_back : (q : Slot) (e : Cell) → map.get flags_spaces q ≡ Some e → (d : Cell) × (map.get s.spaces q ≡ Some d)
+    flags_back q e h = elim (same_cases slot_order q slot) [
+      | inl is ↦ (c, ap (map.get s.spaces) is.0 ∙ at)
+      | inr other ↦ (e, sym (get-inserted_other s.spaces slot other_flags q other.0) ∙ h)
+    ]
 
-      alike : IsRenewed c.holders c.bytes q d d
-      alike = record { holders = refl; bytes_in = shared; bytes_out = λ _. refl; write = refl; may = refl; dirty = λ f. f }
-
-  read_back : (q : Slot) (e : Cell) → map.get read_spaces q ≡ Some e → (d : Cell) × (map.get s.spaces q ≡ Some d)
-  read_back q e h = elim (same_cases slot_order q slot) [
-    | inl is ↦ (c, ap (map.get s.spaces) is.0 ∙ at)
-    | inr other ↦ (e, sym (get-inserted_other s.spaces slot read_cell q other.0) ∙ h)
-  ]
+    -- where a cell gets other flags, which agree
+    pub well_formed-flags : IsWellFormed (record s { spaces = map.insert s.spaces slot other_flags })
+    well_formed-flags = well_formed-renewed s flags_spaces slot c c.bytes at flags_forth flags_back w (w.cells slot c at).long (w.cells slot c at).small
 
   well_formed-read : IsWellFormed (record s { spaces = accessed s.spaces slot })
   well_formed-read =
       subst (λ (x : Cell). IsWellFormed (record s { spaces = map.insert s.spaces slot (record x { accessed = true }) })) (sym (ap (λ (x : Option Cell). unwrap_or x (fresh slot true)) at))
-      (well_formed-renewed s read_spaces slot c c.bytes at read_forth read_back w (w.cells slot c at).long (w.cells slot c at).small)
+      (well_formed-flags (record c { accessed = true }) (λ q. record { holders = refl; bytes_in = λ _. refl; bytes_out = λ _. refl; write = λ f. f; may = refl; dirty = λ _ _. refl }))
 
   module _ (bytes : List ℕ) (long : length bytes ≡ 4096) (small : All (λ b. b < 256) bytes) where
     abbrev written_cell : Cell
@@ -205,11 +204,11 @@ module _ (s : State) (slot : Slot) (c : Cell) (at : map.get s.spaces slot ≡ So
     ]
       where
         own : q ≡ slot → IsRenewed c.holders bytes q c written_cell
-        own is = record { holders = refl; bytes_in = λ _. refl; bytes_out = λ out. absurd (let x : set.contains c.holders q ≡ true = ap (set.contains c.holders) is ∙ (w.cells slot c at).own in cc); write = refl; may = refl; dirty = λ _ _. refl }
+        own is = record { holders = refl; bytes_in = λ _. refl; bytes_out = λ out. absurd (let x : set.contains c.holders q ≡ true = ap (set.contains c.holders) is ∙ (w.cells slot c at).own in cc); write = λ f. f; may = refl; dirty = λ _ _. refl }
 
         by : (b : Bool) → set.contains c.holders q ≡ b → IsRenewed c.holders bytes q d (if b then with_bytes d bytes else d)
-        by true is = record { holders = refl; bytes_in = λ _. refl; bytes_out = λ out. absurd (cc); write = refl; may = refl; dirty = λ f. f }
-        by false is = record { holders = refl; bytes_in = λ inside. absurd (cc); bytes_out = λ _. refl; write = refl; may = refl; dirty = λ f. f }
+        by true is = record { holders = refl; bytes_in = λ _. refl; bytes_out = λ out. absurd (cc); write = λ f. f; may = refl; dirty = λ f. f }
+        by false is = record { holders = refl; bytes_in = λ inside. absurd (cc); bytes_out = λ _. refl; write = λ f. f; may = refl; dirty = λ f. f }
 
     written_back : (q : Slot) (e : Cell) → map.get written_spaces q ≡ Some e → (d : Cell) × (map.get s.spaces q ≡ Some d)
     written_back q e h = elim (same_cases slot_order q slot) [

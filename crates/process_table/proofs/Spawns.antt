@@ -170,8 +170,8 @@ module _ (v : frames.View) (c : Containers) (p asked child : ℕ) (kept : IsProc
   pub room-child : child < 64 → ((q : ℕ) → map.contains_key after.book q ≡ true → q < 64) → total_used after ≤ quota_of after.book 0 → 2 + total_cost v.directories v.spaces ≤ length v.roles
   room-child low small within =
       let r = room-for v c after child 1 kept low small
-          (ap (found (λ _. used_of after child)) member-child ∙ used-child ∙ sym (ap (λ d. (if is_some d then cost v.spaces child else 0) + 1) (child-has_none v c p asked child kept is)))
-          (λ q n. member-other q (apart q n)) (λ q n. used-others q (apart q n)) root-quota within in
+      (ap (found (λ _. used_of after child)) member-child ∙ used-child ∙ sym (ap (λ d. (if is_some d then cost v.spaces child else 0) + 1) (child-has_none v c p asked child kept is)))
+      (λ q n. member-other q (apart q n)) (λ q n. used-others q (apart q n)) root-quota within in
       omega (arith, r)
 
   -- the child has a directory and is charged for it

@@ -6,7 +6,7 @@ use Rattle.page_words.specs.FiniteMap as map
 use Rattle.address_space.specs.Spaces.{Slot, slot_at}
 use Rattle.quota_tree.specs.Book.{quota_of}
 use Rattle.process_table.specs.State.{State, open_with, is_live, is_mapped, has_no_room}
-use Rattle.process_table.specs.Calls.{map_refusal, spawn_refusal, exit_refusal, after_map, after_unmap, after_spawn, after_exit, after_load, after_store}
+use Rattle.process_table.specs.Calls.{map_refusal, protect_refusal, offer_refusal, accept_refusal, spawn_refusal, exit_refusal, after_map, after_unmap, after_protect, after_offer, after_withdraw, after_accept, after_spawn, after_exit, after_load, after_store}
 use Rattle.process_table.specs.WellFormed.{IsWellFormed, total}
 
 -- a machine of two frames or more, as it boots
@@ -19,6 +19,19 @@ MapKeeps = (s : State) (p page : ℕ) (write : Bool) → IsWellFormed s → is_l
 -- an unmap of any page, mapped or not
 abbrev pub UnmapKeeps : Type 0
 UnmapKeeps = (s : State) (p page : ℕ) → IsWellFormed s → IsWellFormed (after_unmap s p page)
+
+abbrev pub ProtectKeeps : Type 0
+ProtectKeeps = (s : State) (p page : ℕ) (write : Bool) → IsWellFormed s → is_live s p ≡ true → protect_refusal s p page write ≡ None → IsWellFormed (after_protect s p page write)
+
+abbrev pub OfferKeeps : Type 0
+OfferKeeps = (s : State) (p page target : ℕ) (write : Bool) → IsWellFormed s → is_live s p ≡ true → offer_refusal s p page target write ≡ None → IsWellFormed (after_offer s p page target write)
+
+-- a withdrawal of any offer, pending or not
+abbrev pub WithdrawKeeps : Type 0
+WithdrawKeeps = (s : State) (p page target : ℕ) → IsWellFormed s → IsWellFormed (after_withdraw s p page target)
+
+abbrev pub AcceptKeeps : Type 0
+AcceptKeeps = (s : State) (p giver giver_page page : ℕ) → IsWellFormed s → is_live s p ≡ true → accept_refusal s p giver giver_page page ≡ None → IsWellFormed (after_accept s p giver giver_page page)
 
 abbrev pub SpawnKeeps : Type 0
 SpawnKeeps = (s : State) (p quota : ℕ) → IsWellFormed s → is_live s p ≡ true → spawn_refusal s p quota ≡ None → IsWellFormed (after_spawn s p quota)

@@ -12,6 +12,7 @@ use Rattle.quota_tree.specs.Book.{Book, book_code, quota_of}
 use Rattle.quota_tree.specs.Containers.{Containers, IsLive, used_of}
 use Rattle.page_sharing.specs.Offers.{Offers, offers_code}
 use Rattle.process_table.specs.State.{State}
+use Rattle.process_table.specs.WellFormed.{IsWellFormed}
 
 pub record View : Type 0 where
   pub state : State
@@ -34,6 +35,11 @@ pub record IsProcesses (spaces : frames.View) (quotas : Containers) : Type 0 whe
   pub live : (p : ℕ) → is_some (directory_of spaces.directories p) ≡ map.contains_key quotas.book p
   pub charged : (p : ℕ) → IsLive quotas p → used_of quotas p ≡ cost spaces.spaces p
   pub root : 1 + quota_of quotas.book 0 ≡ length spaces.roles
+
+-- the parts agree, and the state that they make is well formed
+pub record IsWhole (spaces : frames.View) (quotas : Containers) (offers : Offers) : Type 0 where
+  pub kept : IsProcesses spaces quotas
+  pub well_formed : IsWellFormed (state_of spaces quotas offers)
 
 -- ---- Codes
 

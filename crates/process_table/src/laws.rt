@@ -1,7 +1,7 @@
 //! Laws of the machine's definitions. Each is the contract of a function that computes nothing.
 
 ghost use Rattle.process_table.specs.Image.{StandsForOne};
-ghost use Rattle.process_table.specs.Laws.{OpeningIsWellFormed, MapKeeps, UnmapKeeps, SpawnKeeps, ExitKeeps, LoadKeeps, StoreKeeps, RootStays, TotalIsWithin};
+ghost use Rattle.process_table.specs.Laws.{OpeningIsWellFormed, MapKeeps, UnmapKeeps, ProtectKeeps, OfferKeeps, WithdrawKeeps, AcceptKeeps, SpawnKeeps, ExitKeeps, LoadKeeps, StoreKeeps, RootStays, TotalIsWithin};
 
 /// An image stands for at most one pair of spaces and book. It computes nothing.
 pub fn images_stand_for_one()
@@ -14,6 +14,10 @@ pub fn calls_keep_states_well_formed()
     ensures opening { OpeningIsWellFormed }
     ensures map { MapKeeps }
     ensures unmap { UnmapKeeps }
+    ensures protect { ProtectKeeps }
+    ensures offer { OfferKeeps }
+    ensures withdraw { WithdrawKeeps }
+    ensures accept { AcceptKeeps }
     ensures spawn { SpawnKeeps }
     ensures exit { ExitKeeps }
     ensures load { LoadKeeps }

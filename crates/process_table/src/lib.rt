@@ -4,6 +4,8 @@
 mod causes;
 mod laws;
 mod processes;
+mod rooms;
+mod sharing;
 
 pub use causes::Cause;
 pub use laws::{calls_keep_states_well_formed, images_stand_for_one};

@@ -6,16 +6,20 @@ ghost use Rattle.address_space.specs.Spaces.{cost, need, slot_at, fresh, without
 ghost use Rattle.address_space.specs.Sound.{directory_of, total_cost};
 ghost use Rattle.quota_tree.specs.Containers.{IsLive, used_of, room_of, with_used, split_answer, after_split, opening};
 ghost use Rattle.process_table.specs.State.{is_live, is_mapped, has_no_room, container_of, open_with};
-ghost use Rattle.process_table.specs.Calls.{at_page, map_refusal, unmap_refusal, exit_refusal, after_map, after_unmap, after_spawn, after_exit, after_load, after_access, access_value, is_misaligned};
-ghost use Rattle.process_table.specs.Answers.{map_answer, unmap_answer, spawn_answer, exit_answer};
+ghost use Rattle.process_table.specs.Calls.{at_page, map_refusal, unmap_refusal, exit_refusal, after_map, after_unmap, after_protect, after_offer, after_withdraw, after_accept, after_spawn, after_exit, after_load, after_access, access_value, is_misaligned};
+ghost use Rattle.process_table.specs.Answers.{map_answer, unmap_answer, protect_answer, offer_answer, withdraw_answer, accept_answer, spawn_answer, exit_answer};
 ghost use Rattle.process_table.specs.View.{state_of, IsProcesses};
 ghost use Rattle.process_table.specs.Image.{StandsFor, image_of};
-ghost use Rattle.process_table.specs.WellFormed.{total};
+ghost use Rattle.process_table.specs.WellFormed.{IsWellFormed, total};
 ghost use Rattle.address_space.specs.Walks.{WalksAgree};
 ghost use Rattle.quota_tree.specs.Book.{number_of_children};
 ghost use Rattle.table_walk.specs.declared.Access.TheVariants as access_variant;
 
 use crate::causes::Cause;
+use crate::rooms::{charge_at, charge_with, charge_without, is_full, take_room};
+use crate::sharing::{
+    accept_test, join_page, offer_test, protect_test, set_right, take_offer, withdraw_test,
+};
 use address_space::{Spaces, SpacesFault};
 use page_sharing::Offers;
 use page_words::{Page, Pid, Size, Vaddr, in_user_range, page_of};
@@ -42,7 +46,7 @@ pub struct Processes {
 }
 
 impl Model for Processes {
-    ghost use Rattle.process_table.specs.View.{View, view_code, view_of, IsProcesses};
+    ghost use Rattle.process_table.specs.View.{View, view_code, view_of, IsWhole};
 
     ghost Value = { View };
 
@@ -50,7 +54,7 @@ impl Model for Processes {
 
     ghost view = { λ p. view_of p.spaces p.quotas p.offers };
 
-    ghost invariant = { λ p. IsProcesses p.spaces p.quotas };
+    ghost invariant = { λ p. IsWhole p.spaces p.quotas p.offers };
 }
 
 fn root_pid() -> Pid
@@ -65,50 +69,14 @@ fn is_process(quotas: &Quotas, pid: Pid) -> bool
     quotas.get(pid).is_some()
 }
 
-/// What a live process is charged for.
-fn charge_of(spaces: &Spaces, quotas: &Quotas, pid: Pid) -> u32
-    requires kept { IsProcesses spaces.now quotas.now }
-    requires live { IsLive quotas.now pid }
-    ensures charge { result ≡ cost spaces.now.spaces pid }
-    ensures few { result < 4096 }
-{
-    spaces.stands();
-    quotas.get(pid).unwrap().used
-}
-
-/// What a live process is charged for once a page is mapped that is not.
-fn charge_with(spaces: &Spaces, quotas: &Quotas, pid: Pid, page: Page) -> u32
-    requires kept { IsProcesses spaces.now quotas.now }
-    requires live { IsLive quotas.now pid }
-    requires user { IsUserPage page }
-    ensures { result ≡ cost spaces.now.spaces pid + need spaces.now.spaces pid page }
-{
-    charge_of(spaces, quotas, pid) + spaces.need(pid, page)
-}
-
-/// What a live process is charged for once a mapped page is gone.
-fn charge_without(spaces: &Spaces, quotas: &Quotas, pid: Pid, page: Page) -> u32
-    requires kept { IsProcesses spaces.now quotas.now }
-    requires live { IsLive quotas.now pid }
-    requires user { IsUserPage page }
-    requires mapped { is_some (map.get spaces.now.spaces (record { pid = pid; page = page })) ≡ true }
-    ensures { result ≡ cost (without spaces.now.spaces (is_slot pid page)) pid }
-{
-    charge_of(spaces, quotas, pid) - spaces.relief(pid, page)
-}
-
-/// Whether a live process has no room for one more page.
-fn is_full(spaces: &Spaces, quotas: &Quotas, offers: &Offers, pid: Pid, page: Page) -> bool
-    requires kept { IsProcesses spaces.now quotas.now }
-    requires live { IsLive quotas.now pid }
-    requires user { IsUserPage page }
-    ensures { result ≡ has_no_room (state_of spaces.now quotas.now offers.now) (at_page pid page) }
-{
-    quotas.room(pid) < spaces.need(pid, page)
-}
-
 /// Why a live process may not map a page, where it may not.
-fn map_check(spaces: &Spaces, quotas: &Quotas, offers: &Offers, pid: Pid, page: Page) -> Option<Cause>
+fn map_check(
+    spaces: &Spaces,
+    quotas: &Quotas,
+    offers: &Offers,
+    pid: Pid,
+    page: Page,
+) -> Option<Cause>
     requires kept { IsProcesses spaces.now quotas.now }
     requires live { IsLive quotas.now pid }
     ensures { result ≡ map_refusal (state_of spaces.now quotas.now offers.now) pid page }
@@ -126,7 +94,13 @@ fn map_check(spaces: &Spaces, quotas: &Quotas, offers: &Offers, pid: Pid, page: 
 }
 
 /// Why a live process may not unmap a page, where it may not.
-fn unmap_check(spaces: &Spaces, quotas: &Quotas, offers: &Offers, pid: Pid, page: Page) -> Option<Cause>
+fn unmap_check(
+    spaces: &Spaces,
+    quotas: &Quotas,
+    offers: &Offers,
+    pid: Pid,
+    page: Page,
+) -> Option<Cause>
     ensures { result ≡ unmap_refusal (state_of spaces.now quotas.now offers.now) pid page }
 {
     if !in_user_range(page) {
@@ -139,7 +113,13 @@ fn unmap_check(spaces: &Spaces, quotas: &Quotas, offers: &Offers, pid: Pid, page
 }
 
 /// The charge of a live process after a map, or the cause against it.
-fn map_test(spaces: &Spaces, quotas: &Quotas, offers: &Offers, pid: Pid, page: Page) -> Result<u32, Cause>
+fn map_test(
+    spaces: &Spaces,
+    quotas: &Quotas,
+    offers: &Offers,
+    pid: Pid,
+    page: Page,
+) -> Result<u32, Cause>
     requires kept { IsProcesses spaces.now quotas.now }
     requires live { IsLive quotas.now pid }
     ensures { result ≡ map_answer (state_of spaces.now quotas.now offers.now) pid page }
@@ -151,7 +131,13 @@ fn map_test(spaces: &Spaces, quotas: &Quotas, offers: &Offers, pid: Pid, page: P
 }
 
 /// The charge of a live process after an unmap, or the cause against it.
-fn unmap_test(spaces: &Spaces, quotas: &Quotas, offers: &Offers, pid: Pid, page: Page) -> Result<u32, Cause>
+fn unmap_test(
+    spaces: &Spaces,
+    quotas: &Quotas,
+    offers: &Offers,
+    pid: Pid,
+    page: Page,
+) -> Result<u32, Cause>
     requires kept { IsProcesses spaces.now quotas.now }
     requires live { IsLive quotas.now pid }
     ensures { result ≡ unmap_answer (state_of spaces.now quotas.now offers.now) pid page }
@@ -163,7 +149,13 @@ fn unmap_test(spaces: &Spaces, quotas: &Quotas, offers: &Offers, pid: Pid, page:
 }
 
 /// The number of a live process's next child of that quota, or the cause against it.
-fn spawn_test(spaces: &Spaces, quotas: &Quotas, offers: &Offers, pid: Pid, quota: u32) -> Result<Pid, Cause>
+fn spawn_test(
+    spaces: &Spaces,
+    quotas: &Quotas,
+    offers: &Offers,
+    pid: Pid,
+    quota: u32,
+) -> Result<Pid, Cause>
     requires kept { IsProcesses spaces.now quotas.now }
     requires live { IsLive quotas.now pid }
     ensures { result ≡ spawn_answer (state_of spaces.now quotas.now offers.now) pid quota }
@@ -174,18 +166,6 @@ fn spawn_test(spaces: &Spaces, quotas: &Quotas, offers: &Offers, pid: Pid, quota
         Err(QuotaFault::TableFull) => Err(Cause::TableFull),
         Err(QuotaFault::NoRoom) => Err(Cause::Quota),
     }
-}
-
-/// Charges a live process for frames that it has room for, which are then free.
-fn take_room(spaces: &Spaces, quotas: &mut Quotas, pid: Pid, frames: u32)
-    requires kept { IsProcesses spaces.now quotas.old }
-    requires live { IsLive quotas.old pid }
-    requires room { frames ≤ room_of quotas.old pid }
-    ensures quotas { quotas.new ≡ with_used quotas.old pid (used_of quotas.old pid + frames) }
-    ensures room { 1 + total_cost spaces.now.directories spaces.now.spaces + frames ≤ length spaces.now.roles }
-{
-    quotas.charge(pid, frames);
-    quotas.within();
 }
 
 /// Maps a page of zeros.
@@ -304,21 +284,6 @@ fn complete_access(
     }
 }
 
-/// What a live process is charged for once the page of an address is mapped.
-fn charge_at(spaces: &Spaces, quotas: &Quotas, offers: &Offers, pid: Pid, address: Vaddr) -> u32
-    requires kept { IsProcesses spaces.now quotas.now }
-    requires live { IsLive quotas.now pid }
-    requires user { IsUserPage (page_number address) }
-    ensures { result ≡ cost (after_load (state_of spaces.now quotas.now offers.now) pid address).spaces pid }
-{
-    let page = page_of(address);
-    if spaces.cell(pid, page).is_some() {
-        charge_of(spaces, quotas, pid)
-    } else {
-        charge_with(spaces, quotas, pid, page)
-    }
-}
-
 /// Process 0 alone.
 fn opened(mut spaces: Spaces) -> Processes
     requires spaces { spaces.spaces ≡ map.empty }
@@ -412,6 +377,123 @@ impl Processes {
         self.offers.drop_page(pid, page);
     }
 
+    /// What a process would be charged for once a page's right is set, or the first cause against it:
+    /// NoProcess, BadPage, NotMapped, Rights (the right to write is asked, and the process may not have
+    /// it).
+    pub fn can_protect(&self, pid: Pid, page: Page, write: bool) -> Result<u32, Cause>
+        ensures { result ≡ protect_answer self.now.state pid page write }
+    {
+        if !self.live(pid) {
+            return Err(Cause::NoProcess);
+        }
+        protect_test(&self.spaces, &self.quotas, &self.offers, pid, page, write)
+    }
+
+    /// Sets or clears the right to write to a page, which the process may.
+    pub fn protect(&mut self, pid: Pid, page: Page, write: bool)
+        requires { IsOk (protect_answer self.old.state pid page write) }
+        ensures { self.new.state ≡ after_protect self.old.state pid page write }
+    {
+        set_right(&mut self.spaces, &self.quotas, pid, page, write);
+    }
+
+    /// What a process would be charged for once it has offered a page, or the first cause against it:
+    /// NoProcess, BadPage, NotMapped, SelfOffer, NoTarget, Rights (the right to write is offered, and
+    /// the process may not have it), OfferPending, TooManyOffers.
+    pub fn can_offer(&self, pid: Pid, page: Page, target: Pid, write: bool) -> Result<u32, Cause>
+        ensures { result ≡ offer_answer self.now.state pid page target write }
+    {
+        if !self.live(pid) {
+            return Err(Cause::NoProcess);
+        }
+        offer_test(
+            &self.spaces,
+            &self.quotas,
+            &self.offers,
+            pid,
+            page,
+            target,
+            write,
+        )
+    }
+
+    /// Makes an offer that the process may make, with the right to write or without it.
+    pub fn offer(&mut self, pid: Pid, page: Page, target: Pid, write: bool)
+        requires { IsOk (offer_answer self.old.state pid page target write) }
+        ensures { self.new.state ≡ after_offer self.old.state pid page target write }
+    {
+        self.offers.offer(pid, page, target, write);
+    }
+
+    /// What a process would be charged for once it has withdrawn an offer, or the first cause against
+    /// it: NoProcess, BadPage, NoOffer.
+    pub fn can_withdraw(&self, pid: Pid, page: Page, target: Pid) -> Result<u32, Cause>
+        ensures { result ≡ withdraw_answer self.now.state pid page target }
+    {
+        if !self.live(pid) {
+            return Err(Cause::NoProcess);
+        }
+        withdraw_test(&self.spaces, &self.quotas, &self.offers, pid, page, target)
+    }
+
+    /// Takes back an offer that is pending.
+    pub fn withdraw(&mut self, pid: Pid, page: Page, target: Pid)
+        requires { IsOk (withdraw_answer self.old.state pid page target) }
+        ensures { self.new.state ≡ after_withdraw self.old.state pid page target }
+    {
+        take_offer(&mut self.offers, pid, page, target);
+    }
+
+    /// What a process would be charged for once it has accepted an offer at a page of its own, or the
+    /// first cause against it: NoProcess, BadPage (the own page), NoOffer, Mapped, Quota.
+    pub fn can_accept(
+        &self,
+        pid: Pid,
+        giver: Pid,
+        giver_page: Page,
+        page: Page,
+    ) -> Result<u32, Cause>
+        ensures { result ≡ accept_answer self.now.state pid giver giver_page page }
+    {
+        if !self.live(pid) {
+            return Err(Cause::NoProcess);
+        }
+        accept_test(
+            &self.spaces,
+            &self.quotas,
+            &self.offers,
+            pid,
+            giver,
+            giver_page,
+            page,
+        )
+    }
+
+    /// Accepts an offer that the process may accept: its page is the giver's page too from now on, with
+    /// the right that was offered, and the offer goes.
+    pub fn accept(&mut self, pid: Pid, giver: Pid, giver_page: Page, page: Page)
+        requires { IsOk (accept_answer self.old.state pid giver giver_page page) }
+        ensures { self.new.state ≡ after_accept self.old.state pid giver giver_page page }
+    {
+        let right = take_offer(&mut self.offers, giver, giver_page, pid);
+        join_page(
+            &mut self.spaces,
+            &mut self.quotas,
+            giver,
+            giver_page,
+            pid,
+            page,
+            right,
+        );
+    }
+
+    /// The pending offers.
+    pub fn offers(&self) -> &Offers
+        ensures { result.now ≡ self.now.state.offers }
+    {
+        &self.offers
+    }
+
     /// The number that a process's child of that quota would have, or the first cause against it:
     /// NoProcess, BadQuota, TableFull, Quota.
     pub fn can_spawn(&self, pid: Pid, quota: u32) -> Result<Pid, Cause>
@@ -496,13 +578,14 @@ impl Processes {
         )
     }
 
-    /// What memory's own words and the containers say of this state, and that all processes together
-    /// cost at most all frames but frame 0. It computes nothing.
+    /// What memory's own words and the containers say of this state, that all processes together cost
+    /// at most all frames but frame 0, and that the state is well formed. It computes nothing.
     pub fn stands(&self)
         ensures image { StandsFor (image_of self.now) self.now.state }
         ensures walks { WalksAgree (record { directories = self.now.directories; bytes = self.now.bytes; roles = self.now.roles }) self.now.state.spaces }
         ensures total { 1 + total self.now.state ≤ length self.now.roles }
         ensures few { length self.now.roles ≤ 4096 }
+        ensures well_formed { IsWellFormed self.now.state }
     {
         self.spaces.stands();
         self.quotas.within();

@@ -14,4 +14,4 @@ pub returns-in-Write-clause-kept : goal.returns-in-Write-clause-kept
 returns-in-Write-clause-kept c =
     charged-same c.args.spaces.now c.write.new.self c.args.quotas.now c.requires.kept c.write.ensures.directories (ap length c.write.ensures.roles)
     (λ q. ap (λ S. cost S q) c.write.ensures.spaces
-        ∙ cost-stored_of c.args.spaces.now.spaces (slot_at c.args.pid c.args.address) (offset_number c.args.address) (bytes_of (byte_count c.args.size) c.args.value) q c.requires.mapped)
+    ∙ cost-stored_of c.args.spaces.now.spaces (slot_at c.args.pid c.args.address) (offset_number c.args.address) (bytes_of (byte_count c.args.size) c.args.value) q c.requires.mapped)

@@ -2,16 +2,27 @@ use Rattle.std.proofs.Common.{◌≡◌, ◌≢◌, ℕ, ◌+◌, ◌-◌, ◌�
 use Rattle.std.specs.Prelude.{is_some}
 use Rattle.address_space.specs.Sound.{directory_of}
 use Rattle.address_space.proofs.Openings.{no_directory}
+use Rattle.quota_tree.specs.Containers.{Containers}
+use Rattle.process_table.specs.State.{open_with}
+use Rattle.process_table.proofs.BookLaws.{well_formed-open}
+use Rattle.process_table.proofs.Keeping.{whole}
 use Rattle.process_table.proofs.Spawns.{charged-root}
 use Rattle.process_table.proofs.processes.opened.Goals as goal
 
 rest : (n f m : ℕ) → f ≡ n → 16 ≤ f → m ≡ f → 1 + (n - 1) ≡ m
 rest n f m a b c = omega arith
 
+two : (n f : ℕ) → f ≡ n → 16 ≤ f → 2 ≤ n
+two n f a b = omega arith
+
 pub invariant_of-result : goal.invariant_of-result
 invariant_of-result c =
     let zero = c.root_pid.ensures in
-    charged-root c.fresh.new.self c.new.result (c.frames-quota.result - 1) c.new.ensures (c.fresh.ensures.spaces ∙ c.requires.spaces)
-    (rest c.frames-quota.result (length c.args.spaces.roles) (length c.fresh.new.self.roles) c.frames-quota.ensures.roles c.requires.frames c.fresh.ensures.frames)
+    let n = c.frames-quota.result in
+    whole c.fresh.new.self c.new.result c.new-2.result (open_with n)
+    (charged-root c.fresh.new.self c.new.result (n - 1) c.new.ensures (c.fresh.ensures.spaces ∙ c.requires.spaces)
+    (rest n (length c.args.spaces.roles) (length c.fresh.new.self.roles) c.frames-quota.ensures.roles c.requires.frames c.fresh.ensures.frames)
     (ap (λ x. is_some (directory_of c.fresh.new.self.directories x)) (sym zero) ∙ c.fresh.ensures.live)
-    (λ q n. c.fresh.ensures.others q (λ e. n (e ∙ zero)) ∙ ap (λ ds. directory_of ds q) c.requires.directories ∙ no_directory 64 q)
+    (λ q m. c.fresh.ensures.others q (λ e. m (e ∙ zero)) ∙ ap (λ ds. directory_of ds q) c.requires.directories ∙ no_directory 64 q))
+    (c.fresh.ensures.spaces ∙ c.requires.spaces) (ap (λ (x : Containers). x.book) c.new.ensures) c.new-2.ensures
+    (well_formed-open n (two n (length c.args.spaces.roles) c.frames-quota.ensures.roles c.requires.frames))

@@ -5,7 +5,7 @@ use Rattle.address_space.specs.Spaces.{cost}
 use Rattle.quota_tree.specs.Book.{given, quota_of}
 use Rattle.process_table.specs.Image.{StandsFor, image_of}
 use Rattle.process_table.specs.View.{View, view_of}
-use Rattle.process_table.specs.WellFormed.{total}
+use Rattle.process_table.specs.WellFormed.{IsWellFormed, total}
 use Rattle.process_table.proofs.ImageStanding.{image_stands}
 use Rattle.process_table.proofs.Ranges.{total-book}
 use Rattle.process_table.proofs.processes.Processes.stands.Goals as goal
@@ -14,9 +14,9 @@ pub returns-clause-image : goal.returns-clause-image
 returns-clause-image c =
     let v : View = view_of c.self.inside.spaces c.self.inside.quotas c.self.inside.offers in
     subst (λ (v : View). StandsFor (image_of v) v.state) c.self.view_is
-    (image_stands v c.stands.ensures.image c.self.invariant.live c.self.invariant.root c.within.ensures.root
+    (image_stands v c.stands.ensures.image c.self.invariant.kept.live c.self.invariant.kept.root c.within.ensures.root
     (λ p member is. (c.within.ensures.numbers p (ap is_some is), c.within.ensures.parents p member is))
-    (λ p live. subst (λ n. n + given v.state.book p ≤ quota_of v.state.book p) (c.self.invariant.charged p live) (c.within.ensures.quota p live)))
+    (λ p live. subst (λ n. n + given v.state.book p ≤ quota_of v.state.book p) (c.self.invariant.kept.charged p live) (c.within.ensures.quota p live)))
 
 pub returns-clause-walks : goal.returns-clause-walks
 returns-clause-walks c = subst (λ (v : View). WalksAgree (record { directories = v.directories; bytes = v.bytes; roles = v.roles }) v.state.spaces) c.self.view_is c.stands.ensures.walks
@@ -25,4 +25,7 @@ pub returns-clause-total : goal.returns-clause-total
 returns-clause-total c =
     let v : View = view_of c.self.inside.spaces c.self.inside.quotas c.self.inside.offers in
     subst (λ (v : View). 1 + total v.state ≤ length v.roles) c.self.view_is
-    (subst (λ n. 1 + n ≤ length v.roles) (total-book v.directories v.state c.self.invariant.live c.within.ensures.numbers) c.stands.ensures.costs)
+    (subst (λ n. 1 + n ≤ length v.roles) (total-book v.directories v.state c.self.invariant.kept.live c.within.ensures.numbers) c.stands.ensures.costs)
+
+pub returns-clause-well_formed : goal.returns-clause-well_formed
+returns-clause-well_formed c = subst (λ (v : View). IsWellFormed v.state) c.self.view_is c.self.invariant.well_formed

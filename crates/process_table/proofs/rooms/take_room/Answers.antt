@@ -4,7 +4,7 @@ use Rattle.page_words.specs.FiniteMap as map
 use Rattle.quota_tree.specs.Containers.{Containers, with_used, used_of, total_used}
 use Rattle.quota_tree.specs.Book.{quota_of}
 use Rattle.process_table.proofs.Charges.{room-taken}
-use Rattle.process_table.proofs.processes.take_room.Goals as goal
+use Rattle.process_table.proofs.rooms.take_room.Goals as goal
 
 pub returns-clause-room : goal.returns-clause-room
 returns-clause-room c =

@@ -1,0 +1,82 @@
+-- Each call whose test passes keeps states well formed.
+use Rattle.std.proofs.Common.{◌≡◌, ◌≢◌, ℕ, ◌%◌, ◌==◌, Bool, true, false, not, refl, sym, ap, subst, ◌∙◌, Option, Some, None, inl, arith}
+use Rattle.std.specs.Prelude.{if◌then◌else◌, is_some, IsOk, nat_le, ◌&&◌}
+use Rattle.std.proofs.lemmas.Bool.Decides.{nat_tests}
+use Rattle.page_words.specs.Addresses.{IsUserPage, is_user_page, page_number, byte_count}
+use Rattle.page_words.specs.declared.addresses.Pid.{Pid}
+use Rattle.page_words.specs.declared.addresses.Size.{Size}
+use Rattle.page_words.specs.FiniteMap as map
+use Rattle.address_space.specs.Spaces.{Slot, Cell, slot_at}
+use Rattle.address_space.specs.Sound as frames
+use Rattle.quota_tree.specs.Containers.{Containers}
+use Rattle.page_sharing.specs.Offers.{Offers}
+use Rattle.table_walk.specs.declared.Access.{Access}
+use Rattle.table_walk.specs.declared.Access.TheVariants.{Read, Write}
+use Rattle.process_table.specs.State.{State, is_live, is_mapped, child_of}
+use Rattle.process_table.specs.Calls.{map_refusal, unmap_refusal, protect_refusal, offer_refusal, withdraw_refusal, accept_refusal, spawn_refusal, exit_refusal, after_map, after_unmap, after_protect, after_offer, after_withdraw, after_accept, after_spawn, after_exit, after_access, is_misaligned}
+use Rattle.process_table.specs.Answers.{first_cause, child_unless, map_answer, protect_answer, offer_answer, accept_answer, spawn_answer, exit_answer}
+use Rattle.process_table.specs.View.{state_of, IsProcesses, IsWhole}
+use Rattle.process_table.specs.WellFormed.{IsWellFormed}
+use Rattle.process_table.specs.declared.causes.Cause.{Cause}
+use Rattle.process_table.specs.declared.causes.Cause.TheVariants.{NoProcess}
+use Rattle.process_table.proofs.BookLaws.{well_formed-spawn, well_formed-exit}
+use Rattle.process_table.proofs.CellLaws.{some_value}
+use Rattle.process_table.proofs.Refusals.{no_cause}
+use Rattle.process_table.proofs.SharingLaws.{well_formed-protect, well_formed-offer, well_formed-accept}
+use Rattle.process_table.proofs.SpaceLaws.{well_formed-map, well_formed-load, well_formed-store}
+use borrow.Author.Tests.{eqb-true}
+
+-- parts that agree are whole where the state that they make is well formed
+pub whole : (v : frames.View) (c : Containers) (o : Offers) (s : State) → IsProcesses v c → v.spaces ≡ s.spaces → c.book ≡ s.book → o ≡ s.offers → IsWellFormed s → IsWhole v c o
+whole v c o s kept spaces book offers w = record { kept = kept; well_formed = subst IsWellFormed (λ i. record { spaces = sym spaces i; book = sym book i; offers = sym offers i }) w }
+
+pub keeps-map : (s : State) (p page : ℕ) (write : Bool) → IsWellFormed s → IsOk (map_answer s p page) → IsWellFormed (after_map s p page write)
+keeps-map s p page write w ok = let e = no_cause s p (map_refusal s p page) _ ok in well_formed-map s p page write w e.0 e.1
+
+pub keeps-protect : (s : State) (p page : ℕ) (write : Bool) → IsWellFormed s → IsOk (protect_answer s p page write) → IsWellFormed (after_protect s p page write)
+keeps-protect s p page write w ok = let e = no_cause s p (protect_refusal s p page write) _ ok in well_formed-protect s p page write w e.0 e.1
+
+pub keeps-offer : (s : State) (p page target : ℕ) (write : Bool) → IsWellFormed s → IsOk (offer_answer s p page target write) → IsWellFormed (after_offer s p page target write)
+keeps-offer s p page target write w ok = let e = no_cause s p (offer_refusal s p page target write) _ ok in well_formed-offer s p page target write w e.1
+
+pub keeps-accept : (s : State) (p giver giver_page page : ℕ) → IsWellFormed s → IsOk (accept_answer s p giver giver_page page) → IsWellFormed (after_accept s p giver giver_page page)
+keeps-accept s p giver giver_page page w ok = let e = no_cause s p (accept_refusal s p giver giver_page page) _ ok in well_formed-accept s p giver giver_page page w e.0 e.1
+
+pub keeps-exit : (s : State) (p : ℕ) → IsWellFormed s → IsOk (exit_answer s p) → IsWellFormed (after_exit s p)
+keeps-exit s p w ok = let e = no_cause s p (exit_refusal s p) _ ok in well_formed-exit s p w e.0 e.1
+
+pub keeps-spawn : (s : State) (p quota : ℕ) → IsWellFormed s → IsOk (spawn_answer s p quota) → IsWellFormed (after_spawn s p quota)
+keeps-spawn s p quota w ok = by (is_live s p) (spawn_refusal s p quota) ok refl refl
+  where
+    by : (live : Bool) (x : Option Cause) → IsOk (child_unless (if live then x else Some NoProcess) (child_of s)) → is_live s p ≡ live → spawn_refusal s p quota ≡ x → IsWellFormed (after_spawn s p quota)
+    by true None h live is = well_formed-spawn s p quota w live is
+    by true (Some c) h live is = cc
+    by false x h live is = cc
+
+-- ---- Accesses
+
+page_is_user : (page : ℕ) → IsUserPage page → is_user_page page ≡ true
+page_is_user page h =
+    let low = h.0 in
+    let high = h.1 in
+    let a : nat_le 0x40000 page ≡ true = grind (arith, nat_tests) in
+    let b : nat_le page 0xeffff ≡ true = grind (arith, nat_tests) in
+    λ i. a i && b i
+
+aligned_is : (address : ℕ) (size : Size) → is_misaligned address size ≡ false → address % byte_count size ≡ 0
+aligned_is address size h = by (address % byte_count size == 0) refl h
+  where
+    by : (b : Bool) → (address % byte_count size == 0) ≡ b → not b ≡ false → address % byte_count size ≡ 0
+    by true is e = eqb-true (address % byte_count size) 0 is
+    by false is e = cc
+
+pub keeps-access : (s : State) (p address : ℕ) (size : Size) (access : Access) (value : ℕ) → IsWellFormed s → is_mapped s (slot_at p address) ≡ true → IsUserPage (page_number address) → is_misaligned address size ≡ false
+    → IsWellFormed (after_access s p address size access value)
+keeps-access s p address size access value w mapped user aligned = by access
+  where
+    live : is_live s p ≡ true
+    live = let c = some_value (map.get s.spaces (slot_at p address)) mapped in w.owners (slot_at p address) c.0 c.1
+
+    by : (access : Access) → IsWellFormed (after_access s p address size access value)
+    by Read = well_formed-load s p address w live (page_is_user (page_number address) user) (inl mapped)
+    by Write = well_formed-store s p address size value w live (page_is_user (page_number address) user) (aligned_is address size aligned) (inl mapped)

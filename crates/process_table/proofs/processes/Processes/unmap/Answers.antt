@@ -1,0 +1,12 @@
+use Rattle.process_table.specs.State.{State}
+use Rattle.process_table.specs.Calls.{after_unmap}
+use Rattle.process_table.specs.View.{state_of}
+use Rattle.process_table.proofs.BookLaws.{well_formed-unmap}
+use Rattle.process_table.proofs.Keeping.{whole}
+use Rattle.process_table.proofs.processes.Processes.unmap.Goals as goal
+
+pub invariant_of-self : goal.invariant_of-self
+invariant_of-self c =
+    let s : State = state_of c.self.inside.spaces c.self.inside.quotas c.self.inside.offers in
+    whole c.remove_page.new.spaces c.remove_page.new.quotas c.drop_page.new.self (after_unmap s c.args.pid c.args.page) c.remove_page.ensures.kept c.remove_page.ensures.spaces c.remove_page.ensures.book c.drop_page.ensures
+    (well_formed-unmap s c.args.pid c.args.page c.self.invariant.well_formed)
