@@ -100,7 +100,7 @@ impl DirWord {
         requires { frame < 2 ^ 20 }
         ensures { self.new ≡ with_frame self.old frame }
     {
-        self.word = naming(self.word, frame);
+        self.word = naming(self.word, frame); // PDE: address
     }
 
     /// Whether it is present (bit 0, P): else the processor reads nothing else of it.
@@ -135,28 +135,28 @@ impl DirWord {
     pub fn set_present(&mut self, value: bool)
         ensures { self.new ≡ with_flag self.old 0 value }
     {
-        self.word = set_bit(self.word, PRESENT, value);
+        self.word = set_bit(self.word, PRESENT, value); // PDE: P
     }
 
     /// Sets or clears bit 1, and no other bit.
     pub fn set_writable(&mut self, value: bool)
         ensures { self.new ≡ with_flag self.old 1 value }
     {
-        self.word = set_bit(self.word, WRITABLE, value);
+        self.word = set_bit(self.word, WRITABLE, value); // PDE: R/W
     }
 
     /// Sets or clears bit 2, and no other bit.
     pub fn set_user(&mut self, value: bool)
         ensures { self.new ≡ with_flag self.old 2 value }
     {
-        self.word = set_bit(self.word, USER, value);
+        self.word = set_bit(self.word, USER, value); // PDE: U/S
     }
 
     /// Sets or clears bit 5, and no other bit.
     pub fn set_accessed(&mut self, value: bool)
         ensures { self.new ≡ with_flag self.old 5 value }
     {
-        self.word = set_bit(self.word, ACCESSED, value);
+        self.word = set_bit(self.word, ACCESSED, value); // PDE: A
     }
 }
 
@@ -207,7 +207,7 @@ impl TableWord {
         requires { frame < 2 ^ 20 }
         ensures { self.new ≡ with_frame self.old frame }
     {
-        self.word = naming(self.word, frame);
+        self.word = naming(self.word, frame); // PTE: address
     }
 
     /// Whether it is present (bit 0, P): else the processor reads nothing else of it.
@@ -257,42 +257,42 @@ impl TableWord {
     pub fn set_present(&mut self, value: bool)
         ensures { self.new ≡ with_flag self.old 0 value }
     {
-        self.word = set_bit(self.word, PRESENT, value);
+        self.word = set_bit(self.word, PRESENT, value); // PTE: P
     }
 
     /// Sets or clears bit 1, and no other bit.
     pub fn set_writable(&mut self, value: bool)
         ensures { self.new ≡ with_flag self.old 1 value }
     {
-        self.word = set_bit(self.word, WRITABLE, value);
+        self.word = set_bit(self.word, WRITABLE, value); // PTE: R/W
     }
 
     /// Sets or clears bit 2, and no other bit.
     pub fn set_user(&mut self, value: bool)
         ensures { self.new ≡ with_flag self.old 2 value }
     {
-        self.word = set_bit(self.word, USER, value);
+        self.word = set_bit(self.word, USER, value); // PTE: U/S
     }
 
     /// Sets or clears bit 5, and no other bit.
     pub fn set_accessed(&mut self, value: bool)
         ensures { self.new ≡ with_flag self.old 5 value }
     {
-        self.word = set_bit(self.word, ACCESSED, value);
+        self.word = set_bit(self.word, ACCESSED, value); // PTE: A
     }
 
     /// Sets or clears bit 6, and no other bit.
     pub fn set_dirty(&mut self, value: bool)
         ensures { self.new ≡ with_flag self.old 6 value }
     {
-        self.word = set_bit(self.word, DIRTY, value);
+        self.word = set_bit(self.word, DIRTY, value); // PTE: D
     }
 
     /// Sets or clears bit 9, and no other bit.
     pub fn set_may(&mut self, value: bool)
         ensures { self.new ≡ with_flag self.old 9 value }
     {
-        self.word = set_bit(self.word, MAY, value);
+        self.word = set_bit(self.word, MAY, value); // PTE: bit 9
     }
 }
 
