@@ -7,8 +7,10 @@ use Rattle.address_space.specs.Spaces.{cost}
 use Rattle.quota_tree.specs.declared.Container.{Container}
 use Rattle.quota_tree.specs.Book.{Member}
 use Rattle.process_table.specs.State.{State, is_live, child_of, container_of, shown}
-use Rattle.process_table.specs.Calls.{map_refusal, spawn_refusal, after_map}
-use Rattle.process_table.specs.Answers.{first_cause, number_unless, child_unless, map_answer, spawn_answer}
+use Rattle.process_table.specs.Calls.{at_page, map_refusal, protect_refusal, offer_refusal, spawn_refusal, after_map, after_protect}
+use Rattle.address_space.proofs.Totals.{cost-protected_of}
+use Rattle.process_table.proofs.Refusals.{may_protect}
+use Rattle.process_table.specs.Answers.{first_cause, number_unless, child_unless, map_answer, protect_answer, offer_answer, spawn_answer}
 use Rattle.process_table.specs.declared.causes.Cause.{Cause}
 use Rattle.process_table.specs.declared.causes.Cause.TheVariants as cause
 use Rattle.fault_handler.specs.Plans.{plan_of, goes_on}
@@ -40,6 +42,11 @@ goes-call s p (call.Load addr size) = goes-planned (plan_of s p addr size Read) 
 goes-call s p (call.Store addr size value) = goes-planned (plan_of s p addr size Write) _ refl
 goes-call s p (call.Map page write) = goes-refused _ _ refl
 goes-call s p (call.Unmap page) = goes-refused _ _ refl
+goes-call s p (call.Protect page write) = goes-refused _ _ refl
+goes-call s p (call.Info page) = goes-refused _ _ refl
+goes-call s p (call.Offer page target write) = goes-refused _ _ refl
+goes-call s p (call.Withdraw page target) = goes-refused _ _ refl
+goes-call s p (call.Accept giver giver_page page) = goes-refused _ _ refl
 goes-call s p (call.Spawn quota) = goes-refused _ _ refl
 goes-call s p call.Exit = goes-refused _ _ refl
 goes-call s p call.Quota = refl
@@ -78,47 +85,62 @@ used-by None used charge = charge
 
 -- a refusal leaves the charge, and a call that goes on has its own
 module _ (s : State) (e : Event) (x : Option Cause) (r : Reply) (charge : ℕ) (live : is_live s e.pid ≡ true) (goes : completes r ≡ true)
-    (plan_is : plan_of_call s e.pid e.call ≡ refused_plan x) (reply_is : answer_of s e.pid e.call ≡ refused_or x r) (charged : charge_in (after s e.pid e.call) e.pid ≡ charge) where
+    (plan_is : plan_of_call s e.pid e.call ≡ refused_plan x) (reply_is : answer_of s e.pid e.call ≡ refused_or x r) (charged : x ≡ None → charge_in (after s e.pid e.call) e.pid ≡ charge) where
   plan-live : plan_of_event s e ≡ refused_plan x
   plan-live = ap (λ b. if b then plan_of_call s e.pid e.call else plan.Refused cause.NoProcess) live ∙ plan_is
 
   reply-live : answer s e ≡ refused_or x r
   reply-live = ap (λ b. if b then answer_of s e.pid e.call else reply.Refused cause.NoProcess) live ∙ reply_is
 
-  charge-live : (y : Option Cause) → answer s e ≡ refused_or y r → charge_after s e ≡ used-by y (cost s.spaces e.pid) charge
-  charge-live (Some k) is = ap (λ t. charge_in t e.pid) (next-stays s e (ap completes is)) ∙ ap (λ b. if b then cost s.spaces e.pid else 0) live
-  charge-live None is = ap (λ t. charge_in t e.pid) (next-goes s e (ap completes is ∙ goes)) ∙ charged
+  charge-live : (y : Option Cause) → x ≡ y → answer s e ≡ refused_or y r → charge_after s e ≡ used-by y (cost s.spaces e.pid) charge
+  charge-live (Some k) same is = ap (λ t. charge_in t e.pid) (next-stays s e (ap completes is)) ∙ ap (λ b. if b then cost s.spaces e.pid else 0) live
+  charge-live None same is = ap (λ t. charge_in t e.pid) (next-goes s e (ap completes is ∙ goes)) ∙ charged same
 
   decided : decision_of s e ≡ record { event = e; plan = refused_plan x; reply = refused_or x r; used_after = used-by x (cost s.spaces e.pid) charge }
-  decided = λ i. record { event = e; plan = plan-live i; reply = reply-live i; used_after = charge-live x reply-live i }
+  decided = λ i. record { event = e; plan = plan-live i; reply = reply-live i; used_after = charge-live x refl reply-live i }
 
 first-cause : (s : State) (p : ℕ) (x : Option Cause) → is_live s p ≡ true → first_cause s p x ≡ x
 first-cause s p x live = ap (λ b. if b then x else Some cause.NoProcess) live
 
-pub decided-map : (s : State) (e : Event) (page : ℕ) (write : Bool) (used : ℕ) → e.call ≡ call.Map page write → is_live s e.pid ≡ true → used ≡ cost s.spaces e.pid
-    → tested e (map_answer s e.pid page) used ≡ decision_of s e
-decided-map s e page write used is live used_is =
+-- done or refused, as the test of the call answers
+decided-test : (s : State) (e : Event) (x : Option Cause) (charge used : ℕ) → is_live s e.pid ≡ true → used ≡ cost s.spaces e.pid
+    → plan_of_call s e.pid e.call ≡ refused_plan x → answer_of s e.pid e.call ≡ refused_or x reply.Done → (x ≡ None → charge_in (after s e.pid e.call) e.pid ≡ charge)
+    → tested e (number_unless (first_cause s e.pid x) charge) used ≡ decision_of s e
+decided-test s e x charge used live used_is plan_is reply_is charged =
     (λ i. tested e (number_unless (first-cause s e.pid x live i) charge) (used_is i)) ∙ by x
-    ∙ sym (decided s e x reply.Done charge live refl (ap (plan_of_call s e.pid) is) (ap (answer_of s e.pid) is) charged)
+    ∙ sym (decided s e x reply.Done charge live refl plan_is reply_is charged)
   where
-    x : Option Cause
-    x = map_refusal s e.pid page
-
-    charge : ℕ
-    charge = cost (after_map s e.pid page true).spaces e.pid
-
-    charged : charge_in (after s e.pid e.call) e.pid ≡ charge
-    charged = ap (λ c. charge_in (after s e.pid c) e.pid) is ∙ ap (λ b. if b then cost (after_map s e.pid page write).spaces e.pid else 0) live ∙ map_charge s e.pid page write
-
     by : (y : Option Cause) → tested e (number_unless y charge) (cost s.spaces e.pid) ≡ record { event = e; plan = refused_plan y; reply = refused_or y reply.Done; used_after = used-by y (cost s.spaces e.pid) charge }
     by (Some k) = refl
     by None = refl
+
+pub decided-map : (s : State) (e : Event) (page : ℕ) (write : Bool) (used : ℕ) → e.call ≡ call.Map page write → is_live s e.pid ≡ true → used ≡ cost s.spaces e.pid
+    → tested e (map_answer s e.pid page) used ≡ decision_of s e
+decided-map s e page write used is live used_is =
+    decided-test s e (map_refusal s e.pid page) (cost (after_map s e.pid page true).spaces e.pid) used live used_is (ap (plan_of_call s e.pid) is) (ap (answer_of s e.pid) is)
+    (λ _. ap (λ c. charge_in (after s e.pid c) e.pid) is ∙ ap (λ b. if b then cost (after_map s e.pid page write).spaces e.pid else 0) live ∙ map_charge s e.pid page write)
+
+-- a page whose right is set is mapped, and so nothing is charged for it
+protect-charge : (s : State) (p page : ℕ) (write : Bool) → protect_refusal s p page write ≡ None → cost (after_protect s p page write).spaces p ≡ cost s.spaces p
+protect-charge s p page write allowed = cost-protected_of s.spaces (at_page p page) write p (may_protect s p page write allowed).mapped
+
+pub decided-protect : (s : State) (e : Event) (page : ℕ) (write : Bool) (used : ℕ) → e.call ≡ call.Protect page write → is_live s e.pid ≡ true → used ≡ cost s.spaces e.pid
+    → tested e (protect_answer s e.pid page write) used ≡ decision_of s e
+decided-protect s e page write used is live used_is =
+    decided-test s e (protect_refusal s e.pid page write) (cost s.spaces e.pid) used live used_is (ap (plan_of_call s e.pid) is) (ap (answer_of s e.pid) is)
+    (λ allowed. ap (λ c. charge_in (after s e.pid c) e.pid) is ∙ ap (λ b. if b then cost (after_protect s e.pid page write).spaces e.pid else 0) live ∙ protect-charge s e.pid page write allowed)
+
+pub decided-offer : (s : State) (e : Event) (page target : ℕ) (write : Bool) (used : ℕ) → e.call ≡ call.Offer page target write → is_live s e.pid ≡ true → used ≡ cost s.spaces e.pid
+    → tested e (offer_answer s e.pid page target write) used ≡ decision_of s e
+decided-offer s e page target write used is live used_is =
+    decided-test s e (offer_refusal s e.pid page target write) (cost s.spaces e.pid) used live used_is (ap (plan_of_call s e.pid) is) (ap (answer_of s e.pid) is)
+    (λ _. ap (λ c. charge_in (after s e.pid c) e.pid) is ∙ ap (λ b. if b then cost s.spaces e.pid else 0) live)
 
 pub decided-spawn : (s : State) (e : Event) (quota used : ℕ) → e.call ≡ call.Spawn quota → is_live s e.pid ≡ true → used ≡ cost s.spaces e.pid
     → spawned e (spawn_answer s e.pid quota) used ≡ decision_of s e
 decided-spawn s e quota used is live used_is =
     (λ i. spawned e (child_unless (first-cause s e.pid x live i) (child_of s)) (used_is i)) ∙ by x
-    ∙ sym (decided s e x (reply.Child (child_of s)) (cost s.spaces e.pid) live refl (ap (plan_of_call s e.pid) is) (ap (answer_of s e.pid) is) charged)
+    ∙ sym (decided s e x (reply.Child (child_of s)) (cost s.spaces e.pid) live refl (ap (plan_of_call s e.pid) is) (ap (answer_of s e.pid) is) (λ _. charged))
   where
     x : Option Cause
     x = spawn_refusal s e.pid quota

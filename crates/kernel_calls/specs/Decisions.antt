@@ -1,10 +1,10 @@
 -- What is decided of an event before anything changes: its plan, its reply, and the charge of its process afterwards.
-use Rattle.std.proofs.Common.{ℕ, if◌then◌else◌, Option, Some, None, Result, Ok, Err}
+use Rattle.std.proofs.Common.{ℕ, false, if◌then◌else◌, Option, Some, None, Result, Ok, Err}
 use Rattle.page_words.specs.declared.addresses.Pid.{Pid}
 use Rattle.address_space.specs.Spaces.{cost}
 use Rattle.quota_tree.specs.declared.Container.{Container}
 use Rattle.process_table.specs.State.{State, is_live}
-use Rattle.process_table.specs.Calls.{map_refusal, unmap_refusal, spawn_refusal, exit_refusal}
+use Rattle.process_table.specs.Calls.{map_refusal, unmap_refusal, protect_refusal, offer_refusal, withdraw_refusal, accept_refusal, spawn_refusal, exit_refusal}
 use Rattle.process_table.specs.declared.causes.Cause.{Cause}
 use Rattle.process_table.specs.declared.causes.Cause.TheVariants as cause
 use Rattle.fault_handler.specs.Plans.{plan_of}
@@ -30,6 +30,11 @@ plan_of_call s p (call.Load addr size) = plan_of s p addr size Read
 plan_of_call s p (call.Store addr size value) = plan_of s p addr size Write
 plan_of_call s p (call.Map page write) = refused_plan (map_refusal s p page)
 plan_of_call s p (call.Unmap page) = refused_plan (unmap_refusal s p page)
+plan_of_call s p (call.Protect page write) = refused_plan (protect_refusal s p page write)
+plan_of_call s p (call.Info page) = refused_plan (protect_refusal s p page false)
+plan_of_call s p (call.Offer page target write) = refused_plan (offer_refusal s p page target write)
+plan_of_call s p (call.Withdraw page target) = refused_plan (withdraw_refusal s p page target)
+plan_of_call s p (call.Accept giver giver_page page) = refused_plan (accept_refusal s p giver giver_page page)
 plan_of_call s p (call.Spawn quota) = refused_plan (spawn_refusal s p quota)
 plan_of_call s p call.Exit = refused_plan (exit_refusal s p)
 plan_of_call s p call.Quota = plan.Complete

@@ -1,9 +1,10 @@
 -- The machine: the answer to an event, the next state, and runs.
 use Rattle.std.proofs.Common.{ℕ, Bool, true, false, if◌then◌else◌, List, [], ◌∷◌, Option, Some, None}
-use Rattle.address_space.specs.Spaces.{cost}
+use Rattle.page_words.specs.FiniteSet as set
+use Rattle.address_space.specs.Spaces.{Cell, cell_or_fresh, cost}
 use Rattle.quota_tree.specs.Book.{given, quota_of}
 use Rattle.process_table.specs.State.{State, is_live, child_of}
-use Rattle.process_table.specs.Calls.{map_refusal, unmap_refusal, spawn_refusal, exit_refusal, loaded, after_load, after_store, after_map, after_unmap, after_spawn, after_exit}
+use Rattle.process_table.specs.Calls.{at_page, map_refusal, unmap_refusal, protect_refusal, offer_refusal, withdraw_refusal, accept_refusal, spawn_refusal, exit_refusal, loaded, after_load, after_store, after_map, after_unmap, after_protect, after_offer, after_withdraw, after_accept, after_spawn, after_exit}
 use Rattle.process_table.specs.declared.causes.Cause.{Cause}
 use Rattle.process_table.specs.declared.causes.Cause.TheVariants as cause
 use Rattle.fault_handler.specs.Plans.{plan_of}
@@ -28,12 +29,21 @@ planned_or (plan.Fault fault) otherwise = reply.Fault fault.addr fault.code
 planned_or plan.Complete otherwise = otherwise
 planned_or plan.MapZero otherwise = otherwise
 
+-- a cell's flags, and the size of its group
+abbrev pub info_of : Cell → Reply
+info_of cell = reply.Info cell.write cell.may cell.accessed cell.dirty (set.len cell.holders)
+
 -- the reply to a call of a live process
 abbrev pub answer_of : State → ℕ → Call → Reply
 answer_of s p (call.Load addr size) = planned_or (plan_of s p addr size Read) (reply.Value (loaded s p addr size))
 answer_of s p (call.Store addr size value) = planned_or (plan_of s p addr size Write) reply.Done
 answer_of s p (call.Map page write) = refused_or (map_refusal s p page) reply.Done
 answer_of s p (call.Unmap page) = refused_or (unmap_refusal s p page) reply.Done
+answer_of s p (call.Protect page write) = refused_or (protect_refusal s p page write) reply.Done
+answer_of s p (call.Info page) = refused_or (protect_refusal s p page false) (info_of (cell_or_fresh s.spaces (at_page p page)))
+answer_of s p (call.Offer page target write) = refused_or (offer_refusal s p page target write) reply.Done
+answer_of s p (call.Withdraw page target) = refused_or (withdraw_refusal s p page target) reply.Done
+answer_of s p (call.Accept giver giver_page page) = refused_or (accept_refusal s p giver giver_page page) reply.Done
 answer_of s p (call.Spawn quota) = refused_or (spawn_refusal s p quota) (reply.Child (child_of s))
 answer_of s p call.Exit = refused_or (exit_refusal s p) reply.Done
 answer_of s p call.Quota = reply.Quota (quota_of s.book p) (cost s.spaces p) (given s.book p)
@@ -48,6 +58,11 @@ after s p (call.Load addr size) = after_load s p addr
 after s p (call.Store addr size value) = after_store s p addr size value
 after s p (call.Map page write) = after_map s p page write
 after s p (call.Unmap page) = after_unmap s p page
+after s p (call.Protect page write) = after_protect s p page write
+after s p (call.Info page) = s
+after s p (call.Offer page target write) = after_offer s p page target write
+after s p (call.Withdraw page target) = after_withdraw s p page target
+after s p (call.Accept giver giver_page page) = after_accept s p giver giver_page page
 after s p (call.Spawn quota) = after_spawn s p quota
 after s p call.Exit = after_exit s p
 after s p call.Quota = s

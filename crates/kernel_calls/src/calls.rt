@@ -13,6 +13,24 @@ pub enum Call {
     Map { page: Page, write: bool },
     /// Takes a page out of the process's space.
     Unmap { page: Page },
+    /// Sets whether the process may write to a page.
+    Protect { page: Page, write: bool },
+    /// Asks for a page's flags and how many slots share it.
+    Info { page: Page },
+    /// Offers a page to another process, with the right to write or without it.
+    Offer {
+        page: Page,
+        target: Pid,
+        write: bool,
+    },
+    /// Takes an offer back.
+    Withdraw { page: Page, target: Pid },
+    /// Maps a page that another process offers, where this process likes, with the offer's right.
+    Accept {
+        giver: Pid,
+        giver_page: Page,
+        page: Page,
+    },
     /// Makes a child with that quota, in frames, and an empty space.
     Spawn { quota: u32 },
     /// Ends the process, whose quota returns to its parent.
@@ -39,6 +57,14 @@ pub enum Reply {
     Value(u32),
     /// The number of the new child.
     Child(Pid),
+    /// A page's flags, and how many slots share the page, this one among them.
+    Info {
+        write: bool,
+        may: bool,
+        accessed: bool,
+        dirty: bool,
+        holders: u32,
+    },
     /// The process's quota, what it is charged for and the sum of its children's quotas, in frames.
     Quota { quota: u32, used: u32, given: u32 },
     /// A page fault, with the processor's error code; nothing changed.

@@ -1,18 +1,20 @@
 //! What is decided of an event: its plan, its reply and the charge of its process afterwards.
 
 ghost use Rattle.std.specs.Prelude.{◌≡◌, ◌≢◌, true, false, Some};
-ghost use Rattle.address_space.specs.Spaces.{cost};
-ghost use Rattle.process_table.specs.State.{is_live, container_of};
-ghost use Rattle.process_table.specs.Calls.{after_load, loaded};
+ghost use Rattle.address_space.specs.Spaces.{cost, cell_or_fresh};
+ghost use Rattle.process_table.specs.State.{is_live, is_mapped, container_of};
+ghost use Rattle.process_table.specs.Calls.{at_page, after_load, loaded};
 ghost use Rattle.fault_handler.specs.Plans.{plan_of, goes_on};
 ghost use Rattle.table_walk.specs.declared.Access.TheVariants as access;
 ghost use Rattle.kernel_calls.specs.declared.calls.Call.TheVariants as call;
 ghost use Rattle.kernel_calls.specs.declared.calls.Reply.TheVariants as reply;
+ghost use Rattle.page_words.specs.Addresses.{IsUserPage};
+ghost use Rattle.kernel_calls.specs.Machine.{info_of};
 ghost use Rattle.kernel_calls.specs.Decisions.{decision_of, refusal_of, reply_of, tested, spawned, planned, told};
 
 use crate::calls::{Call, Decision, Event, Reply};
 use fault_handler::Plan;
-use page_words::{Pid, Size, Vaddr};
+use page_words::{Page, Pid, Size, Vaddr};
 use process_table::{Cause, Processes};
 use quota_tree::Container;
 use table_walk::{Access, PageFault};
@@ -159,6 +161,34 @@ fn decide_store(
     by_plan(event, &plan, &Reply::Done, charge, used)
 }
 
+/// The reply to a process that asks about a page that it has mapped.
+fn info_told(processes: &Processes, pid: Pid, page: Page) -> Reply
+    requires user { IsUserPage page }
+    requires mapped { is_mapped processes.now.state (at_page pid page) ≡ true }
+    ensures { result ≡ info_of (cell_or_fresh processes.now.state.spaces (at_page pid page)) }
+{
+    let cell = processes.spaces().cell(pid, page).unwrap();
+    Reply::Info {
+        write: cell.write,
+        may: cell.may,
+        accessed: cell.accessed,
+        dirty: cell.dirty,
+        holders: cell.holders,
+    }
+}
+
+fn decide_info(processes: &Processes, event: &Event, page: Page, used: u32) -> Decision
+    requires live { is_live processes.now.state event.now.pid ≡ true }
+    requires info { event.now.call ≡ call.Info page }
+    requires used { used ≡ cost processes.now.state.spaces event.now.pid }
+    ensures { result ≡ decision_of processes.now.state event.now }
+{
+    match processes.can_protect(event.pid, page, false) {
+        Ok(_) => answered(event, info_told(processes, event.pid, page), used),
+        Err(cause) => refusal(event, cause, used),
+    }
+}
+
 /// The reply to a process that asks for its quota.
 fn quota_told(container: &Container) -> Reply
     ensures { result ≡ told container.now }
@@ -186,6 +216,26 @@ fn decide_live(processes: &Processes, event: &Event, container: &Container) -> D
         }
         Call::Map { page, .. } => done_or_refused(event, processes.can_map(pid, page), used),
         Call::Unmap { page } => done_or_refused(event, processes.can_unmap(pid, page), used),
+        Call::Protect { page, write } => {
+            done_or_refused(event, processes.can_protect(pid, page, write), used)
+        }
+        Call::Info { page } => decide_info(processes, event, page, used),
+        Call::Offer {
+            page,
+            target,
+            write,
+        } => done_or_refused(event, processes.can_offer(pid, page, target, write), used),
+        Call::Withdraw { page, target } => {
+            done_or_refused(event, processes.can_withdraw(pid, page, target), used)
+        }
+        Call::Accept {
+            giver,
+            giver_page,
+            page,
+        } => {
+            let test = processes.can_accept(pid, giver, giver_page, page);
+            done_or_refused(event, test, used)
+        }
         Call::Spawn { quota } => child_or_refused(event, processes.can_spawn(pid, quota), used),
         Call::Exit => done_or_refused(event, processes.can_exit(pid), used),
         Call::Quota => answered(event, quota_told(container), used),

@@ -63,6 +63,19 @@ fn complete(processes: &mut Processes, decision: &Decision)
         }
         Call::Map { page, write } => processes.map(pid, page, write),
         Call::Unmap { page } => processes.unmap(pid, page),
+        Call::Protect { page, write } => processes.protect(pid, page, write),
+        Call::Info { .. } => {}
+        Call::Offer {
+            page,
+            target,
+            write,
+        } => processes.offer(pid, page, target, write),
+        Call::Withdraw { page, target } => processes.withdraw(pid, page, target),
+        Call::Accept {
+            giver,
+            giver_page,
+            page,
+        } => processes.accept(pid, giver, giver_page, page),
         Call::Spawn { quota } => {
             processes.spawn(pid, quota);
         }

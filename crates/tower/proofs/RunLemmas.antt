@@ -5,7 +5,7 @@ use Rattle.std.specs.Io.KnownBytes.{Appends, Keeps, Consumes, IsAtEnd}
 use Rattle.std.specs.List.{list_all}
 use Rattle.std.proofs.KnownBytes.{Consumes-trans, Consumes-kept, Appends-nil, Appends-trans}
 use Rattle.std.proofs.lemmas.Bool.{le-ltb}
-use Rattle.kernel_calls.specs.State.{open_with}
+use Rattle.process_table.specs.State.{open_with}
 use Rattle.kernel_calls.specs.Machine.{answers, end_of}
 use Rattle.tower.specs.declared.faults.ScriptFault.{ScriptFault}
 use Rattle.tower.specs.declared.faults.ScriptFault.TheVariants.{BadSize, NoMemory, Malformed, TooLong, ReadFailed, WriteFailed}

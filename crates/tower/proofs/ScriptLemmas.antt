@@ -10,7 +10,7 @@ use Rattle.std.proofs.lemmas.List.Concat.{flat_map-append}
 use Rattle.std.proofs.lemmas.List.{take_at, take_all}
 use Rattle.std.proofs.Math.Numerals.{one-add}
 use Rattle.std.proofs.Math.Seq.{take-append-add}
-use Rattle.kernel_calls.specs.State.{State, open_with}
+use Rattle.process_table.specs.State.{State, open_with}
 use Rattle.kernel_calls.specs.Machine.{answer, answers, next, end_of}
 use Rattle.kernel_calls.specs.declared.calls.Event.{Event}
 use Rattle.tower.specs.declared.faults.ScriptFault.{ScriptFault}

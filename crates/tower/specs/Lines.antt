@@ -7,7 +7,7 @@ use Rattle.std.specs.Str.{bytes_eq}
 use Rattle.page_words.specs.declared.addresses.Size.{Size}
 use Rattle.page_words.specs.declared.addresses.Size.TheVariants.{One, Four}
 use Rattle.kernel_calls.specs.declared.calls.Call.{Call}
-use Rattle.kernel_calls.specs.declared.calls.Call.TheVariants.{Load, Store, Map, Unmap}
+use Rattle.kernel_calls.specs.declared.calls.Call.TheVariants as call
 use Rattle.kernel_calls.specs.declared.calls.Event.{Event}
 use Rattle.tower.specs.declared.lines.Line.{Line}
 use Rattle.tower.specs.declared.lines.Line.TheVariants as line
@@ -26,6 +26,10 @@ cpu_of token = below 8 (decimal_number token)
 
 abbrev pub process_of : List ℕ → Option ℕ
 process_of token = below 64 (decimal_number token)
+
+-- a number of frames that fits 32 bits
+abbrev pub quota_of : List ℕ → Option ℕ
+quota_of token = below 4294967296 (decimal_number token)
 
 abbrev pub size_of : List ℕ → Option Size
 size_of token = if bytes_eq token (codes "1") then Some One else if bytes_eq token (codes "4") then Some Four else None
@@ -55,7 +59,7 @@ load_of operands = do
   tokens ← two operands
   addr ← hexadecimal_number tokens.0
   size ← size_of tokens.1
-  Some (Load addr size)
+  Some (call.Load addr size)
 
 -- store ADDR SIZE VALUE
 unfoldable pub store_of : List (List ℕ) → Option Call
@@ -64,7 +68,7 @@ store_of operands = do
   addr ← hexadecimal_number tokens.0
   size ← size_of tokens.1
   value ← hexadecimal_number tokens.2
-  Some (Store addr size value)
+  Some (call.Store addr size value)
 
 -- map PAGE RIGHT
 unfoldable pub map_of : List (List ℕ) → Option Call
@@ -72,14 +76,83 @@ map_of operands = do
   tokens ← two operands
   page ← hexadecimal_number tokens.0
   write ← right_of tokens.1
-  Some (Map page write)
+  Some (call.Map page write)
 
 -- unmap PAGE
 unfoldable pub unmap_of : List (List ℕ) → Option Call
 unmap_of operands = do
   token ← one operands
   page ← hexadecimal_number token
-  Some (Unmap page)
+  Some (call.Unmap page)
+
+-- protect PAGE RIGHT
+unfoldable pub protect_of : List (List ℕ) → Option Call
+protect_of operands = do
+  tokens ← two operands
+  page ← hexadecimal_number tokens.0
+  write ← right_of tokens.1
+  Some (call.Protect page write)
+
+-- info PAGE
+unfoldable pub info_of : List (List ℕ) → Option Call
+info_of operands = do
+  token ← one operands
+  page ← hexadecimal_number token
+  Some (call.Info page)
+
+-- offer PAGE process RIGHT
+unfoldable pub offer_of : List (List ℕ) → Option Call
+offer_of operands = do
+  tokens ← three operands
+  page ← hexadecimal_number tokens.0
+  target ← process_of tokens.1
+  write ← right_of tokens.2
+  Some (call.Offer page target write)
+
+-- withdraw PAGE process
+unfoldable pub withdraw_of : List (List ℕ) → Option Call
+withdraw_of operands = do
+  tokens ← two operands
+  page ← hexadecimal_number tokens.0
+  target ← process_of tokens.1
+  Some (call.Withdraw page target)
+
+-- accept process PAGE PAGE: the giver, its page, and the own page
+unfoldable pub accept_of : List (List ℕ) → Option Call
+accept_of operands = do
+  tokens ← three operands
+  giver ← process_of tokens.0
+  giver_page ← hexadecimal_number tokens.1
+  page ← hexadecimal_number tokens.2
+  Some (call.Accept giver giver_page page)
+
+-- spawn N
+unfoldable pub spawn_of : List (List ℕ) → Option Call
+spawn_of operands = do
+  token ← one operands
+  quota ← quota_of token
+  Some (call.Spawn quota)
+
+-- a call without operands
+unfoldable pub alone : Call → List (List ℕ) → Option Call
+alone call [] = Some call
+alone call (token ∷ tokens) = None
+
+-- the calls of processes and their quotas
+unfoldable pub process_call_of : List ℕ → List (List ℕ) → Option Call
+process_call_of op operands =
+    if bytes_eq op (codes "spawn") then spawn_of operands else
+    if bytes_eq op (codes "exit") then alone call.Exit operands else
+    if bytes_eq op (codes "quota") then alone call.Quota operands else
+    None
+
+-- the calls of offers, and then those of processes
+unfoldable pub sharing_call_of : List ℕ → List (List ℕ) → Option Call
+sharing_call_of op operands =
+    if bytes_eq op (codes "offer") then offer_of operands else
+    if bytes_eq op (codes "withdraw") then withdraw_of operands else
+    if bytes_eq op (codes "accept") then accept_of operands else
+    process_call_of op operands
 
 -- each call by its name
 unfoldable pub call_of : List ℕ → List (List ℕ) → Option Call
@@ -88,7 +161,9 @@ call_of op operands =
     if bytes_eq op (codes "store") then store_of operands else
     if bytes_eq op (codes "map") then map_of operands else
     if bytes_eq op (codes "unmap") then unmap_of operands else
-    None
+    if bytes_eq op (codes "protect") then protect_of operands else
+    if bytes_eq op (codes "info") then info_of operands else
+    sharing_call_of op operands
 
 -- ---- Lines
 

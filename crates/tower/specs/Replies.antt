@@ -1,11 +1,11 @@
 -- The text of replies, a line for each.
-use Rattle.std.specs.Prelude.{ℕ, ◌/◌, ◌%◌, ◌^◌, List, [], ◌∷◌, ◌++◌, map, codes, decimal}
+use Rattle.std.specs.Prelude.{ℕ, Bool, true, false, ◌/◌, ◌%◌, ◌^◌, List, [], ◌∷◌, ◌++◌, map, codes, decimal}
 use Rattle.std.specs.Char.{digit_char}
 use Rattle.std.specs.List.{flat_map}
-use Rattle.kernel_calls.specs.declared.calls.Cause.{Cause}
-use Rattle.kernel_calls.specs.declared.calls.Cause.TheVariants.{NoProcess, BadPage, Misaligned, NotMapped, Mapped, Quota, Rights, SelfOffer, NoTarget, OfferPending, TooManyOffers, NoOffer, TableFull, BadQuota, HasChildren, RootExit}
+use Rattle.process_table.specs.declared.causes.Cause.{Cause}
+use Rattle.process_table.specs.declared.causes.Cause.TheVariants.{NoProcess, BadPage, Misaligned, NotMapped, Mapped, Quota, Rights, SelfOffer, NoTarget, OfferPending, TooManyOffers, NoOffer, TableFull, BadQuota, HasChildren, RootExit}
 use Rattle.kernel_calls.specs.declared.calls.Reply.{Reply}
-use Rattle.kernel_calls.specs.declared.calls.Reply.TheVariants.{Done, Value, Fault, Refused}
+use Rattle.kernel_calls.specs.declared.calls.Reply.TheVariants as reply
 
 -- eight hexadecimal digits in lower case, the highest first
 unfoldable pub eight_digits : ℕ → List ℕ
@@ -29,11 +29,23 @@ name_of BadQuota = codes "BadQuota"
 name_of HasChildren = codes "HasChildren"
 name_of RootExit = codes "RootExit"
 
+-- 1 where it is so, and 0 where not
+abbrev pub bit_of : Bool → List ℕ
+bit_of true = codes "1"
+bit_of false = codes "0"
+
+-- the four flags, one space between
+abbrev pub flags_of : Bool → Bool → Bool → Bool → List ℕ
+flags_of write may accessed dirty = bit_of write ++ codes " " ++ bit_of may ++ codes " " ++ bit_of accessed ++ codes " " ++ bit_of dirty
+
 abbrev pub reply_text : Reply → List ℕ
-reply_text Done = codes "done"
-reply_text (Value value) = codes "value " ++ eight_digits value
-reply_text (Fault addr code) = codes "fault " ++ eight_digits addr ++ codes " " ++ decimal code
-reply_text (Refused cause) = codes "refused " ++ name_of cause
+reply_text reply.Done = codes "done"
+reply_text (reply.Value value) = codes "value " ++ eight_digits value
+reply_text (reply.Child child) = codes "child " ++ decimal child
+reply_text (reply.Info write may accessed dirty holders) = codes "info " ++ flags_of write may accessed dirty ++ codes " " ++ decimal holders
+reply_text (reply.Quota quota used given) = codes "quota " ++ decimal quota ++ codes " " ++ decimal used ++ codes " " ++ decimal given
+reply_text (reply.Fault addr code) = codes "fault " ++ eight_digits addr ++ codes " " ++ decimal code
+reply_text (reply.Refused cause) = codes "refused " ++ name_of cause
 
 -- the text, and a line feed
 abbrev pub reply_line : Reply → List ℕ

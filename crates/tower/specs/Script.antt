@@ -7,7 +7,7 @@
 use Rattle.std.specs.Prelude.{ℕ, ◌+◌, Bool, true, false, not, ◌||◌, ◌==◌, nat_le, List, [], ◌∷◌, ◌++◌, length, take, filter, position, take_while, Option, None, Some, if◌then◌else◌}
 use Rattle.std.specs.Option.{option_map, option_or}
 use Rattle.std.specs.List.{slice_split, filter_map}
-use Rattle.kernel_calls.specs.State.{open_with}
+use Rattle.process_table.specs.State.{open_with}
 use Rattle.kernel_calls.specs.Machine.{answers}
 use Rattle.kernel_calls.specs.declared.calls.Event.{Event}
 use Rattle.tower.specs.declared.faults.ScriptFault.{ScriptFault}

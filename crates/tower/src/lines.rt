@@ -23,7 +23,7 @@ pub enum Line {
 }
 
 // The clauses' words on lines name `Line`, and so stand below it.
-ghost use Rattle.tower.specs.Lines.{one, two, three, cpu_of, process_of, size_of, right_of, load_of, store_of, map_of, unmap_of, call_of, event_of, line_of};
+ghost use Rattle.tower.specs.Lines.{one, two, three, cpu_of, process_of, size_of, right_of, quota_of, load_of, store_of, map_of, unmap_of, protect_of, info_of, offer_of, withdraw_of, accept_of, spawn_of, alone, process_call_of, sharing_call_of, call_of, event_of, line_of};
 
 /// A CPU's number, 0 to 7 in decimal.
 fn cpu_of(token: &[u8]) -> Option<u8>
@@ -40,6 +40,18 @@ fn process_of(token: &[u8]) -> Option<Pid>
     let number = decimal(token)?;
     if number < 64 {
         Pid::new(number as u8)
+    } else {
+        None
+    }
+}
+
+/// A number of frames in decimal, at most 4,294,967,295.
+fn quota_of(token: &[u8]) -> Option<u32>
+    ensures { result ≡ quota_of token.now }
+{
+    let number = decimal(token)?;
+    if number < 4_294_967_296 {
+        Some(number as u32)
     } else {
         None
     }
@@ -149,6 +161,121 @@ fn unmap_of(operands: &[u8]) -> Option<Call>
     Some(Call::Unmap { page })
 }
 
+/// `protect PAGE RIGHT`.
+#[tactic(auto, unfolding(crate::specs::Lines::protect_of))]
+fn protect_of(operands: &[u8]) -> Option<Call>
+    ensures { result ≡ protect_of (tokens_of operands.now) }
+{
+    let (page, right) = two(operands)?;
+    let page = Page(hexadecimal(page)?);
+    let write = right_of(right)?;
+    Some(Call::Protect { page, write })
+}
+
+/// `info PAGE`.
+#[tactic(auto, unfolding(crate::specs::Lines::info_of))]
+fn info_of(operands: &[u8]) -> Option<Call>
+    ensures { result ≡ info_of (tokens_of operands.now) }
+{
+    let page = Page(hexadecimal(one(operands)?)?);
+    Some(Call::Info { page })
+}
+
+/// `offer PAGE process RIGHT`.
+#[tactic(auto, unfolding(crate::specs::Lines::offer_of))]
+fn offer_of(operands: &[u8]) -> Option<Call>
+    ensures { result ≡ offer_of (tokens_of operands.now) }
+{
+    let (page, target, right) = three(operands)?;
+    let page = Page(hexadecimal(page)?);
+    let target = process_of(target)?;
+    let write = right_of(right)?;
+    Some(Call::Offer {
+        page,
+        target,
+        write,
+    })
+}
+
+/// `withdraw PAGE process`.
+#[tactic(auto, unfolding(crate::specs::Lines::withdraw_of))]
+fn withdraw_of(operands: &[u8]) -> Option<Call>
+    ensures { result ≡ withdraw_of (tokens_of operands.now) }
+{
+    let (page, target) = two(operands)?;
+    let page = Page(hexadecimal(page)?);
+    let target = process_of(target)?;
+    Some(Call::Withdraw { page, target })
+}
+
+/// `accept process PAGE PAGE`: the giver, its page, and the own page.
+#[tactic(auto, unfolding(crate::specs::Lines::accept_of))]
+fn accept_of(operands: &[u8]) -> Option<Call>
+    ensures { result ≡ accept_of (tokens_of operands.now) }
+{
+    let (giver, giver_page, page) = three(operands)?;
+    let giver = process_of(giver)?;
+    let giver_page = Page(hexadecimal(giver_page)?);
+    let page = Page(hexadecimal(page)?);
+    Some(Call::Accept {
+        giver,
+        giver_page,
+        page,
+    })
+}
+
+/// `spawn N`.
+#[tactic(auto, unfolding(crate::specs::Lines::spawn_of))]
+fn spawn_of(operands: &[u8]) -> Option<Call>
+    ensures { result ≡ spawn_of (tokens_of operands.now) }
+{
+    let quota = quota_of(one(operands)?)?;
+    Some(Call::Spawn { quota })
+}
+
+/// A call without operands.
+#[tactic(auto, unfolding(crate::specs::Lines::alone))]
+fn alone(call: Call, operands: &[u8]) -> Option<Call>
+    ensures { result ≡ alone call (tokens_of operands.now) }
+{
+    match first_token(operands) {
+        None => Some(call),
+        Some(_) => None,
+    }
+}
+
+/// A call of processes and their quotas.
+#[tactic(auto, unfolding(crate::specs::Lines::process_call_of))]
+fn process_call_of(op: &[u8], operands: &[u8]) -> Option<Call>
+    ensures { result ≡ process_call_of op.now (tokens_of operands.now) }
+{
+    if is_word(op, "spawn") {
+        spawn_of(operands)
+    } else if is_word(op, "exit") {
+        alone(Call::Exit, operands)
+    } else if is_word(op, "quota") {
+        alone(Call::Quota, operands)
+    } else {
+        None
+    }
+}
+
+/// A call of offers, or one of processes.
+#[tactic(auto, unfolding(crate::specs::Lines::sharing_call_of))]
+fn sharing_call_of(op: &[u8], operands: &[u8]) -> Option<Call>
+    ensures { result ≡ sharing_call_of op.now (tokens_of operands.now) }
+{
+    if is_word(op, "offer") {
+        offer_of(operands)
+    } else if is_word(op, "withdraw") {
+        withdraw_of(operands)
+    } else if is_word(op, "accept") {
+        accept_of(operands)
+    } else {
+        process_call_of(op, operands)
+    }
+}
+
 /// The call of that name, with these operands.
 #[tactic(auto, unfolding(crate::specs::Lines::call_of))]
 fn call_of(op: &[u8], operands: &[u8]) -> Option<Call>
@@ -162,8 +289,12 @@ fn call_of(op: &[u8], operands: &[u8]) -> Option<Call>
         map_of(operands)
     } else if is_word(op, "unmap") {
         unmap_of(operands)
+    } else if is_word(op, "protect") {
+        protect_of(operands)
+    } else if is_word(op, "info") {
+        info_of(operands)
     } else {
-        None
+        sharing_call_of(op, operands)
     }
 }
 

@@ -3,7 +3,7 @@
 ghost use Rattle.std.specs.Prelude.{◌≡◌, ◌+◌, ◌≤◌, ◌<◌, ◌^◌, ◌%◌, ◌++◌, [], ◌∷◌, length, decimal};
 ghost use Rattle.std.specs.Char.{digit_char};
 ghost use Rattle.arrayvec.specs.ArrayVec.{array_vec_len};
-ghost use Rattle.tower.specs.Replies.{eight_digits, name_of, reply_text, reply_line};
+ghost use Rattle.tower.specs.Replies.{eight_digits, name_of, bit_of, flags_of, reply_text, reply_line};
 
 use arrayvec::ArrayVec;
 use kernel_calls::{Cause, Reply};
@@ -94,6 +94,29 @@ fn name_of(cause: Cause) -> &'static str
     }
 }
 
+/// 1 where it is so, and 0 where not.
+fn bit_of(flag: bool) -> &'static str
+    ensures value { result.now ≡ bit_of flag }
+    ensures short { length result.now ≡ 1 }
+{
+    if flag { "1" } else { "0" }
+}
+
+/// The four flags, one space between.
+fn push_flags(line: &mut ReplyLine, write: bool, may: bool, accessed: bool, dirty: bool)
+    requires { array_vec_len line.old + 7 ≤ 64 }
+    ensures items { line.new.items ≡ line.old.items ++ flags_of write may accessed dirty }
+    ensures len { array_vec_len line.new ≡ array_vec_len line.old + 7 }
+{
+    push_word(line, bit_of(write));
+    push_word(line, " ");
+    push_word(line, bit_of(may));
+    push_word(line, " ");
+    push_word(line, bit_of(accessed));
+    push_word(line, " ");
+    push_word(line, bit_of(dirty));
+}
+
 /// What a reply says, without the line feed.
 #[tactic(auto, using(crate::proofs::ReplyLemmas::short_decimal))]
 fn push_text(line: &mut ReplyLine, reply: &Reply)
@@ -106,6 +129,30 @@ fn push_text(line: &mut ReplyLine, reply: &Reply)
         Reply::Value(value) => {
             push_word(line, "value ");
             push_eight_digits(line, value);
+        }
+        Reply::Child(child) => {
+            push_word(line, "child ");
+            push_decimal(line, u32::from(child.number()));
+        }
+        Reply::Info {
+            write,
+            may,
+            accessed,
+            dirty,
+            holders,
+        } => {
+            push_word(line, "info ");
+            push_flags(line, write, may, accessed, dirty);
+            push_word(line, " ");
+            push_decimal(line, holders);
+        }
+        Reply::Quota { quota, used, given } => {
+            push_word(line, "quota ");
+            push_decimal(line, quota);
+            push_word(line, " ");
+            push_decimal(line, used);
+            push_word(line, " ");
+            push_decimal(line, given);
         }
         Reply::Fault { addr, code } => {
             push_word(line, "fault ");

@@ -2,7 +2,7 @@
 
 ghost use Rattle.std.specs.Prelude.{◌≡◌, ℕ, ◌≤◌, ◌↔◌, IsErrOf, IfOk, IfErr, OnOk, IfSome, None};
 ghost use Rattle.std.specs.Io.KnownBytes.{Appends};
-ghost use Rattle.kernel_calls.specs.State.{open_with};
+ghost use Rattle.process_table.specs.State.{open_with};
 ghost use Rattle.kernel_calls.specs.Machine.{end_of};
 ghost use Rattle.tower.specs.Script.{events_of, fault_of, replies_text};
 ghost use Rattle.tower.specs.Progress.{EndsBy};

@@ -128,3 +128,18 @@ fn refused_number(reply: Reply) -> u8 {
         _ => 0,
     }
 }
+
+/// `rt try --test --fail-alloc N` refuses the Nth allocation of this test alone, and each is one
+/// of `boot`. A boot that meets it answers NoMemory, the same call with memory then boots, and a
+/// line is printed that says so.
+#[test]
+fn boots_after_want_of_memory(rt: HostRuntime) -> Result<(), Fail> {
+    let first = Core::boot(rt.alloc(), 16).map(|core| core.frames());
+    if first.is_err() {
+        assert_eq!(rt; first, Err(BootFault::NoMemory));
+        let again = Core::boot(rt.alloc(), 16).map(|core| core.frames());
+        assert_eq!(rt; again, Ok(16));
+        println!(rt; "NoMemory, and then a core")?;
+    }
+    Ok(())
+}

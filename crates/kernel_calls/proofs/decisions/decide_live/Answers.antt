@@ -4,7 +4,7 @@ use Rattle.page_words.specs.FiniteMap as map
 use Rattle.address_space.specs.Spaces.{cost}
 use Rattle.process_table.specs.State.{State, container_of}
 use Rattle.kernel_calls.specs.Decisions.{tested, spawned}
-use Rattle.kernel_calls.proofs.Decided.{decided-map, decided-spawn, used-container}
+use Rattle.kernel_calls.proofs.Decided.{decided-map, decided-protect, decided-offer, decided-spawn, used-container}
 use Rattle.kernel_calls.proofs.decisions.decide_live.Goals as goal
 
 pub returns-in-Map : goal.returns-in-Map
@@ -20,3 +20,17 @@ returns-in-Spawn c =
     let e = c.args.event.now in
     c.child_or_refused.ensures ∙ ap (λ t. spawned e t c.args.container.now.used) c.can_spawn.ensures
     ∙ decided-spawn s e c.in-Spawn.quota c.args.container.now.used c.in-Spawn.is c.requires.live (used-container s e.pid c.args.container.now c.requires.container)
+
+pub returns-in-Protect : goal.returns-in-Protect
+returns-in-Protect c =
+    let s = c.args.processes.now.state in
+    let e = c.args.event.now in
+    c.done_or_refused-in-Protect.ensures ∙ ap (λ t. tested e t c.args.container.now.used) c.can_protect.ensures
+    ∙ decided-protect s e c.in-Protect.page c.in-Protect.write c.args.container.now.used c.in-Protect.is c.requires.live (used-container s e.pid c.args.container.now c.requires.container)
+
+pub returns-in-Offer : goal.returns-in-Offer
+returns-in-Offer c =
+    let s = c.args.processes.now.state in
+    let e = c.args.event.now in
+    c.done_or_refused-in-Offer.ensures ∙ ap (λ t. tested e t c.args.container.now.used) c.can_offer.ensures
+    ∙ decided-offer s e c.in-Offer.page c.in-Offer.target c.in-Offer.write c.args.container.now.used c.in-Offer.is c.requires.live (used-container s e.pid c.args.container.now c.requires.container)
