@@ -1,3 +1,5 @@
 pub mod Decisions
 pub mod Machine
+pub mod WorkedProcesses
 pub mod WorkedRuns
+pub mod WorkedSharing

@@ -14,4 +14,4 @@ pub use calls::{Call, Decision, Event, Reply};
 pub use fault_handler::Plan;
 pub use kernel::{BootFault, Core};
 pub use process_table::Cause;
-pub use rows::worked_runs;
+pub use rows::{worked_runs, worked_runs_of_processes, worked_runs_of_sharing};

@@ -10,5 +10,23 @@ returns-clause-map_store_load c = refl
 pub returns-clause-one_process_fills_up : goal.returns-clause-one_process_fills_up
 returns-clause-one_process_fills_up c = refl
 
+pub returns-clause-one_process_is_full : goal.returns-clause-one_process_is_full
+returns-clause-one_process_is_full c = refl
+
 pub returns-clause-frames_come_back : goal.returns-clause-frames_come_back
 returns-clause-frames_come_back c = refl
+
+pub returns-clause-user_range_edges : goal.returns-clause-user_range_edges
+returns-clause-user_range_edges c = refl
+
+pub returns-clause-demand_zero : goal.returns-clause-demand_zero
+returns-clause-demand_zero c = refl
+
+pub returns-clause-table_is_charged : goal.returns-clause-table_is_charged
+returns-clause-table_is_charged c = refl
+
+pub returns-clause-unmap_returns_table : goal.returns-clause-unmap_returns_table
+returns-clause-unmap_returns_table c = refl
+
+pub returns-clause-malformed_line : goal.returns-clause-malformed_line
+returns-clause-malformed_line c = refl
