@@ -9,7 +9,7 @@
 ghost use Rattle.std.specs.Prelude.{◌≡◌, ◌≢◌, ◌↔◌, IfOk, IsErrOf, replicate, ℕ, ◌+◌, ◌*◌, ◌<◌, ◌≤◌, ◌%◌, Some, None, length, slice_get, slice_set, is_some, true, false};
 ghost use Rattle.page_words.specs.Addresses.{slot_number, page_number, offset_number, byte_count, IsUserPage};
 ghost use Rattle.phys_memory.specs.Bytes.{blank_bytes, frame_bytes, with_frame};
-ghost use Rattle.alloc_table.specs.Roles.{free_frames, CanBeTaken, IsTaken, IsPageBelow, IsInUse, opening_roles};
+ghost use Rattle.alloc_table.specs.Roles.{free_frames, frames_in_use, CanBeTaken, IsTaken, IsPageBelow, IsInUse, opening_roles};
 ghost use Rattle.page_map.specs.Entries.{table_of, entry_at, IsPageMap};
 ghost use Rattle.page_words.specs.FiniteMap as map;
 ghost use Rattle.address_space.specs.Spaces.{need, fresh, joined, stored, write_at, bytes_of, without, slot_at, value_of, bytes_at, cell_or_fresh, accessed, protected, cost, is_slot, is_of};
@@ -733,7 +733,8 @@ impl Spaces {
         self.frames.role(frame)
     }
 
-    /// What memory's own words say of these spaces, and that their costs leave frame 0 alone. It
+    /// What memory's own words say of these spaces, that their costs leave frame 0 alone, and that no more
+    /// frames are in use than they cost. It
     /// computes nothing.
     pub fn stands(&self)
         ensures image { StandsFor (record { directories = self.now.directories; bytes = self.now.bytes; roles = self.now.roles }) self.now.spaces }
@@ -741,6 +742,7 @@ impl Spaces {
         ensures costs { 1 + total_cost self.now.directories self.now.spaces ≤ length self.now.roles }
         ensures each { (p : ℕ) → is_some (directory_of self.now.directories p) ≡ true → 1 + cost self.now.spaces p ≤ length self.now.roles }
         ensures few { length self.now.roles ≤ 4096 }
+        ensures used { frames_in_use self.now.roles ≤ total_cost self.now.directories self.now.spaces }
         ensures lone { is_some (directory_of self.now.directories 0) ≡ true → ((p : ℕ) → p ≢ 0 → directory_of self.now.directories p ≡ None) → total_cost self.now.directories self.now.spaces ≡ cost self.now.spaces 0 }
     {
         let _ = &self.memory;

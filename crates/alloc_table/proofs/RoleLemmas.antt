@@ -4,7 +4,7 @@ use Rattle.std.specs.Prelude.{slice_get, slice_set, set, nat_lt}
 use Rattle.std.proofs.lemmas.List.Sums.{sum_by-cons, sum_by-set}
 use Rattle.std.proofs.lemmas.Option.{get_or_from_slice_get, slice_get_within}
 use Rattle.std.proofs.lemmas.Bool.Decides.{nat_tests}
-use Rattle.alloc_table.specs.Roles.{is_free, free_frames, frames_weight, weight, IsTaken, IsHeld, IsReleased, released}
+use Rattle.alloc_table.specs.Roles.{is_free, is_in_use, free_frames, frames_in_use, frames_weight, weight, IsTaken, IsHeld, IsReleased, released}
 use Rattle.alloc_table.specs.declared.Role.{Role}
 use Rattle.alloc_table.specs.declared.Role.TheVariants.{Reserved, Free, Directory, Table, Page}
 
@@ -80,6 +80,35 @@ free-by-weight (r ∷ rs) held =
     one (Directory pid) h = omega arith
     one (Table pid slot) h = omega arith
     one (Page count) h = let x = h count refl in omega arith
+
+-- frames in use weigh at least 1 each
+in-use-by-weight : (roles : List Role) → ((i c : ℕ) → slice_get roles i ≡ Some (Page c) → 0 < c) → frames_in_use roles ≤ frames_weight roles
+in-use-by-weight [] held = omega arith
+in-use-by-weight (r ∷ rs) held =
+    let a = sum_by-cons (λ x. counted (is_in_use x)) r rs in
+    let b = sum_by-cons weight r rs in
+    let rest = in-use-by-weight rs (λ i c is. held (suc i) c is) in
+    let this = one r (λ c is. held 0 c (ap Some is)) in
+    omega (arith, a, b, rest, this)
+  where
+    one : (r : Role) → ((c : ℕ) → r ≡ Page c → 0 < c) → counted (is_in_use r) ≤ weight r
+    one Reserved h = omega arith
+    one Free h = omega arith
+    one (Directory pid) h = omega arith
+    one (Table pid slot) h = omega arith
+    one (Page c) h = let less = h c refl in omega (arith, less)
+
+-- and frame 0, which is reserved, weighs 1 too
+pub in-use-and-reserved : (roles : List Role) → slice_get roles 0 ≡ Some Reserved → ((i c : ℕ) → slice_get roles i ≡ Some (Page c) → 0 < c) → frames_in_use roles + 1 ≤ frames_weight roles
+in-use-and-reserved [] first held = cc
+in-use-and-reserved (r ∷ rs) first held =
+    let is : r ≡ Reserved = cc in
+    let a = sum_by-cons (λ x. counted (is_in_use x)) r rs in
+    let b = sum_by-cons weight r rs in
+    let c = ap (λ x. counted (is_in_use x)) is in
+    let d = ap weight is in
+    let rest = in-use-by-weight rs (λ i c is. held (suc i) c is) in
+    omega (arith, a, b, c, d, rest)
 
 pub weight-held : (old new : List Role) (f : ℕ) → IsHeld old f new → frames_weight new ≡ frames_weight old + 1
 weight-held old new f h =

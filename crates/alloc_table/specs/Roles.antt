@@ -58,6 +58,10 @@ is_in_use (Directory pid) = true
 is_in_use (Table pid slot) = true
 is_in_use (Page count) = true
 
+-- how many frames are directories, tables or pages
+abbrev pub frames_in_use : List Role → ℕ
+frames_in_use roles = count_by is_in_use roles
+
 -- the frame is a directory, a table or a page
 pub record IsInUse (roles : List Role) (frame : ℕ) : Type 0 where
   pub role : Role

@@ -1,5 +1,7 @@
 use Rattle.std.proofs.Common.{◌≡◌, ◌≢◌, ℕ, ◌+◌, ◌≤◌, subst, arith, true, None}
 use Rattle.std.specs.Prelude.{length, is_some}
+use Rattle.alloc_table.specs.Roles.{frames_in_use}
+use Rattle.alloc_table.proofs.RoleLemmas.{in-use-and-reserved}
 use Rattle.address_space.specs.Image.{StandsFor}
 use Rattle.address_space.specs.Sound.{View, total_cost, directory_of, spaces_in}
 use Rattle.address_space.specs.Spaces.{cost}
@@ -34,3 +36,12 @@ pub returns-clause-walks : goal.returns-clause-walks
 returns-clause-walks c =
     subst (λ (v : View). WalksAgree (record { directories = v.directories; bytes = v.bytes; roles = v.roles }) v.spaces) c.self.view_is
     (walks_agree c.self.inside.directories c.self.inside.memory c.self.inside.frames c.self.invariant)
+
+pub returns-clause-used : goal.returns-clause-used
+returns-clause-used c =
+    let kept = c.self.invariant in
+    subst (λ (v : View). frames_in_use v.roles ≤ total_cost v.directories v.spaces) c.self.view_is
+    (less _ _ _ (in-use-and-reserved c.self.inside.frames kept.sound.tables.zero_role (λ f count is. (kept.sound.pages.counts f count is).0)) kept.weighs)
+  where
+    less : (n w t : ℕ) → n + 1 ≤ w → w ≤ 1 + t → n ≤ t
+    less n w t a b = omega arith
