@@ -1,5 +1,7 @@
 use super::*;
+use address_space::Cell;
 use page_words::{Page, Pid, Size, Vaddr, in_user_range, page_of};
+use quota_tree::Container;
 use std::process::Abort;
 use std::test::Fail;
 use table_walk::Access;
@@ -41,6 +43,11 @@ fn offer(
     processes.offer(pid, page, target, write);
 }
 
+fn withdraw(rt: &impl Abort, processes: &mut Processes, pid: Pid, page: Page, target: Pid) {
+    assert!(rt; processes.can_withdraw(pid, page, target).is_ok());
+    processes.withdraw(pid, page, target);
+}
+
 fn accept(
     rt: &impl Abort,
     processes: &mut Processes,
@@ -61,6 +68,18 @@ fn spawn(rt: &impl Abort, processes: &mut Processes, pid: Pid, quota: u32) -> Pi
 fn exit(rt: &impl Abort, processes: &mut Processes, pid: Pid) {
     assert!(rt; processes.can_exit(pid).is_ok());
     processes.exit(pid);
+}
+
+fn container(rt: &impl Abort, processes: &Processes, pid: Pid) -> Container {
+    processes.container(pid).expect(rt, "a live process")
+}
+
+fn cell(rt: &impl Abort, processes: &Processes, pid: Pid, page: Page) -> Cell {
+    assert!(rt; in_user_range(page));
+    processes
+        .spaces()
+        .cell(pid, page)
+        .expect(rt, "a mapped page")
 }
 
 fn load(rt: &impl Abort, processes: &mut Processes, pid: Pid, address: Vaddr) -> u32 {
@@ -86,7 +105,7 @@ fn store(rt: &impl Abort, processes: &mut Processes, pid: Pid, address: Vaddr, v
 }
 
 #[test]
-fn takes_16_to_4096_frames(rt: HostRuntime) {
+fn takes_16_to_4096_frames(rt: HostRuntime) -> Result<(), Fail> {
     for frames in [15, 4097] {
         let refused = matches!(
             Processes::new(rt.alloc(), frames),
@@ -94,30 +113,39 @@ fn takes_16_to_4096_frames(rt: HostRuntime) {
         );
         assert!(rt; refused);
     }
-    let quota = Processes::new(rt.alloc(), 4096).map(|processes| processes
-        .container(process(&rt, 0))
-        .map(|root| root.quota));
-    assert_eq!(rt; quota, Ok(Some(4095)));
+    let processes = Processes::new(rt.alloc(), 4096)?;
+    assert_eq!(rt; container(&rt, &processes, process(&rt, 0)).quota, 4095);
+    images_stand_for_one();
+    calls_keep_states_well_formed();
+    processes.stands();
+    Ok(())
 }
 
 #[test]
 fn refuses_a_map_and_an_unmap_in_order(rt: HostRuntime) -> Result<(), Fail> {
     let mut processes = Processes::new(rt.alloc(), 16)?;
     let (root, nobody) = (process(&rt, 0), process(&rt, 9));
-    assert!(rt; !processes.live(nobody));
-    assert_eq!(rt; processes.can_map(nobody, OUTSIDE), Err(Cause::NoProcess));
-    assert_eq!(rt; processes.can_map(root, OUTSIDE), Err(Cause::BadPage));
-    assert_eq!(rt; processes.can_map(root, Page(0xf0000)), Err(Cause::BadPage));
-    assert_eq!(rt; processes.can_unmap(nobody, OUTSIDE), Err(Cause::NoProcess));
-    assert_eq!(rt; processes.can_unmap(root, OUTSIDE), Err(Cause::BadPage));
-    assert_eq!(rt; processes.can_unmap(root, LOW), Err(Cause::NotMapped));
     assert_eq!(rt; processes.can_map(root, LOW), Ok(3));
     for page in 0x40000..0x4000d {
         map(&rt, &mut processes, root, Page(page), true);
     }
-    assert_eq!(rt; processes.can_map(root, LOW), Err(Cause::Mapped));
-    assert_eq!(rt; processes.can_map(root, Page(0x4000d)), Err(Cause::Quota));
-    assert_eq!(rt; processes.can_unmap(root, LOW), Ok(14));
+    for (pid, page, want) in [
+        (nobody, OUTSIDE, Err(Cause::NoProcess)),
+        (root, OUTSIDE, Err(Cause::BadPage)),
+        (root, Page(0xf0000), Err(Cause::BadPage)),
+        (root, LOW, Err(Cause::Mapped)),
+        (root, Page(0x4000d), Err(Cause::Quota)),
+    ] {
+        assert_eq!(rt; processes.can_map(pid, page), want);
+    }
+    for (pid, page, want) in [
+        (nobody, OUTSIDE, Err(Cause::NoProcess)),
+        (root, OUTSIDE, Err(Cause::BadPage)),
+        (root, Page(0x4000d), Err(Cause::NotMapped)),
+        (root, LOW, Ok(14)),
+    ] {
+        assert_eq!(rt; processes.can_unmap(pid, page), want);
+    }
     unmap(&rt, &mut processes, root, LOW);
     assert_eq!(rt; processes.can_map(root, LOW), Ok(15));
     assert_eq!(rt; processes.can_map(root, Page(0x40400)), Err(Cause::Quota));
@@ -125,12 +153,16 @@ fn refuses_a_map_and_an_unmap_in_order(rt: HostRuntime) -> Result<(), Fail> {
 }
 
 #[test]
-fn refuses_a_spawn_in_order(rt: HostRuntime) -> Result<(), Fail> {
+fn refuses_a_spawn_in_order_and_reuses_the_least_number(rt: HostRuntime) -> Result<(), Fail> {
     let mut processes = Processes::new(rt.alloc(), 128)?;
-    let (root, fifth, nobody) = (process(&rt, 0), process(&rt, 5), process(&rt, 9));
-    assert_eq!(rt; processes.can_spawn(nobody, 0), Err(Cause::NoProcess));
-    assert_eq!(rt; processes.can_spawn(root, 0), Err(Cause::BadQuota));
-    assert_eq!(rt; processes.can_spawn(root, 127), Err(Cause::Quota));
+    let (root, fifth) = (process(&rt, 0), process(&rt, 5));
+    for (pid, quota, want) in [
+        (fifth, 0, Err(Cause::NoProcess)),
+        (root, 0, Err(Cause::BadQuota)),
+        (root, 127, Err(Cause::Quota)),
+    ] {
+        assert_eq!(rt; processes.can_spawn(pid, quota), want);
+    }
     for number in 1..64 {
         assert_eq!(rt; spawn(&rt, &mut processes, root, 2), process(&rt, number));
     }
@@ -138,8 +170,6 @@ fn refuses_a_spawn_in_order(rt: HostRuntime) -> Result<(), Fail> {
     assert_eq!(rt; processes.can_spawn(root, 127), Err(Cause::TableFull));
     exit(&rt, &mut processes, process(&rt, 60));
     exit(&rt, &mut processes, fifth);
-    assert_eq!(rt; processes.can_spawn(root, 3), Ok(fifth));
-    assert_eq!(rt; processes.can_spawn(root, 5), Err(Cause::Quota));
     assert_eq!(rt; spawn(&rt, &mut processes, root, 3), fifth);
     Ok(())
 }
@@ -147,81 +177,72 @@ fn refuses_a_spawn_in_order(rt: HostRuntime) -> Result<(), Fail> {
 #[test]
 fn refuses_an_exit_in_order_and_returns_its_quota(rt: HostRuntime) -> Result<(), Fail> {
     let mut processes = Processes::new(rt.alloc(), 32)?;
-    let (root, nobody) = (process(&rt, 0), process(&rt, 9));
+    let root = process(&rt, 0);
     let child = spawn(&rt, &mut processes, root, 20);
     let grandchild = spawn(&rt, &mut processes, child, 10);
     map(&rt, &mut processes, grandchild, LOW, true);
-    assert_eq!(rt; processes.can_exit(nobody), Err(Cause::NoProcess));
-    assert_eq!(rt; processes.can_exit(root), Err(Cause::RootExit));
-    assert_eq!(rt; processes.can_exit(child), Err(Cause::HasChildren));
-    assert_eq!(rt; processes.can_exit(grandchild), Ok(0));
+    for (pid, want) in [
+        (process(&rt, 9), Err(Cause::NoProcess)),
+        (root, Err(Cause::RootExit)),
+        (child, Err(Cause::HasChildren)),
+        (grandchild, Ok(0)),
+    ] {
+        assert_eq!(rt; processes.can_exit(pid), want);
+    }
     assert_eq!(rt; processes.can_spawn(child, 10), Err(Cause::Quota));
-    assert_eq!(rt; processes.container(child).map(|one| one.given), Some(10));
+    assert_eq!(rt; container(&rt, &processes, child).given, 10);
     exit(&rt, &mut processes, grandchild);
     assert!(rt; !processes.live(grandchild));
-    assert_eq!(rt; processes.container(child).map(|one| one.given), Some(0));
+    assert_eq!(rt; container(&rt, &processes, child).given, 0);
     assert_eq!(rt; processes.can_spawn(child, 19), Ok(grandchild));
-    exit(&rt, &mut processes, child);
-    assert_eq!(rt; processes.container(root).map(|one| one.given), Some(0));
-    assert_eq!(rt; processes.can_spawn(root, 30), Ok(child));
     Ok(())
 }
 
 #[test]
 fn refuses_an_offer_in_order(rt: HostRuntime) -> Result<(), Fail> {
-    let mut processes = Processes::new(rt.alloc(), 128)?;
+    let mut processes = Processes::new(rt.alloc(), 32)?;
     let (root, nobody) = (process(&rt, 0), process(&rt, 9));
-    let child = spawn(&rt, &mut processes, root, 60);
-    assert_eq!(rt;
-        processes.can_offer(nobody, OUTSIDE, nobody, true),
-        Err(Cause::NoProcess)
-    );
-    assert_eq!(rt;
-        processes.can_offer(root, OUTSIDE, root, true),
-        Err(Cause::BadPage)
-    );
-    assert_eq!(rt;
-        processes.can_offer(root, LOW, root, true),
-        Err(Cause::NotMapped)
-    );
+    let child = spawn(&rt, &mut processes, root, 10);
     map(&rt, &mut processes, root, LOW, true);
     offer(&rt, &mut processes, root, LOW, child, false);
     accept(&rt, &mut processes, child, root, LOW, HIGH);
-    assert_eq!(rt;
-        processes.can_offer(child, HIGH, child, true),
-        Err(Cause::SelfOffer)
-    );
-    assert_eq!(rt;
-        processes.can_offer(child, HIGH, nobody, true),
-        Err(Cause::NoTarget)
-    );
-    assert_eq!(rt;
-        processes.can_offer(child, HIGH, root, true),
-        Err(Cause::Rights)
-    );
-    assert_eq!(rt; processes.can_offer(child, HIGH, root, false), Ok(3));
-    for page in 0x40000..0x40020 {
-        if page != 0x40000 {
-            map(&rt, &mut processes, root, Page(page), true);
-        }
-        offer(&rt, &mut processes, root, Page(page), child, true);
+    offer(&rt, &mut processes, child, HIGH, root, false);
+    for (pid, page, target, write, want) in [
+        (nobody, OUTSIDE, nobody, true, Err(Cause::NoProcess)),
+        (child, OUTSIDE, child, true, Err(Cause::BadPage)),
+        (child, LOW, child, true, Err(Cause::NotMapped)),
+        (child, HIGH, child, true, Err(Cause::SelfOffer)),
+        (child, HIGH, nobody, true, Err(Cause::NoTarget)),
+        (child, HIGH, root, true, Err(Cause::Rights)),
+        (child, HIGH, root, false, Err(Cause::OfferPending)),
+        (root, LOW, child, true, Ok(3)),
+    ] {
+        assert_eq!(rt; processes.can_offer(pid, page, target, write), want);
     }
+    Ok(())
+}
+
+#[test]
+fn refuses_the_33rd_offer(rt: HostRuntime) -> Result<(), Fail> {
+    let mut processes = Processes::new(rt.alloc(), 64)?;
+    let root = process(&rt, 0);
+    let child = spawn(&rt, &mut processes, root, 10);
+    for number in 0x40000..0x40020 {
+        map(&rt, &mut processes, root, Page(number), true);
+        offer(&rt, &mut processes, root, Page(number), child, true);
+    }
+    let page = Page(0x40020);
+    map(&rt, &mut processes, root, page, true);
     assert_eq!(rt;
         processes.can_offer(root, LOW, child, true),
         Err(Cause::OfferPending)
     );
-    map(&rt, &mut processes, root, Page(0x40020), true);
     assert_eq!(rt;
-        processes.can_offer(root, Page(0x40020), child, true),
+        processes.can_offer(root, page, child, true),
         Err(Cause::TooManyOffers)
     );
-    assert!(rt; processes.can_withdraw(root, LOW, child).is_ok());
-    processes.withdraw(root, LOW, child);
-    assert!(rt;
-        processes
-            .can_offer(root, Page(0x40020), child, true)
-            .is_ok()
-    );
+    withdraw(&rt, &mut processes, root, LOW, child);
+    assert!(rt; processes.can_offer(root, page, child, true).is_ok());
     Ok(())
 }
 
@@ -232,46 +253,25 @@ fn refuses_a_withdrawal_and_an_accept_in_order(rt: HostRuntime) -> Result<(), Fa
     let child = spawn(&rt, &mut processes, root, 4);
     map(&rt, &mut processes, root, LOW, true);
     map(&rt, &mut processes, child, LOW, true);
-    assert_eq!(rt;
-        processes.can_withdraw(nobody, OUTSIDE, child),
-        Err(Cause::NoProcess)
-    );
-    assert_eq!(rt;
-        processes.can_withdraw(root, OUTSIDE, child),
-        Err(Cause::BadPage)
-    );
-    assert_eq!(rt;
-        processes.can_withdraw(root, LOW, child),
-        Err(Cause::NoOffer)
-    );
-    assert_eq!(rt;
-        processes.can_accept(nobody, root, LOW, OUTSIDE),
-        Err(Cause::NoProcess)
-    );
-    assert_eq!(rt;
-        processes.can_accept(child, root, LOW, OUTSIDE),
-        Err(Cause::BadPage)
-    );
-    assert_eq!(rt;
-        processes.can_accept(child, root, OUTSIDE, LOW),
-        Err(Cause::NoOffer)
-    );
     offer(&rt, &mut processes, root, LOW, child, true);
-    assert_eq!(rt;
-        processes.can_accept(child, root, LOW, LOW),
-        Err(Cause::Mapped)
-    );
-    assert_eq!(rt;
-        processes.can_accept(child, root, LOW, Page(0x40400)),
-        Err(Cause::Quota)
-    );
-    assert_eq!(rt; processes.can_accept(child, root, LOW, HIGH), Ok(4));
-    assert!(rt; processes.can_withdraw(root, LOW, child).is_ok());
-    processes.withdraw(root, LOW, child);
-    assert_eq!(rt;
-        processes.can_accept(child, root, LOW, HIGH),
-        Err(Cause::NoOffer)
-    );
+    for (pid, page, want) in [
+        (nobody, OUTSIDE, Err(Cause::NoProcess)),
+        (root, OUTSIDE, Err(Cause::BadPage)),
+        (root, HIGH, Err(Cause::NoOffer)),
+        (root, LOW, Ok(3)),
+    ] {
+        assert_eq!(rt; processes.can_withdraw(pid, page, child), want);
+    }
+    for (pid, giver_page, page, want) in [
+        (nobody, OUTSIDE, OUTSIDE, Err(Cause::NoProcess)),
+        (child, LOW, OUTSIDE, Err(Cause::BadPage)),
+        (child, OUTSIDE, LOW, Err(Cause::NoOffer)),
+        (child, LOW, LOW, Err(Cause::Mapped)),
+        (child, LOW, Page(0x40400), Err(Cause::Quota)),
+        (child, LOW, HIGH, Ok(4)),
+    ] {
+        assert_eq!(rt; processes.can_accept(pid, root, giver_page, page), want);
+    }
     Ok(())
 }
 
@@ -281,7 +281,6 @@ fn drops_offers_with_their_page_and_their_processes(rt: HostRuntime) -> Result<(
     let root = process(&rt, 0);
     let child = spawn(&rt, &mut processes, root, 10);
     map(&rt, &mut processes, root, LOW, true);
-    map(&rt, &mut processes, child, LOW, true);
     offer(&rt, &mut processes, root, LOW, child, true);
     assert_eq!(rt; processes.offers().get(root, LOW, child), Some(true));
     unmap(&rt, &mut processes, root, LOW);
@@ -290,21 +289,8 @@ fn drops_offers_with_their_page_and_their_processes(rt: HostRuntime) -> Result<(
         Err(Cause::NoOffer)
     );
     map(&rt, &mut processes, root, LOW, true);
-    assert_eq!(rt;
-        processes.can_accept(child, root, LOW, HIGH),
-        Err(Cause::NoOffer)
-    );
     offer(&rt, &mut processes, root, LOW, child, true);
-    offer(&rt, &mut processes, child, LOW, root, true);
     exit(&rt, &mut processes, child);
-    assert_eq!(rt;
-        processes.can_withdraw(root, LOW, child),
-        Err(Cause::NoOffer)
-    );
-    assert_eq!(rt;
-        processes.can_accept(root, child, LOW, HIGH),
-        Err(Cause::NoOffer)
-    );
     assert_eq!(rt; spawn(&rt, &mut processes, root, 10), child);
     assert_eq!(rt;
         processes.can_accept(child, root, LOW, HIGH),
@@ -326,11 +312,8 @@ fn shares_a_page_both_ways(rt: HostRuntime) -> Result<(), Fail> {
     assert_eq!(rt; load(&rt, &mut processes, child, here), 7);
     store(&rt, &mut processes, child, here, 0x00c0_ffee);
     assert_eq!(rt; load(&rt, &mut processes, root, there), 0x00c0_ffee);
-    assert_eq!(rt;
-        processes.spaces().cell(root, LOW).map(|cell| cell.holders),
-        Some(2)
-    );
-    assert_eq!(rt; processes.container(child).map(|one| one.used), Some(3));
+    assert_eq!(rt; cell(&rt, &processes, root, LOW).holders, 2);
+    assert_eq!(rt; container(&rt, &processes, child).used, 3);
     unmap(&rt, &mut processes, root, LOW);
     assert_eq!(rt; load(&rt, &mut processes, child, here), 0x00c0_ffee);
     Ok(())
@@ -339,39 +322,24 @@ fn shares_a_page_both_ways(rt: HostRuntime) -> Result<(), Fail> {
 #[test]
 fn keeps_a_read_only_share_read_only(rt: HostRuntime) -> Result<(), Fail> {
     let mut processes = Processes::new(rt.alloc(), 64)?;
-    let (root, nobody) = (process(&rt, 0), process(&rt, 9));
+    let root = process(&rt, 0);
     let child = spawn(&rt, &mut processes, root, 10);
-    assert_eq!(rt;
-        processes.can_protect(nobody, OUTSIDE, true),
-        Err(Cause::NoProcess)
-    );
-    assert_eq!(rt;
-        processes.can_protect(root, OUTSIDE, true),
-        Err(Cause::BadPage)
-    );
-    assert_eq!(rt;
-        processes.can_protect(root, LOW, true),
-        Err(Cause::NotMapped)
-    );
     map(&rt, &mut processes, root, LOW, false);
     protect(&rt, &mut processes, root, LOW, true);
-    store(&rt, &mut processes, root, Vaddr(0x4000_0000), 1);
+    assert!(rt; cell(&rt, &processes, root, LOW).write);
     offer(&rt, &mut processes, root, LOW, child, false);
     accept(&rt, &mut processes, child, root, LOW, LOW);
-    assert_eq!(rt; processes.can_protect(child, LOW, true), Err(Cause::Rights));
-    assert_eq!(rt; processes.can_protect(child, LOW, false), Ok(3));
+    for (pid, page, write, want) in [
+        (process(&rt, 9), OUTSIDE, true, Err(Cause::NoProcess)),
+        (root, OUTSIDE, true, Err(Cause::BadPage)),
+        (root, HIGH, true, Err(Cause::NotMapped)),
+        (child, LOW, true, Err(Cause::Rights)),
+        (child, LOW, false, Ok(3)),
+    ] {
+        assert_eq!(rt; processes.can_protect(pid, page, write), want);
+    }
     protect(&rt, &mut processes, child, LOW, false);
-    assert_eq!(rt;
-        processes.spaces().cell(child, LOW).map(|cell| cell.write),
-        Some(false)
-    );
-    protect(&rt, &mut processes, root, LOW, false);
-    protect(&rt, &mut processes, root, LOW, true);
-    assert_eq!(rt;
-        processes.spaces().cell(root, LOW).map(|cell| cell.write),
-        Some(true)
-    );
-    processes.stands();
+    assert!(rt; !cell(&rt, &processes, child, LOW).write);
     Ok(())
 }
 
@@ -386,10 +354,4 @@ fn charges_an_access_for_its_page(rt: HostRuntime) -> Result<(), Fail> {
     assert!(rt; processes.live(root));
     assert_eq!(rt; processes.access_charge(root, address, Size::Four), 3);
     Ok(())
-}
-
-#[test]
-fn goes_through_its_laws() {
-    images_stand_for_one();
-    calls_keep_states_well_formed();
 }
