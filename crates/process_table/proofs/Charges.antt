@@ -1,14 +1,11 @@
 -- What each call leaves of the charges, and that the frames it needs are there.
-use Rattle.std.proofs.Common.{◌≡◌, ◌≢◌, ℕ, ◌+◌, ◌-◌, ◌<◌, ◌≤◌, ◌==◌, Bool, true, false, cond, not, refl, sym, ap, ◌∙◌, inl, inr, Option, Some, None, unwrap_or, is_some, length, sum_by, arith}
-use Rattle.std.specs.Prelude.{if◌then◌else◌}
-use Rattle.std.specs.List.{range_with_len}
+use Rattle.std.proofs.Common.{◌≡◌, ◌≢◌, ℕ, ◌+◌, ◌<◌, ◌≤◌, ◌==◌, Bool, true, false, cond, not, refl, sym, ap, ◌∙◌, inl, inr, Option, Some, None, unwrap_or, is_some, length, arith}
 use Rattle.std.specs.Option.{option_map}
-use Rattle.std.proofs.lemmas.Bool.{cases_eq}
 use Rattle.page_words.specs.FiniteMap as map
 use Rattle.page_words.specs.FiniteMap.{same, nat_order}
 use Rattle.page_words.specs.FiniteSet as set
 use Rattle.page_words.proofs.MapLemmas.{same_or_not, same_itself, get-insert, get-retain_keys, get-map_values}
-use Rattle.address_space.specs.Spaces.{Slot, slot_order, Cell, Spaces, cost, cost_of, need, without, with_holders, is_slot, is_of}
+use Rattle.address_space.specs.Spaces.{Slot, slot_order, Cell, Spaces, cost, cost_of, without, with_holders, is_slot, is_of}
 use Rattle.address_space.specs.Sound as frames
 use Rattle.address_space.specs.Sound.{directory_of, live_cost, total_cost}
 use Rattle.address_space.proofs.Costs.{same_pages}

@@ -1,21 +1,20 @@
 -- Each call whose test passes keeps states well formed.
-use Rattle.std.proofs.Common.{◌≡◌, ◌≢◌, ℕ, ◌%◌, ◌==◌, Bool, true, false, not, refl, sym, ap, subst, ◌∙◌, Option, Some, None, inl, arith}
-use Rattle.std.specs.Prelude.{if◌then◌else◌, is_some, IsOk, nat_le, ◌&&◌}
+use Rattle.std.proofs.Common.{◌≡◌, ℕ, ◌%◌, ◌==◌, Bool, true, false, not, refl, sym, subst, Option, Some, None, inl, arith}
+use Rattle.std.specs.Prelude.{if◌then◌else◌, IsOk, nat_le, ◌&&◌}
 use Rattle.std.proofs.lemmas.Bool.Decides.{nat_tests}
 use Rattle.page_words.specs.Addresses.{IsUserPage, is_user_page, page_number, byte_count}
-use Rattle.page_words.specs.declared.addresses.Pid.{Pid}
 use Rattle.page_words.specs.declared.addresses.Size.{Size}
 use Rattle.page_words.specs.FiniteMap as map
-use Rattle.address_space.specs.Spaces.{Slot, Cell, slot_at}
+use Rattle.address_space.specs.Spaces.{slot_at}
 use Rattle.address_space.specs.Sound as frames
 use Rattle.quota_tree.specs.Containers.{Containers}
 use Rattle.page_sharing.specs.Offers.{Offers}
 use Rattle.table_walk.specs.declared.Access.{Access}
 use Rattle.table_walk.specs.declared.Access.TheVariants.{Read, Write}
 use Rattle.process_table.specs.State.{State, is_live, is_mapped, child_of}
-use Rattle.process_table.specs.Calls.{map_refusal, unmap_refusal, protect_refusal, offer_refusal, withdraw_refusal, accept_refusal, spawn_refusal, exit_refusal, after_map, after_unmap, after_protect, after_offer, after_withdraw, after_accept, after_spawn, after_exit, after_access, is_misaligned}
-use Rattle.process_table.specs.Answers.{first_cause, child_unless, map_answer, protect_answer, offer_answer, accept_answer, spawn_answer, exit_answer}
-use Rattle.process_table.specs.View.{state_of, IsProcesses, IsWhole}
+use Rattle.process_table.specs.Calls.{map_refusal, protect_refusal, offer_refusal, accept_refusal, spawn_refusal, exit_refusal, after_map, after_protect, after_offer, after_accept, after_spawn, after_exit, after_access, is_misaligned}
+use Rattle.process_table.specs.Answers.{child_unless, map_answer, protect_answer, offer_answer, accept_answer, spawn_answer, exit_answer}
+use Rattle.process_table.specs.View.{IsProcesses, IsWhole}
 use Rattle.process_table.specs.WellFormed.{IsWellFormed}
 use Rattle.process_table.specs.declared.causes.Cause.{Cause}
 use Rattle.process_table.specs.declared.causes.Cause.TheVariants.{NoProcess}

@@ -1,5 +1,5 @@
 -- What follows where a call is not refused.
-use Rattle.std.proofs.Common.{◌≡◌, ◌≢◌, ℕ, ◌+◌, ◌<◌, ◌&&◌, ◌==◌, Bool, true, false, not, refl, sym, ap, ◌∙◌, Option, Some, None, Result, Ok, Err, arith}
+use Rattle.std.proofs.Common.{◌≡◌, ◌≢◌, ℕ, ◌+◌, ◌<◌, ◌&&◌, ◌==◌, Bool, true, false, not, refl, sym, ap, ◌∙◌, Option, Some, None, Ok, arith}
 use Rattle.std.specs.Prelude.{if◌then◌else◌, is_some, IsOk, nat_le}
 use Rattle.std.proofs.lemmas.Bool.Decides.{nat_tests}
 use Rattle.page_words.specs.Addresses.{is_user_page}

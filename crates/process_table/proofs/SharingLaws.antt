@@ -1,30 +1,27 @@
 -- States stay well formed by a change of a right, and by an offer, its withdrawal and its acceptance.
-use Rattle.std.proofs.Common.{◌≡◌, ◌≢◌, ◌⊎◌, ℕ, ◌+◌, ◌<◌, ◌≤◌, ◌&&◌, ◌||◌, ◌==◌, not, Bool, true, false, cond, length, refl, sym, ap, subst, ◌∙◌, Option, Some, None, is_some, unwrap_or, arith, inl, inr}
-use Rattle.std.specs.Prelude.{IsTrue, if◌then◌else◌, nat_lt, nat_le}
+use Rattle.std.proofs.Common.{◌≡◌, ◌≢◌, ◌⊎◌, ℕ, ◌+◌, ◌<◌, ◌≤◌, ◌||◌, ◌==◌, not, Bool, true, false, cond, refl, sym, ap, subst, ◌∙◌, Option, Some, None, is_some, unwrap_or, arith, inl, inr}
+use Rattle.std.specs.Prelude.{if◌then◌else◌}
 use Rattle.std.specs.Option.{option_map}
 use Rattle.std.proofs.lemmas.Bool.{cases_eq}
-use Rattle.std.proofs.lemmas.Bool.Decides.{nat_tests}
-use Rattle.page_words.specs.Addresses.{IsUserPage, is_user_page}
+use Rattle.page_words.specs.Addresses.{IsUserPage}
 use Rattle.page_words.specs.FiniteMap as map
 use Rattle.page_words.specs.FiniteMap.{same}
 use Rattle.page_words.specs.FiniteSet as set
 use Rattle.page_words.specs.FiniteSet.{Set}
-use Rattle.page_words.proofs.MapLemmas.{same_itself, same-true, get-insert, get-map_values, contains-insert, len-insert, retain-insert, retain-insert_other, get-retain_keys}
+use Rattle.page_words.proofs.MapLemmas.{same_itself, same-true, get-insert, get-map_values, contains-insert, len-insert, retain-insert, retain-insert_other}
 use Rattle.page_words.proofs.SetLemmas.{same_cases}
-use Rattle.address_space.specs.Spaces.{Slot, slot_order, Cell, Spaces, cost, need, fresh, cell_or_fresh, with_holders, set_holders, protected, joined, join_in}
+use Rattle.address_space.specs.Spaces.{Slot, slot_order, Cell, Spaces, cost, need, fresh, cell_or_fresh, with_holders, set_holders, joined, join_in}
 use Rattle.address_space.proofs.Totals.{cost-joined, cost-joined_other}
 use Rattle.quota_tree.specs.Book.{given, quota_of}
 use Rattle.page_sharing.specs.Offers.{OfferKey, Offers, offer_order, offer_of, pending}
-use Rattle.process_table.specs.State.{State, is_live, is_mapped, has_no_room, room}
+use Rattle.process_table.specs.State.{State, is_live, has_no_room, room}
 use Rattle.process_table.specs.Calls.{at_page, protect_refusal, offer_refusal, accept_refusal, offered, after_protect, after_offer, after_withdraw, after_accept}
-use Rattle.process_table.specs.declared.causes.Cause.{Cause}
-use Rattle.process_table.specs.declared.causes.Cause.TheVariants.{BadPage, NotMapped, Mapped, Quota, Rights, SelfOffer, NoTarget, OfferPending, TooManyOffers, NoOffer}
 use Rattle.process_table.specs.WellFormed.{IsCellAt, IsOfferIn, IsWellFormed}
 use Rattle.process_table.proofs.CellLaws.{AreCells, same_Some, some_value, get-inserted, get-inserted_other}
 use Rattle.process_table.proofs.BookLaws.{retained}
 use Rattle.process_table.proofs.Refusals.{MayProtect, MayOffer, may_protect, may_offer, may_accept}
 use Rattle.process_table.proofs.Sizes.{len-retain}
-use Rattle.process_table.proofs.SpaceLaws.{not_less, no_value, user_page, with-spaces, well_formed-flags}
+use Rattle.process_table.proofs.SpaceLaws.{not_less, user_page, with-spaces, well_formed-flags}
 use borrow.Author.Tests.{eqb-true}
 
 -- ---- A change of the right to write

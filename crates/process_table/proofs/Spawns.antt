@@ -10,7 +10,6 @@ use Rattle.page_words.specs.FiniteSet as set
 use Rattle.page_words.specs.FiniteSet.{Set}
 use Rattle.page_words.proofs.MapLemmas.{same_or_not, same_itself, same_set, get-insert}
 use Rattle.address_space.specs.Spaces.{Slot, Cell, Spaces, cost, cost_of, pages_of}
-use Rattle.address_space.specs.Image as memory
 use Rattle.address_space.specs.Image.{Image, StandsFor, SlotStands, directory_at, page_word}
 use Rattle.address_space.specs.Sound as frames
 use Rattle.address_space.specs.Sound.{directory_of, live_cost, total_cost}
@@ -20,9 +19,9 @@ use Rattle.quota_tree.specs.declared.QuotaFault.TheVariants as quota
 use Rattle.quota_tree.specs.Book.{Book, Member, given, quota_of, next_number}
 use Rattle.quota_tree.specs.Containers.{Containers, IsLive, used_of, room_of, total_used, fitting, split_answer, after_split, opening}
 use Rattle.page_sharing.specs.Offers.{Offers}
-use Rattle.process_table.specs.State.{State, is_live, room, child_of}
+use Rattle.process_table.specs.State.{room, child_of}
 use Rattle.process_table.specs.Calls.{spawn_refusal}
-use Rattle.process_table.specs.Answers.{first_cause, child_unless, spawn_answer}
+use Rattle.process_table.specs.Answers.{child_unless, spawn_answer}
 use Rattle.process_table.specs.View.{state_of, IsProcesses}
 use Rattle.process_table.specs.declared.causes.Cause.{Cause}
 use Rattle.process_table.specs.declared.causes.Cause.TheVariants as cause

@@ -1,10 +1,9 @@
 -- What a machine shows outside, when that is sound, and which state it stands for.
-use Rattle.std.specs.Prelude.{◌≡◌, ◌≢◌, ℕ, ◌+◌, ◌-◌, ◌*◌, ◌<◌, ◌≤◌, ◌↔◌, ◌&&◌, ◌==◌, not, Bool, true, if◌then◌else◌, IsTrue, List, length, Option, Some, None, is_some, sum_by}
+use Rattle.std.specs.Prelude.{◌≡◌, ℕ, ◌+◌, ◌≤◌, ◌↔◌, ◌&&◌, ◌==◌, not, true, if◌then◌else◌, IsTrue, length, Option, Some, None, is_some, sum_by}
 use Rattle.std.specs.List.{range_with_len}
 use Rattle.page_words.specs.FiniteMap.{nat_order}
 use Rattle.page_words.specs.FiniteSet as set
 use Rattle.page_words.specs.FiniteSet.{Set}
-use Rattle.alloc_table.specs.declared.Role.{Role}
 use Rattle.address_space.specs.Image as memory
 use Rattle.address_space.specs.Image.{directory_at, table_at, page_word}
 use Rattle.quota_tree.specs.declared.Container.{Container}

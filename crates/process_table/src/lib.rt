@@ -10,3 +10,6 @@ mod sharing;
 pub use causes::Cause;
 pub use laws::{calls_keep_states_well_formed, images_stand_for_one};
 pub use processes::{Processes, ProcessesFault};
+
+#[cfg(test)]
+mod tests;

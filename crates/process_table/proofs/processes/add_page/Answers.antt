@@ -1,8 +1,7 @@
-use Rattle.std.proofs.Common.{◌≡◌, ◌+◌, ap, sym, subst, ◌∙◌}
-use Rattle.page_words.specs.FiniteMap as map
-use Rattle.address_space.specs.Spaces.{Slot, cost, need, fresh}
+use Rattle.std.proofs.Common.{◌+◌, ap, sym, subst, ◌∙◌}
+use Rattle.address_space.specs.Spaces.{Slot, cost, fresh}
 use Rattle.address_space.proofs.Costs.{cost-insert}
-use Rattle.quota_tree.specs.Containers.{used_of, with_used}
+use Rattle.quota_tree.specs.Containers.{used_of}
 use Rattle.process_table.specs.View.{IsProcesses}
 use Rattle.address_space.proofs.Totals.{cost-insert_other}
 use Rattle.process_table.proofs.Charges.{charged-one}

@@ -1,6 +1,5 @@
-use Rattle.std.proofs.Common.{◌≡◌, ◌≢◌, ℕ, ◌≤◌, ap, sym, subst, ◌∙◌}
+use Rattle.std.proofs.Common.{◌≡◌, ◌≤◌, ap, sym, subst, ◌∙◌}
 use Rattle.page_words.specs.FiniteMap as map
-use Rattle.address_space.specs.Sound.{directory_of}
 use Rattle.quota_tree.specs.Book.{quota_of}
 use Rattle.quota_tree.specs.Containers.{Containers, total_used, after_split}
 use Rattle.process_table.specs.View.{IsProcesses}

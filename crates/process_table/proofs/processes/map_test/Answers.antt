@@ -1,5 +1,4 @@
-use Rattle.std.proofs.Common.{◌≡◌, ◌+◌, ap, sym, ◌∙◌, true}
-use Rattle.process_table.specs.Answers.{map_answer}
+use Rattle.std.proofs.Common.{sym, ◌∙◌}
 use Rattle.process_table.specs.View.{state_of}
 use Rattle.process_table.proofs.Refusals.{map-charge}
 use Rattle.process_table.proofs.processes.map_test.Goals as goal

@@ -1,4 +1,4 @@
-use Rattle.std.proofs.Common.{◌≡◌, ◌≢◌, ℕ, ◌+◌, ◌-◌, ◌≤◌, ap, sym, ◌∙◌, length, None, arith}
+use Rattle.std.proofs.Common.{◌≡◌, ℕ, ◌+◌, ◌-◌, ◌≤◌, ap, sym, ◌∙◌, length, arith}
 use Rattle.std.specs.Prelude.{is_some}
 use Rattle.address_space.specs.Sound.{directory_of}
 use Rattle.address_space.proofs.Openings.{no_directory}

@@ -1,6 +1,6 @@
 use Rattle.std.proofs.Common.{◌≡◌, ℕ, ◌+◌, ◌-◌, ap, sym, subst, ◌∙◌, arith}
 use Rattle.address_space.specs.Spaces.{cost, without, is_slot}
-use Rattle.quota_tree.specs.Containers.{used_of, with_used}
+use Rattle.quota_tree.specs.Containers.{used_of}
 use Rattle.process_table.specs.View.{IsProcesses}
 use Rattle.process_table.proofs.Charges.{charged-one, cost-without_other, is_slot-other}
 use Rattle.process_table.proofs.processes.remove_page.Goals as goal

@@ -1,4 +1,4 @@
-use Rattle.std.proofs.Common.{◌≡◌, ap, sym, ◌∙◌, Err}
+use Rattle.std.proofs.Common.{ap, sym, ◌∙◌, Err}
 use Rattle.process_table.proofs.Spawns.{spawn-split, translated}
 use Rattle.process_table.proofs.processes.spawn_test.Goals as goal
 

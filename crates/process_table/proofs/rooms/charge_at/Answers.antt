@@ -1,6 +1,6 @@
-use Rattle.std.proofs.Common.{◌≡◌, ◌+◌, ℕ, ap, sym, ◌∙◌, Bool, true, false, Option, None, is_some}
+use Rattle.std.proofs.Common.{◌≡◌, ◌+◌, ap, sym, ◌∙◌, true, false, is_some}
 use Rattle.page_words.specs.FiniteMap as map
-use Rattle.address_space.specs.Spaces.{Cell, Spaces, slot_at, cost, need}
+use Rattle.address_space.specs.Spaces.{Spaces, slot_at, cost, need}
 use Rattle.address_space.specs.Shown.{shown}
 use Rattle.address_space.proofs.AccessCosts.{cost-accessed_mapped, cost-accessed_new}
 use Rattle.process_table.proofs.Charges.{is_some-map}

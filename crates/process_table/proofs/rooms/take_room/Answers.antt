@@ -1,8 +1,3 @@
-use Rattle.std.proofs.Common.{◌≡◌, ◌+◌, refl, ap, sym, ◌∙◌, true, subst}
-use Rattle.std.specs.Prelude.{is_some}
-use Rattle.page_words.specs.FiniteMap as map
-use Rattle.quota_tree.specs.Containers.{Containers, with_used, used_of, total_used}
-use Rattle.quota_tree.specs.Book.{quota_of}
 use Rattle.process_table.proofs.Charges.{room-taken}
 use Rattle.process_table.proofs.rooms.take_room.Goals as goal
 

@@ -1,4 +1,4 @@
-use Rattle.std.proofs.Common.{◌≡◌, ◌+◌, ap, sym, ◌∙◌, true}
+use Rattle.std.proofs.Common.{sym, ◌∙◌}
 use Rattle.process_table.specs.View.{state_of}
 use Rattle.process_table.proofs.Refusals.{accept-charge}
 use Rattle.process_table.proofs.sharing.accept_test.Goals as goal

@@ -1,7 +1,7 @@
-use Rattle.std.proofs.Common.{◌≡◌, ◌+◌, ap, sym, subst, ◌∙◌}
-use Rattle.address_space.specs.Spaces.{Slot, cost, need}
+use Rattle.std.proofs.Common.{◌+◌, ap, sym, subst, ◌∙◌}
+use Rattle.address_space.specs.Spaces.{Slot, cost}
 use Rattle.address_space.proofs.Totals.{cost-joined, cost-joined_other}
-use Rattle.quota_tree.specs.Containers.{used_of, with_used}
+use Rattle.quota_tree.specs.Containers.{used_of}
 use Rattle.process_table.specs.View.{IsProcesses}
 use Rattle.process_table.proofs.Charges.{charged-one}
 use Rattle.process_table.proofs.sharing.join_page.Goals as goal

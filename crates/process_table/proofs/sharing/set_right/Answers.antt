@@ -1,4 +1,4 @@
-use Rattle.std.proofs.Common.{◌≡◌, ap, ◌∙◌, length}
+use Rattle.std.proofs.Common.{ap, ◌∙◌, length}
 use Rattle.address_space.specs.Spaces.{cost}
 use Rattle.address_space.proofs.Totals.{cost-protected_of}
 use Rattle.process_table.proofs.Charges.{charged-same}

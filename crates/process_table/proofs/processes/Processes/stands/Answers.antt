@@ -1,7 +1,5 @@
-use Rattle.std.proofs.Common.{◌≡◌, ℕ, ◌+◌, ◌≤◌, ap, sym, subst, ◌∙◌, length, is_some}
-use Rattle.page_words.specs.FiniteMap as map
+use Rattle.std.proofs.Common.{◌+◌, ◌≤◌, ap, subst, length, is_some}
 use Rattle.address_space.specs.Walks.{WalksAgree}
-use Rattle.address_space.specs.Spaces.{cost}
 use Rattle.quota_tree.specs.Book.{given, quota_of}
 use Rattle.process_table.specs.Image.{StandsFor, image_of}
 use Rattle.process_table.specs.View.{View, view_of}
