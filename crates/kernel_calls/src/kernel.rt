@@ -5,6 +5,8 @@ ghost use Rattle.address_space.specs.Sound.{directory_of};
 ghost use Rattle.address_space.specs.Walks.{WalksAgree};
 ghost use Rattle.process_table.specs.State.{open_with, container_of};
 ghost use Rattle.process_table.specs.Image.{StandsFor, image_of};
+ghost use Rattle.process_table.specs.WellFormed.{IsWellFormed, total};
+ghost use Rattle.alloc_table.specs.Roles.{frames_in_use};
 ghost use Rattle.fault_handler.specs.Plans.{goes_on};
 ghost use Rattle.kernel_calls.specs.Machine.{answer, after, next, answers, end_of, completes};
 ghost use Rattle.kernel_calls.specs.Decisions.{decision_of, charge_after};
@@ -164,10 +166,13 @@ impl Core {
     }
 
     /// That memory's own words say what the state says, and that the processor's walk of any directory,
-    /// at any address, ends as the state says. It computes nothing.
+    /// at any address, ends as the state says; that no more frames are in use than all live processes
+    /// cost together; and that the state is well formed. It computes nothing.
     pub fn stands(&self)
         ensures image { StandsFor (image_of self.now) self.now.state }
         ensures walks { WalksAgree (image_of self.now).memory self.now.state.spaces }
+        ensures used { frames_in_use self.now.roles ≤ total self.now.state }
+        ensures well_formed { IsWellFormed self.now.state }
     {
         self.processes.stands();
     }

@@ -10,6 +10,7 @@ ghost use Rattle.process_table.specs.Calls.{at_page, map_refusal, unmap_refusal,
 ghost use Rattle.process_table.specs.Answers.{map_answer, unmap_answer, protect_answer, offer_answer, withdraw_answer, accept_answer, spawn_answer, exit_answer};
 ghost use Rattle.process_table.specs.View.{state_of, IsProcesses};
 ghost use Rattle.process_table.specs.Image.{StandsFor, image_of};
+ghost use Rattle.alloc_table.specs.Roles.{frames_in_use};
 ghost use Rattle.process_table.specs.WellFormed.{IsWellFormed, total};
 ghost use Rattle.address_space.specs.Walks.{WalksAgree};
 ghost use Rattle.quota_tree.specs.Book.{number_of_children};
@@ -585,6 +586,7 @@ impl Processes {
         ensures walks { WalksAgree (record { directories = self.now.directories; bytes = self.now.bytes; roles = self.now.roles }) self.now.state.spaces }
         ensures total { 1 + total self.now.state ≤ length self.now.roles }
         ensures few { length self.now.roles ≤ 4096 }
+        ensures used { frames_in_use self.now.roles ≤ total self.now.state }
         ensures well_formed { IsWellFormed self.now.state }
     {
         self.spaces.stands();
