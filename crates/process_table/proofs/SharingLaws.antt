@@ -64,7 +64,7 @@ few-more offers key write new few most p = by (key.offerer == p) refl
         let b = most p in
         omega (arith, a, b)
 
--- offers of other offers' slots stand as they did
+-- whether an offer is well formed does not depend on the other offers
 offer-same : (s : State) (offers : Offers) (key : OfferKey) (right : Bool) → IsOfferIn s key right → IsOfferIn (record s { offers = offers }) key right
 offer-same s offers key right old = record { target = old.target; another = old.another; offered = old.offered }
 
