@@ -6,17 +6,34 @@ use process_table::Cause;
 #[derive(Clone, Copy, Debug, PartialEq, Eq)]
 pub enum Call {
     /// Reads `size` bytes at an address, which is a multiple of the size.
-    Load { addr: Vaddr, size: Size },
+    Load {
+        addr: Vaddr,
+        size: Size,
+    },
     /// Writes the low `size` bytes of the value at an address, which is a multiple of the size.
-    Store { addr: Vaddr, size: Size, value: u32 },
+    Store {
+        addr: Vaddr,
+        size: Size,
+        value: u32,
+    },
     /// Maps a page of zeros, with the right to write as asked.
-    Map { page: Page, write: bool },
+    Map {
+        page: Page,
+        write: bool,
+    },
     /// Takes a page out of the process's space.
-    Unmap { page: Page },
+    Unmap {
+        page: Page,
+    },
     /// Sets whether the process may write to a page.
-    Protect { page: Page, write: bool },
+    Protect {
+        page: Page,
+        write: bool,
+    },
     /// Asks for a page's flags and how many slots share it.
-    Info { page: Page },
+    Info {
+        page: Page,
+    },
     /// Offers a page to another process, with the right to write or without it.
     Offer {
         page: Page,
@@ -24,7 +41,10 @@ pub enum Call {
         write: bool,
     },
     /// Takes an offer back.
-    Withdraw { page: Page, target: Pid },
+    Withdraw {
+        page: Page,
+        target: Pid,
+    },
     /// Maps a page that another process offers, where this process likes, with the offer's right.
     Accept {
         giver: Pid,
@@ -32,7 +52,9 @@ pub enum Call {
         page: Page,
     },
     /// Makes a child with that quota, in frames, and an empty space.
-    Spawn { quota: u32 },
+    Spawn {
+        quota: u32,
+    },
     /// Ends the process, whose quota returns to its parent.
     Exit,
     /// Asks for the process's quota, and how much of it is used and given.
@@ -66,9 +88,16 @@ pub enum Reply {
         holders: u32,
     },
     /// The process's quota, what it is charged for and the sum of its children's quotas, in frames.
-    Quota { quota: u32, used: u32, given: u32 },
+    Quota {
+        quota: u32,
+        used: u32,
+        given: u32,
+    },
     /// A page fault, with the processor's error code; nothing changed.
-    Fault { addr: Vaddr, code: u8 },
+    Fault {
+        addr: Vaddr,
+        code: u8,
+    },
     /// A refusal; nothing changed.
     Refused(Cause),
 }

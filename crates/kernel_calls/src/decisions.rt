@@ -128,7 +128,13 @@ fn value_by(processes: &Processes, plan: &Plan, pid: Pid, address: Vaddr, size: 
     }
 }
 
-fn decide_load(processes: &Processes, event: &Event, address: Vaddr, size: Size, used: u32) -> Decision
+fn decide_load(
+    processes: &Processes,
+    event: &Event,
+    address: Vaddr,
+    size: Size,
+    used: u32,
+) -> Decision
     requires live { is_live processes.now.state event.now.pid ≡ true }
     requires load { event.now.call ≡ call.Load address size }
     requires used { used ≡ cost processes.now.state.spaces event.now.pid }
