@@ -211,4 +211,6 @@ impl Core {
 }
 
 #[cfg(test)]
+mod machine_tests;
+#[cfg(test)]
 mod tests;
