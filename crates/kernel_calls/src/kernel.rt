@@ -216,4 +216,8 @@ impl Core {
 }
 
 #[cfg(test)]
+mod event_tests;
+#[cfg(test)]
+mod machine_tests;
+#[cfg(test)]
 mod tests;

@@ -1,0 +1,285 @@
+//! Some thousands of events of all twelve calls, and what holds of frames, charges and shares after them.
+
+use super::*;
+use page_words::{Page, Size, Vaddr};
+use std::test::Fail;
+
+/// An offer that was made, of which an event may be the answer.
+#[derive(Clone, Copy)]
+struct Made {
+    giver: Pid,
+    page: Page,
+    target: Pid,
+}
+
+/// Makes events of 8 processes in a fixed order that looks like chance.
+#[derive(Drop)]
+struct Generator {
+    seed: u32,
+    last: Made,
+}
+
+fn process(n: u32) -> Result<Pid, Fail> {
+    let number = (n % 8) as u8;
+    let pid = Pid::new(number).ok_or("no process")?;
+    Ok(pid)
+}
+
+/// One of 16 pages: four in each of four regions.
+fn page_in_play(n: u32) -> Page {
+    Page(0x40000 + n % 4 * 0x2c000 + n / 4 % 4)
+}
+
+fn address_in(page: Page, n: u32) -> Vaddr {
+    Vaddr(page.0 % 0x10_0000 * 4096 + n % 1024 * 4)
+}
+
+impl Generator {
+    fn draw(&mut self) -> u32 {
+        self.seed = self
+            .seed
+            .wrapping_mul(1_664_525)
+            .wrapping_add(1_013_904_223);
+        self.seed / 65536
+    }
+
+    fn event(&mut self) -> Result<Event, Fail> {
+        let cpu = (self.draw() % 4) as u8;
+        let mut pid = process(self.draw())?;
+        let page = page_in_play(self.draw());
+        let addr = address_in(page, self.draw());
+        let size = Size::Four;
+        let value = self.draw();
+        let write = value % 2 == 0;
+        let target = process(self.draw())?;
+        let call = match self.draw() % 64 {
+            0 | 1 | 2 | 3 | 4 | 5 | 6 | 7 => Call::Load { addr, size },
+            8 | 9 | 10 | 11 | 12 | 13 | 14 | 15 => Call::Store { addr, size, value },
+            16 | 17 | 18 | 19 | 20 | 21 => Call::Map { page, write },
+            22 | 23 | 24 | 25 | 26 => Call::Unmap { page },
+            27 | 28 | 29 | 30 => Call::Protect { page, write },
+            31 | 32 => Call::Info { page },
+            33 | 34 => {
+                pid = self.last.giver;
+                Call::Withdraw {
+                    page: self.last.page,
+                    target: self.last.target,
+                }
+            }
+            35 | 36 | 37 | 38 => Call::Spawn {
+                quota: 30 + value % 30,
+            },
+            39 => Call::Exit,
+            40 | 41 => Call::Quota,
+            42 | 43 | 44 | 45 | 46 | 47 | 48 | 49 | 50 | 51 => {
+                self.last = Made {
+                    giver: pid,
+                    page,
+                    target,
+                };
+                Call::Offer {
+                    page,
+                    target,
+                    write,
+                }
+            }
+            _ => {
+                pid = self.last.target;
+                Call::Accept {
+                    giver: self.last.giver,
+                    giver_page: self.last.page,
+                    page,
+                }
+            }
+        };
+        Ok(Event { cpu, pid, call })
+    }
+}
+
+/// How many frames directories, tables and the holders of pages come to.
+fn frames_held(core: &Core) -> u32 {
+    let mut sum = 0_u32;
+    for f in 0..core.frames() {
+        let held = match core.role(Frame(f)) {
+            Role::Reserved => 0,
+            Role::Free => 0,
+            Role::Directory { .. } => 1,
+            Role::Table { .. } => 1,
+            Role::Page { count } => count,
+        };
+        sum = sum.wrapping_add(held);
+    }
+    sum
+}
+
+/// What all live processes are charged for.
+fn charged(core: &Core) -> Result<u32, Fail> {
+    let mut sum = 0_u32;
+    for number in 0..64 {
+        let pid = Pid::new(number).ok_or("no process")?;
+        if let Some(container) = core.container(pid) {
+            sum = sum.wrapping_add(container.used);
+        }
+    }
+    Ok(sum)
+}
+
+fn info(core: &Core, pid: Pid, page: Page) -> Reply {
+    let call = Call::Info { page };
+    core.decide(&Event { cpu: 0, pid, call }).reply
+}
+
+/// How many slots are told that their page has that many holders.
+fn slots_told(core: &Core, wanted: u32) -> Result<u32, Fail> {
+    let mut slots = 0_u32;
+    for number in 0..8 {
+        let pid = process(number)?;
+        for n in 0..16 {
+            if let Reply::Info { holders, .. } = info(core, pid, page_in_play(n)) {
+                if holders == wanted {
+                    slots = slots.wrapping_add(1);
+                }
+            }
+        }
+    }
+    Ok(slots)
+}
+
+/// In no slot is the right to write set without its bound, or dirty without accessed.
+fn flags_agree(core: &Core) -> Result<bool, Fail> {
+    let mut all = true;
+    for number in 0..8 {
+        let pid = process(number)?;
+        for n in 0..16 {
+            if let Reply::Info {
+                write,
+                may,
+                accessed,
+                dirty,
+                ..
+            } = info(core, pid, page_in_play(n))
+            {
+                all = all && (!write || may) && (!dirty || accessed);
+            }
+        }
+    }
+    Ok(all)
+}
+
+/// How many frames are pages with that many holders.
+fn pages_of(core: &Core, wanted: u32) -> u32 {
+    let mut pages = 0_u32;
+    for f in 0..core.frames() {
+        if core.role(Frame(f)) == (Role::Page { count: wanted }) {
+            pages = pages.wrapping_add(1);
+        }
+    }
+    pages
+}
+
+/// For each number of holders, the frames with that many and the slots that are told that number agree.
+/// All pages that are mapped are in play, and 128 slots are.
+fn shares_agree(core: &Core) -> Result<bool, Fail> {
+    let mut all = true;
+    for holders in 1..129 {
+        all = all && slots_told(core, holders)? == holders.wrapping_mul(pages_of(core, holders));
+    }
+    Ok(all)
+}
+
+fn number_of(call: &Call) -> usize {
+    match call {
+        Call::Load { .. } => 0,
+        Call::Store { .. } => 1,
+        Call::Map { .. } => 2,
+        Call::Unmap { .. } => 3,
+        Call::Protect { .. } => 4,
+        Call::Info { .. } => 5,
+        Call::Offer { .. } => 6,
+        Call::Withdraw { .. } => 7,
+        Call::Accept { .. } => 8,
+        Call::Spawn { .. } => 9,
+        Call::Exit => 10,
+        Call::Quota => 11,
+    }
+}
+
+fn is_done(reply: &Reply) -> bool {
+    !matches!(reply, Reply::Refused(_) | Reply::Fault { .. })
+}
+
+/// Counts the events that were done, by their call.
+fn count_done(events: &[Event], replies: &[Reply], done: &mut [u32; 12]) {
+    for (event, reply) in events.iter().zip(replies.iter()) {
+        if is_done(reply) {
+            if let Some(count) = done.get_mut(number_of(&event.call)) {
+                *count = count.wrapping_add(1);
+            }
+        }
+    }
+}
+
+/// Where the last event was an offer's acceptance, both sides are told one number of holders, above 1.
+fn sides_agree(core: &Core, event: &Event, reply: Reply) -> bool {
+    match event.call {
+        Call::Accept {
+            giver,
+            giver_page,
+            page,
+        } if reply == Reply::Done => {
+            match (info(core, giver, giver_page), info(core, event.pid, page)) {
+                (Reply::Info { holders: a, .. }, Reply::Info { holders: b, .. }) => a == b && a > 1,
+                _ => false,
+            }
+        }
+        _ => true,
+    }
+}
+
+#[test]
+fn flags_shares_and_counts_agree_after_many_events(rt: HostRuntime) -> Result<(), Fail> {
+    let mut core = Core::boot(rt.alloc(), 256)?;
+    let root = process(0)?;
+    let call = Call::Spawn { quota: 30 };
+    let last = Made {
+        giver: root,
+        page: Page(0x40000),
+        target: root,
+    };
+    let mut generator = Generator { seed: 7, last };
+    let mut done = [0_u32; 12];
+    for _ in 0..7 {
+        let child = core.step(&Event {
+            cpu: 0,
+            pid: root,
+            call,
+        });
+        assert!(rt; is_done(&child));
+    }
+    for round in 0..128 {
+        let mut events = [Event {
+            cpu: 0,
+            pid: root,
+            call: Call::Quota,
+        }; 32];
+        let mut replies = [Reply::Done; 32];
+        for i in 0..32 {
+            events[i] = generator.event()?;
+        }
+        core.run(&events, &mut replies);
+        count_done(&events, &replies, &mut done);
+        assert_eq!(rt; charged(&core)?, frames_held(&core), "round {round}");
+        assert!(rt; flags_agree(&core)?, "round {round}");
+        assert!(rt;
+            sides_agree(&core, &events[31], replies[31]),
+            "round {round}"
+        );
+        if round % 16 == 15 {
+            assert!(rt; shares_agree(&core)?, "round {round}");
+        }
+    }
+    for count in done {
+        assert!(rt; count >= 10);
+    }
+    Ok(())
+}

@@ -1,0 +1,342 @@
+//! Runs of the whole machine: all of memory in use and given back, thousands of events, and a share.
+
+use super::*;
+use page_words::{Page, Size, Vaddr};
+use process_table::Cause;
+use std::test::Fail;
+
+fn event(pid: Pid, call: Call) -> Event {
+    Event { cpu: 1, pid, call }
+}
+
+fn gives(core: &mut Core, pid: Pid, call: Call, reply: Reply) -> bool {
+    core.step(&event(pid, call)) == reply
+}
+
+fn refuses(core: &mut Core, pid: Pid, call: Call, cause: Cause) -> bool {
+    gives(core, pid, call, Reply::Refused(cause))
+}
+
+/// A page of the user range, which has 0xb0000 of them.
+fn user_page(n: u32) -> Page {
+    Page(0x40000 + n % 0xb0000)
+}
+
+fn address_in(page: Page, offset: u32) -> Vaddr {
+    Vaddr(page.0 % 0x10_0000 * 4096 + offset % 4096)
+}
+
+fn load(page: Page) -> Call {
+    Call::Load {
+        addr: address_in(page, 8),
+        size: Size::Four,
+    }
+}
+
+fn store(page: Page, value: u32) -> Call {
+    Call::Store {
+        addr: address_in(page, 8),
+        size: Size::Four,
+        value,
+    }
+}
+
+/// Page n of a child: of four regions in turn. The first two are next to each other, and so are their
+/// pages; the others are far away.
+fn child_page(child: u8, n: u32) -> Page {
+    let step = n / 4 % 1024;
+    let (region, index) = match n % 4 {
+        0 => (0, 1023 - step),
+        1 => (1, step),
+        2 => (300, step),
+        _ => (500, step),
+    };
+    user_page(child as u32 * 11264 + region * 1024 + index)
+}
+
+fn value_of(child: u8, n: u32) -> u32 {
+    child as u32 * 1000 + n % 1000
+}
+
+/// Takes 59 pages of four regions, by Map, Load and Store in turn: 64 frames with the tables and the
+/// directory.
+fn fills_its_quota(core: &mut Core, pid: Pid) -> bool {
+    let child = pid.number();
+    let mut all = true;
+    for n in 0..59 {
+        let page = child_page(child, n);
+        let done = match n % 3 {
+            0 => gives(core, pid, Call::Map { page, write: true }, Reply::Done),
+            1 => gives(core, pid, load(page), Reply::Value(0)),
+            _ => gives(core, pid, store(page, value_of(child, n)), Reply::Done),
+        };
+        all = all && done;
+    }
+    all
+}
+
+/// Each page still has what was stored in it.
+fn has_its_pages(core: &mut Core, pid: Pid) -> bool {
+    let child = pid.number();
+    let mut all = true;
+    for n in 0..59 {
+        let value = if n % 3 == 2 { value_of(child, n) } else { 0 };
+        let kept = gives(core, pid, load(child_page(child, n)), Reply::Value(value));
+        all = all && kept;
+    }
+    all
+}
+
+fn is_refused_more_pages(core: &mut Core, pid: Pid, page: Page) -> bool {
+    refuses(core, pid, Call::Map { page, write: true }, Cause::Quota)
+        && refuses(core, pid, load(page), Cause::Quota)
+        && refuses(core, pid, store(page, 1), Cause::Quota)
+        && refuses(core, pid, Call::Unmap { page }, Cause::NotMapped)
+        && refuses(
+            core,
+            pid,
+            Call::Protect { page, write: true },
+            Cause::NotMapped,
+        )
+        && refuses(core, pid, Call::Info { page }, Cause::NotMapped)
+}
+
+fn is_refused_bad_calls(core: &mut Core, pid: Pid, mapped: Page) -> bool {
+    let low = Page(0x3ffff);
+    let high = Page(0xf0000);
+    let odd = address_in(mapped, 2);
+    let at_two = Call::Load {
+        addr: odd,
+        size: Size::Four,
+    };
+    let outside = address_in(high, 8);
+    let fault = Reply::Fault {
+        addr: outside,
+        code: 4,
+    };
+    refuses(
+        core,
+        pid,
+        Call::Map {
+            page: mapped,
+            write: false,
+        },
+        Cause::Mapped,
+    ) && refuses(
+        core,
+        pid,
+        Call::Map {
+            page: low,
+            write: true,
+        },
+        Cause::BadPage,
+    ) && refuses(core, pid, Call::Unmap { page: high }, Cause::BadPage)
+        && refuses(core, pid, at_two, Cause::Misaligned)
+        && gives(core, pid, load(high), fault)
+        && refuses(core, pid, Call::Spawn { quota: 1 }, Cause::TableFull)
+        && refuses(core, pid, Call::Spawn { quota: 0 }, Cause::BadQuota)
+}
+
+/// Gives a page up for a child of its own, which keeps it from its exit until the child is gone.
+fn exits_after_a_child(core: &mut Core, pid: Pid, child: Pid) -> bool {
+    let page = child_page(pid.number(), 0);
+    gives(core, pid, Call::Unmap { page }, Reply::Done)
+        && refuses(core, pid, Call::Spawn { quota: 2 }, Cause::Quota)
+        && gives(core, pid, Call::Spawn { quota: 1 }, Reply::Child(child))
+        && refuses(core, pid, Call::Map { page, write: true }, Cause::Quota)
+        && refuses(core, child, Call::Map { page, write: true }, Cause::Quota)
+        && refuses(core, pid, Call::Exit, Cause::HasChildren)
+        && gives(core, child, Call::Exit, Reply::Done)
+        && gives(core, pid, Call::Exit, Reply::Done)
+        && refuses(core, pid, Call::Quota, Cause::NoProcess)
+}
+
+fn free_frames(core: &Core) -> u32 {
+    let mut free = 0_u32;
+    for f in 0..core.frames() {
+        if core.role(Frame(f)) == Role::Free {
+            free = free.wrapping_add(1);
+        }
+    }
+    free
+}
+
+/// Every frame is free, but frame 0 and the root's directory.
+fn only_the_root_is_left(core: &Core, root: Pid) -> bool {
+    let mut all = true;
+    for f in 0..core.frames() {
+        let frame = Frame(f);
+        let want = if f == 0 {
+            Role::Reserved
+        } else if core.directory(root) == Some(frame) {
+            Role::Directory { pid: root }
+        } else {
+            Role::Free
+        };
+        all = all && core.role(frame) == want;
+    }
+    all
+}
+
+/// The root takes 61 pages of one region, the last 62 frames of memory, or gives them back.
+fn root_pages(core: &mut Core, root: Pid, take: bool) -> bool {
+    let mut all = true;
+    for n in 0..61 {
+        let page = user_page(n);
+        let call = if take {
+            Call::Map { page, write: true }
+        } else {
+            Call::Unmap { page }
+        };
+        all = all && gives(core, root, call, Reply::Done);
+    }
+    all
+}
+
+#[test]
+fn sixty_three_children_fill_their_quotas(rt: HostRuntime) -> Result<(), Fail> {
+    let mut core = Core::boot(rt.alloc(), 4096)?;
+    let root = Pid::new(0).ok_or("no root")?;
+    let at_boot = core.container(root).ok_or("no container")?;
+    assert!(rt; refuses(&mut core, root, Call::Spawn { quota: 4095 }, Cause::Quota));
+    for number in 1..64 {
+        let pid = Pid::new(number).ok_or("no child")?;
+        assert!(rt;
+            refuses(&mut core, pid, Call::Quota, Cause::NoProcess),
+            "{number}"
+        );
+        assert!(rt;
+            gives(
+                &mut core,
+                root,
+                Call::Spawn { quota: 64 },
+                Reply::Child(pid)
+            ),
+            "{number}"
+        );
+    }
+    for number in 1..64 {
+        let pid = Pid::new(number).ok_or("no child")?;
+        let full = Reply::Quota {
+            quota: 64,
+            used: 64,
+            given: 0,
+        };
+        assert!(rt; fills_its_quota(&mut core, pid), "{number}");
+        assert!(rt;
+            is_refused_more_pages(&mut core, pid, child_page(number, 59)),
+            "{number}"
+        );
+        assert!(rt;
+            is_refused_bad_calls(&mut core, pid, child_page(number, 0)),
+            "{number}"
+        );
+        assert!(rt; gives(&mut core, pid, Call::Quota, full), "{number}");
+    }
+    assert_eq!(rt; free_frames(&core), 62);
+    assert!(rt; root_pages(&mut core, root, true));
+    assert_eq!(rt; free_frames(&core), 0);
+    assert!(rt; is_refused_more_pages(&mut core, root, user_page(61)));
+    assert!(rt; refuses(&mut core, root, Call::Exit, Cause::RootExit));
+    for number in 1..64 {
+        let pid = Pid::new(number).ok_or("no child")?;
+        assert!(rt; has_its_pages(&mut core, pid), "{number}");
+    }
+    let last = Pid::new(63).ok_or("no last child")?;
+    assert!(rt; gives(&mut core, last, Call::Exit, Reply::Done));
+    for before in 1..63 {
+        let number = 63 - before;
+        let pid = Pid::new(number).ok_or("no child")?;
+        let child = Pid::new(number + 1).ok_or("no child of it")?;
+        assert!(rt; exits_after_a_child(&mut core, pid, child), "{number}");
+    }
+    assert!(rt; root_pages(&mut core, root, false));
+    let left = core.container(root).ok_or("no container")?;
+    assert_eq!(rt; left, at_boot);
+    assert_eq!(rt; (left.used, left.given, left.children), (1, 0, 0));
+    assert!(rt; only_the_root_is_left(&core, root));
+    Ok(())
+}
+
+fn info(core: &Core, pid: Pid, page: Page) -> Reply {
+    core.decide(&event(pid, Call::Info { page })).reply
+}
+
+#[test]
+fn a_store_reaches_every_holder(rt: HostRuntime) -> Result<(), Fail> {
+    let mut core = Core::boot(rt.alloc(), 16)?;
+    let root = Pid::new(0).ok_or("no root")?;
+    let child = Pid::new(1).ok_or("no child")?;
+    let (given, taken) = (user_page(0), user_page(5000));
+    let offer = Call::Offer {
+        page: given,
+        target: child,
+        write: true,
+    };
+    let accept = Call::Accept {
+        giver: root,
+        giver_page: given,
+        page: taken,
+    };
+    assert!(rt;
+        gives(
+            &mut core,
+            root,
+            Call::Spawn { quota: 8 },
+            Reply::Child(child)
+        )
+    );
+    assert!(rt;
+        gives(
+            &mut core,
+            root,
+            Call::Map {
+                page: given,
+                write: true
+            },
+            Reply::Done
+        )
+    );
+    assert!(rt; gives(&mut core, root, offer, Reply::Done));
+    assert!(rt; gives(&mut core, child, accept, Reply::Done));
+    assert!(rt; gives(&mut core, child, store(taken, 0xfeed_0001), Reply::Done));
+    let clean = Reply::Info {
+        write: true,
+        may: true,
+        accessed: false,
+        dirty: false,
+        holders: 2,
+    };
+    let read = Reply::Info {
+        write: true,
+        may: true,
+        accessed: true,
+        dirty: false,
+        holders: 2,
+    };
+    let written = Reply::Info {
+        write: true,
+        may: true,
+        accessed: true,
+        dirty: true,
+        holders: 2,
+    };
+    assert_eq!(rt; info(&core, root, given), clean);
+    assert_eq!(rt; info(&core, child, taken), written);
+    assert!(rt; gives(&mut core, root, load(given), Reply::Value(0xfeed_0001)));
+    assert_eq!(rt; info(&core, root, given), read);
+    assert!(rt; gives(&mut core, root, store(given, 0xfeed_0002), Reply::Done));
+    assert_eq!(rt; info(&core, root, given), written);
+    assert!(rt; gives(&mut core, root, Call::Unmap { page: given }, Reply::Done));
+    let alone = Reply::Info {
+        write: true,
+        may: true,
+        accessed: true,
+        dirty: true,
+        holders: 1,
+    };
+    assert_eq!(rt; info(&core, child, taken), alone);
+    assert!(rt; gives(&mut core, child, load(taken), Reply::Value(0xfeed_0002)));
+    assert!(rt; gives(&mut core, root, load(given), Reply::Value(0)));
+    Ok(())
+}
