@@ -1,3 +1,4 @@
 pub mod Charges
 pub mod Decided
+pub mod Runs
 pub mod Zeros

@@ -1,4 +1,5 @@
 pub mod Decisions
+pub mod Laws
 pub mod Machine
 pub mod WorkedProcesses
 pub mod WorkedRuns

@@ -8,10 +8,12 @@
 mod calls;
 mod decisions;
 mod kernel;
+mod laws;
 mod rows;
 
 pub use calls::{Call, Decision, Event, Reply};
 pub use fault_handler::Plan;
 pub use kernel::{BootFault, Core};
+pub use laws::runs_stay_well_formed;
 pub use process_table::Cause;
 pub use rows::{worked_runs, worked_runs_of_processes, worked_runs_of_sharing};
