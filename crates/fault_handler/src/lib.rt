@@ -14,9 +14,8 @@ ghost use Rattle.fault_handler.specs.Plans.{plan_of, absent, goes_on};
 
 mod plans;
 
-pub use plans::Plan;
-
 use page_words::{Page, Pid, Size, Vaddr, in_user_range, page_of};
+pub use plans::Plan;
 use process_table::{Cause, Processes};
 use table_walk::{Access, PageFault};
 
@@ -41,13 +40,7 @@ fn absent_code(access: Access) -> u8
 /// The first that applies: Misaligned where the address is no multiple of the size; a fault of code 4
 /// (a read) or 6 (a write) outside the user range; a fault of code 7 for a write where the page is
 /// mapped without the right to write; Quota where the page is not mapped and there is no room for it.
-pub fn plan(
-    processes: &Processes,
-    pid: Pid,
-    address: Vaddr,
-    size: Size,
-    access: Access,
-) -> Plan
+pub fn plan(processes: &Processes, pid: Pid, address: Vaddr, size: Size, access: Access) -> Plan
     requires live { is_live processes.now.state pid ≡ true }
     ensures { result ≡ plan_of processes.now.state pid address size access }
 {
@@ -102,3 +95,6 @@ pub fn settle(
     map_first(processes, plan, pid, address);
     processes.access(pid, address, size, access, value)
 }
+
+#[cfg(test)]
+mod tests;

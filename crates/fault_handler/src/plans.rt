@@ -12,4 +12,3 @@ pub enum Plan {
     Fault(PageFault),
     Refused(Cause),
 }
-
