@@ -95,3 +95,6 @@ pub fn settle(
     map_first(processes, plan, pid, address);
     processes.access(pid, address, size, access, value)
 }
+
+#[cfg(test)]
+mod tests;
