@@ -201,7 +201,18 @@ fn refuses_what_is_no_line(rt: HostRuntime) -> Result<(), Fail> {
         "0 0 map 40000 wr",
         "0 0 unmap 40000 rw",
         "0 0 lode 40000000 4",
-        "0 0 quota",
+        "0 0 protect 40000",
+        "0 0 info 40000 rw",
+        "0 0 offer 40000 64 rw",
+        "0 0 offer 40000 1",
+        "0 0 withdraw 40000",
+        "0 0 accept 64 40000 40000",
+        "0 0 accept 1 40000",
+        "0 0 spawn",
+        "0 0 spawn 4294967296",
+        "0 0 spawn 00000000001",
+        "0 0 exit 0",
+        "0 0 quota 1",
         "0\t0 load 40000000 4",
         "0 0 load 40000000 4\r",
         " # no comment",
@@ -215,6 +226,17 @@ fn refuses_what_is_no_line(rt: HostRuntime) -> Result<(), Fail> {
         assert_eq!(rt; written.as_slice(), b"done\n".as_slice(), "{line:?}");
         assert_eq!(rt; fault, Some(ScriptFault::Malformed { line: 3 }), "{line:?}");
     }
+    Ok(())
+}
+
+#[test]
+fn tells_children_shares_and_quotas(rt: HostRuntime) -> Result<(), Fail> {
+    let script =
+        b"0 0 store 40000000 4 7\n0 0 spawn 0000000005\n0 0 offer 40000 1 ro\n1 1 accept 0 40000 50000\n1 1 info 50000\n1 1 quota\n0 1 exit\n0 0 quota";
+    let replies = b"done\nchild 1\ndone\ndone\ninfo 0 0 0 0 2\nquota 5 3 0\ndone\nquota 15 3 0\n";
+    let (written, fault) = run(rt.alloc(), script.as_slice())?;
+    assert_eq!(rt; written.as_slice(), replies.as_slice());
+    assert_eq!(rt; fault, None);
     Ok(())
 }
 
