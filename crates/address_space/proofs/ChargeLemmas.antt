@@ -1,8 +1,7 @@
 -- What a process is charged for, as its directory and tables show it.
-use Rattle.std.proofs.Common.{◌≡◌, ℕ, ◌+◌, ◌*◌, ◌<◌, ◌≤◌, Bool, true, false, cond, not, ◌&&◌, ◌||◌, List, length, refl, ap, sym, ◌∙◌, arith, inl, inr, Option, Some, None}
-use Rattle.std.specs.Prelude.{◌⊎◌, is_some, nat_lt, if◌then◌else◌}
+use Rattle.std.proofs.Common.{◌≡◌, ℕ, ◌+◌, ◌*◌, ◌<◌, ◌≤◌, Bool, true, false, cond, ◌&&◌, ◌||◌, List, refl, ap, sym, ◌∙◌, arith, inl, inr, Option, Some, None}
+use Rattle.std.specs.Prelude.{is_some, nat_lt, if◌then◌else◌}
 use Rattle.std.specs.Option.{option_and_then, option_map}
-use Rattle.std.specs.List.{list_any}
 use Rattle.std.proofs.lemmas.Bool.{cases_lt}
 use Rattle.std.proofs.lemmas.Bool.Decides.{nat_tests}
 use Rattle.page_words.specs.Addresses.{slot_number}
@@ -17,7 +16,7 @@ use Rattle.page_map.specs.declared.PageEntry.{PageEntry}
 use Rattle.page_map.specs.Entries.{table_of, entry_at}
 use Rattle.page_map.specs.Pages.{entries_of, counted}
 use Rattle.page_map.proofs.PageLemmas.{get-entries_user, get-entries_other, user_cases}
-use Rattle.address_space.specs.Spaces.{Slot, Cell, Spaces, cost, need, pages_of, regions_of}
+use Rattle.address_space.specs.Spaces.{Cell, Spaces, cost, pages_of, regions_of}
 use Rattle.address_space.specs.Cells.{cell_of}
 use Rattle.address_space.specs.Sound.{directory_of, table_in, entries_in, spaces_in, IsSpaces}
 use Rattle.address_space.proofs.Costs.{contains-pages_of}

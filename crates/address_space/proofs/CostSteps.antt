@@ -25,7 +25,6 @@ use Rattle.address_space.specs.Cells.{Entries, cell_of, spaces_of}
 use Rattle.address_space.specs.Sound.{Directories, directory_of, table_in, entry_in, entries_in, live_cost, total_cost, InUseAt}
 use Rattle.address_space.proofs.EntrySteps.{get-entries_in, entry_by_table}
 use Rattle.address_space.proofs.Refinement.{get-spaces_of}
-use Rattle.address_space.proofs.Removal.{put_back, removed}
 
 -- ---- A sum over a range, with one term changed
 
@@ -182,12 +181,6 @@ need-two D m p page none = by (set.contains (regions_of (pages_of (spaces_of (en
     by true is = let r = region_member (pages_of (spaces_of (entries_in D m) m) p) (slot_number page) is in absurd (clash r.0 r.1 (sym (contains-pages_of (spaces_of (entries_in D m) m) p r.0) ∙ r.2))
 
 -- ---- Removal, as an insertion read backwards
-
--- a slot that goes gives back what its page would need again
-pub total-remove : (directories : List (Option ℕ)) (S : Spaces) (slot : Slot) (cell : Cell) (d : ℕ) → slot.pid < 64 → directory_of directories slot.pid ≡ Some d → map_of.get S slot ≡ Some cell
-    → total_cost directories S ≡ total_cost directories (map_of.remove S slot) + need (map_of.remove S slot) slot.pid slot.page
-total-remove directories S slot cell d few live found =
-    ap (total_cost directories) (sym (put_back S slot cell found)) ∙ total-insert directories (map_of.remove S slot) slot cell d few live (removed S slot)
 
 mapped_any : (o : Set nat_order) (k : ℕ) → set.contains o k ≡ true → list_any (same nat_order k) (set.items o) ≡ true
 mapped_any o k h = sym (is_some-find nat_order.cmp k o.entries) ∙ h

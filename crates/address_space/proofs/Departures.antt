@@ -5,7 +5,6 @@ use Rattle.std.specs.Option.{option_and_then, option_map, unwrap_or}
 use Rattle.std.specs.List.{list_any}
 use Rattle.std.proofs.lemmas.Bool.{cases_eq, cases_lt}
 use Rattle.page_words.specs.Addresses.{slot_number, index_number, IsUserPage}
-use Rattle.page_words.specs.Words.{is_present}
 use Rattle.page_words.specs.FiniteMap as map
 use Rattle.page_words.specs.FiniteMap.{same}
 use Rattle.page_words.specs.FiniteSet as set
@@ -13,14 +12,14 @@ use Rattle.page_words.specs.FiniteSet.{Set}
 use Rattle.page_words.proofs.MapLemmas.{same_or_not, same_itself, same_map, same_set, get-map_values, get-retain_keys, contains-retain, get-collect}
 use Rattle.phys_memory.specs.Bytes.{frame_bytes, word_in}
 use Rattle.alloc_table.specs.declared.Role.{Role}
-use Rattle.alloc_table.specs.declared.Role.TheVariants.{Free, Directory, Table, Page}
+use Rattle.alloc_table.specs.declared.Role.TheVariants.{Free, Directory, Table}
 use Rattle.alloc_table.specs.Roles.{frames_weight, weight, IsReleased, released}
 use Rattle.alloc_table.proofs.RoleLemmas.{weight-set, get-set_same, get-set_other}
 use Rattle.page_map.specs.declared.PageEntry.{PageEntry}
 use Rattle.page_map.specs.Entries.{Frames, word_table, word_entry, table_of, entry_at}
 use Rattle.page_map.specs.Pages.{is_mapped}
 use Rattle.page_map.proofs.PageLemmas.{get-entries_user}
-use Rattle.address_space.specs.Spaces.{Slot, slot_order, Cell, Spaces, cost, cost_of, need, pages_of, regions_of, without, with_holders, is_slot, is_of}
+use Rattle.address_space.specs.Spaces.{Slot, slot_order, Cell, Spaces, cost, need, pages_of, regions_of, without, with_holders, is_slot, is_of}
 use Rattle.address_space.specs.Slots.{user_slots}
 use Rattle.address_space.specs.Cells.{Entries, cell_of, spaces_of}
 use Rattle.address_space.specs.Sound.{Directories, Roles, directory_of, table_in, entry_in, entries_in, spaces_in, live_cost, total_cost, Tables, Pages, IsSound, IsSpaces, SlotRemoved, IsEmptySpace, ClearedBelow, SpaceCleared, DirectoryRemoved}

@@ -334,24 +334,3 @@ cost_within directories S p long live =
           let r = among p (a + 1) n (omega arith) (omega arith) in
           omega (arith, s, r)
     ]
-
--- where one process alone has a space, its cost is all
-pub lone_cost : (directories : List (Option ℕ)) (S : Spaces) → is_some (directory_of directories 0) ≡ true → ((p : ℕ) → p ≢ 0 → directory_of directories p ≡ None) → total_cost directories S ≡ cost S 0
-unfolding total_cost
-lone_cost directories S live alone =
-    let D : Directories = directory_of directories in
-    let s = sum_by-cons (live_cost D S) 0 (range_with_len 1 63) in
-    let h : live_cost D S 0 ≡ cost S 0 = ap (λ b. if b then cost S 0 else 0) live in
-    let r = nothing_above D S 1 63 (λ p l. alone p (λ e. above p l e)) in
-    omega (arith, s, h, r)
-  where
-    above : (p : ℕ) → 1 ≤ p → p ≡ 0 → ⊥
-    above p l e = omega arith
-
-    nothing_above : (D : Directories) (S : Spaces) (a n : ℕ) → ((p : ℕ) → a ≤ p → D p ≡ None) → sum_by (live_cost D S) (range_with_len a n) ≡ 0
-    nothing_above D S a zero none = refl
-    nothing_above D S a (suc n) none =
-        let s = sum_by-cons (live_cost D S) a (range_with_len (a + 1) n) in
-        let h : live_cost D S a ≡ 0 = ap (λ x. if is_some x then cost S a else 0) (none a (omega arith)) in
-        let r = nothing_above D S (a + 1) n (λ p l. none p (omega arith)) in
-        omega (arith, s, h, r)

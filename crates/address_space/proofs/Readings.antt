@@ -1,5 +1,5 @@
 -- What a slot, its bytes and its needs are read as.
-use Rattle.std.proofs.Common.{◌≡◌, ℕ, ◌+◌, ◌*◌, ◌/◌, ◌%◌, ◌<◌, ◌≤◌, cond, List, [], ◌∷◌, length, take, drop, refl, ap, sym, ◌∙◌, arith, Option, Some, None, length-drop, unwrap_or, true}
+use Rattle.std.proofs.Common.{◌≡◌, ℕ, ◌+◌, ◌*◌, ◌/◌, ◌%◌, ◌<◌, ◌≤◌, cond, List, [], ◌∷◌, length, take, drop, refl, ap, sym, ◌∙◌, arith, Option, Some, None, length-drop}
 use Rattle.std.specs.Prelude.{slice_index, slice_get, is_some}
 use Rattle.std.specs.Option.{option_and_then, option_map}
 use Rattle.std.proofs.lemmas.List.{get_or-drop}
@@ -12,9 +12,7 @@ use Rattle.phys_memory.proofs.Frames.{byte-frame, length-frame, word_in-frame}
 use Rattle.alloc_table.specs.declared.Role.{Role}
 use Rattle.alloc_table.specs.declared.Role.TheVariants.{Page}
 use Rattle.page_map.specs.Entries.{Frames, entry_at}
-use Rattle.address_space.specs.declared.Cell.{Cell as ShownCell}
-use Rattle.address_space.specs.Spaces.{Slot, Cell, Spaces, fresh, need, value_of, bytes_at, cell_or_fresh}
-use Rattle.address_space.specs.Shown.{shown}
+use Rattle.address_space.specs.Spaces.{Slot, need, value_of, bytes_at}
 use Rattle.address_space.specs.Cells.{cell_of, spaces_of, holders_of}
 use Rattle.address_space.specs.Sound.{Directories, directory_of, entry_in, entries_in, spaces_in, table_in, IsSound, InUse, Inside}
 use Rattle.address_space.proofs.UserSlots.{in_user_slots}
@@ -83,11 +81,3 @@ need_read directories bytes p page used few low high = by (table_in (directory_o
 pub holders_counted : (directories : List (Option ℕ)) (bytes : List ℕ) (roles : List Role) (f c : ℕ) → IsSound directories bytes roles → slice_get roles f ≡ Some (Page c)
     → c ≡ set.len (holders_of (entries_in (directory_of directories) (frame_bytes bytes)) f)
 holders_counted directories bytes roles f c sound is = (sound.pages.counts f c is).1
-
--- what a cell shows as allowed is allowed
-pub may_shown : (spaces : Spaces) (slot : Slot) (c : ShownCell) → option_map shown (map.get spaces slot) ≡ Some c → c.may ≡ true → (cell_or_fresh spaces slot).may ≡ true
-may_shown spaces slot c is may = by (map.get spaces slot) is
-  where
-    by : (x : Option Cell) → option_map shown x ≡ Some c → (unwrap_or x (fresh slot true)).may ≡ true
-    by None h = cc
-    by (Some cell) h = let e : shown cell ≡ c = cc in ap (λ (y : ShownCell). y.may) e ∙ may

@@ -1,5 +1,5 @@
 -- What a finite map from slots to page entries, with bytes for each frame, stands for; and that its steps are the machine's.
-use Rattle.std.proofs.Common.{◌≡◌, ℕ, inl, inr, Bool, true, false, cond, not, ◌&&◌, ◌||◌, ◌==◌, if◌then◌else◌, List, refl, sym, ap, ◌∙◌, Option, Some, None, is_some, unwrap_or, IsTrue, subst}
+use Rattle.std.proofs.Common.{◌≡◌, ℕ, inl, inr, Bool, true, false, cond, not, ◌&&◌, ◌||◌, ◌==◌, if◌then◌else◌, List, refl, sym, ap, ◌∙◌, Option, Some, None, is_some, unwrap_or}
 use Rattle.std.specs.Option.{option_map}
 use Rattle.page_words.specs.FiniteMap as map
 use Rattle.page_words.specs.FiniteMap.{Order, Map}
@@ -218,15 +218,6 @@ flags_refine entries bytes slot old new found same_frame =
 abbrev pub Unused : Entries → ℕ → Type 0
 Unused entries f = (q : Slot) → names f (map.get entries q) ≡ false
 
--- bytes of a frame that nothing names don't matter
-pub unused_bytes : (entries : Entries) (bytes : ℕ → List ℕ) (f : ℕ) (new : List ℕ) → Unused entries f → spaces_of entries (with_frame bytes f new) ≡ spaces_of entries bytes
-unused_bytes entries bytes f new unused =
-    same_map _ _ (λ q. get-spaces_of entries (with_frame bytes f new) q ∙ each q (map.get entries q) refl ∙ sym (get-spaces_of entries bytes q))
-  where
-    each : (q : Slot) (x : Option PageEntry) → map.get entries q ≡ x → option_map (cell_of entries (with_frame bytes f new)) x ≡ option_map (cell_of entries bytes) x
-    each q None is = refl
-    each q (Some d) is = ap (λ b. Some (with_bytes (cell_of entries bytes d) (if b then new else bytes d.frame))) (sym (ap (names f) is) ∙ unused q)
-
 -- a slot without an entry gets one on a frame that nothing names
 pub fresh_refines : (entries : Entries) (bytes : ℕ → List ℕ) (slot : Slot) (f : ℕ) (write : Bool) → map.get entries slot ≡ None → Unused entries f → bytes f ≡ zeros
     → spaces_of (map.insert entries slot (record { frame = f; write = write; may = true; accessed = false; dirty = false })) bytes ≡ map.insert (spaces_of entries bytes) slot (fresh slot write)
@@ -250,29 +241,3 @@ fresh_refines entries bytes slot f write none unused clean =
 
 pub same_Some : {A : Type 0} (x y : A) → Some x ≡ Some y → x ≡ y
 same_Some x y e = ap (λ o. unwrap_or o x) e
-
--- each slot is in its own group, and the slots of a group have the same group and the same bytes
-pub groups_agree : (entries : Entries) (bytes : ℕ → List ℕ) (slot : Slot) (cell : Cell) → map.get (spaces_of entries bytes) slot ≡ Some cell
-    → IsTrue (set.contains cell.holders slot)
-    × ((other : Slot) → IsTrue (set.contains cell.holders other) → (c : Cell) × (map.get (spaces_of entries bytes) other ≡ Some c) × (c.holders ≡ cell.holders) × (c.bytes ≡ cell.bytes))
-groups_agree entries bytes slot cell is = by (map.get entries slot) refl (sym (get-spaces_of entries bytes slot) ∙ is)
-  where
-    other_by : (e : PageEntry) (other : Slot) (x : Option PageEntry) → map.get entries other ≡ x → names e.frame x ≡ true
-        → (c : Cell) × (map.get (spaces_of entries bytes) other ≡ Some c) × (c.holders ≡ holders_of entries e.frame) × (c.bytes ≡ bytes e.frame)
-    other_by e other None found named = cc
-    other_by e other (Some d) found named =
-        let f = eqb-true d.frame e.frame named in
-        (cell_of entries bytes d, get-spaces_of entries bytes other ∙ ap (option_map (cell_of entries bytes)) found, ap (holders_of entries) f, ap bytes f)
-
-    by : (x : Option PageEntry) → map.get entries slot ≡ x → option_map (cell_of entries bytes) x ≡ Some cell
-        → IsTrue (set.contains cell.holders slot)
-        × ((other : Slot) → IsTrue (set.contains cell.holders other) → (c : Cell) × (map.get (spaces_of entries bytes) other ≡ Some c) × (c.holders ≡ cell.holders) × (c.bytes ≡ cell.bytes))
-    by None found e = cc
-    by (Some d) found e =
-        let same_cell = same_Some (cell_of entries bytes d) cell e in
-        let P : Cell → Type 0 = λ cell. IsTrue (set.contains cell.holders slot)
-        × ((other : Slot) → IsTrue (set.contains cell.holders other) → (c : Cell) × (map.get (spaces_of entries bytes) other ≡ Some c) × (c.holders ≡ cell.holders) × (c.bytes ≡ cell.bytes)) in
-        subst P same_cell (
-          contains-holders_of entries d.frame slot ∙ ap (names d.frame) found ∙ eqb_itself d.frame,
-          λ other h. other_by d other (map.get entries other) refl (sym (contains-holders_of entries d.frame other) ∙ h),
-        )

@@ -734,8 +734,7 @@ impl Spaces {
     }
 
     /// What memory's own words say of these spaces, that their costs leave frame 0 alone, and that no more
-    /// frames are in use than they cost. It
-    /// computes nothing.
+    /// frames are in use than they cost. It computes nothing.
     pub fn stands(&self)
         ensures image { StandsFor (record { directories = self.now.directories; bytes = self.now.bytes; roles = self.now.roles }) self.now.spaces }
         ensures walks { WalksAgree (record { directories = self.now.directories; bytes = self.now.bytes; roles = self.now.roles }) self.now.spaces }
@@ -743,7 +742,6 @@ impl Spaces {
         ensures each { (p : ℕ) → is_some (directory_of self.now.directories p) ≡ true → 1 + cost self.now.spaces p ≤ length self.now.roles }
         ensures few { length self.now.roles ≤ 4096 }
         ensures used { frames_in_use self.now.roles ≤ total_cost self.now.directories self.now.spaces }
-        ensures lone { is_some (directory_of self.now.directories 0) ≡ true → ((p : ℕ) → p ≢ 0 → directory_of self.now.directories p ≡ None) → total_cost self.now.directories self.now.spaces ≡ cost self.now.spaces 0 }
     {
         let _ = &self.memory;
     }

@@ -1,5 +1,5 @@
 -- What the list of roles says after a frame was taken.
-use Rattle.std.proofs.Common.{◌≡◌, ◌≢◌, ℕ, zero, suc, ◌+◌, ◌-◌, ◌<◌, ◌≤◌, Bool, true, false, cond, List, [], ◌∷◌, length, get_or, refl, ap, ◌∙◌, Some, arith}
+use Rattle.std.proofs.Common.{◌≡◌, ◌≢◌, ℕ, zero, suc, ◌+◌, ◌-◌, ◌<◌, ◌≤◌, Bool, true, false, cond, List, [], ◌∷◌, length, get_or, refl, ap, Some, arith}
 use Rattle.std.specs.Prelude.{slice_get, slice_set, set, nat_lt}
 use Rattle.std.proofs.lemmas.List.Sums.{sum_by-cons, sum_by-set}
 use Rattle.std.proofs.lemmas.Option.{get_or_from_slice_get, slice_get_within}
@@ -30,25 +30,6 @@ module _ {X : Type 0} where
   get-set_other (x ∷ xs) zero (suc j) v n = refl
   get-set_other (x ∷ xs) (suc i) zero v n = refl
   get-set_other (x ∷ xs) (suc i) (suc j) v n = get-set_other xs i j v (λ e. n (ap suc e))
-
--- one frame fewer is free once it was taken
-pub free-taken : (old new : List Role) (f : ℕ) (role : Role) → IsTaken old f role new → is_free role ≡ false → free_frames new + 1 ≡ free_frames old
-free-taken old new f role h n =
-    let was : get_or old f role ≡ Free = get_or_from_slice_get old f Free role h.was_free in
-    let s = sum_by-set (λ r. counted (is_free r)) old f role role (slice_get_within old f Free h.was_free) in
-    let a : counted (is_free (get_or old f role)) ≡ 1 = ap (λ r. counted (is_free r)) was in
-    let b : counted (is_free role) ≡ 0 = ap counted n in
-    let c : free_frames new ≡ free_frames (set old f role) = ap free_frames h.now in
-    omega arith
-
--- as many are free where one role became another and neither is free
-pub free-kept : (old : List Role) (f : ℕ) (was role : Role) → slice_get old f ≡ Some was → is_free was ≡ false → is_free role ≡ false → free_frames (slice_set old f role) ≡ free_frames old
-free-kept old f was role h m n =
-    let is : get_or old f role ≡ was = get_or_from_slice_get old f was role h in
-    let s = sum_by-set (λ r. counted (is_free r)) old f role role (slice_get_within old f was h) in
-    let a : counted (is_free (get_or old f role)) ≡ 0 = ap (λ r. counted (is_free r)) is ∙ ap counted m in
-    let b : counted (is_free role) ≡ 0 = ap counted n in
-    omega arith
 
 -- one role in place of another
 pub weight-set : (old : List Role) (f : ℕ) (was role : Role) → slice_get old f ≡ Some was → frames_weight (slice_set old f role) + weight was ≡ frames_weight old + weight role

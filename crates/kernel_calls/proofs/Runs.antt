@@ -1,5 +1,5 @@
 -- Each event keeps states well formed and leaves the root's entry in the book, and so does every run.
-use Rattle.std.proofs.Common.{◌≡◌, ℕ, ◌+◌, ◌%◌, ◌≤◌, ◌==◌, ◌⊎◌, ◌&&◌, Bool, true, false, not, refl, sym, ap, subst, ◌∙◌, List, [], ◌∷◌, Option, Some, None, unwrap_or, inl, inr, arith}
+use Rattle.std.proofs.Common.{◌≡◌, ℕ, ◌+◌, ◌%◌, ◌==◌, ◌⊎◌, ◌&&◌, Bool, true, false, not, refl, sym, ap, subst, ◌∙◌, List, [], ◌∷◌, Option, Some, None, unwrap_or, inl, inr, arith}
 use Rattle.std.specs.Prelude.{if◌then◌else◌}
 use Rattle.std.specs.Option.{option_map}
 use Rattle.page_words.specs.Addresses.{page_number, byte_count, is_user_page}
@@ -13,7 +13,7 @@ use Rattle.table_walk.specs.Walk.{is_write}
 use Rattle.process_table.specs.State.{State, open_with, is_live, is_mapped, has_no_room}
 use Rattle.process_table.specs.Calls.{is_misaligned, map_refusal, protect_refusal, offer_refusal, accept_refusal, spawn_refusal, exit_refusal}
 use Rattle.process_table.specs.Laws.{IsReachable}
-use Rattle.process_table.specs.WellFormed.{IsWellFormed, total}
+use Rattle.process_table.specs.WellFormed.{IsWellFormed}
 use Rattle.process_table.specs.declared.causes.Cause.{Cause}
 use Rattle.process_table.specs.declared.causes.Cause.TheVariants as cause
 use Rattle.process_table.proofs.BookLaws.{well_formed-open, well_formed-unmap, well_formed-spawn, well_formed-exit, root-spawn, root-exit, total-within}

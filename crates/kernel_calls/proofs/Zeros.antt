@@ -1,5 +1,5 @@
 -- A load of a page that is mapped first gives 0.
-use Rattle.std.proofs.Common.{◌≡◌, ℕ, zero, suc, ◌+◌, Bool, true, false, List, take, drop, replicate, refl, ap, sym, ◌∙◌, inl, inr, Option, Some, None, unwrap_or, is_some, arith}
+use Rattle.std.proofs.Common.{◌≡◌, ℕ, zero, suc, true, false, List, take, drop, replicate, refl, ap, sym, ◌∙◌, inl, inr, Option, Some, None, unwrap_or, is_some, arith}
 use Rattle.page_words.specs.Addresses.{offset_number, byte_count}
 use Rattle.page_words.specs.declared.addresses.Size.{Size}
 use Rattle.page_words.specs.FiniteMap as map
@@ -8,7 +8,6 @@ use Rattle.table_walk.specs.declared.Access.TheVariants.{Read}
 use Rattle.process_table.specs.State.{State}
 use Rattle.process_table.specs.Calls.{loaded}
 use Rattle.fault_handler.specs.Plans.{plan_of, goes_on}
-use Rattle.fault_handler.specs.declared.plans.Plan.{Plan}
 use Rattle.fault_handler.specs.declared.plans.Plan.TheVariants as plan
 use Rattle.fault_handler.proofs.Settled.{ready}
 

@@ -11,7 +11,7 @@ use Rattle.page_words.proofs.SetLemmas.{get-remove, same_cases}
 use Rattle.address_space.specs.Spaces.{Slot, slot_order, Cell, Spaces, cost, without, is_slot, is_of}
 use Rattle.quota_tree.specs.Book.{Book, Member, is_child, given, number_of_children, quota_of, next_number}
 use Rattle.quota_tree.proofs.Sums.{Parents, costs_within, given-insert, given-none, given-remove, number-remove}
-use Rattle.process_table.proofs.BookFacts.{child_yes, child_no, contains_key-insert, get-insert_other, get-remove_other}
+use Rattle.quota_tree.proofs.BookFacts.{child_yes, child_no, contains_key-insert, get-insert_other, get-remove_other}
 use Rattle.page_sharing.specs.Offers.{OfferKey, Offers, pending}
 use Rattle.process_table.specs.State.{State, open_with, is_live, room, child_of}
 use Rattle.process_table.specs.Calls.{spawn_refusal, exit_refusal, after_unmap, after_spawn, after_exit}

@@ -1,49 +1,21 @@
 -- What each call leaves of the charges, and that the frames it needs are there.
-use Rattle.std.proofs.Common.{◌≡◌, ◌≢◌, ℕ, ◌+◌, ◌<◌, ◌≤◌, ◌==◌, Bool, true, false, cond, not, refl, sym, ap, ◌∙◌, inl, inr, Option, Some, None, unwrap_or, is_some, length, arith}
+use Rattle.std.proofs.Common.{◌≡◌, ◌≢◌, ℕ, ◌+◌, ◌<◌, ◌≤◌, true, false, cond, not, refl, sym, ap, ◌∙◌, inl, inr, Option, Some, None, unwrap_or, is_some, length, arith}
 use Rattle.std.specs.Option.{option_map}
 use Rattle.page_words.specs.FiniteMap as map
 use Rattle.page_words.specs.FiniteMap.{same, nat_order}
-use Rattle.page_words.specs.FiniteSet as set
-use Rattle.page_words.proofs.MapLemmas.{same_or_not, same_itself, get-insert, get-retain_keys, get-map_values}
-use Rattle.address_space.specs.Spaces.{Slot, slot_order, Cell, Spaces, cost, cost_of, without, with_holders, is_slot, is_of}
+use Rattle.page_words.proofs.MapLemmas.{same_or_not, same_itself, get-insert, get-retain_keys}
+use Rattle.address_space.specs.Spaces.{cost, without, is_of}
 use Rattle.address_space.specs.Sound as frames
 use Rattle.address_space.specs.Sound.{directory_of, live_cost, total_cost}
-use Rattle.address_space.proofs.Costs.{same_pages}
 use Rattle.address_space.proofs.CostSteps.{sum_one}
+use Rattle.address_space.proofs.PageSteps.{not_same}
+use Rattle.address_space.proofs.Totals.{cost-without_other}
 use Rattle.quota_tree.specs.Book.{Member, quota_of}
 use Rattle.quota_tree.specs.Containers.{Containers, IsLive, used_of, with_used, after_close, total_used}
 use Rattle.process_table.specs.View.{IsProcesses}
 use Rattle.process_table.proofs.Ranges.{found, sum-range}
-use borrow.Author.Tests.{eqb-true}
 
 -- ---- The costs of processes that do not act
-
--- slots that stay are mapped as before
-pub key-without : (S : Spaces) (gone : Slot → Bool) (slot : Slot) → gone slot ≡ false → map.contains_key (without S gone) slot ≡ map.contains_key S slot
-key-without S gone slot stays =
-    ap is_some (get-map_values slot_order (λ s c. with_holders c (set.retain c.holders (λ s. not (gone s)))) (map.retain_keys S (λ s. not (gone s))) slot)
-    ∙ mapped (map.get (map.retain_keys S (λ s. not (gone s))) slot)
-    ∙ ap is_some (get-retain_keys S (λ s. not (gone s)) slot ∙ ap (λ b. cond (not b) (map.get S slot) None) stays)
-  where
-    mapped : (x : Option Cell) → is_some (option_map (λ c. with_holders c (set.retain c.holders (λ s. not (gone s)))) x) ≡ is_some x
-    mapped None = refl
-    mapped (Some c) = refl
-
-pub cost-without_other : (S : Spaces) (gone : Slot → Bool) (q : ℕ) → ((page : ℕ) → gone (record { pid = q; page = page }) ≡ false) → cost (without S gone) q ≡ cost S q
-cost-without_other S gone q stays = ap cost_of (same_pages (without S gone) S q q (λ page. key-without S gone (record { pid = q; page = page }) (stays page)))
-
-pub is_slot-other : (p page q other : ℕ) → q ≢ p → is_slot p page (record { pid = q; page = other }) ≡ false
-is_slot-other p page q other n = elim (same_or_not slot_order (record { pid = p; page = page }) (record { pid = q; page = other })) [
-  | inl h ↦ absurd (n (sym (ap (λ (s : Slot). s.pid) h.0)))
-  | inr h ↦ h
-]
-
-pub is_of-other : (p q other : ℕ) → q ≢ p → is_of p (record { pid = q; page = other }) ≡ false
-is_of-other p q other n = by (q == p) refl
-  where
-    by : (b : Bool) → (q == p) ≡ b → b ≡ false
-    by true is = absurd (n (eqb-true q p is))
-    by false is = refl
 
 -- ---- What is used, after a change
 
@@ -165,7 +137,7 @@ charged-exit v w c p kept child spaces long none others = record {
   charged = λ q l. elim (same_or_not nat_order p q) [
     | inl h ↦ absurd (gone q h.0 l)
     | inr h ↦ ap (λ x. unwrap_or x 0) (removed-other c.used p q h) ∙ kept.charged q (sym (ap is_some (removed-other c.book p q h)) ∙ l)
-        ∙ sym (ap (λ S. cost S q) spaces ∙ cost-without_other v.spaces (is_of p) q (λ page. is_of-other p q page (differ-back p q h)))
+        ∙ sym (ap (λ S. cost S q) spaces ∙ cost-without_other v.spaces (is_of p) q (λ page. not_same q p (differ-back p q h)))
   ];
   root = ap (λ (x : Option Member). 1 + unwrap_or (option_map (λ m. m.quota) x) 0) (removed-other c.book p 0 (apart-root p child)) ∙ kept.root ∙ sym long;
 }

@@ -1,4 +1,3 @@
-pub mod BookFacts
 pub mod BookLaws
 pub mod CellLaws
 pub mod Charges

@@ -9,7 +9,7 @@ use Rattle.address_space.proofs.Costs.{cost-insert}
 use Rattle.address_space.proofs.Totals.{cost-joined}
 use Rattle.page_sharing.specs.Offers.{offer_of, pending}
 use Rattle.process_table.specs.State.{State, is_live, is_mapped, has_no_room}
-use Rattle.process_table.specs.Calls.{at_page, map_refusal, unmap_refusal, protect_refusal, offer_refusal, withdraw_refusal, accept_refusal, offered}
+use Rattle.process_table.specs.Calls.{at_page, map_refusal, protect_refusal, offer_refusal, accept_refusal, offered}
 use Rattle.process_table.specs.Answers.{first_cause, number_unless, map_answer, accept_answer}
 use Rattle.process_table.specs.declared.causes.Cause.{Cause}
 use Rattle.process_table.specs.declared.causes.Cause.TheVariants.{NoProcess}
@@ -44,12 +44,6 @@ may_map s p page h =
 pub record MayUnmap (s : State) (p page : ℕ) : Type 0 where
   pub user : is_user_page page ≡ true
   pub mapped : is_some (map.get s.spaces (at_page p page)) ≡ true
-
-pub may_unmap : (s : State) (p page : ℕ) → unmap_refusal s p page ≡ None → MayUnmap s p page
-may_unmap s p page h =
-    let a = choice (not (is_user_page page)) _ _ h in
-    let b = choice (not (is_mapped s (at_page p page))) _ _ a.1 in
-    record { user = of_not _ a.0; mapped = of_not _ b.0 }
 
 right_of_not : (write may : Bool) → (write && not may) ≡ false → write ≡ true → may ≡ true
 right_of_not true may h e = of_not may h
@@ -109,12 +103,6 @@ may_offer s p page target write h =
 pub record MayWithdraw (s : State) (p page target : ℕ) : Type 0 where
   pub user : is_user_page page ≡ true
   pub there : map.contains_key s.offers (offer_of p page target) ≡ true
-
-pub may_withdraw : (s : State) (p page target : ℕ) → withdraw_refusal s p page target ≡ None → MayWithdraw s p page target
-may_withdraw s p page target h =
-    let a = choice (not (is_user_page page)) _ _ h in
-    let b = choice (not (map.contains_key s.offers (offer_of p page target))) _ _ a.1 in
-    record { user = of_not _ a.0; there = of_not _ b.0 }
 
 -- an offer may be accepted: what it tells
 pub record MayAccept (s : State) (p giver giver_page page : ℕ) : Type 0 where

@@ -78,6 +78,7 @@ pub fn set_right(spaces: &mut Spaces, quotas: &Quotas, pid: Pid, page: Page, wri
     ensures kept { IsProcesses spaces.new quotas.now }
     ensures spaces { spaces.new.spaces ≡ protected spaces.old.spaces (record { pid = pid; page = page }) write }
 {
+    // No charge changes: only the contract reads the quotas.
     let _ = quotas;
     spaces.protect(pid, page, write);
 }

@@ -13,7 +13,8 @@ use Rattle.quota_tree.specs.Kept.{member_of, seen_as, IsKept, IsQuotas}
 use Rattle.quota_tree.proofs.CollectedLemmas.{get-collected, collected-set, collected-unset}
 use Rattle.quota_tree.proofs.Sums.{given-remove, number-remove}
 use Rattle.quota_tree.proofs.Views.{is_Some, get-member}
-use Rattle.quota_tree.proofs.Writes.{after_set, insert_same, book-set, child_yes, child_no, get-remove_other, only_if}
+use Rattle.quota_tree.proofs.BookFacts.{child_yes, child_no, get-remove_other}
+use Rattle.quota_tree.proofs.Writes.{after_set, insert_same, book-set, only_if}
 
 -- ---- A close: a process without children goes, and its quota returns to its parent
 

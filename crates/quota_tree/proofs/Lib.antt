@@ -1,3 +1,4 @@
+pub mod BookFacts
 mod Closes
 mod CollectedLemmas
 mod Splits

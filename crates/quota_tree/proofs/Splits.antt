@@ -14,7 +14,8 @@ use Rattle.quota_tree.specs.Kept.{member_of, seen_as, IsKept, IsQuotas}
 use Rattle.quota_tree.proofs.CollectedLemmas.{get-collected, collected-set}
 use Rattle.quota_tree.proofs.Sums.{given-insert, number-insert, given-none, number-none, number-given}
 use Rattle.quota_tree.proofs.Views.{is_Some, live-container, parents_live, each_quota, room_of-container, within_places, absent_at}
-use Rattle.quota_tree.proofs.Writes.{after_set, insert_same, book-set, child_yes, child_no, live_and_absent, contains_key-insert, get-insert_other, only_if}
+use Rattle.quota_tree.proofs.BookFacts.{child_yes, child_no, contains_key-insert, get-insert_other}
+use Rattle.quota_tree.proofs.Writes.{after_set, insert_same, book-set, live_and_absent, only_if}
 
 -- ---- What a split answers
 

@@ -1,18 +1,17 @@
--- What a write of one container leaves of the others and of the book, and a charge.
-use Rattle.std.proofs.Common.{◌≡◌, ◌≢◌, ℕ, ◌<◌, ◌⊎◌, inl, inr, Bool, true, false, cond, not, ◌&&◌, ◌==◌, List, length, get_or, is_some, refl, sym, ap, ◌∙◌, Option, Some, None, subst, length-set}
+-- What a write of one container leaves of the others, and a charge of the book.
+use Rattle.std.proofs.Common.{◌≡◌, ◌≢◌, ℕ, ◌<◌, ◌⊎◌, inl, inr, Bool, true, false, cond, List, length, get_or, is_some, refl, sym, ap, ◌∙◌, Option, Some, None, subst, length-set}
 use Rattle.std.specs.Prelude.{slice_set}
 use Rattle.std.proofs.lemmas.List.{get_or-set_same, get_or-set_other}
 use Rattle.page_words.specs.FiniteMap as map
 use Rattle.page_words.specs.FiniteMap.{Map, nat_order, same}
 use Rattle.page_words.proofs.MapLemmas.{get-insert, same_map}
-use Rattle.page_words.proofs.SetLemmas.{get-remove, same_cases}
+use Rattle.page_words.proofs.SetLemmas.{same_cases}
 use Rattle.quota_tree.specs.declared.Container.{Container}
-use Rattle.quota_tree.specs.Book.{Member, Book, is_child}
+use Rattle.quota_tree.specs.Book.{Book}
 use Rattle.quota_tree.specs.Collected.{collected}
 use Rattle.quota_tree.specs.Containers.{with_used}
 use Rattle.quota_tree.specs.Kept.{member_of, seen_as, IsKept, IsQuotas}
 use Rattle.quota_tree.proofs.CollectedLemmas.{collected-set}
-use borrow.Author.Tests.{eqb-true, eq-eqb}
 use Rattle.quota_tree.proofs.Views.{is_Some, get-member}
 
 -- ---- Writes into the list
@@ -51,44 +50,10 @@ module _ (cs : List (Option Container)) (kept : IsQuotas cs) (p : ℕ) (within :
   pub seen_as-charged : seen_as (slice_set cs p (Some d)) ≡ with_used (seen_as cs) p d.used
   seen_as-charged = λ i. record { book = book-set i; used = collected-set (λ x. x.used) cs p d within i }
 
-eqb-false : (m n : ℕ) → m ≢ n → (m == n) ≡ false
-eqb-false m n other = by (m == n) refl
-  where
-    by : (b : Bool) → (m == n) ≡ b → b ≡ false
-    by true is = absurd (other (eqb-true m n is))
-    by false is = refl
-
--- whether the member is a child, by its number and its parent
-pub child_yes : (p k q : ℕ) → k ≢ 0 → is_child p (k, record { parent = p; quota = q }) ≡ true
-child_yes p k q n = λ i. not (eqb-false k 0 n i) && eq-eqb p p refl i
-
-and_false : (b : Bool) → (b && false) ≡ false
-and_false true = refl
-and_false false = refl
-
-pub child_no : (p x k q : ℕ) → p ≢ x → is_child x (k, record { parent = p; quota = q }) ≡ false
-child_no p x k q n = ap (λ b. not (k == 0) && b) (eqb-false p x n) ∙ and_false (not (k == 0))
+-- ---- Live and absent
 
 pub live_and_absent : (book : Book) (x y : ℕ) → map.contains_key book x ≡ true → map.get book y ≡ None → x ≢ y
 live_and_absent book x y live none e = let f : true ≡ false = sym live ∙ ap (map.contains_key book) e ∙ ap is_some none in cc
-
-pub contains_key-insert : (book : Book) (k : ℕ) (m : Member) (x : ℕ) → map.contains_key book x ≡ true → map.contains_key (map.insert book k m) x ≡ true
-contains_key-insert book k m x h = ap is_some (get-insert book k m x) ∙ elim (same_cases nat_order x k) [
-  | inl is ↦ rw is.1 refl
-  | inr other ↦ rw other.1 h
-]
-
-pub get-insert_other : (book : Book) (k : ℕ) (m : Member) (x : ℕ) → x ≢ k → map.get (map.insert book k m) x ≡ map.get book x
-get-insert_other book k m x n = get-insert book k m x ∙ elim (same_cases nat_order x k) [
-  | inl is ↦ absurd (n is.0)
-  | inr other ↦ rw other.1 refl
-]
-
-pub get-remove_other : (book : Book) (k x : ℕ) → x ≢ k → map.get (map.remove book k) x ≡ map.get book x
-get-remove_other book k x n = get-remove book k x ∙ elim (same_cases nat_order x k) [
-  | inl is ↦ absurd (n is.0)
-  | inr other ↦ rw other.1 refl
-]
 
 -- n where the test holds, and else 0
 abbrev pub only_if : Bool → ℕ → ℕ

@@ -78,10 +78,6 @@ pub lines_more : (xs ys : List ℕ) → lines_of (xs ++ ys) ≡ closed_lines xs 
 unfolding lines_of closed_lines open_line
 lines_more xs ys = split_more xs ys
 
-pub lines_all : (xs : List ℕ) → lines_of xs ≡ closed_lines xs ++ open_line xs ∷ []
-unfolding lines_of closed_lines open_line
-lines_all xs = let some = some_line xs in some.is ∙ sym (last_and_front some.first some.others) ∙ sym (ap (λ lines. all_but_last lines ++ last_of lines ∷ []) some.is)
-
 pub closed_more : (xs ys : List ℕ) → closed_lines (xs ++ ys) ≡ closed_lines xs ++ all_but_last (onto (open_line xs) (lines_of ys))
 unfolding closed_lines
 closed_more xs ys =

@@ -182,10 +182,6 @@ nothing_cut a b c text waits front none after =
       },
     )
 
-pub ends_whole : (frames : ℕ) (remained : Option (List ℕ)) (ran ended : Session) (start now last : Option (List ℕ)) → ended.core ≡ ran.core → Ran frames remained ran start now → Appends now last ran.output → EndsWhole frames remained ended start last
-ends_whole frames remained ran ended start now last core run written =
-    if_some_map remained (λ input parts. (parts.0, ap (λ c. c.state) core ∙ parts.1, wrote_all start now last _ ran.output parts.2 written)) run
-
 pub ends_by : (frames : ℕ) (fault : ScriptFault) (remained remains : Option (List ℕ)) (waits : List ℕ) (start now last : Option (List ℕ)) → RanInto frames fault remained remains waits start now → Appends now last waits
     → (IsBeforeReading fault → ⊥) × EndsBy frames fault remained remains start last
 ends_by frames (Malformed line) remained remains waits start now last run written = (λ early. early, if_some_map remained (λ input parts. (parts.0, wrote_all start now last _ waits parts.1 written)) run)

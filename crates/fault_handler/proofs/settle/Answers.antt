@@ -1,4 +1,4 @@
-use Rattle.std.proofs.Common.{◌≡◌, ap, ◌∙◌}
+use Rattle.std.proofs.Common.{ap, ◌∙◌}
 use Rattle.process_table.specs.View.{View}
 use Rattle.fault_handler.proofs.Settled.{settled}
 use Rattle.fault_handler.proofs.settle.Goals as goal

@@ -193,45 +193,55 @@ fn root_pages(core: &mut Core, root: Pid, take: bool) -> bool {
     all
 }
 
+/// Children 1 to 63, each of which is not live before.
+fn spawns_each_child(core: &mut Core, root: Pid) -> bool {
+    let mut all = true;
+    for number in 1..64 {
+        let spawned = Pid::new(number).is_some_and(|pid| {
+            refuses(core, pid, Call::Quota, Cause::NoProcess)
+                && gives(core, root, Call::Spawn { quota: 64 }, Reply::Child(pid))
+        });
+        all = all && spawned;
+    }
+    all
+}
+
+/// A child takes all of its quota, and is refused what it may not have then.
+fn is_full_and_refused(core: &mut Core, pid: Pid) -> bool {
+    let number = pid.number();
+    let full = Reply::Quota {
+        quota: 64,
+        used: 64,
+        given: 0,
+    };
+    fills_its_quota(core, pid)
+        && is_refused_more_pages(core, pid, child_page(number, 59))
+        && is_refused_bad_calls(core, pid, child_page(number, 0))
+        && gives(core, pid, Call::Quota, full)
+}
+
+/// The last child exits, and then each before it, which makes the next number its child first.
+fn all_children_exit(core: &mut Core) -> bool {
+    let mut all = Pid::new(63).is_some_and(|last| gives(core, last, Call::Exit, Reply::Done));
+    for before in 1..63 {
+        let number = 63 - before;
+        let pair = Pid::new(number).zip(Pid::new(number + 1));
+        let exited = pair.is_some_and(|(pid, child)| exits_after_a_child(core, pid, child));
+        all = all && exited;
+    }
+    all
+}
+
 #[test]
 fn sixty_three_children_fill_their_quotas(rt: HostRuntime) -> Result<(), Fail> {
     let mut core = Core::boot(rt.alloc(), 4096)?;
     let root = Pid::new(0).ok_or("no root")?;
     let at_boot = core.container(root).ok_or("no container")?;
     assert!(rt; refuses(&mut core, root, Call::Spawn { quota: 4095 }, Cause::Quota));
+    assert!(rt; spawns_each_child(&mut core, root));
     for number in 1..64 {
         let pid = Pid::new(number).ok_or("no child")?;
-        assert!(rt;
-            refuses(&mut core, pid, Call::Quota, Cause::NoProcess),
-            "{number}"
-        );
-        assert!(rt;
-            gives(
-                &mut core,
-                root,
-                Call::Spawn { quota: 64 },
-                Reply::Child(pid)
-            ),
-            "{number}"
-        );
-    }
-    for number in 1..64 {
-        let pid = Pid::new(number).ok_or("no child")?;
-        let full = Reply::Quota {
-            quota: 64,
-            used: 64,
-            given: 0,
-        };
-        assert!(rt; fills_its_quota(&mut core, pid), "{number}");
-        assert!(rt;
-            is_refused_more_pages(&mut core, pid, child_page(number, 59)),
-            "{number}"
-        );
-        assert!(rt;
-            is_refused_bad_calls(&mut core, pid, child_page(number, 0)),
-            "{number}"
-        );
-        assert!(rt; gives(&mut core, pid, Call::Quota, full), "{number}");
+        assert!(rt; is_full_and_refused(&mut core, pid), "{number}");
     }
     assert_eq!(rt; free_frames(&core), 62);
     assert!(rt; root_pages(&mut core, root, true));
@@ -242,14 +252,7 @@ fn sixty_three_children_fill_their_quotas(rt: HostRuntime) -> Result<(), Fail> {
         let pid = Pid::new(number).ok_or("no child")?;
         assert!(rt; has_its_pages(&mut core, pid), "{number}");
     }
-    let last = Pid::new(63).ok_or("no last child")?;
-    assert!(rt; gives(&mut core, last, Call::Exit, Reply::Done));
-    for before in 1..63 {
-        let number = 63 - before;
-        let pid = Pid::new(number).ok_or("no child")?;
-        let child = Pid::new(number + 1).ok_or("no child of it")?;
-        assert!(rt; exits_after_a_child(&mut core, pid, child), "{number}");
-    }
+    assert!(rt; all_children_exit(&mut core));
     assert!(rt; root_pages(&mut core, root, false));
     let left = core.container(root).ok_or("no container")?;
     assert_eq!(rt; left, at_boot);
@@ -262,12 +265,23 @@ fn info(core: &Core, pid: Pid, page: Page) -> Reply {
     core.decide(&event(pid, Call::Info { page })).reply
 }
 
-#[test]
-fn a_store_reaches_every_holder(rt: HostRuntime) -> Result<(), Fail> {
-    let mut core = Core::boot(rt.alloc(), 16)?;
-    let root = Pid::new(0).ok_or("no root")?;
-    let child = Pid::new(1).ok_or("no child")?;
-    let (given, taken) = (user_page(0), user_page(5000));
+/// What Info tells of a page that may be written to.
+fn told(accessed: bool, dirty: bool, holders: u32) -> Reply {
+    Reply::Info {
+        write: true,
+        may: true,
+        accessed,
+        dirty,
+        holders,
+    }
+}
+
+/// The root makes process 1, offers it a page of zeros with the right to write, and it accepts.
+fn shares(core: &mut Core, root: Pid, child: Pid, given: Page, taken: Page) -> bool {
+    let map = Call::Map {
+        page: given,
+        write: true,
+    };
     let offer = Call::Offer {
         page: given,
         target: child,
@@ -278,64 +292,28 @@ fn a_store_reaches_every_holder(rt: HostRuntime) -> Result<(), Fail> {
         giver_page: given,
         page: taken,
     };
-    assert!(rt;
-        gives(
-            &mut core,
-            root,
-            Call::Spawn { quota: 8 },
-            Reply::Child(child)
-        )
-    );
-    assert!(rt;
-        gives(
-            &mut core,
-            root,
-            Call::Map {
-                page: given,
-                write: true
-            },
-            Reply::Done
-        )
-    );
-    assert!(rt; gives(&mut core, root, offer, Reply::Done));
-    assert!(rt; gives(&mut core, child, accept, Reply::Done));
+    gives(core, root, Call::Spawn { quota: 8 }, Reply::Child(child))
+        && gives(core, root, map, Reply::Done)
+        && gives(core, root, offer, Reply::Done)
+        && gives(core, child, accept, Reply::Done)
+}
+
+#[test]
+fn a_store_reaches_every_holder(rt: HostRuntime) -> Result<(), Fail> {
+    let mut core = Core::boot(rt.alloc(), 16)?;
+    let root = Pid::new(0).ok_or("no root")?;
+    let child = Pid::new(1).ok_or("no child")?;
+    let (given, taken) = (user_page(0), user_page(5000));
+    assert!(rt; shares(&mut core, root, child, given, taken));
     assert!(rt; gives(&mut core, child, store(taken, 0xfeed_0001), Reply::Done));
-    let clean = Reply::Info {
-        write: true,
-        may: true,
-        accessed: false,
-        dirty: false,
-        holders: 2,
-    };
-    let read = Reply::Info {
-        write: true,
-        may: true,
-        accessed: true,
-        dirty: false,
-        holders: 2,
-    };
-    let written = Reply::Info {
-        write: true,
-        may: true,
-        accessed: true,
-        dirty: true,
-        holders: 2,
-    };
-    assert_eq!(rt; info(&core, root, given), clean);
-    assert_eq!(rt; info(&core, child, taken), written);
+    assert_eq!(rt; info(&core, root, given), told(false, false, 2));
+    assert_eq!(rt; info(&core, child, taken), told(true, true, 2));
     assert!(rt; gives(&mut core, root, load(given), Reply::Value(0xfeed_0001)));
-    assert_eq!(rt; info(&core, root, given), read);
+    assert_eq!(rt; info(&core, root, given), told(true, false, 2));
     assert!(rt; gives(&mut core, root, store(given, 0xfeed_0002), Reply::Done));
-    assert_eq!(rt; info(&core, root, given), written);
+    assert_eq!(rt; info(&core, root, given), told(true, true, 2));
     assert!(rt; gives(&mut core, root, Call::Unmap { page: given }, Reply::Done));
-    let alone = Reply::Info {
-        write: true,
-        may: true,
-        accessed: true,
-        dirty: true,
-        holders: 1,
-    };
-    assert_eq!(rt; info(&core, child, taken), alone);
+    assert_eq!(rt; info(&core, child, taken), told(true, true, 1));
     assert!(rt; gives(&mut core, child, load(taken), Reply::Value(0xfeed_0002)));
     assert!(rt; gives(&mut core, root, load(given), Reply::Value(0)));
     Ok(())

@@ -1,11 +1,11 @@
-use Rattle.std.proofs.Common.{◌≡◌, ◌≢◌, ℕ, ◌+◌, ◌≤◌, subst, arith, true, None}
+use Rattle.std.proofs.Common.{◌≡◌, ℕ, ◌+◌, ◌≤◌, subst, arith, true}
 use Rattle.std.specs.Prelude.{length, is_some}
 use Rattle.alloc_table.specs.Roles.{frames_in_use}
 use Rattle.alloc_table.proofs.RoleLemmas.{in-use-and-reserved}
 use Rattle.address_space.specs.Image.{StandsFor}
 use Rattle.address_space.specs.Sound.{View, total_cost, directory_of, spaces_in}
 use Rattle.address_space.specs.Spaces.{cost}
-use Rattle.address_space.proofs.Openings.{cost_within, lone_cost}
+use Rattle.address_space.proofs.Openings.{cost_within}
 use Rattle.address_space.specs.Walks.{WalksAgree}
 use Rattle.address_space.proofs.WalkEnds.{walks_agree}
 use Rattle.address_space.proofs.Standing.{image_stands}
@@ -23,11 +23,6 @@ pub returns-clause-each : goal.returns-clause-each
 returns-clause-each c =
     subst (λ (v : View). (p : ℕ) → is_some (directory_of v.directories p) ≡ true → 1 + cost v.spaces p ≤ length v.roles) c.self.view_is
     (λ p live. let a = cost_within c.self.inside.directories (spaces_in c.self.inside.directories c.self.inside.memory) p c.self.invariant.sound.pids live in let b = c.self.invariant.within in omega (arith, a, b))
-
-pub returns-clause-lone : goal.returns-clause-lone
-returns-clause-lone c =
-    subst (λ (v : View). is_some (directory_of v.directories 0) ≡ true → ((p : ℕ) → p ≢ 0 → directory_of v.directories p ≡ None) → total_cost v.directories v.spaces ≡ cost v.spaces 0) c.self.view_is
-    (lone_cost c.self.inside.directories (spaces_in c.self.inside.directories c.self.inside.memory))
 
 pub returns-clause-few : goal.returns-clause-few
 returns-clause-few c = subst (λ (v : View). length v.roles ≤ 4096) c.self.view_is c.self.invariant.sound.few

@@ -1,8 +1,4 @@
-use Rattle.std.proofs.Common.{◌≡◌, ap, sym, ◌∙◌, Option, Some, None, unwrap_or}
-use Rattle.std.specs.Option.{option_map}
-use Rattle.page_words.specs.FiniteMap as map
-use Rattle.address_space.specs.Spaces.{cost}
-use Rattle.process_table.specs.State.{State, container_of}
+use Rattle.std.proofs.Common.{ap, ◌∙◌}
 use Rattle.kernel_calls.specs.Decisions.{tested, spawned}
 use Rattle.kernel_calls.proofs.Decided.{decided-map, decided-protect, decided-offer, decided-spawn, used-container}
 use Rattle.kernel_calls.proofs.decisions.decide_live.Goals as goal

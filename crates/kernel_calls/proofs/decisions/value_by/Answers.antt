@@ -1,4 +1,4 @@
-use Rattle.std.proofs.Common.{◌≡◌, sym, ◌∙◌}
+use Rattle.std.proofs.Common.{sym, ◌∙◌}
 use Rattle.kernel_calls.proofs.Zeros.{loaded-first}
 use Rattle.kernel_calls.proofs.decisions.value_by.Goals as goal
 

@@ -1,4 +1,4 @@
-use Rattle.std.proofs.Common.{◌≡◌, ap, sym, ◌∙◌}
+use Rattle.std.proofs.Common.{ap, sym, ◌∙◌}
 use Rattle.fault_handler.specs.Plans.{goes_on}
 use Rattle.kernel_calls.specs.declared.calls.Decision.{Decision}
 use Rattle.kernel_calls.proofs.Decided.{spawn-ok}

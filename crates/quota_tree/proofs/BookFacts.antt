@@ -1,4 +1,4 @@
--- What one entry of the book more or less leaves of the others, and who is a child.
+-- Who is a child, and what one entry of the book more or less leaves of the others.
 use Rattle.std.proofs.Common.{◌≡◌, ◌≢◌, ℕ, ◌&&◌, ◌==◌, not, Bool, true, false, cond, refl, ap, ◌∙◌, None, is_some, inl, inr}
 use Rattle.page_words.specs.FiniteMap as map
 use Rattle.page_words.specs.FiniteMap.{nat_order}
