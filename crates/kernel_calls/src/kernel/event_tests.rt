@@ -34,6 +34,51 @@ fn address_in(page: Page, n: u32) -> Vaddr {
     Vaddr(page.0 % 0x10_0000 * 4096 + n % 1024 * 4)
 }
 
+impl Made {
+    fn offered(&self, write: bool) -> Call {
+        Call::Offer {
+            page: self.page,
+            target: self.target,
+            write,
+        }
+    }
+
+    fn withdrawn(&self) -> Call {
+        Call::Withdraw {
+            page: self.page,
+            target: self.target,
+        }
+    }
+
+    fn accepted(&self, page: Page) -> Call {
+        Call::Accept {
+            giver: self.giver,
+            giver_page: self.page,
+            page,
+        }
+    }
+}
+
+/// A call that is no part of sharing: its kind is 24 to 63.
+fn own_call(kind: u32, page: Page, value: u32) -> Call {
+    let addr = address_in(page, value);
+    let size = Size::Four;
+    let write = value % 2 == 0;
+    match kind {
+        24..=31 => Call::Load { addr, size },
+        32..=39 => Call::Store { addr, size, value },
+        40..=45 => Call::Map { page, write },
+        46..=50 => Call::Unmap { page },
+        51..=54 => Call::Protect { page, write },
+        55..=56 => Call::Info { page },
+        57..=60 => Call::Spawn {
+            quota: 30 + value % 30,
+        },
+        61 => Call::Exit,
+        _ => Call::Quota,
+    }
+}
+
 impl Generator {
     fn draw(&mut self) -> u32 {
         self.seed = self
@@ -43,54 +88,26 @@ impl Generator {
         self.seed / 65536
     }
 
+    /// The next event. Three in eight share pages: the last offer that was made is taken back or accepted.
     fn event(&mut self) -> Result<Event, Fail> {
         let cpu = (self.draw() % 4) as u8;
-        let mut pid = process(self.draw())?;
+        let pid = process(self.draw())?;
         let page = page_in_play(self.draw());
-        let addr = address_in(page, self.draw());
-        let size = Size::Four;
-        let value = self.draw();
-        let write = value % 2 == 0;
         let target = process(self.draw())?;
-        let call = match self.draw() % 64 {
-            0 | 1 | 2 | 3 | 4 | 5 | 6 | 7 => Call::Load { addr, size },
-            8 | 9 | 10 | 11 | 12 | 13 | 14 | 15 => Call::Store { addr, size, value },
-            16 | 17 | 18 | 19 | 20 | 21 => Call::Map { page, write },
-            22 | 23 | 24 | 25 | 26 => Call::Unmap { page },
-            27 | 28 | 29 | 30 => Call::Protect { page, write },
-            31 | 32 => Call::Info { page },
-            33 | 34 => {
-                pid = self.last.giver;
-                Call::Withdraw {
-                    page: self.last.page,
-                    target: self.last.target,
-                }
-            }
-            35 | 36 | 37 | 38 => Call::Spawn {
-                quota: 30 + value % 30,
-            },
-            39 => Call::Exit,
-            40 | 41 => Call::Quota,
-            42 | 43 | 44 | 45 | 46 | 47 | 48 | 49 | 50 | 51 => {
+        let value = self.draw();
+        let last = self.last;
+        let (pid, call) = match self.draw() % 64 {
+            0..=1 => (last.giver, last.withdrawn()),
+            2..=11 => {
                 self.last = Made {
                     giver: pid,
                     page,
                     target,
                 };
-                Call::Offer {
-                    page,
-                    target,
-                    write,
-                }
+                (pid, self.last.offered(value % 2 == 0))
             }
-            _ => {
-                pid = self.last.target;
-                Call::Accept {
-                    giver: self.last.giver,
-                    giver_page: self.last.page,
-                    page,
-                }
-            }
+            12..=23 => (last.target, last.accepted(page)),
+            kind => (pid, own_call(kind, page, value)),
         };
         Ok(Event { cpu, pid, call })
     }
@@ -236,11 +253,24 @@ fn sides_agree(core: &Core, event: &Event, reply: Reply) -> bool {
     }
 }
 
+/// A machine of 256 frames on which the root has seven children.
+fn family(rt: &HostRuntime) -> Result<Core, Fail> {
+    let mut core = Core::boot(rt.alloc(), 256)?;
+    let pid = process(0)?;
+    for _ in 0..7 {
+        core.step(&Event {
+            cpu: 0,
+            pid,
+            call: Call::Spawn { quota: 30 },
+        });
+    }
+    Ok(core)
+}
+
 #[test]
 fn flags_shares_and_counts_agree_after_many_events(rt: HostRuntime) -> Result<(), Fail> {
-    let mut core = Core::boot(rt.alloc(), 256)?;
+    let mut core = family(&rt)?;
     let root = process(0)?;
-    let call = Call::Spawn { quota: 30 };
     let last = Made {
         giver: root,
         page: Page(0x40000),
@@ -248,23 +278,11 @@ fn flags_shares_and_counts_agree_after_many_events(rt: HostRuntime) -> Result<()
     };
     let mut generator = Generator { seed: 7, last };
     let mut done = [0_u32; 12];
-    for _ in 0..7 {
-        let child = core.step(&Event {
-            cpu: 0,
-            pid: root,
-            call,
-        });
-        assert!(rt; is_done(&child));
-    }
     for round in 0..128 {
-        let mut events = [Event {
-            cpu: 0,
-            pid: root,
-            call: Call::Quota,
-        }; 32];
+        let mut events = [generator.event()?; 32];
         let mut replies = [Reply::Done; 32];
-        for i in 0..32 {
-            events[i] = generator.event()?;
+        for event in &mut events {
+            *event = generator.event()?;
         }
         core.run(&events, &mut replies);
         count_done(&events, &replies, &mut done);

@@ -27,43 +27,16 @@ fn boots_16_to_4096_frames(rt: HostRuntime) {
 fn maps_stores_loads_and_unmaps(rt: HostRuntime) -> Result<(), Fail> {
     let mut core = Core::boot(rt.alloc(), 16)?;
     let root = Pid::new(0).ok_or("no root")?;
+    let page = Page(0x40000);
     let addr = Vaddr(0x4000_0ffc);
+    let size = Size::Four;
+    let value = 0xdead_beef;
     let events = [
-        event(
-            root,
-            Call::Map {
-                page: Page(0x40000),
-                write: true,
-            },
-        ),
-        event(
-            root,
-            Call::Store {
-                addr,
-                size: Size::Four,
-                value: 0xdead_beef,
-            },
-        ),
-        event(
-            root,
-            Call::Load {
-                addr,
-                size: Size::Four,
-            },
-        ),
-        event(
-            root,
-            Call::Unmap {
-                page: Page(0x40000),
-            },
-        ),
-        event(
-            root,
-            Call::Load {
-                addr,
-                size: Size::Four,
-            },
-        ),
+        event(root, Call::Map { page, write: true }),
+        event(root, Call::Store { addr, size, value }),
+        event(root, Call::Load { addr, size }),
+        event(root, Call::Unmap { page }),
+        event(root, Call::Load { addr, size }),
     ];
     let mut replies = [Reply::Done; 5];
     core.run(&events, &mut replies);

@@ -1,0 +1,4 @@
+pub mod Guests
+pub mod Laws
+pub mod Ports
+pub mod Runs

@@ -1,0 +1,21 @@
+//! Laws of guests' runs. Each is the contract of a function that computes nothing.
+
+ghost use Rattle.guest_cpu.specs.Laws.{CoresAnswer, RunsAreDetermined, RunsGoOn};
+
+/// What a core answers to a guest's calls, one after another, are the machine's answers to their events,
+/// and the core is then in the machine's last state. It computes nothing.
+pub fn cores_answer_as_the_machine()
+    ensures { CoresAnswer }
+{}
+
+/// A guest that ran out of turns and is run on, runs as one that had all turns at once: its answers and
+/// events are those of the first run and then those of the second, and it ends as the second. It computes nothing.
+pub fn runs_go_on()
+    ensures { RunsGoOn }
+{}
+
+/// The program, the guest, the turns and the port's answers determine the events that a run makes, how it
+/// ends and the guest afterwards. It computes nothing.
+pub fn runs_are_determined()
+    ensures { RunsAreDetermined }
+{}
