@@ -57,12 +57,13 @@ impl Output {
         Ok(())
     }
 
-    /// Writes all that waits. After an error what was written is a front of it, and the rest is
-    /// dropped.
+    /// Writes all that waits. An error comes only where something waits; what was written is then a
+    /// front of it, and the rest is dropped.
     pub fn flush<W: Write>(&mut self, writer: &mut W) -> Result<(), WriteFailed>
         ensures empty { self.new ≡ [] }
         ensures ok { OnOk result (Appends (W.contents writer.old) (W.contents writer.new) self.old) }
         ensures err { OnErr result (AppendsFront (W.contents writer.old) (W.contents writer.new) self.old) }
+        ensures waited { OnErr result (0 < length self.old) }
     {
         let written = write_whole(writer, &self.block);
         self.block.clear();
@@ -75,6 +76,7 @@ impl Output {
 fn write_whole<W: Write>(writer: &mut W, bytes: &[u8]) -> Result<(), WriteFailed>
     ensures ok { OnOk result (Appends (W.contents writer.old) (W.contents writer.new) bytes.now) }
     ensures err { OnErr result (AppendsFront (W.contents writer.old) (W.contents writer.new) bytes.now) }
+    ensures some { OnErr result (0 < length bytes.now) }
 {
     let mut rest = bytes;
     while !rest.is_empty() {
