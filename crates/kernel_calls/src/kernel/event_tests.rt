@@ -276,10 +276,15 @@ fn flags_shares_and_counts_agree_after_many_events(rt: HostRuntime) -> Result<()
         page: Page(0x40000),
         target: root,
     };
+    let blank = Event {
+        cpu: 0,
+        pid: root,
+        call: Call::Quota,
+    };
     let mut generator = Generator { seed: 7, last };
     let mut done = [0_u32; 12];
     for round in 0..128 {
-        let mut events = [generator.event()?; 32];
+        let mut events = [blank; 32];
         let mut replies = [Reply::Done; 32];
         for event in &mut events {
             *event = generator.event()?;
