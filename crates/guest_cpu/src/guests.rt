@@ -16,7 +16,6 @@ pub struct Guest {
 }
 
 impl Model for Guest {
-    ghost use Rattle.std.specs.Prelude.{◌≡◌, length};
     ghost use Rattle.guest_cpu.specs.Guests.{View, view_code};
 
     ghost Value = { View };

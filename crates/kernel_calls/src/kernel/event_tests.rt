@@ -267,9 +267,19 @@ fn family(rt: &HostRuntime) -> Result<Core, Fail> {
     Ok(core)
 }
 
+/// Whether all 8 processes are live.
+fn all_live(core: &Core) -> Result<bool, Fail> {
+    let mut all = true;
+    for number in 0..8 {
+        all = all && core.container(process(number)?).is_some();
+    }
+    Ok(all)
+}
+
 #[test]
 fn flags_shares_and_counts_agree_after_many_events(rt: HostRuntime) -> Result<(), Fail> {
     let mut core = family(&rt)?;
+    assert!(rt; all_live(&core)?);
     let root = process(0)?;
     let last = Made {
         giver: root,
