@@ -171,14 +171,14 @@ module _ (directories : List (Option ℕ)) (bytes : List ℕ) (roles : List Role
   pages_are_entries = same_set (pages_of S p) (map.map_values (λ page (e : PageEntry). tt) (entries_of (frame_bytes bytes) d)) (λ page.
       contains-pages_of S p page
       ∙ elim (user_cases page) [
-        | inl user ↦ ap is_some (get-spaces_in directories bytes p page few user.0 user.1 ∙ ap (λ x. option_map cell (option_and_then (λ d. entry_at (frame_bytes bytes) d page) x)) live) ∙ some_map cell (entry_at (frame_bytes bytes) d page)
+        | inl user ↦ ap is_some (get-spaces_in directories bytes p page few user.0 user.1 ∙ ap (λ x. option_map (cell page) (option_and_then (λ d. entry_at (frame_bytes bytes) d page) x)) live) ∙ some_map (cell page) (entry_at (frame_bytes bytes) d page)
             ∙ sym (ap is_some (get-entries_user (frame_bytes bytes) d page user))
         | inr out ↦ ap is_some (no_cell_outside directories bytes roles p page spaces.sound out) ∙ sym (ap is_some (get-entries_other (frame_bytes bytes) d page out))
       ]
       ∙ sym (ap is_some (get-map_values nat_order (λ page (e : PageEntry). tt) (entries_of (frame_bytes bytes) d) page) ∙ some_map (λ (e : PageEntry). tt) (map.get (entries_of (frame_bytes bytes) d) page)))
     where
-      cell : PageEntry → Cell
-      cell = cell_of (entries_in (directory_of directories) (frame_bytes bytes)) (frame_bytes bytes)
+      cell : ℕ → PageEntry → Cell
+      cell page = cell_of (entries_in (directory_of directories) (frame_bytes bytes)) (frame_bytes bytes) (record { pid = p; page = page })
 
   count_pages : set.len (pages_of S p) ≡ map.len (entries_of (frame_bytes bytes) d)
   count_pages = ap set.len pages_are_entries ∙ len-change_each (λ page (e : PageEntry). tt) (entries_of (frame_bytes bytes) d).entries

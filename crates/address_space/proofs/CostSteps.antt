@@ -121,13 +121,13 @@ counted b = if b then 1 else 2
 pub keys : (E : Entries) (m : ℕ → List ℕ) (q : Slot) → map_of.contains_key (spaces_of E m) q ≡ is_some (map_of.get E q)
 keys E m q = ap is_some (get-spaces_of E m q) ∙ by (map_of.get E q)
   where
-    by : (x : Option PageEntry) → is_some (option_map (cell_of E m) x) ≡ is_some x
+    by : (x : Option PageEntry) → is_some (option_map (cell_of E m q) x) ≡ is_some x
     by None = refl
     by (Some d) = refl
 
-none_cell : (E : Entries) (m : ℕ → List ℕ) (x : Option PageEntry) → x ≡ None → option_map (cell_of E m) x ≡ None
-none_cell E m None h = refl
-none_cell E m (Some d) h = cc
+none_cell : (E : Entries) (m : ℕ → List ℕ) (q : Slot) (x : Option PageEntry) → x ≡ None → option_map (cell_of E m q) x ≡ None
+none_cell E m q None h = refl
+none_cell E m q (Some d) h = cc
 
 -- an entry more costs what its page needs
 pub total-entry : (directories : List (Option ℕ)) (E : Entries) (m m' : ℕ → List ℕ) (slot : Slot) (e : PageEntry) (cell : Cell) (d : ℕ) → slot.pid < 64 → directory_of directories slot.pid ≡ Some d → map_of.get E slot ≡ None
@@ -137,7 +137,7 @@ total-entry directories E m m' slot e cell d few live none =
     keys (map_of.insert E slot e) m' q ∙ ap is_some (get-insert E slot e q)
     ∙ either (same slot_order q slot) (map_of.get E q) (map_of.get (spaces_of E m) q) (sym (keys E m q))
     ∙ sym (ap is_some (get-insert (spaces_of E m) slot cell q)))
-    ∙ total-insert directories (spaces_of E m) slot cell d few live (get-spaces_of E m slot ∙ none_cell E m (map_of.get E slot) none)
+    ∙ total-insert directories (spaces_of E m) slot cell d few live (get-spaces_of E m slot ∙ none_cell E m slot (map_of.get E slot) none)
   where
     either : (b : Bool) (x : Option PageEntry) (y : Option Cell) → is_some x ≡ is_some y → is_some (cond b (Some e) x) ≡ is_some (cond b (Some cell) y)
     either true x y h = refl
@@ -159,15 +159,15 @@ total-kept directories E m m' slot old new found =
 pub need-two : (D : Directories) (m : Frames) (p page : ℕ) → table_in D m p (slot_number page) ≡ None → need (spaces_of (entries_in D m) m) p page ≡ 2
 need-two D m p page none = by (set.contains (regions_of (pages_of (spaces_of (entries_in D m) m) p)) (slot_number page)) refl
   where
-    some_map : (E : Entries) (x : Option PageEntry) → is_some (option_map (cell_of E m) x) ≡ is_some x
-    some_map E None = refl
-    some_map E (Some d) = refl
+    some_map : (E : Entries) (q : Slot) (x : Option PageEntry) → is_some (option_map (cell_of E m q) x) ≡ is_some x
+    some_map E q None = refl
+    some_map E q (Some d) = refl
 
     clash : (other : ℕ) → slot_number other ≡ slot_number page → map_of.contains_key (spaces_of (entries_in D m) m) (record { pid = p; page = other }) ≡ true → ⊥
     clash other same_region h =
         let q : Slot = record { pid = p; page = other } in
         let entry : is_some (cond (list_any (same slot_order q) user_slots) (entry_in D m q) None) ≡ true =
-        sym (ap is_some (get-spaces_of (entries_in D m) m q) ∙ some_map (entries_in D m) (map_of.get (entries_in D m) q) ∙ ap is_some (get-entries_in D m q)) ∙ h in
+        sym (ap is_some (get-spaces_of (entries_in D m) m q) ∙ some_map (entries_in D m) q (map_of.get (entries_in D m) q) ∙ ap is_some (get-entries_in D m q)) ∙ h in
         let no : entry_in D m q ≡ None = entry_by_table D m q ∙ ap (option_and_then _) (ap (table_in D m p) same_region ∙ none) in
         absurd (gone (list_any (same slot_order q) user_slots) (entry_in D m q) no entry)
       where

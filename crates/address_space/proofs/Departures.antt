@@ -21,7 +21,7 @@ use Rattle.page_map.specs.Pages.{is_mapped}
 use Rattle.page_map.proofs.PageLemmas.{get-entries_user}
 use Rattle.address_space.specs.Spaces.{Slot, slot_order, Cell, Spaces, cost, need, pages_of, regions_of, without, with_holders, is_slot, is_of}
 use Rattle.address_space.specs.Slots.{user_slots}
-use Rattle.address_space.specs.Cells.{Entries, cell_of, spaces_of}
+use Rattle.address_space.specs.Cells.{Entries, lazy_count, cell_of, spaces_of}
 use Rattle.address_space.specs.Sound.{Directories, Roles, directory_of, table_in, entry_in, entries_in, spaces_in, live_cost, total_cost, Tables, Pages, IsSound, IsSpaces, SlotRemoved, IsEmptySpace, ClearedBelow, SpaceCleared, DirectoryRemoved}
 use Rattle.address_space.proofs.Costs.{contains-pages_of}
 use Rattle.address_space.proofs.CostSteps.{sum_one}
@@ -105,7 +105,7 @@ nothing_leaves directories bytes p empty =
     none q is =
         let own : q.pid ≡ p = eqb-true q.pid p is in
         let here : q ≡ record { pid = p; page = q.page } = (λ i. record { pid = own i; page = q.page }) in
-        none_before E m (map.get E q) (sym (get-spaces_of E m q) ∙ ap (map.get (spaces_of E m)) here ∙ empty q.page)
+        none_before E m q (map.get E q) (sym (get-spaces_of E m q) ∙ ap (map.get (spaces_of E m)) here ∙ empty q.page)
 
     by : (q : Slot) (b : Bool) → is_of p q ≡ b → cond (not (is_of p q)) (map.get E q) None ≡ map.get E q
     by q true is = ap (λ b. cond (not b) (map.get E q) None) is ∙ sym (none q is)
@@ -116,7 +116,7 @@ nothing_leaves directories bytes p empty =
 no_cell_by : (D : Directories) (m : Frames) (q : Slot) → entry_in D m q ≡ None → map.get (spaces_of (entries_in D m) m) q ≡ None
 no_cell_by D m q none =
     get-spaces_of (entries_in D m) m q
-    ∙ ap (option_map (cell_of (entries_in D m) m)) (get-entries_in D m q ∙ ap (λ x. cond (list_any (same slot_order q) user_slots) x None) none ∙ either (list_any (same slot_order q) user_slots))
+    ∙ ap (option_map (cell_of (entries_in D m) m q)) (get-entries_in D m q ∙ ap (λ x. cond (list_any (same slot_order q) user_slots) x None) none ∙ either (list_any (same slot_order q) user_slots))
   where
     either : (b : Bool) → ◌≡◌ {A = Option PageEntry} (cond b None None) None
     either true = refl
@@ -342,10 +342,10 @@ directory_removed directories bytes roles roles' p d s live empty rel =
           few = subst (λ n. n ≤ 4096) (sym same_length) sound.few;
           pids = length-set directories p None ∙ sound.pids;
           tables = tables-without D D' m R R' sound.tables p d live bare none others role kept;
-          pages = subst (λ x. Pages x R') (sym E) (pages-role (entries_in D m) R R' d sound.pages (λ c h. cc) (λ c h. cc) kept);
+          pages = subst (λ x. Pages x R') (sym E) (pages-role (entries_in D m) R R' d sound.pages (λ h. cc) (λ c h. cc) (λ c h. cc) kept);
         };
         in_use = λ q r t found. s.in_use q r t (sym (kept_tables D D' m R R' sound.tables p d live bare none others role kept q r) ∙ found);
-        weighs = omega (arith, weighs, lighter, total, total');
+        weighs = let z : lazy_count (entries_in D' m) ≡ lazy_count (entries_in D m) = ap lazy_count E in omega (arith, weighs, lighter, total, total', z);
         within = omega (arith, within, same_length, total, total');
       };
       spaces = spaces;

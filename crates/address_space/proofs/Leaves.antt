@@ -9,26 +9,26 @@ use Rattle.page_words.specs.Words.{is_present, frame_number}
 use Rattle.phys_memory.specs.Bytes.{frame_bytes, word_in}
 use Rattle.phys_memory.proofs.Frames.{with_frame-other}
 use Rattle.alloc_table.specs.declared.Role.{Role}
-use Rattle.alloc_table.specs.declared.Role.TheVariants.{Free, Table, Page}
+use Rattle.alloc_table.specs.declared.Role.TheVariants.{Reserved, Free, Table, Page}
 use Rattle.alloc_table.specs.Roles.{frames_weight, weight, IsReleased, released, IsInUse}
 use Rattle.alloc_table.proofs.RoleLemmas.{weight-set}
 use Rattle.page_map.specs.declared.PageEntry.{PageEntry}
-use Rattle.page_map.specs.Entries.{Frames, dir_word, table_of, entry_at, IsCleared, without_table}
+use Rattle.page_map.specs.Entries.{Frames, dir_word, table_of, entry_at, IsCleared, IsKernelEntry, without_table}
 use Rattle.page_words.specs.FiniteMap as map
 use Rattle.page_words.specs.FiniteMap.{change_each}
 use Rattle.page_words.specs.FiniteSet as set
 use Rattle.address_space.specs.Spaces.{Slot, need, is_slot}
 use Rattle.page_words.specs.FiniteMap.{collect, put_some}
 use Rattle.page_words.specs.FiniteMap.{same}
-use Rattle.address_space.specs.Cells.{Entries, cell_of, spaces_of, holders_of}
-use Rattle.address_space.specs.Sound.{Directories, Roles, directory_of, table_in, entries_in, spaces_in, Tables, Pages, IsSound, InUseAt, total_cost, IsSpaces, TableFreed, SlotRemoved}
+use Rattle.address_space.specs.Cells.{Entries, lazy_count, cell_of, spaces_of, holders_of}
+use Rattle.address_space.specs.Sound.{Directories, Roles, directory_of, table_in, entries_in, spaces_in, Tables, Pages, HoldsPage, IsSound, InUseAt, total_cost, IsSpaces, TableFreed, EntryLeft, SlotRemoved}
 use Rattle.address_space.proofs.CostSteps.{total-entry, need-one, need-most}
 use Rattle.address_space.proofs.EntrySteps.{Loose, with_word_at, entries-remove, tables-entry, tables_kept}
 use Rattle.address_space.proofs.FrameSteps.{here_or_not, tables-role, unlinked-own, unlinked-others, unlinked-table, unlinked-entry, tables-unlinked}
-use Rattle.address_space.proofs.PageSteps.{same_bytes, pages-role, holders-less}
+use Rattle.address_space.proofs.PageSteps.{same_bytes, pages-role, holders-less, no_table, no_directory}
 use Rattle.address_space.proofs.Refinement.{leave_refines}
 use Rattle.address_space.proofs.Steps.{live_small, page_loose, free_loose, table_by_word, role_own, role_other}
-use Rattle.address_space.proofs.Stores.{Found, found, get_user, named_entry, page_of_name}
+use Rattle.address_space.proofs.Stores.{Found, found, get_user, named_entry, page_of_name, page_held, entry_rules}
 use Rattle.address_space.proofs.Removal.{put_back, removed, kept_other}
 use Rattle.address_space.proofs.EntrySteps.{same_entries}
 
@@ -42,10 +42,10 @@ pages-less : (E : Entries) (R R' : Roles) (slot : Slot) (e : PageEntry) (c : ℕ
 pages-less E R R' slot e c P there was own others = record {
   pages = λ q d is. elim (cases_eq d.frame e.frame) [
     | inl same ↦ elim (after_page c) [
-      | inl more ↦ (c - 1, ap R' same ∙ own ∙ ap (λ b. Some (if b then Page (c - 1) else Free)) more)
+      | inl more ↦ inr (c - 1, ap R' same ∙ own ∙ ap (λ b. Some (if b then Page (c - 1) else Free)) more)
       | inr one ↦ absurd (no_other q d is same one)
     ]
-    | inr differ ↦ let old = P.pages q d (before q d is) in (old.0, others d.frame differ ∙ old.1)
+    | inr differ ↦ subst HoldsPage (sym (others d.frame differ)) (P.pages q d (before q d is))
   ];
   counts = λ f n is. elim (cases_eq f e.frame) [
     | inl same ↦ elim (after_page c) [
@@ -89,11 +89,25 @@ pages-less E R R' slot e c P there was own others = record {
         let le = le_of c one in
         absurd (omega (arith, a, less, old, le))
 
+-- pages after a lazy entry went
+pages-lazy-less : (E : Entries) (R : Roles) (slot : Slot) (e : PageEntry) → Pages E R → map.get E slot ≡ Some e → e.frame ≡ 0 → R 0 ≡ Some Reserved → Pages (map.remove E slot) R
+pages-lazy-less E R slot e P there lazy zero = record {
+  pages = λ q d is. P.pages q d (sym (kept_other E slot q (λ same. let k : map.get (map.remove E slot) q ≡ None = ap (map.get (map.remove E slot)) same ∙ removed E slot in cc)) ∙ is);
+  counts = λ f c is. let old = P.counts f c is in (old.0, old.1 ∙ sym (ap set.len ((holders-less E slot e there).1 f (λ same. let k : R f ≡ R 0 = ap R (same ∙ lazy) in cc))));
+}
+
+-- what the roles are after an entry went
+record Left (D : Directories) (m : Frames) (E E' : Entries) (roles one : List Role) : Type 0 where
+  pub tables : Tables D m (slice_get one)
+  pub pages : Pages E' (slice_get one)
+  pub weight : frames_weight one + lazy_count E' + 1 ≡ frames_weight roles + lazy_count E
+  pub length : length one ≡ length roles
+
 pub slot_removed : (directories : List (Option ℕ)) (bytes two : List ℕ) (roles one last : List Role) (p d page : ℕ) (e : PageEntry) (freed : Option ℕ) → IsSpaces directories bytes roles → directory_of directories p ≡ Some d
     → 0x40000 ≤ page → page < 0xf0000 → entry_at (frame_bytes bytes) d page ≡ Some e → IsCleared (frame_bytes bytes) d page freed (frame_bytes two) → length two ≡ length bytes
-    → IsReleased roles e.frame one → TableFreed one freed last → SlotRemoved directories p page bytes roles two last
+    → EntryLeft roles e one → TableFreed one freed last → SlotRemoved directories p page bytes roles two last
 unfolding spaces_in
-slot_removed directories bytes two roles one last p d page e freed spaces live low high is_entry cleared same_bytes_length rel table_freed = by freed refl
+slot_removed directories bytes two roles one last p d page e freed spaces live low high is_entry cleared same_bytes_length went table_freed = by freed refl
   where
     sound : IsSound directories bytes roles
     sound = spaces.sound
@@ -128,9 +142,6 @@ slot_removed directories bytes two roles one last p d page e freed spaces live l
     there : map.get E slot ≡ Some e
     there = get_user D m p d page e live few low high is_entry
 
-    page_role : (c : ℕ) × (R e.frame ≡ Some (Page c))
-    page_role = sound.pages.pages slot e there
-
     Ta : Tables D m1 R
     Ta = tables-entry D m R T p d page f.table 0 live f.there (omega arith) (inl refl)
 
@@ -149,30 +160,6 @@ slot_removed directories bytes two roles one last p d page e freed spaces live l
     Ra : Roles
     Ra = slice_get one
 
-    c : ℕ
-    c = page_role.0
-
-    role_is : rel.role ≡ Page c
-    role_is = let a : Some rel.role ≡ Some (Page c) = sym rel.was ∙ page_role.1 in cc
-
-    own1 : Ra e.frame ≡ Some (released (Page c))
-    own1 = role_own roles one e.frame rel.role (released rel.role) rel.was rel.now ∙ ap (λ r. Some (released r)) role_is
-
-    others1 : (g : ℕ) → g ≢ e.frame → Ra g ≡ R g
-    others1 = role_other roles one e.frame (released rel.role) rel.now
-
-    loose1 : Loose Ra e.frame
-    loose1 = elim (after_page c) [
-      | inl more ↦ page_loose Ra e.frame (c - 1) (own1 ∙ ap (λ b. Some (if b then Page (c - 1) else Free)) more)
-      | inr last_one ↦ free_loose Ra e.frame (own1 ∙ ap (λ b. Some (if b then Page (c - 1) else Free)) last_one)
-    ]
-
-    Tb : Tables D m1 Ra
-    Tb = tables-role D m1 R Ra e.frame (Page c) Ta page_role.1 (page_loose R e.frame c page_role.1) loose1 others1
-
-    P1 : Pages (map.remove E slot) Ra
-    P1 = pages-less E R Ra slot e c sound.pages there page_role.1 own1 others1
-
     lighter : (c : ℕ) → 0 < c → weight (released (Page c)) + 1 ≡ c
     lighter c pos = by (nat_lt 1 c) refl
       where
@@ -180,21 +167,72 @@ slot_removed directories bytes two roles one last p d page e freed spaces live l
         by true is = omega (arith, pos)
         by false is = let l : c ≤ 1 = grind (arith, nat_tests) in omega (arith, pos, l)
 
-    weight1 : frames_weight one + 1 ≡ frames_weight roles
-    weight1 =
+    rules : IsKernelEntry e
+    rules = entry_rules directories bytes roles p d page e sound live is_entry
+
+    left_real : 1 ≤ e.frame → IsReleased roles e.frame one → Left D m1 E (map.remove E slot) roles one
+    left_real up rel =
+        let held = page_held directories bytes roles e.frame sound (sound.pages.pages slot e there) up in
+        let c : ℕ = held.count in
+        let was : R e.frame ≡ Some (Page c) = held.page in
+        let role_is : rel.role ≡ Page c = (let a : Some rel.role ≡ Some (Page c) = sym rel.was ∙ was in cc) in
+        let own1 : Ra e.frame ≡ Some (released (Page c)) = role_own roles one e.frame rel.role (released rel.role) rel.was rel.now ∙ ap (λ r. Some (released r)) role_is in
+        let others1 : (g : ℕ) → g ≢ e.frame → Ra g ≡ R g = role_other roles one e.frame (released rel.role) rel.now in
+        let loose1 : Loose Ra e.frame = elim (after_page c) [
+          | inl more ↦ page_loose Ra e.frame (c - 1) (own1 ∙ ap (λ b. Some (if b then Page (c - 1) else Free)) more)
+          | inr last_one ↦ free_loose Ra e.frame (own1 ∙ ap (λ b. Some (if b then Page (c - 1) else Free)) last_one)
+        ] in
         let a = weight-set roles e.frame rel.role (released rel.role) rel.was in
         let n : frames_weight one ≡ frames_weight (slice_set roles e.frame (released rel.role)) = ap frames_weight rel.now in
         let x : weight rel.role ≡ c = ap weight role_is in
         let y : weight (released rel.role) ≡ weight (released (Page c)) = ap (λ r. weight (released r)) role_is in
-        let z = lighter c (sound.pages.counts e.frame c page_role.1).0 in
-        omega (arith, a, n, x, y, z)
+        let z = lighter c (sound.pages.counts e.frame c was).0 in
+        let l : lazy_count (map.remove E slot) ≡ lazy_count E = ap set.len ((holders-less E slot e there).1 0 (λ same. omega (arith, same, up))) in
+        record {
+          tables = tables-role D m1 R Ra e.frame (Page c) Ta was (page_loose R e.frame c was) loose1 others1;
+          pages = pages-less E R Ra slot e c sound.pages there was own1 others1;
+          weight = omega (arith, a, n, x, y, z, l);
+          length = ap length rel.now ∙ length-set roles e.frame (released rel.role);
+        }
+
+    left_lazy : e.frame ≡ 0 → one ≡ roles → Left D m1 E (map.remove E slot) roles one
+    left_lazy zero same =
+        let less = (holders-less E slot e there).0 in
+        let x : set.len (holders_of E e.frame) ≡ lazy_count E = ap (λ g. set.len (holders_of E g)) zero in
+        let y : set.len (holders_of (map.remove E slot) e.frame) ≡ lazy_count (map.remove E slot) = ap (λ g. set.len (holders_of (map.remove E slot) g)) zero in
+        let w : frames_weight one ≡ frames_weight roles = ap frames_weight same in
+        record {
+          tables = subst (λ l. Tables D m1 (slice_get l)) (sym same) Ta;
+          pages = subst (λ l. Pages (map.remove E slot) (slice_get l)) (sym same) (pages-lazy-less E R slot e sound.pages there zero T.zero_role);
+          weight = omega (arith, less, x, y, w);
+          length = ap length same;
+        }
+
+    left : Left D m1 E (map.remove E slot) roles one
+    left = by_lazy e.lazy refl
+      where
+        by_lazy : (b : Bool) → e.lazy ≡ b → Left D m1 E (map.remove E slot) roles one
+        by_lazy true is = left_lazy (rules.zero is) (went.lazy is)
+        by_lazy false is = left_real (rules.frame is) (went.real is)
+
+    Tb : Tables D m1 Ra
+    Tb = left.tables
+
+    P1 : Pages (map.remove E slot) Ra
+    P1 = left.pages
+
+    weight1 : frames_weight one + lazy_count (map.remove E slot) + 1 ≡ frames_weight roles + lazy_count E
+    weight1 = left.weight
 
     length1 : length one ≡ length roles
-    length1 = ap length rel.now ∙ length-set roles e.frame (released rel.role)
+    length1 = left.length
+
+    table1 : Ra f.table ≡ Some (Table p (slot_number page))
+    table1 = Tb.table p (slot_number page) f.table (tables_kept D m R T p d page f.table 0 live f.there (omega arith) p (slot_number page) ∙ named)
 
     -- a page's bytes stay
     page_kept1 : (q : Slot) (x : PageEntry) → map.get (map.remove E slot) q ≡ Some x → m1 x.frame ≡ m x.frame
-    page_kept1 q x is = let a = P1.pages q x is in let r = a.1 in with_frame-other m f.table x.frame _ (λ same. let k : Ra x.frame ≡ Ra f.table = ap Ra same in let t = Tb.table p (slot_number page) f.table (tables_kept D m R T p d page f.table 0 live f.there (omega arith) p (slot_number page) ∙ named) in cc)
+    page_kept1 q x is = with_frame-other m f.table x.frame _ (no_table Ra x.frame f.table p (slot_number page) (P1.pages q x is) table1)
 
     -- other tables keep their bytes and their entries
     use_other : (q r : ℕ) → (q ≡ p → r ≡ slot_number page → ⊥) → InUseAt D m q r → InUseAt D m1 q r
@@ -204,7 +242,7 @@ slot_removed directories bytes two roles one last p d page e freed spaces live l
         (u.0, u.1, ap (λ l. is_present (word_in l u.0)) (with_frame-other m f.table g _ (λ same. let a = T.table q r g old in let k : R g ≡ R f.table = ap R same in let b = role_t in let q_p : q ≡ p = cc in let r_s : r ≡ slot_number page = cc in n q_p r_s)) ∙ u.2)
 
     costs : (m2 : Frames) → total_cost directories (spaces_of E m) ≡ total_cost directories (spaces_of (map.remove E slot) m2) + need (spaces_of (map.remove E slot) m2) p page
-    costs m2 = ap (λ x. total_cost directories (spaces_of x m)) (sym (put_back E slot e there)) ∙ total-entry directories (map.remove E slot) m2 m slot e (cell_of E m e) d few live (removed E slot)
+    costs m2 = ap (λ x. total_cost directories (spaces_of x m)) (sym (put_back E slot e there)) ∙ total-entry directories (map.remove E slot) m2 m slot e (cell_of E m slot e) d few live (removed E slot)
 
     by : (x : Option ℕ) → freed ≡ x → SlotRemoved directories p page bytes roles two last
     by None none =
@@ -239,7 +277,7 @@ slot_removed directories bytes two roles one last p d page e freed spaces live l
               | inl h ↦ λ t found. use_own t ((λ i. table_in D m1 (sym h.0 i) (sym h.1 i)) ∙ found)
               | inr n ↦ use_other q r n (spaces.in_use q r)
             ]);
-            weighs = omega (arith, old, cost, one_more, total, w, w1);
+            weighs = let z : lazy_count (entries_in D (frame_bytes two)) ≡ lazy_count (map.remove E slot) = ap lazy_count E2 in omega (arith, old, cost, one_more, total, w, w1, z);
             within = omega (arith, within, cost, total, same_length);
           };
           spaces = (λ i. spaces_of (E2 i) (is i)) ∙ same_bytes (map.remove E slot) m m1 page_kept1 ∙ leave_refines E m (is_slot p page);
@@ -261,12 +299,10 @@ slot_removed directories bytes two roles one last p d page e freed spaces live l
         let others2 : (h : ℕ) → h ≢ f.table → slice_get last h ≡ Ra h = λ h n. role_other one last g (released freed_t.role) freed_t.now h (λ x. n (x ∙ g_t)) in
         let Tc : Tables D m2 (slice_get last) = tables-unlinked D m1 Ra Tb p d s f.table live there1 s_small (slice_get last) own2 others2 in
         let E2 : entries_in D (frame_bytes two) ≡ map.remove E slot = ap (entries_in D) is ∙ same_entries D m1 m2 (unlinked-entry D m1 Ra Tb p d s f.table live there1 s_small blank) ∙ E1 in
-        let P2 : Pages (map.remove E slot) (slice_get last) = pages-role (map.remove E slot) Ra (slice_get last) f.table P1 (λ c h. cc) (λ c h. cc) others2 in
+        let P2 : Pages (map.remove E slot) (slice_get last) = pages-role (map.remove E slot) Ra (slice_get last) f.table P1 (λ h. cc) (λ c h. cc) (λ c h. cc) others2 in
         let same_length : length last ≡ length roles = ap length freed_t.now ∙ length-set one g (released freed_t.role) ∙ length1 in
         let page_kept2 : (q : Slot) (x : PageEntry) → map.get (map.remove E slot) q ≡ Some x → m2 x.frame ≡ m1 x.frame = λ q x found.
-        let a = P1.pages q x found in
-        let r = a.1 in
-        with_frame-other m1 d x.frame _ (λ same. let y : Ra x.frame ≡ Ra d = ap Ra same in let z = Tb.directory p d live in cc) in
+        with_frame-other m1 d x.frame _ (no_directory Ra x.frame d p (P1.pages q x found) (Tb.directory p d live)) in
         let cost = costs m2 in
         let most = need-most (spaces_of (map.remove E slot) m2) p page in
         let total : total_cost directories (spaces_of (entries_in D (frame_bytes two)) (frame_bytes two)) ≡ total_cost directories (spaces_of (map.remove E slot) m2) = (λ i. total_cost directories (spaces_of (E2 i) (is i))) in
@@ -296,7 +332,7 @@ slot_removed directories bytes two roles one last p d page e freed spaces live l
                   let u = use_other q r n (spaces.in_use q r) t before in
                   (u.0, u.1, ap (λ l. is_present (word_in l u.0)) (unlinked-table D m1 Ra Tb p d s f.table live there1 s_small q r t before) ∙ u.2))
             ]);
-            weighs = omega (arith, old, cost, most, total, w, w1);
+            weighs = let z : lazy_count (entries_in D (frame_bytes two)) ≡ lazy_count (map.remove E slot) = ap lazy_count E2 in omega (arith, old, cost, most, total, w, w1, z);
             within = omega (arith, within, cost, total, same_length);
           };
           spaces = (λ i. spaces_of (E2 i) (is i)) ∙ same_bytes (map.remove E slot) m1 m2 page_kept2 ∙ same_bytes (map.remove E slot) m m1 page_kept1 ∙ leave_refines E m (is_slot p page);
@@ -304,15 +340,21 @@ slot_removed directories bytes two roles one last p d page e freed spaces live l
 
 -- a table that was unlinked is still a table's frame
 pub freed_table : (directories : List (Option ℕ)) (bytes two : List ℕ) (roles one : List Role) (p d page : ℕ) (e : PageEntry) (freed : Option ℕ) → IsSound directories bytes roles → directory_of directories p ≡ Some d
-    → 0x40000 ≤ page → page < 0xf0000 → entry_at (frame_bytes bytes) d page ≡ Some e → IsCleared (frame_bytes bytes) d page freed (frame_bytes two) → IsReleased roles e.frame one → (t : ℕ) → freed ≡ Some t → IsInUse one t
-freed_table directories bytes two roles one p d page e freed sound live low high is_entry cleared rel t is =
+    → 0x40000 ≤ page → page < 0xf0000 → entry_at (frame_bytes bytes) d page ≡ Some e → IsCleared (frame_bytes bytes) d page freed (frame_bytes two) → EntryLeft roles e one → (t : ℕ) → freed ≡ Some t → IsInUse one t
+freed_table directories bytes two roles one p d page e freed sound live low high is_entry cleared went t is =
     let D : Directories = directory_of directories in
     let m : Frames = frame_bytes bytes in
     let f = found D m p d page e is_entry in
     let named : table_in D m p (slot_number page) ≡ Some f.table = ap (option_and_then (λ x. table_of m x (slot_number page))) live ∙ f.there in
     let t_is : t ≡ f.table = (cleared.unlinked t is).0 ∙ table_by_word (dir_word m d (slot_number page)) f.table f.there in
     let role : slice_get roles t ≡ Some (Table p (slot_number page)) = ap (slice_get roles) t_is ∙ sound.tables.table p (slot_number page) f.table named in
-    let n = named_entry directories bytes roles p d page e sound live low high is_entry in
-    let r = page_of_name directories bytes roles (record { pid = p; page = page }) e.frame sound n in
-    let apart : t ≢ e.frame = λ same. (let k : slice_get roles t ≡ slice_get roles e.frame = ap (slice_get roles) same in let q = r.page in cc) in
-    record { role = Table p (slot_number page); is = role_other roles one e.frame (released rel.role) rel.now t apart ∙ role; in_use = refl }
+    record { role = Table p (slot_number page); is = by_lazy role e.lazy refl; in_use = refl }
+  where
+    by_lazy : slice_get roles t ≡ Some (Table p (slot_number page)) → (b : Bool) → e.lazy ≡ b → slice_get one t ≡ Some (Table p (slot_number page))
+    by_lazy role true lazy = ap (λ l. slice_get l t) (went.lazy lazy) ∙ role
+    by_lazy role false real =
+        let n = named_entry directories bytes roles p d page e sound live low high is_entry in
+        let r = page_of_name directories bytes roles (record { pid = p; page = page }) e.frame sound n ((entry_rules directories bytes roles p d page e sound live is_entry).frame real) in
+        let rel = went.real real in
+        let apart : t ≢ e.frame = λ same. (let k : slice_get roles t ≡ slice_get roles e.frame = ap (slice_get roles) same in let q = r.page in cc) in
+        role_other roles one e.frame (released rel.role) rel.now t apart ∙ role

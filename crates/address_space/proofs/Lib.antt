@@ -1,5 +1,6 @@
 pub mod Refinement
 pub mod EntrySteps
+pub mod LazyFilling
 pub mod FrameSteps
 pub mod PageSteps
 pub mod CostSteps

@@ -23,14 +23,14 @@ use Rattle.page_map.specs.declared.PageEntry.{PageEntry}
 use Rattle.page_map.specs.Entries.{Frames, dir_word, word_table, word_entry, table_of, entry_at}
 use Rattle.address_space.specs.Spaces.{Slot, slot_order, Spaces, cost, cost_of, pages_of}
 use Rattle.address_space.specs.Slots.{user_slots}
-use Rattle.address_space.specs.Cells.{Entries, spaces_of, cell_of}
+use Rattle.address_space.specs.Cells.{Entries, lazy_count, spaces_of, cell_of}
 use Rattle.address_space.specs.Sound.{Directories, Roles, directory_of, table_in, entry_in, entries_in, spaces_in, live_cost, total_cost, Tables, Pages, IsSpaces, SpaceAdded}
 use Rattle.address_space.proofs.Costs.{contains-pages_of}
 use Rattle.address_space.proofs.CostSteps.{sum_one}
 use Rattle.address_space.proofs.Costed.{free_where_light}
 use Rattle.address_space.proofs.EntrySteps.{Loose, get-entries_in, entry_by_table}
 use Rattle.address_space.proofs.FrameSteps.{loose-tables, loose-table, loose-entries, tables-loose}
-use Rattle.address_space.proofs.PageSteps.{pages-role, same_bytes}
+use Rattle.address_space.proofs.PageSteps.{pages-role, same_bytes, no_free}
 use Rattle.address_space.proofs.Refinement.{get-spaces_of}
 use Rattle.address_space.proofs.Steps.{free_loose, live_small, role_own, role_other}
 
@@ -159,13 +159,11 @@ space_added directories bytes one roles roles' p f s few none room taken is long
     let E1 : entries_in D' m1 ≡ E = same_directory_entries D D' m1 R R' Ta p f none free blank own others role kept ∙ loose-entries D m R T f (replicate 4096 0) loose in
     let E2 : entries_in D' (frame_bytes one) ≡ E = ap (entries_in D') is ∙ E1 in
     let page_kept : (q : Slot) (x : PageEntry) → map.get E q ≡ Some x → m1 x.frame ≡ m x.frame = λ q x found.
-    let a = sound.pages.pages q x found in
-    let r = a.1 in
-    with_frame-other m f x.frame _ (λ same. let k : R x.frame ≡ R f = ap R same in cc) in
+    with_frame-other m f x.frame _ (no_free R x.frame f (sound.pages.pages q x found) free) in
     let spaces : spaces_of (entries_in D' (frame_bytes one)) (frame_bytes one) ≡ spaces_of E m = (λ i. spaces_of (E2 i) (is i)) ∙ same_bytes E m m1 page_kept in
     let same_length : length roles' ≡ length roles = ap length taken.now ∙ length-set roles f (Directory p) in
     let weight : frames_weight roles' ≡ frames_weight roles + 1 = weight-taken roles roles' f (Directory p) taken in
-    let pages : (page : ℕ) → map.get (spaces_of E m) (record { pid = p; page = page }) ≡ None = λ page. get-spaces_of E m (record { pid = p; page = page }) ∙ ap (option_map (cell_of E m)) (no_pages D m p page none) in
+    let pages : (page : ℕ) → map.get (spaces_of E m) (record { pid = p; page = page }) ≡ None = λ page. get-spaces_of E m (record { pid = p; page = page }) ∙ ap (option_map (cell_of E m (record { pid = p; page = page }))) (no_pages D m p page none) in
     let total : total_cost directories' (spaces_of (entries_in D' (frame_bytes one)) (frame_bytes one)) ≡ total_cost directories (spaces_of E m) + 1 = ap (total_cost directories') spaces ∙ total-directory directories (spaces_of E m) p f few l none pages in
     let w = s.weighs in
     record {
@@ -175,14 +173,14 @@ space_added directories bytes one roles roles' p f s few none room taken is long
           few = subst (λ n. n ≤ 4096) (sym same_length) sound.few;
           pids = length-set directories p (Some f) ∙ sound.pids;
           tables = subst (λ x. Tables D' x R') (sym is) (tables-directory D D' m1 R R' Ta p f none free blank own others role kept);
-          pages = subst (λ x. Pages x R') (sym E2) (pages-role E R R' f sound.pages (λ c h. cc) (λ c h. cc) kept);
+          pages = subst (λ x. Pages x R') (sym E2) (pages-role E R R' f sound.pages (λ h. cc) (λ c h. cc) (λ c h. cc) kept);
         };
         in_use = λ q r t found.
             let back : table_in D m1 q r ≡ Some t = sym (same_tables D D' m1 R R' Ta p f none free blank own others role kept q r) ∙ ap (λ x. table_in D' x q r) (sym is) ∙ found in
             let old : table_in D m q r ≡ Some t = sym (loose-tables D m R T f (replicate 4096 0) loose q r) ∙ back in
             let u = s.in_use q r t old in
             (u.0, u.1, ap (λ y. is_present (word_in y u.0)) ((λ i. is i t) ∙ loose-table D m R T f (replicate 4096 0) loose q r t old) ∙ u.2);
-        weighs = omega (arith, w, weight, total);
+        weighs = let z : lazy_count (entries_in D' (frame_bytes one)) ≡ lazy_count E = ap lazy_count E2 in omega (arith, w, weight, total, z);
         within = omega (arith, room, same_length, total);
       };
       spaces = spaces;
@@ -297,7 +295,7 @@ opening_is_sound n low high =
         };
       };
       in_use = λ p s t found. let a : table_in D m p s ≡ None = ap (option_and_then (λ d. table_of m d s)) (no_directory 64 p) in absurd (let b : Some t ≡ None = sym found ∙ a in cc);
-      weighs = omega (arith, weight);
+      weighs = let z : lazy_count (entries_in D m) ≡ 0 = ap lazy_count (opening_entries m) in omega (arith, weight, z);
       within = omega (arith, total, long, low);
     }
 
@@ -306,7 +304,7 @@ pub no_cell : (directories : List (Option ℕ)) (bytes : List ℕ) (p page : ℕ
 unfolding spaces_in
 no_cell directories bytes p page none =
     get-spaces_of (entries_in (directory_of directories) (frame_bytes bytes)) (frame_bytes bytes) (record { pid = p; page = page })
-    ∙ ap (option_map (cell_of (entries_in (directory_of directories) (frame_bytes bytes)) (frame_bytes bytes))) (no_pages (directory_of directories) (frame_bytes bytes) p page none)
+    ∙ ap (option_map (cell_of (entries_in (directory_of directories) (frame_bytes bytes)) (frame_bytes bytes) (record { pid = p; page = page }))) (no_pages (directory_of directories) (frame_bytes bytes) p page none)
 
 -- one process costs no more than all together
 pub cost_within : (directories : List (Option ℕ)) (S : Spaces) (p : ℕ) → length directories ≡ 64 → is_some (directory_of directories p) ≡ true → cost S p ≤ total_cost directories S

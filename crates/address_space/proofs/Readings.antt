@@ -1,6 +1,6 @@
 -- What a slot, its bytes and its needs are read as.
-use Rattle.std.proofs.Common.{◌≡◌, ℕ, ◌+◌, ◌*◌, ◌/◌, ◌%◌, ◌<◌, ◌≤◌, cond, List, [], ◌∷◌, length, take, drop, refl, ap, sym, ◌∙◌, arith, Option, Some, None, length-drop}
-use Rattle.std.specs.Prelude.{slice_index, slice_get, is_some}
+use Rattle.std.proofs.Common.{◌≡◌, ℕ, ◌+◌, ◌*◌, ◌/◌, ◌%◌, ◌<◌, ◌≤◌, Bool, true, false, cond, List, [], ◌∷◌, length, take, drop, refl, ap, sym, ◌∙◌, arith, Option, Some, None, length-drop}
+use Rattle.std.specs.Prelude.{slice_index, slice_get, is_some, ◌==◌}
 use Rattle.std.specs.Option.{option_and_then, option_map}
 use Rattle.std.proofs.lemmas.List.{get_or-drop}
 use Rattle.page_words.specs.Addresses.{slot_number}
@@ -11,26 +11,28 @@ use Rattle.phys_memory.specs.Bytes.{frame_bytes, word_at}
 use Rattle.phys_memory.proofs.Frames.{byte-frame, length-frame, word_in-frame}
 use Rattle.alloc_table.specs.declared.Role.{Role}
 use Rattle.alloc_table.specs.declared.Role.TheVariants.{Page}
-use Rattle.page_map.specs.Entries.{Frames, entry_at}
+use Rattle.page_map.specs.Entries.{Frames, entry_at, IsKernelEntry}
+use Rattle.page_map.specs.declared.PageEntry.{PageEntry}
+use Rattle.std.proofs.lemmas.Bool.Decides.{nat_tests}
 use Rattle.address_space.specs.Spaces.{Slot, need, value_of, bytes_at}
-use Rattle.address_space.specs.Cells.{cell_of, spaces_of, holders_of}
+use Rattle.address_space.specs.Cells.{Entries, group_of, cell_of, spaces_of, holders_of}
 use Rattle.address_space.specs.Sound.{Directories, directory_of, entry_in, entries_in, spaces_in, table_in, IsSound, InUse, Inside}
 use Rattle.address_space.proofs.UserSlots.{in_user_slots}
 use Rattle.address_space.proofs.EntrySteps.{get-entries_in}
 use Rattle.address_space.proofs.CostSteps.{need-one, need-two}
-use Rattle.address_space.proofs.Refinement.{get-spaces_of}
+use Rattle.address_space.proofs.Refinement.{get-spaces_of, group-real}
 
 -- the cell of a user page is that of its entry
 pub get-spaces_in : (directories : List (Option ℕ)) (bytes : List ℕ) (p page : ℕ) → p < 64 → 0x40000 ≤ page → page < 0xf0000
     → map.get (spaces_in directories bytes) (record { pid = p; page = page })
-    ≡ option_map (cell_of (entries_in (directory_of directories) (frame_bytes bytes)) (frame_bytes bytes)) (option_and_then (λ d. entry_at (frame_bytes bytes) d page) (directory_of directories p))
+    ≡ option_map (cell_of (entries_in (directory_of directories) (frame_bytes bytes)) (frame_bytes bytes) (record { pid = p; page = page })) (option_and_then (λ d. entry_at (frame_bytes bytes) d page) (directory_of directories p))
 unfolding spaces_in
 get-spaces_in directories bytes p page few low high =
     let D : Directories = directory_of directories in
     let m : Frames = frame_bytes bytes in
     let slot : Slot = record { pid = p; page = page } in
     get-spaces_of (entries_in D m) m slot
-    ∙ ap (option_map (cell_of (entries_in D m) m)) (get-entries_in D m slot ∙ ap (λ b. cond b (entry_in D m slot) None) (in_user_slots p page few low high))
+    ∙ ap (option_map (cell_of (entries_in D m) m slot)) (get-entries_in D m slot ∙ ap (λ b. cond b (entry_in D m slot) None) (in_user_slots p page few low high))
 
 -- ---- Numbers in a page
 
@@ -81,3 +83,15 @@ need_read directories bytes p page used few low high = by (table_in (directory_o
 pub holders_counted : (directories : List (Option ℕ)) (bytes : List ℕ) (roles : List Role) (f c : ℕ) → IsSound directories bytes roles → slice_get roles f ≡ Some (Page c)
     → c ≡ set.len (holders_of (entries_in (directory_of directories) (frame_bytes bytes)) f)
 holders_counted directories bytes roles f c sound is = (sound.pages.counts f c is).1
+
+-- the size of a slot's group: the count of its page's frame, and 1 where it is lazy
+pub group_counted : (directories : List (Option ℕ)) (bytes : List ℕ) (roles : List Role) (slot : Slot) (e : PageEntry) (n : ℕ) → IsSound directories bytes roles → IsKernelEntry e
+    → (e.lazy ≡ true → n ≡ 1) → (e.lazy ≡ false → slice_get roles e.frame ≡ Some (Page n)) → n ≡ set.len (group_of (entries_in (directory_of directories) (frame_bytes bytes)) slot e.frame)
+group_counted directories bytes roles slot e n sound rules lazy real = by e.lazy refl
+  where
+    E : Entries
+    E = entries_in (directory_of directories) (frame_bytes bytes)
+
+    by : (b : Bool) → e.lazy ≡ b → n ≡ set.len (group_of E slot e.frame)
+    by true is = lazy is ∙ sym (ap (λ f. set.len (group_of E slot f)) (rules.zero is))
+    by false is = let up = rules.frame is in holders_counted directories bytes roles e.frame n sound (real is) ∙ sym (ap set.len (group-real E slot e.frame (grind (arith, nat_tests))))

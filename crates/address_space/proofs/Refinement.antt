@@ -5,13 +5,13 @@ use Rattle.page_words.specs.FiniteMap as map
 use Rattle.page_words.specs.FiniteMap.{Order, Map}
 use Rattle.page_words.specs.FiniteSet as set
 use Rattle.page_words.specs.FiniteSet.{Set}
-use Rattle.address_space.specs.Spaces.{Slot, slot_order, Cell, write_at, stored, joined, set_bytes, set_holders, store_in, join_in, with_bytes, with_holders, without, fresh, zeros, cell_or_fresh}
+use Rattle.address_space.specs.Spaces.{Slot, slot_order, Cell, Spaces, write_at, stored, joined, set_bytes, set_holders, store_in, join_in, with_bytes, with_holders, without, fresh, zeros, cell_or_fresh}
 use Rattle.page_words.specs.FiniteMap.{same}
 use Rattle.page_words.proofs.MapLemmas.{same_or_not, get-insert, get-retain_keys, same_map, get-map_values, contains-insert, contains-retain, same_set}
 use Rattle.std.specs.Cmp.{nat_eq_equiv}
 use Rattle.page_map.specs.declared.PageEntry.{PageEntry}
 use Rattle.phys_memory.specs.Bytes.{with_frame}
-use Rattle.address_space.specs.Cells.{Entries, names, nothing, holders_of, cell_of, each_cell, spaces_of}
+use Rattle.address_space.specs.Cells.{Entries, names, nothing, holders_of, group_of, cell_of, spaces_of}
 use borrow.Author.Tests.{eqb-true, eq-eqb}
 
 contained : (slot : Slot) (x : Option PageEntry) (f : ℕ) → (is_some (option_map (nothing slot) x) && names f x) ≡ names f x
@@ -28,8 +28,34 @@ contains-holders_of entries f slot =
 pub same_holders : (d e : Entries) (f : ℕ) → ((slot : Slot) → names f (map.get d slot) ≡ names f (map.get e slot)) → holders_of d f ≡ holders_of e f
 same_holders d e f is = same_set _ _ (λ s. contains-holders_of d f s ∙ is s ∙ sym (contains-holders_of e f s))
 
-pub get-spaces_of : (entries : Entries) (bytes : ℕ → List ℕ) (slot : Slot) → map.get (spaces_of entries bytes) slot ≡ option_map (cell_of entries bytes) (map.get entries slot)
-get-spaces_of entries bytes slot = get-map_values slot_order (each_cell entries bytes) entries slot
+pub get-spaces_of : (entries : Entries) (bytes : ℕ → List ℕ) (slot : Slot) → map.get (spaces_of entries bytes) slot ≡ option_map (cell_of entries bytes slot) (map.get entries slot)
+get-spaces_of entries bytes slot = get-map_values slot_order (cell_of entries bytes) entries slot
+
+-- a frame that isn't frame 0 has its slots as group
+pub group-real : (entries : Entries) (slot : Slot) (f : ℕ) → (f == 0) ≡ false → group_of entries slot f ≡ holders_of entries f
+group-real entries slot f real = ap (λ b. if b then set.insert set.empty slot else holders_of entries f) real
+
+-- a group stays where the slots of its frame do
+pub group-kept : (d e : Entries) (slot : Slot) (f : ℕ) → ((f == 0) ≡ false → holders_of e f ≡ holders_of d f) → group_of e slot f ≡ group_of d slot f
+group-kept d e slot f is = by (f == 0) refl
+  where
+    by : (b : Bool) → (f == 0) ≡ b → (if b then set.insert set.empty slot else holders_of e f) ≡ (if b then set.insert set.empty slot else holders_of d f)
+    by true zero = refl
+    by false real = is real
+
+-- spaces after an entry was put in: its own cell, and what each other slot has
+pub spaces_insert : (entries : Entries) (bytes : ℕ → List ℕ) (slot : Slot) (new : PageEntry) (rest : Spaces) (own : Cell) → cell_of (map.insert entries slot new) bytes slot new ≡ own
+    → ((q : Slot) (x : Option PageEntry) → map.get entries q ≡ x → option_map (cell_of (map.insert entries slot new) bytes q) x ≡ map.get rest q)
+    → spaces_of (map.insert entries slot new) bytes ≡ map.insert rest slot own
+spaces_insert entries bytes slot new rest own mine others =
+    let entries' : Entries = map.insert entries slot new in
+    same_map _ _ (λ q.
+    get-spaces_of entries' bytes q ∙ ap (option_map (cell_of entries' bytes q)) (get-insert entries slot new q)
+    ∙ elim (same_or_not slot_order q slot) [
+      | inl h ↦ ap (λ b. option_map (cell_of entries' bytes q) (cond b (Some new) (map.get entries q))) h.1 ∙ ap Some (ap (λ s. cell_of entries' bytes s new) h.0 ∙ mine) ∙ sym (ap (λ b. cond b (Some own) (map.get rest q)) h.1)
+      | inr h ↦ ap (λ b. option_map (cell_of entries' bytes q) (cond b (Some new) (map.get entries q))) h ∙ others q (map.get entries q) refl ∙ sym (ap (λ b. cond b (Some own) (map.get rest q)) h)
+    ]
+    ∙ sym (get-insert rest slot own q))
 
 eqb_itself : (n : ℕ) → (n == n) ≡ true
 eqb_itself n = eq-eqb n n refl
@@ -54,39 +80,36 @@ names-insert_same entries slot old new found kept f q =
     ])
 
 -- the cell of an entry
-pub cell_at : (entries : Entries) (bytes : ℕ → List ℕ) (slot : Slot) (e : PageEntry) → map.get entries slot ≡ Some e → cell_or_fresh (spaces_of entries bytes) slot ≡ cell_of entries bytes e
-cell_at entries bytes slot e found = ap (λ c. unwrap_or c (fresh slot true)) (get-spaces_of entries bytes slot ∙ ap (option_map (cell_of entries bytes)) found)
+pub cell_at : (entries : Entries) (bytes : ℕ → List ℕ) (slot : Slot) (e : PageEntry) → map.get entries slot ≡ Some e → cell_or_fresh (spaces_of entries bytes) slot ≡ cell_of entries bytes slot e
+cell_at entries bytes slot e found = ap (λ c. unwrap_or c (fresh slot true)) (get-spaces_of entries bytes slot ∙ ap (option_map (cell_of entries bytes slot)) found)
 
 -- where the slots of its frame stay, an entry's cell changes in its bytes alone
-cell_kept : (d e : Entries) (b c : ℕ → List ℕ) (entry : PageEntry) → holders_of e entry.frame ≡ holders_of d entry.frame → cell_of e c entry ≡ with_bytes (cell_of d b entry) (c entry.frame)
-cell_kept d e b c entry h = λ i. record { write = entry.write; may = entry.may; accessed = entry.accessed; dirty = entry.dirty; bytes = c entry.frame; holders = h i }
+cell_kept : (d e : Entries) (b c : ℕ → List ℕ) (slot : Slot) (entry : PageEntry) → group_of e slot entry.frame ≡ group_of d slot entry.frame → cell_of e c slot entry ≡ with_bytes (cell_of d b slot entry) (c entry.frame)
+cell_kept d e b c slot entry h = λ i. record { write = entry.write; may = entry.may; accessed = entry.accessed; dirty = entry.dirty; bytes = c entry.frame; holders = h i }
 
 chosen : (b : Bool) (cell : Cell) (new : List ℕ) → with_bytes cell (if b then new else cell.bytes) ≡ (if b then with_bytes cell new else cell)
 chosen true cell new = refl
 chosen false cell new = refl
 
 -- storing into the frame of a slot changes its group as the machine says
-pub store_refines : (entries : Entries) (bytes : ℕ → List ℕ) (slot : Slot) (e : PageEntry) (at : ℕ) (new : List ℕ) → map.get entries slot ≡ Some e
+pub store_refines : (entries : Entries) (bytes : ℕ → List ℕ) (slot : Slot) (e : PageEntry) (at : ℕ) (new : List ℕ) → map.get entries slot ≡ Some e → (e.frame == 0) ≡ false
     → spaces_of (map.insert entries slot (stored_entry e)) (with_frame bytes e.frame (write_at (bytes e.frame) at new)) ≡ stored (spaces_of entries bytes) slot at new
-store_refines entries bytes slot e at new found =
+store_refines entries bytes slot e at new found real =
     let after : List ℕ = write_at (bytes e.frame) at new in
     let entries' : Entries = map.insert entries slot (stored_entry e) in
     let bytes' : ℕ → List ℕ = with_frame bytes e.frame after in
-    let cell : Cell = cell_of entries bytes e in
-    let kept : (f : ℕ) → holders_of entries' f ≡ holders_of entries f = λ f. same_holders _ _ f (names-insert_same entries slot e (stored_entry e) found refl f) in
+    let cell : Cell = cell_of entries bytes slot e in
+    let kept : (q : Slot) (f : ℕ) → group_of entries' q f ≡ group_of entries q f = λ q f. group-kept entries entries' q f (λ _. same_holders _ _ f (names-insert_same entries slot e (stored_entry e) found refl f)) in
     let f : Slot → Cell → Cell = λ q c. if set.contains cell.holders q then with_bytes c after else c in
-    let others : (q : Slot) (x : Option PageEntry) → map.get entries q ≡ x → option_map (cell_of entries' bytes') x ≡ option_map (f q) (option_map (cell_of entries bytes) x) = λ q x. elim x as (λ x. map.get entries q ≡ x → option_map (cell_of entries' bytes') x ≡ option_map (f q) (option_map (cell_of entries bytes) x)) [
+    let held : (q : Slot) → set.contains cell.holders q ≡ names e.frame (map.get entries q) = λ q. ap (λ g. set.contains g q) (group-real entries slot e.frame real) ∙ contains-holders_of entries e.frame q in
+    let others : (q : Slot) (x : Option PageEntry) → map.get entries q ≡ x → option_map (cell_of entries' bytes' q) x ≡ option_map (f q) (option_map (cell_of entries bytes q) x) = λ q x. elim x as (λ x. map.get entries q ≡ x → option_map (cell_of entries' bytes' q) x ≡ option_map (f q) (option_map (cell_of entries bytes q) x)) [
       | None ↦ λ _. refl
-      | Some d ↦ λ is. ap Some (cell_kept entries entries' bytes bytes' d (kept d.frame) ∙ chosen (d.frame == e.frame) (cell_of entries bytes d) after
-          ∙ ap (λ b. if b then with_bytes (cell_of entries bytes d) after else cell_of entries bytes d) (sym (contains-holders_of entries e.frame q ∙ ap (names e.frame) is)))
+      | Some d ↦ λ is. ap Some (cell_kept entries entries' bytes bytes' q d (kept q d.frame) ∙ chosen (d.frame == e.frame) (cell_of entries bytes q d) after
+          ∙ ap (λ b. if b then with_bytes (cell_of entries bytes q d) after else cell_of entries bytes q d) (sym (held q ∙ ap (names e.frame) is)))
     ] in
-    same_map _ _ (λ q.
-    get-spaces_of entries' bytes' q ∙ ap (option_map (cell_of entries' bytes')) (get-insert entries slot (stored_entry e) q)
-    ∙ elim (same slot_order q slot) as (λ b. option_map (cell_of entries' bytes') (cond b (Some (stored_entry e)) (map.get entries q)) ≡ cond b (Some (record cell { bytes = after; accessed = true; dirty = true })) (map.get (set_bytes (spaces_of entries bytes) cell.holders after) q)) [
-      | true ↦ λ i. Some (record { write = e.write; may = e.may; accessed = true; dirty = true; bytes = if eqb_itself e.frame i then after else bytes e.frame; holders = kept e.frame i })
-      | false ↦ others q _ refl ∙ sym (get-map_values slot_order f (spaces_of entries bytes) q ∙ ap (option_map (f q)) (get-spaces_of entries bytes q))
-    ]
-    ∙ sym (get-insert (set_bytes (spaces_of entries bytes) cell.holders after) slot (record cell { bytes = after; accessed = true; dirty = true }) q))
+    spaces_insert entries bytes' slot (stored_entry e) (set_bytes (spaces_of entries bytes) cell.holders after) (record cell { bytes = after; accessed = true; dirty = true })
+    (λ i. record { write = e.write; may = e.may; accessed = true; dirty = true; bytes = if eqb_itself e.frame i then after else bytes e.frame; holders = kept slot e.frame i })
+    (λ q x is. others q x is ∙ sym (get-map_values slot_order f (spaces_of entries bytes) q ∙ ap (option_map (f q)) (get-spaces_of entries bytes q ∙ ap (option_map (cell_of entries bytes q)) is)))
     ∙ sym (ap (λ (c : Cell). store_in (spaces_of entries bytes) slot c (write_at c.bytes at new)) (cell_at entries bytes slot e found))
 
 -- ---- A slot joins
@@ -111,42 +134,40 @@ holders-insert entries slot new =
     ∙ ap (λ b. same slot_order q slot || b) (sym (contains-holders_of entries new.frame q))
     ∙ sym (contains-insert (holders_of entries new.frame) slot q))
 
--- any other frame keeps its slots, where the slot had no entry
-pub holders-other : (entries : Entries) (slot : Slot) (new : PageEntry) (f : ℕ) → map.get entries slot ≡ None → (new.frame == f) ≡ false → holders_of (map.insert entries slot new) f ≡ holders_of entries f
+-- any other frame keeps its slots, where the slot had no entry that names it
+pub holders-other : (entries : Entries) (slot : Slot) (new : PageEntry) (f : ℕ) → names f (map.get entries slot) ≡ false → (new.frame == f) ≡ false → holders_of (map.insert entries slot new) f ≡ holders_of entries f
 holders-other entries slot new f none apart =
     same_holders (map.insert entries slot new) entries f (λ q. names-insert entries slot new f q
     ∙ elim (same_or_not slot_order q slot) [
-      | inl h ↦ rw h.1 (apart ∙ sym (ap (names f) (ap (map.get entries) h.0 ∙ none)))
+      | inl h ↦ rw h.1 (apart ∙ sym (ap (names f) (ap (map.get entries) h.0) ∙ none))
       | inr h ↦ rw h refl
     ])
 
 -- a slot without an entry gets one on the frame of another: it joins that one's group as the machine says
-pub join_refines : (entries : Entries) (bytes : ℕ → List ℕ) (giver slot : Slot) (e : PageEntry) (right : Bool) → map.get entries giver ≡ Some e → map.get entries slot ≡ None
-    → spaces_of (map.insert entries slot (record { frame = e.frame; write = right; may = right; accessed = false; dirty = false })) bytes ≡ joined (spaces_of entries bytes) giver slot right
-join_refines entries bytes giver slot e right found none =
-    let new : PageEntry = record { frame = e.frame; write = right; may = right; accessed = false; dirty = false } in
+pub join_refines : (entries : Entries) (bytes : ℕ → List ℕ) (giver slot : Slot) (e : PageEntry) (right : Bool) → map.get entries giver ≡ Some e → (e.frame == 0) ≡ false → map.get entries slot ≡ None
+    → spaces_of (map.insert entries slot (record { frame = e.frame; write = right; may = right; accessed = false; dirty = false; lazy = false })) bytes ≡ joined (spaces_of entries bytes) giver slot right
+join_refines entries bytes giver slot e right found real none =
+    let new : PageEntry = record { frame = e.frame; write = right; may = right; accessed = false; dirty = false; lazy = false } in
     let entries' : Entries = map.insert entries slot new in
-    let cell : Cell = cell_of entries bytes e in
+    let cell : Cell = cell_of entries bytes giver e in
     let holders : Set slot_order = set.insert cell.holders slot in
-    let more : holders_of entries' e.frame ≡ holders = holders-insert entries slot new in
+    let same_group : cell.holders ≡ holders_of entries e.frame = group-real entries giver e.frame real in
+    let more : holders_of entries' e.frame ≡ holders = holders-insert entries slot new ∙ ap (λ g. set.insert g slot) (sym same_group) in
     let f : Slot → Cell → Cell = λ q c. if set.contains cell.holders q then with_holders c holders else c in
     let own : Cell = record { write = right; may = right; accessed = false; dirty = false; bytes = cell.bytes; holders = holders } in
-    let group : (d : PageEntry) (b : Bool) → (d.frame == e.frame) ≡ b → cell_of entries' bytes d ≡ (if b then with_holders (cell_of entries bytes d) holders else cell_of entries bytes d) = λ d b. elim b as (λ b. (d.frame == e.frame) ≡ b → cell_of entries' bytes d ≡ (if b then with_holders (cell_of entries bytes d) holders else cell_of entries bytes d)) [
-      | true ↦ λ is. ap (with_holders (cell_of entries bytes d)) (ap (holders_of entries') (eqb-true d.frame e.frame is) ∙ more)
-      | false ↦ λ is. ap (with_holders (cell_of entries bytes d)) (holders-other entries slot new d.frame none (eqb_sym e.frame d.frame ∙ is))
+    let group : (q : Slot) (d : PageEntry) (b : Bool) → (d.frame == e.frame) ≡ b → cell_of entries' bytes q d ≡ (if b then with_holders (cell_of entries bytes q d) holders else cell_of entries bytes q d) = λ q d b. elim b as (λ b. (d.frame == e.frame) ≡ b → cell_of entries' bytes q d ≡ (if b then with_holders (cell_of entries bytes q d) holders else cell_of entries bytes q d)) [
+      | true ↦ λ is. ap (with_holders (cell_of entries bytes q d)) (ap (group_of entries' q) (eqb-true d.frame e.frame is) ∙ group-real entries' q e.frame real ∙ more)
+      | false ↦ λ is. ap (with_holders (cell_of entries bytes q d)) (group-kept entries entries' q d.frame (λ _. holders-other entries slot new d.frame (ap (names d.frame) none) (eqb_sym e.frame d.frame ∙ is)))
     ] in
-    let others : (q : Slot) (x : Option PageEntry) → map.get entries q ≡ x → option_map (cell_of entries' bytes) x ≡ option_map (f q) (option_map (cell_of entries bytes) x) = λ q x. elim x as (λ x. map.get entries q ≡ x → option_map (cell_of entries' bytes) x ≡ option_map (f q) (option_map (cell_of entries bytes) x)) [
+    let held : (q : Slot) → set.contains cell.holders q ≡ names e.frame (map.get entries q) = λ q. ap (λ g. set.contains g q) same_group ∙ contains-holders_of entries e.frame q in
+    let others : (q : Slot) (x : Option PageEntry) → map.get entries q ≡ x → option_map (cell_of entries' bytes q) x ≡ option_map (f q) (option_map (cell_of entries bytes q) x) = λ q x. elim x as (λ x. map.get entries q ≡ x → option_map (cell_of entries' bytes q) x ≡ option_map (f q) (option_map (cell_of entries bytes q) x)) [
       | None ↦ λ _. refl
-      | Some d ↦ λ is. ap Some (group d (d.frame == e.frame) refl
-          ∙ ap (λ b. if b then with_holders (cell_of entries bytes d) holders else cell_of entries bytes d) (sym (contains-holders_of entries e.frame q ∙ ap (names e.frame) is)))
+      | Some d ↦ λ is. ap Some (group q d (d.frame == e.frame) refl
+          ∙ ap (λ b. if b then with_holders (cell_of entries bytes q d) holders else cell_of entries bytes q d) (sym (held q ∙ ap (names e.frame) is)))
     ] in
-    same_map _ _ (λ q.
-    get-spaces_of entries' bytes q ∙ ap (option_map (cell_of entries' bytes)) (get-insert entries slot new q)
-    ∙ elim (same slot_order q slot) as (λ b. option_map (cell_of entries' bytes) (cond b (Some new) (map.get entries q)) ≡ cond b (Some own) (map.get (set_holders (spaces_of entries bytes) cell.holders holders) q)) [
-      | true ↦ λ i. Some (record own { holders = more i })
-      | false ↦ others q _ refl ∙ sym (get-map_values slot_order f (spaces_of entries bytes) q ∙ ap (option_map (f q)) (get-spaces_of entries bytes q))
-    ]
-    ∙ sym (get-insert (set_holders (spaces_of entries bytes) cell.holders holders) slot own q))
+    spaces_insert entries bytes slot new (set_holders (spaces_of entries bytes) cell.holders holders) own
+    (λ i. record own { holders = (group-real entries' slot e.frame real ∙ more) i })
+    (λ q x is. others q x is ∙ sym (get-map_values slot_order f (spaces_of entries bytes) q ∙ ap (option_map (f q)) (get-spaces_of entries bytes q ∙ ap (option_map (cell_of entries bytes q)) is)))
     ∙ sym (ap (λ (c : Cell). join_in (spaces_of entries bytes) c slot right) (cell_at entries bytes giver e found))
 
 -- ---- Slots that leave
@@ -177,14 +198,29 @@ leave_refines entries bytes gone =
     contains-holders_of entries' f q ∙ ap (names f) (get-retain_keys entries kept q) ∙ names-filter f (kept q) (map.get entries q)
     ∙ ap (λ b. b && kept q) (sym (contains-holders_of entries f q)) ∙ sym (contains-retain (holders_of entries f) kept q)) in
     let f : Slot → Cell → Cell = λ q c. with_holders c (set.retain c.holders kept) in
-    let each : (q : Slot) (x : Option PageEntry) → option_map (cell_of entries' bytes) x ≡ option_map (f q) (option_map (cell_of entries bytes) x) = λ q x. elim x as (λ x. option_map (cell_of entries' bytes) x ≡ option_map (f q) (option_map (cell_of entries bytes) x)) [
-      | None ↦ refl
-      | Some d ↦ ap (λ h. Some (with_holders (cell_of entries bytes d) h)) (fewer d.frame)
+    let alone : (q : Slot) → kept q ≡ true → set.insert set.empty q ≡ set.retain (set.insert set.empty q) kept = λ q stays. same_set (set.insert set.empty q) (set.retain (set.insert set.empty q) kept) (λ s.
+    elim (same_or_not slot_order s q) [
+      | inl h ↦ contains-insert {o = slot_order} set.empty q s ∙ ap (λ b. b || false) h.1
+          ∙ sym (contains-retain {o = slot_order} (set.insert set.empty q) kept s ∙ (λ i. (contains-insert {o = slot_order} set.empty q s ∙ ap (λ b. b || false) h.1) i && (ap kept h.0 ∙ stays) i))
+      | inr h ↦ contains-insert {o = slot_order} set.empty q s ∙ ap (λ b. b || false) h
+          ∙ sym (contains-retain {o = slot_order} (set.insert set.empty q) kept s ∙ ap (λ b. b && kept s) (contains-insert {o = slot_order} set.empty q s ∙ ap (λ b. b || false) h))
+    ]) in
+    let group : (q : Slot) (d : PageEntry) (b : Bool) → (d.frame == 0) ≡ b → kept q ≡ true → group_of entries' q d.frame ≡ set.retain (group_of entries q d.frame) kept = λ q d b. elim b as (λ b. (d.frame == 0) ≡ b → kept q ≡ true → group_of entries' q d.frame ≡ set.retain (group_of entries q d.frame) kept) [
+      | true ↦ λ zero stays. ap (λ b. if b then set.insert set.empty q else holders_of entries' d.frame) zero ∙ alone q stays
+          ∙ sym (ap (λ b. set.retain (if b then set.insert set.empty q else holders_of entries d.frame) kept) zero)
+      | false ↦ λ real stays. group-real entries' q d.frame real ∙ fewer d.frame ∙ sym (ap (λ g. set.retain g kept) (group-real entries q d.frame real))
+    ] in
+    let each : (q : Slot) (x : Option PageEntry) (b : Bool) → kept q ≡ b → cond b (option_map (cell_of entries' bytes q) x) None ≡ cond b (option_map (f q) (option_map (cell_of entries bytes q) x)) None = λ q x b. elim b as (λ b. kept q ≡ b → cond b (option_map (cell_of entries' bytes q) x) None ≡ cond b (option_map (f q) (option_map (cell_of entries bytes q) x)) None) [
+      | true ↦ λ stays. elim x as (λ x. option_map (cell_of entries' bytes q) x ≡ option_map (f q) (option_map (cell_of entries bytes q) x)) [
+        | None ↦ refl
+        | Some d ↦ ap (λ h. Some (with_holders (cell_of entries bytes q d) h)) (group q d (d.frame == 0) refl stays)
+      ]
+      | false ↦ λ _. refl
     ] in
     same_map _ _ (λ q.
-    get-spaces_of entries' bytes q ∙ ap (option_map (cell_of entries' bytes)) (get-retain_keys entries kept q)
-    ∙ option_filter (cell_of entries' bytes) (kept q) (map.get entries q)
-    ∙ ap (λ x. cond (kept q) x None) (each q (map.get entries q) ∙ ap (option_map (f q)) (sym (get-spaces_of entries bytes q)))
+    get-spaces_of entries' bytes q ∙ ap (option_map (cell_of entries' bytes q)) (get-retain_keys entries kept q)
+    ∙ option_filter (cell_of entries' bytes q) (kept q) (map.get entries q)
+    ∙ each q (map.get entries q) (kept q) refl ∙ ap (λ x. cond (kept q) (option_map (f q) x) None) (sym (get-spaces_of entries bytes q))
     ∙ sym (option_filter (f q) (kept q) (map.get (spaces_of entries bytes) q))
     ∙ ap (option_map (f q)) (sym (get-retain_keys (spaces_of entries bytes) kept q))
     ∙ sym (get-map_values slot_order f (map.retain_keys (spaces_of entries bytes) kept) q))
@@ -196,46 +232,68 @@ pub flags_refine : (entries : Entries) (bytes : ℕ → List ℕ) (slot : Slot) 
     → spaces_of (map.insert entries slot new) bytes ≡ map.insert (spaces_of entries bytes) slot (record (cell_or_fresh (spaces_of entries bytes) slot) { write = new.write; may = new.may; accessed = new.accessed; dirty = new.dirty })
 flags_refine entries bytes slot old new found same_frame =
     let entries' : Entries = map.insert entries slot new in
-    let kept : (f : ℕ) → holders_of entries' f ≡ holders_of entries f = λ f. same_holders entries' entries f (names-insert_same entries slot old new found same_frame f) in
+    let kept : (q : Slot) (f : ℕ) → group_of entries' q f ≡ group_of entries q f = λ q f. group-kept entries entries' q f (λ _. same_holders entries' entries f (names-insert_same entries slot old new found same_frame f)) in
     let flagged : Cell → Cell = λ c. record c { write = new.write; may = new.may; accessed = new.accessed; dirty = new.dirty } in
-    let own : cell_of entries' bytes new ≡ flagged (cell_of entries bytes old) = (λ i. record { write = new.write; may = new.may; accessed = new.accessed; dirty = new.dirty; bytes = bytes (same_frame i); holders = kept (same_frame i) i }) in
-    let others : (x : Option PageEntry) → option_map (cell_of entries' bytes) x ≡ option_map (cell_of entries bytes) x = λ x. elim x as (λ x. option_map (cell_of entries' bytes) x ≡ option_map (cell_of entries bytes) x) [
+    let own : cell_of entries' bytes slot new ≡ flagged (cell_of entries bytes slot old) = (λ i. record { write = new.write; may = new.may; accessed = new.accessed; dirty = new.dirty; bytes = bytes (same_frame i); holders = kept slot (same_frame i) i }) in
+    let others : (q : Slot) (x : Option PageEntry) → option_map (cell_of entries' bytes q) x ≡ option_map (cell_of entries bytes q) x = λ q x. elim x as (λ x. option_map (cell_of entries' bytes q) x ≡ option_map (cell_of entries bytes q) x) [
       | None ↦ refl
-      | Some d ↦ ap Some (cell_kept entries entries' bytes bytes d (kept d.frame))
+      | Some d ↦ ap Some (cell_kept entries entries' bytes bytes q d (kept q d.frame))
     ] in
-    same_map _ _ (λ q.
-    get-spaces_of entries' bytes q ∙ ap (option_map (cell_of entries' bytes)) (get-insert entries slot new q)
-    ∙ elim (same slot_order q slot) as (λ b. option_map (cell_of entries' bytes) (cond b (Some new) (map.get entries q)) ≡ cond b (Some (flagged (cell_of entries bytes old))) (map.get (spaces_of entries bytes) q)) [
-      | true ↦ ap Some own
-      | false ↦ others (map.get entries q) ∙ sym (get-spaces_of entries bytes q)
-    ]
-    ∙ sym (get-insert (spaces_of entries bytes) slot (flagged (cell_of entries bytes old)) q))
+    spaces_insert entries bytes slot new (spaces_of entries bytes) (flagged (cell_of entries bytes slot old)) own
+    (λ q x is. others q x ∙ sym (get-spaces_of entries bytes q ∙ ap (option_map (cell_of entries bytes q)) is))
     ∙ sym (ap (λ (c : Cell). map.insert (spaces_of entries bytes) slot (flagged c)) (cell_at entries bytes slot old found))
 
--- ---- A fresh page
+-- ---- A fresh page, and one that gets its frame
 
 -- no entry names the frame
 abbrev pub Unused : Entries → ℕ → Type 0
 Unused entries f = (q : Slot) → names f (map.get entries q) ≡ false
 
--- a slot without an entry gets one on a frame that nothing names
-pub fresh_refines : (entries : Entries) (bytes : ℕ → List ℕ) (slot : Slot) (f : ℕ) (write : Bool) → map.get entries slot ≡ None → Unused entries f → bytes f ≡ zeros
-    → spaces_of (map.insert entries slot (record { frame = f; write = write; may = true; accessed = false; dirty = false })) bytes ≡ map.insert (spaces_of entries bytes) slot (fresh slot write)
-fresh_refines entries bytes slot f write none unused clean =
-    let new : PageEntry = record { frame = f; write = write; may = true; accessed = false; dirty = false } in
+-- groups stay where an entry is put in on a frame that nothing named, or on frame 0, in place of none or of a lazy one
+groups-stay : (entries : Entries) (slot : Slot) (new : PageEntry) → ((f : ℕ) → (f == 0) ≡ false → (names f (map.get entries slot) ≡ false)) → (d : PageEntry) → ((d.frame == 0) ≡ false → (new.frame == d.frame) ≡ false)
+    → (q : Slot) → group_of (map.insert entries slot new) q d.frame ≡ group_of entries q d.frame
+groups-stay entries slot new nowhere d apart q = group-kept entries (map.insert entries slot new) q d.frame (λ real. holders-other entries slot new d.frame (nowhere d.frame real) (apart real))
+
+-- a slot without an entry gets a lazy one: it has a fresh page
+pub lazy_refines : (entries : Entries) (bytes : ℕ → List ℕ) (slot : Slot) (write : Bool) → map.get entries slot ≡ None → bytes 0 ≡ zeros
+    → spaces_of (map.insert entries slot (record { frame = 0; write = write; may = true; accessed = false; dirty = false; lazy = true })) bytes ≡ map.insert (spaces_of entries bytes) slot (fresh slot write)
+lazy_refines entries bytes slot write none clean =
+    let new : PageEntry = record { frame = 0; write = write; may = true; accessed = false; dirty = false; lazy = true } in
     let entries' : Entries = map.insert entries slot new in
-    let alone : holders_of entries' f ≡ set.insert set.empty slot = holders-insert entries slot new ∙ ap (λ s. set.insert s slot) (same_set (holders_of entries f) set.empty (λ q. contains-holders_of entries f q ∙ unused q)) in
-    let others : (q : Slot) (x : Option PageEntry) → map.get entries q ≡ x → option_map (cell_of entries' bytes) x ≡ option_map (cell_of entries bytes) x = λ q x. elim x as (λ x. map.get entries q ≡ x → option_map (cell_of entries' bytes) x ≡ option_map (cell_of entries bytes) x) [
-      | None ↦ λ _. refl
-      | Some d ↦ λ is. ap Some (cell_kept entries entries' bytes bytes d (holders-other entries slot new d.frame none (eqb_sym f d.frame ∙ sym (ap (names f) is) ∙ unused q)))
+    let others : (q : Slot) (x : Option PageEntry) → option_map (cell_of entries' bytes q) x ≡ option_map (cell_of entries bytes q) x = λ q x. elim x as (λ x. option_map (cell_of entries' bytes q) x ≡ option_map (cell_of entries bytes q) x) [
+      | None ↦ refl
+      | Some d ↦ ap Some (cell_kept entries entries' bytes bytes q d (groups-stay entries slot new (λ f _. ap (names f) none) d (λ real. eqb_sym 0 d.frame ∙ real) q))
     ] in
-    same_map _ _ (λ q.
-    get-spaces_of entries' bytes q ∙ ap (option_map (cell_of entries' bytes)) (get-insert entries slot new q)
-    ∙ elim (same slot_order q slot) as (λ b. option_map (cell_of entries' bytes) (cond b (Some new) (map.get entries q)) ≡ cond b (Some (fresh slot write)) (map.get (spaces_of entries bytes) q)) [
-      | true ↦ λ i. Some (record { write = write; may = true; accessed = false; dirty = false; bytes = clean i; holders = alone i })
-      | false ↦ others q (map.get entries q) refl ∙ sym (get-spaces_of entries bytes q)
-    ]
-    ∙ sym (get-insert (spaces_of entries bytes) slot (fresh slot write) q))
+    spaces_insert entries bytes slot new (spaces_of entries bytes) (fresh slot write)
+    (λ i. record { write = write; may = true; accessed = false; dirty = false; bytes = clean i; holders = set.insert set.empty slot })
+    (λ q x is. others q x ∙ sym (get-spaces_of entries bytes q ∙ ap (option_map (cell_of entries bytes q)) is))
+
+-- what stands at a key already
+insert_there : (spaces : Spaces) (slot : Slot) (cell : Cell) → map.get spaces slot ≡ Some cell → map.insert spaces slot cell ≡ spaces
+insert_there spaces slot cell there = same_map _ _ (λ q. get-insert spaces slot cell q
+    ∙ elim (same_or_not slot_order q slot) [
+      | inl h ↦ ap (λ b. cond b (Some cell) (map.get spaces q)) h.1 ∙ sym (ap (map.get spaces) h.0 ∙ there)
+      | inr h ↦ ap (λ b. cond b (Some cell) (map.get spaces q)) h
+    ])
+
+-- a lazy page gets a frame of zeros that nothing names: the spaces stay
+pub fill_refines : (entries : Entries) (bytes : ℕ → List ℕ) (slot : Slot) (e : PageEntry) (f : ℕ) → map.get entries slot ≡ Some e → e.frame ≡ 0 → Unused entries f → (f == 0) ≡ false → bytes 0 ≡ zeros → bytes f ≡ zeros
+    → spaces_of (map.insert entries slot (record e { frame = f; lazy = false })) bytes ≡ spaces_of entries bytes
+fill_refines entries bytes slot e f found lazy unused real zero clean =
+    let new : PageEntry = record e { frame = f; lazy = false } in
+    let entries' : Entries = map.insert entries slot new in
+    let nowhere : (g : ℕ) → (g == 0) ≡ false → names g (map.get entries slot) ≡ false = λ g other. ap (names g) found ∙ ap (λ n. n == g) lazy ∙ eqb_sym 0 g ∙ other in
+    let apart : (q : Slot) (d : PageEntry) → map.get entries q ≡ Some d → (f == d.frame) ≡ false = λ q d is. eqb_sym f d.frame ∙ sym (ap (names f) is) ∙ unused q in
+    let others : (q : Slot) (x : Option PageEntry) → map.get entries q ≡ x → option_map (cell_of entries' bytes q) x ≡ option_map (cell_of entries bytes q) x = λ q x. elim x as (λ x. map.get entries q ≡ x → option_map (cell_of entries' bytes q) x ≡ option_map (cell_of entries bytes q) x) [
+      | None ↦ λ _. refl
+      | Some d ↦ λ is. ap Some (cell_kept entries entries' bytes bytes q d (groups-stay entries slot new nowhere d (λ _. apart q d is) q))
+    ] in
+    let alone : group_of entries' slot f ≡ set.insert set.empty slot = group-real entries' slot f real ∙ holders-insert entries slot new ∙ ap (λ s. set.insert s slot) (same_set (holders_of entries f) set.empty (λ q. contains-holders_of entries f q ∙ unused q)) in
+    let before : group_of entries slot e.frame ≡ set.insert set.empty slot = ap (group_of entries slot) lazy in
+    spaces_insert entries bytes slot new (spaces_of entries bytes) (cell_of entries bytes slot e)
+    (λ i. record { write = e.write; may = e.may; accessed = e.accessed; dirty = e.dirty; bytes = (clean ∙ sym (ap bytes lazy ∙ zero)) i; holders = (alone ∙ sym before) i })
+    (λ q x is. others q x is ∙ sym (get-spaces_of entries bytes q ∙ ap (option_map (cell_of entries bytes q)) is))
+    ∙ insert_there (spaces_of entries bytes) slot (cell_of entries bytes slot e) (get-spaces_of entries bytes slot ∙ ap (option_map (cell_of entries bytes slot)) found)
 
 -- ---- Groups
 

@@ -1,6 +1,6 @@
 -- Directories, memory and roles that agree stand for their spaces, and for no others.
-use Rattle.std.proofs.Common.{◌≡◌, ℕ, ◌+◌, ◌*◌, ◌<◌, ◌≤◌, Bool, true, false, cond, List, [], ◌∷◌, length, drop, refl, ap, sym, ◌∙◌, subst, arith, inl, inr, Option, Some, None, length-drop}
-use Rattle.std.specs.Prelude.{◌⊎◌, ◌↔◌, ◌&&◌, slice_get, slice_index, nat_lt, nat_le, IsTrue, if◌then◌else◌}
+use Rattle.std.proofs.Common.{◌≡◌, ◌≢◌, ℕ, ◌+◌, ◌*◌, ◌<◌, ◌≤◌, Bool, true, false, cond, List, [], ◌∷◌, length, drop, refl, ap, sym, ◌∙◌, subst, arith, inl, inr, Option, Some, None, length-drop}
+use Rattle.std.specs.Prelude.{◌⊎◌, ◌↔◌, ◌&&◌, slice_get, slice_index, nat_lt, nat_le, IsTrue, MatchBool, ◌==◌, ◌||◌, unwrap_or, if◌then◌else◌}
 use Rattle.std.specs.Cmp.{both_ways}
 use Rattle.std.specs.Option.{option_and_then, option_map}
 use Rattle.std.specs.List.{list_any}
@@ -8,24 +8,24 @@ use Rattle.std.proofs.lemmas.Bool.{cases_lt}
 use Rattle.std.proofs.lemmas.Bool.Decides.{nat_tests}
 use Rattle.std.proofs.lemmas.Option.{slice_get_within}
 use Rattle.page_words.specs.Addresses.{slot_number, index_number}
-use Rattle.page_words.specs.Words.{frame_number, is_present}
+use Rattle.page_words.specs.Words.{frame_number, is_present, is_lazy, IsKernelTableWord, NamesPage}
 use Rattle.page_words.specs.FiniteMap as map
 use Rattle.page_words.specs.FiniteMap.{same}
 use Rattle.page_words.specs.FiniteSet as set
-use Rattle.page_words.proofs.MapLemmas.{same_map, same_set}
+use Rattle.page_words.proofs.MapLemmas.{same_map, same_set, same_or_not, same_itself, contains-insert}
 use Rattle.phys_memory.specs.Bytes.{frame_bytes, word_at, word_in}
 use Rattle.alloc_table.specs.declared.Role.{Role}
 use Rattle.alloc_table.specs.declared.Role.TheVariants.{Directory, Table, Page}
 use Rattle.page_map.specs.declared.PageEntry.{PageEntry}
-use Rattle.page_map.specs.Entries.{Frames, dir_word, word_table, table_of, word_entry, entry_from}
+use Rattle.page_map.specs.Entries.{Frames, dir_word, word_table, table_of, word_entry, entry_from, entry_at, is_lazy_entry}
 use Rattle.address_space.specs.Spaces.{Slot, slot_order, Cell}
 use Rattle.address_space.specs.Slots.{user_slots}
-use Rattle.address_space.specs.Cells.{Entries, names, cell_of, spaces_of, holders_of}
-use Rattle.address_space.specs.Image.{Image, word_of, is_user_slot, named_by, table_at, present_word, page_word, page_frame, IsSoundImage, SlotStands, StandsFor, StandsForOne}
+use Rattle.address_space.specs.Cells.{Entries, names, group_of, cell_of, spaces_of, holders_of}
+use Rattle.address_space.specs.Image.{Image, word_of, is_user_slot, named_by, table_at, own_frame, is_lazy_at, IsOneGroup, present_word, page_word, page_frame, IsSoundImage, SlotStands, StandsFor, StandsForOne}
 use Rattle.address_space.specs.Sound.{Directories, directory_of, table_in, entry_in, entries_in, spaces_in, IsSound, IsSpaces}
 use Rattle.address_space.proofs.UserSlots.{in_user_slots}
 use Rattle.address_space.proofs.EntrySteps.{get-entries_in, entry_by_table}
-use Rattle.address_space.proofs.Refinement.{get-spaces_of, contains-holders_of}
+use Rattle.address_space.proofs.Refinement.{get-spaces_of, contains-holders_of, group-real}
 use Rattle.address_space.proofs.Steps.{live_small}
 use borrow.Author.Tests.{eqb-true, eq-eqb}
 
@@ -34,13 +34,13 @@ use borrow.Author.Tests.{eqb-true, eq-eqb}
 one_group : {P : Type 0} (a b : Bool) → (IsTrue a ↔ P) → (IsTrue b ↔ P) → a ≡ b
 one_group a b f g = both_ways a b (λ h. g.1 (f.0 h)) (λ h. f.1 (g.0 h))
 
-one_cell : (image : Image) (word : Option ℕ) (c d : Option Cell) → SlotStands image word c → SlotStands image word d → c ≡ d
-one_cell image None None None f g = refl
-one_cell image None None (Some d) f g = absurd g
-one_cell image None (Some c) d f g = absurd f
-one_cell image (Some word) None d f g = absurd f
-one_cell image (Some word) (Some c) None f g = absurd g
-one_cell image (Some word) (Some c) (Some d) f g =
+one_cell : (image : Image) (slot : Slot) (word : Option ℕ) (c d : Option Cell) → SlotStands image slot word c → SlotStands image slot word d → c ≡ d
+one_cell image slot None None None f g = refl
+one_cell image slot None None (Some d) f g = absurd g
+one_cell image slot None (Some c) d f g = absurd f
+one_cell image slot (Some word) None d f g = absurd f
+one_cell image slot (Some word) (Some c) None f g = absurd g
+one_cell image slot (Some word) (Some c) (Some d) f g =
     let w = f.write ∙ sym g.write in
     let m = f.may ∙ sym g.may in
     let a = f.accessed ∙ sym g.accessed in
@@ -50,7 +50,7 @@ one_cell image (Some word) (Some c) (Some d) f g =
     λ i. Some (record { write = w i; may = m i; accessed = a i; dirty = t i; bytes = b i; holders = h i })
 
 pub stands_for_one : StandsForOne
-stands_for_one image s t f g = same_map s t (λ slot. one_cell image (page_word image slot) _ _ (f.cells slot) (g.cells slot))
+stands_for_one image s t f g = same_map s t (λ slot. one_cell image slot (page_word image slot) _ _ (f.cells slot) (g.cells slot))
 
 -- ---- Tables and pages, as the image names them
 
@@ -83,9 +83,35 @@ entry_present : (word : ℕ) (b : Bool) → (if b then Some (entry_from word) el
 entry_present word true = refl
 entry_present word false = refl
 
-named : (f : ℕ) (x : Option ℕ) → IsTrue (names f (option_map entry_from x)) ↔ (option_map frame_number x ≡ Some f)
-named f None = (λ h. cc, λ h. cc)
-named f (Some word) = (λ h. ap Some (eqb-true (frame_number word) f h), λ h. eq-eqb (frame_number word) f cc)
+-- a present table word of a kernel is of a page
+present_names : (word : ℕ) → is_present word ≡ true → IsKernelTableWord word → NamesPage word
+present_names word present (inl z) = absurd (let e : is_present 0 ≡ true = sym (ap is_present z) ∙ present in cc)
+present_names word present (inr n) = n
+
+taken : (b p : Bool) (w word : ℕ) → (if b && p then Some w else None) ≡ Some word → (w ≡ word) × (p ≡ true)
+taken true true w word h = (cc, refl)
+taken true false w word h = cc
+taken false p w word h = cc
+
+-- a word's frame, where it has one of its own
+owned : (word f : ℕ) → own_frame word ≡ Some f → (is_lazy word ≡ false) × (frame_number word ≡ f)
+owned word f h = by (is_lazy word) refl h
+  where
+    by : (b : Bool) → is_lazy word ≡ b → (if b then None else Some (frame_number word)) ≡ Some f → (is_lazy word ≡ false) × (frame_number word ≡ f)
+    by true is k = cc
+    by false is k = (is, cc)
+
+own_is : (word : ℕ) → is_lazy word ≡ false → own_frame word ≡ Some (frame_number word)
+own_is word real = ap (λ b. if b then None else Some (frame_number word)) real
+
+-- an entry names a frame other than frame 0 where its word does
+named : (f : ℕ) (x : Option ℕ) → 1 ≤ f → ((word : ℕ) → x ≡ Some word → NamesPage word) → IsTrue (names f (option_map entry_from x)) ↔ (option_and_then own_frame x ≡ Some f)
+named f None up kernel = (λ h. cc, λ h. cc)
+named f (Some word) up kernel = (there (is_lazy word) refl, λ h. eq-eqb (frame_number word) f (owned word f h).1)
+  where
+    there : (b : Bool) → is_lazy word ≡ b → IsTrue (frame_number word == f) → own_frame word ≡ Some f
+    there true is h = let z = (kernel word refl).zero is in let e = eqb-true (frame_number word) f h in absurd (omega (arith, z, e, up))
+    there false is h = own_is word is ∙ ap Some (eqb-true (frame_number word) f h)
 
 user_word_of : (b : Bool) (word t : ℕ) → (if b && is_present word then Some (frame_number word) else None) ≡ Some t → b ≡ true
 user_word_of true word t h = refl
@@ -177,22 +203,78 @@ module _ (directories : List (Option ℕ)) (bytes : List ℕ) (roles : List Role
       by None is = either (list_any (same slot_order slot) user_slots)
       by (Some word) is = ap (λ b. cond b (Some (entry_from word)) None) (user_page slot word is)
 
-  group_is : (f : ℕ) (slot : Slot) → IsTrue (set.contains (holders_of E f) slot) ↔ (page_frame image slot ≡ Some f)
-  group_is f slot = subst (λ b. IsTrue b ↔ (page_frame image slot ≡ Some f)) (sym (contains-holders_of E f slot ∙ ap (names f) (read_entry slot))) (named f (page_word image slot))
-
-  cell_stands : (slot : Slot) → SlotStands image (page_word image slot) (map.get (spaces_of E m) slot)
-  cell_stands slot = subst (SlotStands image (page_word image slot)) (sym (get-spaces_of E m slot ∙ ap (option_map (cell_of E m)) (read_entry slot))) (each (page_word image slot))
+  -- a slot's present word is one that the kernel writes
+  word_names : (slot : Slot) (word : ℕ) → page_word image slot ≡ Some word → NamesPage word
+  word_names slot word h = by (table_at image slot.pid (slot_number slot.page)) refl h
     where
-      each : (x : Option ℕ) → SlotStands image x (option_map (cell_of E m) (option_map entry_from x))
-      each None = tt
-      each (Some word) = record { write = refl; may = refl; accessed = refl; dirty = refl; bytes = refl; group = λ s. group_is (frame_number word) s }
+      by : (x : Option ℕ) → table_at image slot.pid (slot_number slot.page) ≡ x → option_and_then (λ t. present_word image t (word_of image t (index_number slot.page))) x ≡ Some word → NamesPage word
+      by None is k = cc
+      by (Some t) is k =
+          let two = taken (nat_lt t (length roles)) (is_present (word_of image t (index_number slot.page))) (word_of image t (index_number slot.page)) word k in
+          subst NamesPage two.0 (present_names (word_of image t (index_number slot.page)) two.1 (S.tables.table_words slot.pid (slot_number slot.page) t (index_number slot.page) (sym (same_table slot.pid (slot_number slot.page)) ∙ is) (omega arith)))
+
+  -- whether a slot's page is lazy, by its word and by its entry
+  pub same_lazy : (slot : Slot) → is_lazy_at image slot ≡ is_lazy_entry (entry_in D m slot)
+  same_lazy slot = by (page_word image slot) ∙ sym (ap is_lazy_entry (same_entry slot))
+    where
+      by : (x : Option ℕ) → unwrap_or (option_map is_lazy x) false ≡ is_lazy_entry (option_map entry_from x)
+      by None = refl
+      by (Some word) = refl
+
+  group_is : (f : ℕ) (slot : Slot) → 1 ≤ f → IsTrue (set.contains (holders_of E f) slot) ↔ (page_frame image slot ≡ Some f)
+  group_is f slot up = subst (λ b. IsTrue b ↔ (page_frame image slot ≡ Some f)) (sym (contains-holders_of E f slot ∙ ap (names f) (read_entry slot))) (named f (page_word image slot) up (word_names slot))
+
+  -- the slots that name frame 0 are the lazy ones
+  pub lazy_slots : (slot : Slot) → IsTrue (set.contains (holders_of E 0) slot) ↔ IsTrue (is_lazy_at image slot)
+  lazy_slots slot = subst (λ b. IsTrue b ↔ IsTrue (is_lazy_at image slot)) (sym (contains-holders_of E 0 slot ∙ ap (names 0) (read_entry slot))) (by (page_word image slot) (word_names slot))
+    where
+      forth : (word : ℕ) → NamesPage word → (b : Bool) → is_lazy word ≡ b → IsTrue (frame_number word == 0) → IsTrue b
+      forth word k true is h = refl
+      forth word k false is h = let up = k.frame is in let e = eqb-true (frame_number word) 0 h in absurd (omega (arith, up, e))
+
+      by : (x : Option ℕ) → ((word : ℕ) → x ≡ Some word → NamesPage word) → IsTrue (names 0 (option_map entry_from x)) ↔ IsTrue (unwrap_or (option_map is_lazy x) false)
+      by None k = (λ h. h, λ h. h)
+      by (Some word) k = (forth word (k word refl) (is_lazy word) refl, λ h. eq-eqb (frame_number word) 0 ((k word refl).zero h))
+
+  -- a slot alone
+  alone : (slot other : Slot) → IsTrue (set.contains {o = slot_order} (set.insert set.empty slot) other) ↔ (other ≡ slot)
+  alone slot other = elim (same_or_not slot_order other slot) [
+    | inl h ↦ (λ _. h.0, λ _. contains-insert {o = slot_order} set.empty slot other ∙ ap (λ b. b || false) h.1)
+    | inr h ↦ (λ t. absurd (let e : false ≡ true = sym (contains-insert {o = slot_order} set.empty slot other ∙ ap (λ b. b || false) h) ∙ t in cc),
+        λ e. absurd (let b = same_itself slot_order slot in let c : same slot_order other slot ≡ true = ap (λ x. same slot_order x slot) e ∙ b in cc))
+  ]
+
+  whole_group : (slot : Slot) (word : ℕ) → NamesPage word → (other : Slot) → IsTrue (set.contains (group_of E slot (frame_number word)) other) ↔ IsOneGroup image slot word other
+  whole_group slot word kernel other = by (is_lazy word) refl
+    where
+      by : (b : Bool) → is_lazy word ≡ b → IsTrue (set.contains (group_of E slot (frame_number word)) other) ↔ MatchBool b (other ≡ slot) (page_frame image other ≡ Some (frame_number word))
+      by true is = subst (λ g. IsTrue (set.contains g other) ↔ (other ≡ slot)) (sym (ap (group_of E slot) (kernel.zero is))) (alone slot other)
+      by false is =
+          let up = kernel.frame is in
+          subst (λ g. IsTrue (set.contains g other) ↔ (page_frame image other ≡ Some (frame_number word))) (sym (group-real E slot (frame_number word) (grind (arith, nat_tests)))) (group_is (frame_number word) other up)
+
+  cell_stands : (slot : Slot) → SlotStands image slot (page_word image slot) (map.get (spaces_of E m) slot)
+  cell_stands slot = subst (SlotStands image slot (page_word image slot)) (sym (get-spaces_of E m slot ∙ ap (option_map (cell_of E m slot)) (read_entry slot))) (each (page_word image slot) (word_names slot))
+    where
+      each : (x : Option ℕ) → ((word : ℕ) → x ≡ Some word → NamesPage word) → SlotStands image slot x (option_map (cell_of E m slot) (option_map entry_from x))
+      each None kernel = tt
+      each (Some word) kernel = record { write = refl; may = refl; accessed = refl; dirty = refl; bytes = refl; group = whole_group slot word (kernel word refl) }
 
   page_role : (slot : Slot) (f : ℕ) → page_frame image slot ≡ Some f → (c : ℕ) × (slice_get roles f ≡ Some (Page c))
-  page_role slot f h = by (page_word image slot) (read_entry slot) h
+  page_role slot f h = by (page_word image slot) refl (read_entry slot) h
     where
-      by : (x : Option ℕ) → map.get E slot ≡ option_map entry_from x → option_map frame_number x ≡ Some f → (c : ℕ) × (slice_get roles f ≡ Some (Page c))
-      by None is k = cc
-      by (Some word) is k = let a = S.pages.pages slot (entry_from word) is in let e : frame_number word ≡ f = cc in (a.0, ap (slice_get roles) (sym e) ∙ a.1)
+      by : (x : Option ℕ) → page_word image slot ≡ x → map.get E slot ≡ option_map entry_from x → option_and_then own_frame x ≡ Some f → (c : ℕ) × (slice_get roles f ≡ Some (Page c))
+      by None at is k = cc
+      by (Some word) at is k =
+          let own = owned word f k in
+          let up = (word_names slot word at).frame own.0 in
+          elim (S.pages.pages slot (entry_from word) is) [
+            | inl r ↦ absurd (let z = S.tables.reserved (frame_number word) r in omega (arith, z, up))
+            | inr a ↦ (a.0, ap (slice_get roles) (sym own.1) ∙ a.1)
+          ]
+
+  page_up : (f c : ℕ) → slice_get roles f ≡ Some (Page c) → 1 ≤ f
+  page_up f c is = let n : f ≢ 0 = (λ z. let a = S.tables.zero_role in let k : slice_get roles 0 ≡ slice_get roles f = ap (slice_get roles) (sym z) in cc) in omega arith
 
   pub image_is_sound : ((p s t : ℕ) → table_in D m p s ≡ Some t → (i : ℕ) × (i < 1024) × (is_present (word_in (m t) i) ≡ true)) → IsSoundImage image
   image_is_sound used = record {
@@ -202,7 +284,7 @@ module _ (directories : List (Option ℕ)) (bytes : List ℕ) (roles : List Role
     directories = λ f p. (S.tables.directory_back p f, S.tables.directory p f);
     tables = λ f p s. (λ h. same_table p s ∙ S.tables.table_back p s f h, λ h. S.tables.table p s f (sym (same_table p s) ∙ h));
     pages = page_role;
-    counts = λ f c is. let a = S.pages.counts f c is in (a.0, record { members = holders_of E f; are = group_is f; count = a.1 });
+    counts = λ f c is. let a = S.pages.counts f c is in (a.0, record { members = holders_of E f; are = λ slot. group_is f slot (page_up f c is); count = a.1 });
     directory_words = S.tables.dir_words;
     no_more = λ p d s live i out. S.tables.outside p d s live i (not_user_slot s out);
     table_words = λ p s t i is l. S.tables.table_words p s t i (sym (same_table p s) ∙ is) l;
@@ -215,3 +297,14 @@ image_stands directories bytes roles s = record {
   sound = image_is_sound directories bytes roles s.sound s.in_use;
   cells = cell_stands directories bytes roles s.sound;
 }
+
+-- whether the entry that was read is lazy
+pub lazy_read : (directories : List (Option ℕ)) (bytes : List ℕ) (roles : List Role) (p d page : ℕ) → IsSound directories bytes roles → directory_of directories p ≡ Some d
+    → is_lazy_entry (entry_at (frame_bytes bytes) d page) ≡ is_lazy_at (image_of directories bytes roles) (record { pid = p; page = page })
+lazy_read directories bytes roles p d page sound live =
+    ap is_lazy_entry (sym (ap (option_and_then (λ d. entry_at (frame_bytes bytes) d page)) live)) ∙ sym (same_lazy directories bytes roles sound (record { pid = p; page = page }))
+
+-- a process without a directory has no lazy page
+pub lazy_none : (directories : List (Option ℕ)) (bytes : List ℕ) (roles : List Role) (p page : ℕ) → directory_of directories p ≡ None → is_lazy_at (image_of directories bytes roles) (record { pid = p; page = page }) ≡ false
+lazy_none directories bytes roles p page none =
+    ap (λ x. unwrap_or (option_map is_lazy (option_and_then (λ t. present_word (image_of directories bytes roles) t (word_of (image_of directories bytes roles) t (index_number page))) (option_and_then (λ d. named_by (slot_number page) (word_of (image_of directories bytes roles) d (slot_number page))) x))) false) none

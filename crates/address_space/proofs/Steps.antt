@@ -1,5 +1,5 @@
 -- What each step of the code leaves.
-use Rattle.std.proofs.Common.{◌≡◌, ◌≢◌, ℕ, ◌+◌, ◌*◌, ◌^◌, ◌<◌, ◌≤◌, Bool, true, false, List, length, replicate, refl, ap, sym, ◌∙◌, subst, arith, inr, Option, Some, None, length-set}
+use Rattle.std.proofs.Common.{◌≡◌, ◌≢◌, ℕ, ◌+◌, ◌*◌, ◌^◌, ◌<◌, ◌≤◌, Bool, true, false, List, length, replicate, refl, ap, sym, ◌∙◌, subst, arith, inl, inr, Option, Some, None, length-set}
 use Rattle.std.specs.Prelude.{is_some, slice_get, slice_set, if◌then◌else◌}
 use Rattle.std.specs.Option.{option_and_then, unwrap_or}
 use Rattle.std.proofs.lemmas.Option.{slice_get_within}
@@ -7,24 +7,24 @@ use Rattle.page_words.specs.Addresses.{slot_number}
 use Rattle.page_words.specs.Words.{is_present, frame_number}
 use Rattle.phys_memory.specs.Bytes.{frame_bytes, word_in, with_frame, with_frame_bytes}
 use Rattle.alloc_table.specs.declared.Role.{Role}
-use Rattle.alloc_table.specs.declared.Role.TheVariants.{Free, Directory, Table, Page}
+use Rattle.alloc_table.specs.declared.Role.TheVariants.{Reserved, Free, Directory, Table, Page}
 use Rattle.alloc_table.specs.Roles.{frames_weight, IsTaken}
 use Rattle.alloc_table.proofs.RoleLemmas.{get-set_same, get-set_other, weight-taken}
 use Rattle.phys_memory.proofs.Frames.{with_frame-same, with_frame-other, frames-with_frame_bytes}
 use Rattle.page_map.proofs.WordLaws.{entry_word-names, entry_word-lt, entry_word-present, word_entry-entry_word}
 use Rattle.std.proofs.lemmas.List.{length-replicate}
-use Rattle.address_space.proofs.Refinement.{fresh_refines, get-spaces_of}
+use Rattle.address_space.proofs.Refinement.{lazy_refines, get-spaces_of}
 use Rattle.std.specs.Option.{option_map}
 use Rattle.page_map.specs.declared.PageEntry.{PageEntry}
-use Rattle.page_map.specs.Entries.{Frames, dir_word, word_table, table_of, with_table, with_entry, entry_word, IsPageMap}
+use Rattle.page_map.specs.Entries.{Frames, dir_word, word_table, table_of, with_table, with_entry, entry_word, IsKernelEntry, IsPageMap}
 use Rattle.page_words.specs.FiniteMap as map
 use Rattle.address_space.specs.Spaces.{Slot, fresh}
-use Rattle.address_space.specs.Cells.{Entries, cell_of, spaces_of}
-use Rattle.address_space.specs.Sound.{Directories, Roles, directory_of, table_in, entries_in, spaces_in, Tables, Pages, IsSound, TableGiven, PageAdded, table_need, InUseAt, total_cost, Inside}
+use Rattle.address_space.specs.Cells.{Entries, lazy_count, cell_of, spaces_of}
+use Rattle.address_space.specs.Sound.{Directories, Roles, directory_of, table_in, entries_in, spaces_in, Tables, Pages, HoldsPage, IsSound, TableGiven, PageAdded, table_need, InUseAt, total_cost, Inside}
 use Rattle.address_space.proofs.CostSteps.{total-entry}
 use Rattle.address_space.proofs.EntrySteps.{Loose, entries-insert, tables-entry, use_own, use_kept}
-use Rattle.address_space.proofs.FrameSteps.{tables-linked, linked-entries, linked-own, linked-others, linked-other, kept_table, loose-directory, loose-tables, loose-entries, tables-loose, tables-role, use_loose}
-use Rattle.address_space.proofs.PageSteps.{same_bytes, unused, pages-role, pages-fresh}
+use Rattle.address_space.proofs.FrameSteps.{tables-linked, linked-entries, linked-own, linked-others, linked-other, kept_table, loose-directory, tables-loose}
+use Rattle.address_space.proofs.PageSteps.{same_bytes, pages-role, pages-lazy, lazy-more, no_free, no_table, no_directory}
 
 -- a frame with a role lies in memory
 inside_by : (bytes : List ℕ) (roles : List Role) (f : ℕ) (r : Role) → length bytes ≡ 4096 * length roles → length roles ≤ 4096 → slice_get roles f ≡ Some r → Inside bytes f
@@ -75,23 +75,25 @@ table_given directories bytes bytes' roles roles' p d s t sound live low high no
     let same_length : length roles' ≡ length roles = ap length taken.now ∙ length-set roles t (Table p s) in
     let E : entries_in D (frame_bytes bytes') ≡ entries_in D m = ap (entries_in D) is ∙ linked-entries D m R T p d s t live none free small low high in
     let page_kept : (q : Slot) (e : PageEntry) → map.get (entries_in D m) q ≡ Some e → frame_bytes bytes' e.frame ≡ m e.frame = λ q e found.
-    let a = sound.pages.pages q e found in
-    let role = a.1 in
+    let holds = sound.pages.pages q e found in
     (λ i. is i e.frame) ∙ linked-other D m R T p d s t live none free small low high e.frame
-    (λ same. let b = T.directory p d live in let k : R e.frame ≡ R d = ap R same in cc)
-    (λ same. let k : R e.frame ≡ R t = ap R same in cc) in
+    (no_directory R e.frame d p holds (T.directory p d live)) (no_free R e.frame t holds free) in
     record {
       sound = record {
         size = long ∙ sound.size ∙ ap (λ n. 4096 * n) (sym same_length);
         few = subst (λ n. n ≤ 4096) (sym same_length) sound.few;
         pids = sound.pids;
         tables = subst (λ x. Tables D x R') (sym is) (tables-linked D m R T p d s t live none free small low high R' own others);
-        pages = subst (λ x. Pages x R') (sym E) (pages-role (entries_in D m) R R' t sound.pages (λ c h. cc) (λ c h. cc) others);
+        pages = subst (λ x. Pages x R') (sym E) (pages-role (entries_in D m) R R' t sound.pages (λ h. cc) (λ c h. cc) (λ c h. cc) others);
       };
       entries = E;
       spaces = ap (λ x. spaces_of x (frame_bytes bytes')) E ∙ same_bytes (entries_in D m) m (frame_bytes bytes') page_kept;
       table = (t, ap (λ x. table_in D x p s) is ∙ linked-own D m R T p d s t live none free small low high);
-      weight = weight-taken roles roles' t (Table p s) taken ∙ sym (ap (λ x. frames_weight roles + table_need x) (ap (option_and_then (λ x. table_of m x s)) live ∙ none));
+      weight =
+          let w = weight-taken roles roles' t (Table p s) taken in
+          let l : lazy_count (entries_in D (frame_bytes bytes')) ≡ lazy_count (entries_in D m) = ap lazy_count E in
+          let n : table_need (table_in D m p s) ≡ 1 = ap table_need (ap (option_and_then (λ x. table_of m x s)) live ∙ none) in
+          omega (arith, w, l, n);
       length = same_length;
       others = λ q r n use_at f found.
           let old : table_in D m q r ≡ Some f = sym (ap (λ x. table_in D x q r) is ∙ linked-others D m R T p d s t live none free small low high q r n) ∙ found in
@@ -111,9 +113,9 @@ live_small directories p d l live = by (slice_get directories p) refl live
 pub zeroed : (bytes one : List ℕ) (f : ℕ) → Inside bytes f → one ≡ with_frame_bytes bytes f (replicate 4096 0) → frame_bytes one ≡ with_frame (frame_bytes bytes) f (replicate 4096 0)
 zeroed bytes one f i is = ap frame_bytes is ∙ frames-with_frame_bytes bytes (replicate 4096 0) f i.fits (length-replicate {A = ℕ} 4096 0)
 
-pub none_before : (E : Entries) (m : Frames) (x : Option PageEntry) → option_map (cell_of E m) x ≡ None → x ≡ None
-none_before E m None h = refl
-none_before E m (Some d) h = cc
+pub none_before : (E : Entries) (m : Frames) (q : Slot) (x : Option PageEntry) → option_map (cell_of E m q) x ≡ None → x ≡ None
+none_before E m q None h = refl
+none_before E m q (Some d) h = cc
 
 pub table_by_word : (word t : ℕ) → word_table word ≡ Some t → frame_number word ≡ t
 table_by_word word t h = by (is_present word) h
@@ -122,71 +124,60 @@ table_by_word word t h = by (is_present word) h
     by true h = cc
     by false h = cc
 
--- a page of zeros was mapped
-pub page_added : (directories : List (Option ℕ)) (bytes one two : List ℕ) (roles roles' : List Role) (p d page f t : ℕ) (write : Bool) → IsSound directories bytes roles → directory_of directories p ≡ Some d
+-- a frame that an entry may name lies in memory
+pub holds_inside : (directories : List (Option ℕ)) (bytes : List ℕ) (roles : List Role) (f : ℕ) → IsSound directories bytes roles → HoldsPage (slice_get roles f) → Inside bytes f
+holds_inside directories bytes roles f sound (inl r) = inside directories bytes roles f Reserved sound r
+holds_inside directories bytes roles f sound (inr h) = inside directories bytes roles f (Page h.0) sound h.1
+
+-- the entry of a fresh page
+abbrev pub lazy_entry : Bool → PageEntry
+lazy_entry write = record { frame = 0; write = write; may = true; accessed = false; dirty = false; lazy = true }
+
+pub lazy_rules : (write : Bool) → IsKernelEntry (lazy_entry write)
+lazy_rules write = record { frame = λ h. cc; zero = λ h. refl; clean = λ h. refl; right = λ h. refl; touched = λ h. cc }
+
+-- a lazy page was mapped
+pub page_added : (directories : List (Option ℕ)) (bytes two : List ℕ) (roles : List Role) (p d page t : ℕ) (write : Bool) → IsSound directories bytes roles → directory_of directories p ≡ Some d
     → 0x40000 ≤ page → page < 0xf0000 → map.get (spaces_in directories bytes) (record { pid = p; page = page }) ≡ None → table_of (frame_bytes bytes) d (slot_number page) ≡ Some t
-    → IsTaken roles f (Page 1) roles' → frame_bytes one ≡ with_frame (frame_bytes bytes) f (replicate 4096 0) → length one ≡ length bytes
-    → frame_bytes two ≡ with_entry (frame_bytes one) (frame_number (dir_word (frame_bytes one) d (slot_number page))) page (record { frame = f; write = write; may = true; accessed = false; dirty = false }) → length two ≡ length one
-    → PageAdded directories p page write bytes roles two roles'
+    → frame_bytes two ≡ with_entry (frame_bytes bytes) (frame_number (dir_word (frame_bytes bytes) d (slot_number page))) page (lazy_entry write) → length two ≡ length bytes
+    → PageAdded directories p page write bytes roles two roles
 unfolding spaces_in
-page_added directories bytes one two roles roles' p d page f t write sound live low high unmapped there taken is_one long_one is_two long_two =
+page_added directories bytes two roles p d page t write sound live low high unmapped there is_two long_two =
     let few : p < 64 = live_small directories p d sound.pids live in
     let D : Directories = directory_of directories in
     let m : Frames = frame_bytes bytes in
-    let m1 : Frames = with_frame m f (replicate 4096 0) in
-    let e : PageEntry = record { frame = f; write = write; may = true; accessed = false; dirty = false } in
-    let m2 : Frames = with_entry m1 t page e in
+    let e : PageEntry = lazy_entry write in
+    let m2 : Frames = with_entry m t page e in
     let slot : Slot = record { pid = p; page = page } in
     let R : Roles = slice_get roles in
-    let R' : Roles = slice_get roles' in
     let T : Tables D m R = sound.tables in
-    let free : R f ≡ Some Free = taken.was_free in
-    let in_memory : Inside bytes f = inside directories bytes roles f Free sound free in
-    let small : f < 2 ^ 20 = in_memory.small in
-    let up : 1 ≤ f = above T free in
-    let own : R' f ≡ Some (Page 1) = role_own roles roles' f Free (Page 1) free taken.now in
-    let others : (g : ℕ) → g ≢ f → R' g ≡ R g = role_other roles roles' f (Page 1) taken.now in
-    let loose : Loose R f = record { no_directory = λ q h. cc; no_table = λ q r h. cc; not_reserved = λ h. cc } in
-    let loose' : Loose R' f = record { no_directory = λ q h. cc; no_table = λ q r h. cc; not_reserved = λ h. cc } in
-    let Ta : Tables D m1 R = tables-loose D m R T f (replicate 4096 0) loose (length-replicate {A = ℕ} 4096 0) in
-    let Tb : Tables D m1 R' = tables-role D m1 R R' f Free Ta free loose loose' others in
-    let up_table : table_in D m p (slot_number page) ≡ Some t = ap (option_and_then (λ x. table_of m x (slot_number page))) live ∙ there in
-    let in_one : table_in D m1 p (slot_number page) ≡ Some t = loose-tables D m R T f (replicate 4096 0) loose p (slot_number page) ∙ up_table in
-    let there_one : table_of m1 d (slot_number page) ≡ Some t = sym (ap (option_and_then (λ x. table_of m1 x (slot_number page))) live) ∙ in_one in
-    let role_t : R t ≡ Some (Table p (slot_number page)) = T.table p (slot_number page) t up_table in
-    let t_f : t ≢ f = λ same. (let k : R t ≡ R f = ap R same in cc) in
-    let named : frame_number (dir_word m1 d (slot_number page)) ≡ t = table_by_word (dir_word m1 d (slot_number page)) t there_one in
-    let is : frame_bytes two ≡ m2 = is_two ∙ (λ i. with_entry (is_one i) (frame_number (dir_word (is_one i) d (slot_number page))) page e) ∙ ap (λ g. with_entry m1 g page e) named in
+    let small : 0 < 2 ^ 20 = omega arith in
+    let named : table_in D m p (slot_number page) ≡ Some t = ap (option_and_then (λ x. table_of m x (slot_number page))) live ∙ there in
+    let role_t : R t ≡ Some (Table p (slot_number page)) = T.table p (slot_number page) t named in
+    let is : frame_bytes two ≡ m2 = is_two ∙ ap (λ g. with_entry m g page e) (table_by_word (dir_word m d (slot_number page)) t there) in
     let E : Entries = entries_in D m in
-    let E1 : entries_in D m1 ≡ E = loose-entries D m R T f (replicate 4096 0) loose in
-    let E2 : entries_in D (frame_bytes two) ≡ map.insert E slot e = ap (entries_in D) is ∙ entries-insert D m1 R' Tb p d page t (entry_word e) live there_one (entry_word-lt e small) e (word_entry-entry_word e small) few low high ∙ ap (λ x. map.insert x slot e) E1 in
-    let none : map.get E slot ≡ None = none_before E m (map.get E slot) (sym (get-spaces_of E m slot) ∙ unmapped) in
-    let same_length : length roles' ≡ length roles = ap length taken.now ∙ length-set roles f (Page 1) in
-    let blank : m2 f ≡ replicate 4096 0 = with_frame-other m1 t f _ (λ same. t_f (sym same)) ∙ with_frame-same m f (replicate 4096 0) in
+    let E2 : entries_in D (frame_bytes two) ≡ map.insert E slot e = ap (entries_in D) is ∙ entries-insert D m R T p d page t (entry_word e) live there (entry_word-lt e small) e (word_entry-entry_word e small) few low high in
+    let none : map.get E slot ≡ None = none_before E m slot (map.get E slot) (sym (get-spaces_of E m slot) ∙ unmapped) in
     let page_kept : (q : Slot) (x : PageEntry) → map.get E q ≡ Some x → m2 x.frame ≡ m x.frame = λ q x found.
-    let a = sound.pages.pages q x found in
-    let role = a.1 in
-    with_frame-other m1 t x.frame _ (λ same. let k : R x.frame ≡ R t = ap R same in cc) ∙ with_frame-other m f x.frame _ (λ same. let k : R x.frame ≡ R f = ap R same in cc) in
+    with_frame-other m t x.frame _ (no_table R x.frame t p (slot_number page) (sound.pages.pages q x found) role_t) in
+    let zero : m2 0 ≡ replicate 4096 0 = with_frame-other m t 0 _ (no_table R 0 t p (slot_number page) (inl T.zero_role) role_t) ∙ T.zero_bytes in
     record {
       slot = record {
         sound = record {
-          size = long_two ∙ long_one ∙ sound.size ∙ ap (λ n. 4096 * n) (sym same_length);
-          few = subst (λ n. n ≤ 4096) (sym same_length) sound.few;
+          size = long_two ∙ sound.size;
+          few = sound.few;
           pids = sound.pids;
-          tables = subst (λ x. Tables D x R') (sym is) (tables-entry D m1 R' Tb p d page t (entry_word e) live there_one (entry_word-lt e small) (inr (entry_word-names e small up (λ _. refl) (λ h. h))));
-          pages = subst (λ x. Pages x R') (sym E2) (pages-fresh E R R' slot e sound.pages none free own others);
+          tables = subst (λ x. Tables D x R) (sym is) (tables-entry D m R T p d page t (entry_word e) live there (entry_word-lt e small) (inr (entry_word-names e small (lazy_rules write))));
+          pages = subst (λ x. Pages x R) (sym E2) (pages-lazy E R slot e sound.pages none refl T.zero_role);
         };
         cost = (λ i. total_cost directories (spaces_of (E2 i) (frame_bytes two))) ∙ total-entry directories E m (frame_bytes two) slot e (fresh slot write) d few live none;
-        weight = weight-taken roles roles' f (Page 1) taken;
-        length = same_length;
-        own = subst (λ x. InUseAt D x p (slot_number page)) (sym is) (use_own D m1 R' Tb p d page t (entry_word e) live there_one (entry_word-lt e small) (entry_word-present e));
-        others = λ q r n use_at. subst (λ x. InUseAt D x q r) (sym is) (use_kept D m1 R' Tb p d page t (entry_word e) live there_one (entry_word-lt e small) (entry_word-present e) q r (use_loose D m R T f (replicate 4096 0) loose q r use_at));
+        weight = let l : lazy_count (entries_in D (frame_bytes two)) ≡ lazy_count E + 1 = ap lazy_count E2 ∙ lazy-more E slot e none refl in omega (arith, l);
+        length = refl;
+        own = subst (λ x. InUseAt D x p (slot_number page)) (sym is) (use_own D m R T p d page t (entry_word e) live there (entry_word-lt e small) (entry_word-present e));
+        others = λ q r n use_at. subst (λ x. InUseAt D x q r) (sym is) (use_kept D m R T p d page t (entry_word e) live there (entry_word-lt e small) (entry_word-present e) q r use_at);
       };
-      spaces = (λ i. spaces_of (E2 i) (is i)) ∙ fresh_refines E m2 slot f write none (unused E R f sound.pages free) blank ∙ ap (λ x. map.insert x slot (fresh slot write)) (same_bytes E m m2 page_kept);
+      spaces = (λ i. spaces_of (E2 i) (is i)) ∙ lazy_refines E m2 slot write none zero ∙ ap (λ x. map.insert x slot (fresh slot write)) (same_bytes E m m2 page_kept);
     }
-  where
-    above : Tables (directory_of directories) (frame_bytes bytes) (slice_get roles) → slice_get roles f ≡ Some Free → 1 ≤ f
-    above T free = let n : f ≢ 0 = (λ is. let a = T.zero_role in let k : slice_get roles 0 ≡ slice_get roles f = ap (slice_get roles) (sym is) in cc) in omega arith
 
 -- whether a slot has a table
 pub some_is : {A : Type 0} (x : Option A) → is_some x ≡ true → (y : A) × (x ≡ Some y)

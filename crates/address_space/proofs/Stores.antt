@@ -16,7 +16,7 @@ use Rattle.alloc_table.specs.declared.Role.TheVariants.{Table, Page}
 use Rattle.alloc_table.specs.Roles.{frames_weight}
 use Rattle.alloc_table.proofs.RoleLemmas.{weight-set}
 use Rattle.page_map.specs.declared.PageEntry.{PageEntry}
-use Rattle.page_map.specs.Entries.{Frames, dir_word, table_of, word_entry, entry_from, entry_at, with_entry, entry_word}
+use Rattle.page_map.specs.Entries.{Frames, dir_word, table_of, word_entry, entry_from, entry_at, with_entry, entry_word, is_lazy_entry, IsKernelEntry}
 use Rattle.page_map.proofs.WordLaws.{entry_word-names, entry_word-lt, entry_word-present, word_entry-entry_word}
 use Rattle.page_words.specs.FiniteMap as map
 use Rattle.page_words.specs.FiniteMap.{change_each}
@@ -30,14 +30,14 @@ use Rattle.address_space.specs.Slots.{user_slots, slots_below, at_pid}
 use Rattle.page_words.specs.FiniteMap.{same}
 use Rattle.page_words.proofs.MapLemmas.{len-insert}
 use Rattle.address_space.proofs.UserSlots.{in_user_slots}
-use Rattle.address_space.specs.Cells.{Entries, names, cell_of, spaces_of, holders_of, nothing}
-use Rattle.address_space.specs.Sound.{Directories, Roles, directory_of, table_in, entry_in, entries_in, spaces_in, Tables, Pages, IsSound, InUseAt, total_cost, SlotJoined, Touched, Names, Inside, InUse}
+use Rattle.address_space.specs.Cells.{Entries, names, lazy_count, cell_of, spaces_of, holders_of, nothing}
+use Rattle.address_space.specs.Sound.{Directories, Roles, directory_of, table_in, entry_in, entries_in, spaces_in, Tables, Pages, HoldsPage, IsSound, InUseAt, total_cost, SlotJoined, Touched, Names, Inside, InUse}
 use Rattle.address_space.proofs.CostSteps.{total-entry, total-kept}
 use Rattle.address_space.proofs.EntrySteps.{Loose, get-entries_in, entries-insert, tables-entry, use_own, use_kept}
-use Rattle.address_space.proofs.FrameSteps.{loose-tables, loose-entries, tables-loose, tables-role, use_loose}
-use Rattle.address_space.proofs.PageSteps.{same_bytes, pages-same, pages-join}
+use Rattle.address_space.proofs.FrameSteps.{loose-entry, loose-entries, tables-loose, tables-role, use_loose}
+use Rattle.address_space.proofs.PageSteps.{same_bytes, pages-same, pages-join, no_table, not_same, lazy-same, lazy-real}
 use Rattle.address_space.proofs.Refinement.{get-spaces_of, store_refines, join_refines, flags_refine, cell_at}
-use Rattle.address_space.proofs.Steps.{inside, live_small, page_loose, none_before, table_by_word, role_own, role_other, some_is}
+use Rattle.address_space.proofs.Steps.{inside, holds_inside, live_small, page_loose, none_before, table_by_word, role_own, role_other, some_is}
 
 -- ---- Bytes
 
@@ -67,20 +67,16 @@ found D m p d page e is = by (table_of m d (slot_number page)) refl is
     by None t h = cc
     by (Some table) t h = record { table = table; there = t; word = h }
 
-pub record Allowed (e : PageEntry) : Type 0 where
-  pub right : e.write ≡ true → e.may ≡ true
-  pub touched : e.dirty ≡ true → e.accessed ≡ true
-
 -- an entry that a kernel word holds keeps its rules
-pub allowed : (word : ℕ) (e : PageEntry) → IsKernelTableWord word → word_entry word ≡ Some e → Allowed e
+pub allowed : (word : ℕ) (e : PageEntry) → IsKernelTableWord word → word_entry word ≡ Some e → IsKernelEntry e
 allowed word e k h = by (is_present word) refl h k
   where
-    by : (b : Bool) → is_present word ≡ b → (if b then Some (entry_from word) else None) ≡ Some e → IsKernelTableWord word → Allowed e
+    by : (b : Bool) → is_present word ≡ b → (if b then Some (entry_from word) else None) ≡ Some e → IsKernelTableWord word → IsKernelEntry e
     by false is h k = cc
     by true is h (inl z) = let c : is_present 0 ≡ true = sym (ap is_present z) ∙ is in cc
     by true is h (inr n) =
         let s : entry_from word ≡ e = cc in
-        subst Allowed s (record { right = n.right; touched = n.touched })
+        subst IsKernelEntry s (record { frame = n.frame; zero = n.zero; clean = n.clean; right = n.right; touched = n.touched })
 
 pub get_user : (D : Directories) (m : Frames) (p d page : ℕ) (e : PageEntry) → D p ≡ Some d → p < 64 → 0x40000 ≤ page → page < 0xf0000 → entry_at m d page ≡ Some e → map.get (entries_in D m) (record { pid = p; page = page }) ≡ Some e
 get_user D m p d page e live few low high is =
@@ -88,72 +84,8 @@ get_user D m p d page e live few low high is =
     ∙ ap (λ b. cond b (entry_in D m (record { pid = p; page = page })) None) (in_user_slots p page few low high)
     ∙ ap (option_and_then (λ d. entry_at m d page)) live ∙ is
 
--- ---- An access
-
--- the entry of a slot was written with other flags, after its frame's bytes were
-pub record EntryTouched (directories : List (Option ℕ)) (p page : ℕ) (e e' : PageEntry) (new : List ℕ) (bytes : List ℕ) (roles : List Role) (bytes' : List ℕ) : Type 0 where
-  pub sound : IsSound directories bytes' roles
-  pub named : map.get (entries_in (directory_of directories) (frame_bytes bytes)) (record { pid = p; page = page }) ≡ Some e
-  pub spaces : spaces_in directories bytes' ≡ spaces_of (map.insert (entries_in (directory_of directories) (frame_bytes bytes)) (record { pid = p; page = page }) e') (with_frame (frame_bytes bytes) e.frame new)
-  pub cost : total_cost directories (spaces_in directories bytes') ≡ total_cost directories (spaces_in directories bytes)
-  pub in_use : InUse (directory_of directories) (frame_bytes bytes) → InUse (directory_of directories) (frame_bytes bytes')
-
-pub entry_touched : (directories : List (Option ℕ)) (bytes one two : List ℕ) (roles : List Role) (p d page : ℕ) (e : PageEntry) (write accessed dirty : Bool) (new : List ℕ) → IsSound directories bytes roles → directory_of directories p ≡ Some d
-    → 0x40000 ≤ page → page < 0xf0000 → entry_at (frame_bytes bytes) d page ≡ Some e
-    → (write ≡ true → e.may ≡ true) → (dirty ≡ true → accessed ≡ true) → length new ≡ 4096
-    → frame_bytes one ≡ with_frame (frame_bytes bytes) e.frame new → length one ≡ length bytes
-    → frame_bytes two ≡ with_entry (frame_bytes one) (frame_number (dir_word (frame_bytes one) d (slot_number page))) page (record e { write = write; accessed = accessed; dirty = dirty }) → length two ≡ length one
-    → EntryTouched directories p page e (record e { write = write; accessed = accessed; dirty = dirty }) new bytes roles two
-unfolding spaces_in
-entry_touched directories bytes one two roles p d page e write accessed dirty new sound live low high is_entry right touched long_new is1 long_one is_two long_two =
-    let few : p < 64 = live_small directories p d sound.pids live in
-    let D : Directories = directory_of directories in
-    let m : Frames = frame_bytes bytes in
-    let R : Roles = slice_get roles in
-    let T : Tables D m R = sound.tables in
-    let slot : Slot = record { pid = p; page = page } in
-    let e' : PageEntry = record e { write = write; accessed = accessed; dirty = dirty } in
-    let m1 : Frames = with_frame m e.frame new in
-    let E : Entries = entries_in D m in
-    let f = found D m p d page e is_entry in
-    let t : ℕ = f.table in
-    let m2 : Frames = with_entry m1 t page e' in
-    let there : map.get E slot ≡ Some e = get_user D m p d page e live few low high is_entry in
-    let page_role = sound.pages.pages slot e there in
-    let role = page_role.1 in
-    let loose = page_loose R e.frame page_role.0 role in
-    let in_memory = inside directories bytes roles e.frame (Page page_role.0) sound role in
-    let Ta : Tables D m1 R = tables-loose D m R T e.frame new loose long_new in
-    let up_table : table_in D m p (slot_number page) ≡ Some t = ap (option_and_then (λ x. table_of m x (slot_number page))) live ∙ f.there in
-    let role_t : R t ≡ Some (Table p (slot_number page)) = T.table p (slot_number page) t up_table in
-    let there_one : table_of m1 d (slot_number page) ≡ Some t = sym (ap (option_and_then (λ x. table_of m1 x (slot_number page))) live) ∙ loose-tables D m R T e.frame new loose p (slot_number page) ∙ up_table in
-    let named : frame_number (dir_word m1 d (slot_number page)) ≡ t = table_by_word (dir_word m1 d (slot_number page)) t there_one in
-    let is : frame_bytes two ≡ m2 = is_two ∙ (λ i. with_entry (is1 i) (frame_number (dir_word (is1 i) d (slot_number page))) page e') ∙ ap (λ g. with_entry m1 g page e') named in
-    let E2 : entries_in D (frame_bytes two) ≡ map.insert E slot e' = ap (entries_in D) is ∙ entries-insert D m1 R Ta p d page t (entry_word e') live there_one (entry_word-lt e' in_memory.small) e' (word_entry-entry_word e' in_memory.small) few low high ∙ ap (λ x. map.insert x slot e') (loose-entries D m R T e.frame new loose) in
-    let P2 : Pages (map.insert E slot e') R = pages-same E R slot e e' sound.pages there refl in
-    let page_kept : (q : Slot) (x : PageEntry) → map.get (map.insert E slot e') q ≡ Some x → m2 x.frame ≡ m1 x.frame = λ q x was.
-    let a = P2.pages q x was in
-    let r = a.1 in
-    with_frame-other m1 t x.frame _ (λ same. let k : R x.frame ≡ R t = ap R same in cc) in
-    record {
-      sound = record {
-        size = long_two ∙ long_one ∙ sound.size;
-        few = sound.few;
-        pids = sound.pids;
-        tables = subst (λ x. Tables D x R) (sym is) (tables-entry D m1 R Ta p d page t (entry_word e') live there_one (entry_word-lt e' in_memory.small) (inr (entry_word-names e' in_memory.small (above T role) right touched)));
-        pages = subst (λ x. Pages x R) (sym E2) P2;
-      };
-      named = there;
-      spaces = (λ i. spaces_of (E2 i) (is i)) ∙ same_bytes (map.insert E slot e') m1 m2 page_kept;
-      cost = (λ i. total_cost directories (spaces_of (E2 i) (frame_bytes two))) ∙ total-kept directories E m (frame_bytes two) slot e e' there;
-      in_use = λ before q r. subst (λ x. InUseAt D x q r) (sym is) (use_kept D m1 R Ta p d page t (entry_word e') live there_one (entry_word-lt e' in_memory.small) (entry_word-present e') q r (use_loose D m R T e.frame new loose q r (before q r)));
-    }
-  where
-    above : {c : ℕ} → Tables (directory_of directories) (frame_bytes bytes) (slice_get roles) → slice_get roles e.frame ≡ Some (Page c) → 1 ≤ e.frame
-    above T is = let n : e.frame ≢ 0 = (λ z. let a = T.zero_role in let k : slice_get roles 0 ≡ slice_get roles e.frame = ap (slice_get roles) (sym z) in cc) in omega arith
-
 -- the rules of an entry that is in use
-pub entry_rules : (directories : List (Option ℕ)) (bytes : List ℕ) (roles : List Role) (p d page : ℕ) (e : PageEntry) → IsSound directories bytes roles → directory_of directories p ≡ Some d → entry_at (frame_bytes bytes) d page ≡ Some e → Allowed e
+pub entry_rules : (directories : List (Option ℕ)) (bytes : List ℕ) (roles : List Role) (p d page : ℕ) (e : PageEntry) → IsSound directories bytes roles → directory_of directories p ≡ Some d → entry_at (frame_bytes bytes) d page ≡ Some e → IsKernelEntry e
 entry_rules directories bytes roles p d page e sound live is =
     let D : Directories = directory_of directories in
     let m : Frames = frame_bytes bytes in
@@ -161,24 +93,121 @@ entry_rules directories bytes roles p d page e sound live is =
     let up : table_in D m p (slot_number page) ≡ Some f.table = ap (option_and_then (λ x. table_of m x (slot_number page))) live ∙ f.there in
     allowed (word_in (m f.table) (index_number page)) e (sound.tables.table_words p (slot_number page) f.table (index_number page) up (omega arith)) f.word
 
-unchanged_frame : (m : Frames) (f : ℕ) → m ≡ with_frame m f (m f)
-unchanged_frame m f = by_frame m m f (m f) refl (λ g n. refl)
+pub record HasPage (roles : List Role) (f : ℕ) : Type 0 where
+  pub count : ℕ
+  pub page : slice_get roles f ≡ Some (Page count)
+
+-- a frame other than frame 0 that an entry names is a page
+pub page_held : (directories : List (Option ℕ)) (bytes : List ℕ) (roles : List Role) (f : ℕ) → IsSound directories bytes roles → HoldsPage (slice_get roles f) → 1 ≤ f → HasPage roles f
+page_held directories bytes roles f sound (inl r) up = absurd (let z = sound.tables.reserved f r in omega (arith, z, up))
+page_held directories bytes roles f sound (inr h) up = record { count = h.0; page = h.1 }
+
+-- ---- An access
+
+-- the entry of a slot was written with another on the same frame
+pub record EntrySet (directories : List (Option ℕ)) (p page : ℕ) (e e' : PageEntry) (bytes : List ℕ) (roles : List Role) (bytes' : List ℕ) : Type 0 where
+  pub sound : IsSound directories bytes' roles
+  pub named : map.get (entries_in (directory_of directories) (frame_bytes bytes)) (record { pid = p; page = page }) ≡ Some e
+  pub entries : entries_in (directory_of directories) (frame_bytes bytes') ≡ map.insert (entries_in (directory_of directories) (frame_bytes bytes)) (record { pid = p; page = page }) e'
+  pub spaces : spaces_in directories bytes' ≡ spaces_of (map.insert (entries_in (directory_of directories) (frame_bytes bytes)) (record { pid = p; page = page }) e') (frame_bytes bytes)
+  pub in_use : InUse (directory_of directories) (frame_bytes bytes) → InUse (directory_of directories) (frame_bytes bytes')
+
+pub entry_set : (directories : List (Option ℕ)) (bytes two : List ℕ) (roles : List Role) (p d page : ℕ) (e e' : PageEntry) → IsSound directories bytes roles → directory_of directories p ≡ Some d
+    → 0x40000 ≤ page → page < 0xf0000 → entry_at (frame_bytes bytes) d page ≡ Some e → IsKernelEntry e' → e'.frame ≡ e.frame
+    → frame_bytes two ≡ with_entry (frame_bytes bytes) (frame_number (dir_word (frame_bytes bytes) d (slot_number page))) page e' → length two ≡ length bytes
+    → EntrySet directories p page e e' bytes roles two
+unfolding spaces_in
+entry_set directories bytes two roles p d page e e' sound live low high is_entry rules kept is_two long_two =
+    let few : p < 64 = live_small directories p d sound.pids live in
+    let D : Directories = directory_of directories in
+    let m : Frames = frame_bytes bytes in
+    let R : Roles = slice_get roles in
+    let T : Tables D m R = sound.tables in
+    let slot : Slot = record { pid = p; page = page } in
+    let E : Entries = entries_in D m in
+    let f = found D m p d page e is_entry in
+    let t : ℕ = f.table in
+    let m2 : Frames = with_entry m t page e' in
+    let there : map.get E slot ≡ Some e = get_user D m p d page e live few low high is_entry in
+    let small : e'.frame < 2 ^ 20 = subst (λ g. g < 2 ^ 20) (sym kept) (holds_inside directories bytes roles e.frame sound (sound.pages.pages slot e there)).small in
+    let up_table : table_in D m p (slot_number page) ≡ Some t = ap (option_and_then (λ x. table_of m x (slot_number page))) live ∙ f.there in
+    let role_t : R t ≡ Some (Table p (slot_number page)) = T.table p (slot_number page) t up_table in
+    let is : frame_bytes two ≡ m2 = is_two ∙ ap (λ g. with_entry m g page e') (table_by_word (dir_word m d (slot_number page)) t f.there) in
+    let E2 : entries_in D (frame_bytes two) ≡ map.insert E slot e' = ap (entries_in D) is ∙ entries-insert D m R T p d page t (entry_word e') live f.there (entry_word-lt e' small) e' (word_entry-entry_word e' small) few low high in
+    let P2 : Pages (map.insert E slot e') R = pages-same E R slot e e' sound.pages there kept in
+    let page_kept : (q : Slot) (x : PageEntry) → map.get (map.insert E slot e') q ≡ Some x → m2 x.frame ≡ m x.frame = λ q x was.
+    with_frame-other m t x.frame _ (no_table R x.frame t p (slot_number page) (P2.pages q x was) role_t) in
+    record {
+      sound = record {
+        size = long_two ∙ sound.size;
+        few = sound.few;
+        pids = sound.pids;
+        tables = subst (λ x. Tables D x R) (sym is) (tables-entry D m R T p d page t (entry_word e') live f.there (entry_word-lt e' small) (inr (entry_word-names e' small rules)));
+        pages = subst (λ x. Pages x R) (sym E2) P2;
+      };
+      named = there;
+      entries = E2;
+      spaces = (λ i. spaces_of (E2 i) (is i)) ∙ same_bytes (map.insert E slot e') m m2 page_kept;
+      in_use = λ before q r. subst (λ x. InUseAt D x q r) (sym is) (use_kept D m R T p d page t (entry_word e') live f.there (entry_word-lt e' small) (entry_word-present e') q r (before q r));
+    }
+
+-- the bytes of a page's own frame were written
+pub record FrameWritten (directories : List (Option ℕ)) (bytes : List ℕ) (roles : List Role) (one : List ℕ) : Type 0 where
+  pub sound : IsSound directories one roles
+  pub entries : entries_in (directory_of directories) (frame_bytes one) ≡ entries_in (directory_of directories) (frame_bytes bytes)
+  pub entry : (p d page : ℕ) → directory_of directories p ≡ Some d → entry_at (frame_bytes one) d page ≡ entry_at (frame_bytes bytes) d page
+  pub in_use : InUse (directory_of directories) (frame_bytes bytes) → InUse (directory_of directories) (frame_bytes one)
+
+pub frame_written : (directories : List (Option ℕ)) (bytes one : List ℕ) (roles : List Role) (f : ℕ) (new : List ℕ) → IsSound directories bytes roles → Loose (slice_get roles) f → length new ≡ 4096
+    → frame_bytes one ≡ with_frame (frame_bytes bytes) f new → length one ≡ length bytes → FrameWritten directories bytes roles one
+frame_written directories bytes one roles f new sound loose long_new is long_one =
+    let D : Directories = directory_of directories in
+    let m : Frames = frame_bytes bytes in
+    let R : Roles = slice_get roles in
+    let T : Tables D m R = sound.tables in
+    let E1 : entries_in D (frame_bytes one) ≡ entries_in D m = ap (entries_in D) is ∙ loose-entries D m R T f new loose in
+    record {
+      sound = record {
+        size = long_one ∙ sound.size;
+        few = sound.few;
+        pids = sound.pids;
+        tables = subst (λ x. Tables D x R) (sym is) (tables-loose D m R T f new loose long_new);
+        pages = subst (λ x. Pages x R) (sym E1) sound.pages;
+      };
+      entries = E1;
+      entry = λ p d page live.
+          ap (λ x. entry_at x d page) is
+          ∙ sym (ap (option_and_then (λ d. entry_at (with_frame m f new) d page)) live) ∙ loose-entry D m R T f new loose (record { pid = p; page = page }) ∙ ap (option_and_then (λ d. entry_at m d page)) live;
+      in_use = λ before q r. subst (λ x. InUseAt D x q r) (sym is) (use_loose D m R T f new loose q r (before q r));
+    }
 
 -- an access that completes stores what the machine stores
 pub page_stored : (directories : List (Option ℕ)) (bytes one two : List ℕ) (roles : List Role) (p d page at : ℕ) (written : List ℕ) (e : PageEntry) → IsSound directories bytes roles → directory_of directories p ≡ Some d
-    → 0x40000 ≤ page → page < 0xf0000 → entry_at (frame_bytes bytes) d page ≡ Some e → length (write_at (frame_bytes bytes e.frame) at written) ≡ 4096
+    → 0x40000 ≤ page → page < 0xf0000 → entry_at (frame_bytes bytes) d page ≡ Some e → e.lazy ≡ false → length (write_at (frame_bytes bytes e.frame) at written) ≡ 4096
     → frame_bytes one ≡ with_frame (frame_bytes bytes) e.frame (write_at (frame_bytes bytes e.frame) at written) → length one ≡ length bytes
     → frame_bytes two ≡ with_entry (frame_bytes one) (frame_number (dir_word (frame_bytes one) d (slot_number page))) page (record e { accessed = true; dirty = true }) → length two ≡ length one
     → Touched directories (stored (spaces_in directories bytes) (record { pid = p; page = page }) at written) bytes roles two
 unfolding spaces_in
-page_stored directories bytes one two roles p d page at written e sound live low high is_entry long is1 long_one is_two long_two =
+page_stored directories bytes one two roles p d page at written e sound live low high is_entry real long is1 long_one is_two long_two =
+    let D : Directories = directory_of directories in
+    let m : Frames = frame_bytes bytes in
+    let E : Entries = entries_in D m in
+    let slot : Slot = record { pid = p; page = page } in
+    let e' : PageEntry = record e { accessed = true; dirty = true } in
     let rules = entry_rules directories bytes roles p d page e sound live is_entry in
-    let h = entry_touched directories bytes one two roles p d page e e.write true true (write_at (frame_bytes bytes e.frame) at written) sound live low high is_entry rules.right (λ _. refl) long is1 long_one is_two long_two in
+    let up : 1 ≤ e.frame = rules.frame real in
+    let there : map.get E slot ≡ Some e = get_user D m p d page e live (live_small directories p d sound.pids live) low high is_entry in
+    let own = page_held directories bytes roles e.frame sound (sound.pages.pages slot e there) up in
+    let w = frame_written directories bytes one roles e.frame (write_at (m e.frame) at written) sound (page_loose (slice_get roles) e.frame own.count own.page) long is1 long_one in
+    let rules' : IsKernelEntry e' = record { frame = rules.frame; zero = rules.zero; clean = λ is. cc; right = rules.right; touched = λ _. refl } in
+    let h = entry_set directories one two roles p d page e e' w.sound live low high (w.entry p d page live ∙ is_entry) rules' refl is_two long_two in
+    let E2 : entries_in D (frame_bytes two) ≡ map.insert E slot e' = h.entries ∙ ap (λ x. map.insert x slot e') w.entries in
     record {
       sound = h.sound;
-      spaces = h.spaces ∙ store_refines (entries_in (directory_of directories) (frame_bytes bytes)) (frame_bytes bytes) (record { pid = p; page = page }) e at written h.named;
-      cost = h.cost;
-      in_use = h.in_use;
+      spaces = h.spaces ∙ (λ i. spaces_of (map.insert (w.entries i) slot e') (is1 i)) ∙ store_refines E m slot e at written there (not_same e.frame 0 (λ z. omega (arith, z, up)));
+      cost = (λ i. total_cost directories (spaces_of (E2 i) (frame_bytes two))) ∙ total-kept directories E m (frame_bytes two) slot e e' there;
+      in_use = λ before. h.in_use (w.in_use before);
+      lazy = ap lazy_count E2 ∙ lazy-same E slot e e' there refl;
     }
 
 -- flags of a slot's own cell set as in its entry
@@ -197,19 +226,19 @@ flags_set directories bytes two roles p d page e write accessed sound live low h
     let m : Frames = frame_bytes bytes in
     let E : Entries = entries_in (directory_of directories) m in
     let slot : Slot = record { pid = p; page = page } in
-    let there : map.get E slot ≡ Some e = get_user (directory_of directories) m p d page e live (live_small directories p d sound.pids live) low high is_entry in
-    let page_role = sound.pages.pages slot e there in
-    let long : length (m e.frame) ≡ 4096 = sound.tables.long e.frame (Page page_role.0) page_role.1 in
-    let h = entry_touched directories bytes bytes two roles p d page e write accessed e.dirty (m e.frame) sound live low high is_entry right touched long (unchanged_frame m e.frame) refl is_two long_two in
     let e' : PageEntry = record e { write = write; accessed = accessed } in
-    let cell = cell_at E m slot e there in
+    let rules = entry_rules directories bytes roles p d page e sound live is_entry in
+    let rules' : IsKernelEntry e' = record { frame = rules.frame; zero = rules.zero; clean = rules.clean; right = right; touched = touched } in
+    let h = entry_set directories bytes two roles p d page e e' sound live low high is_entry rules' refl is_two long_two in
+    let cell = cell_at E m slot e h.named in
     record {
       sound = h.sound;
-      spaces = h.spaces ∙ ap (spaces_of (map.insert E slot e')) (sym (unchanged_frame m e.frame)) ∙ flags_refine E m slot e e' there refl
-          ∙ flagged_cell (spaces_of E m) slot (cell_of E m e) write accessed cell (record (cell_or_fresh (spaces_of E m) slot) { write = write; may = e.may; accessed = accessed; dirty = e.dirty })
+      spaces = h.spaces ∙ flags_refine E m slot e e' h.named refl
+          ∙ flagged_cell (spaces_of E m) slot (cell_of E m slot e) write accessed cell (record (cell_or_fresh (spaces_of E m) slot) { write = write; may = e.may; accessed = accessed; dirty = e.dirty })
           (ap (λ (c : Cell). record c { write = write; may = e.may; accessed = accessed; dirty = e.dirty }) cell);
-      cost = h.cost;
+      cost = (λ i. total_cost directories (spaces_of (h.entries i) (frame_bytes two))) ∙ total-kept directories E m (frame_bytes two) slot e e' h.named;
       in_use = h.in_use;
+      lazy = ap lazy_count h.entries ∙ lazy-same E slot e e' h.named refl;
     }
 
 pub word_long : (frame : List ℕ) (at word : ℕ) → at < 4096 → at % 4 ≡ 0 → length frame ≡ 4096 → length (with_word frame at word) ≡ 4096
@@ -261,7 +290,7 @@ mapped_slot directories bytes p page h = by_directory (directory_of directories 
     slot : Slot
     slot = record { pid = p; page = page }
 
-    some_map : (x : Option PageEntry) → is_some (option_map (cell_of E m) x) ≡ is_some x
+    some_map : (x : Option PageEntry) → is_some (option_map (cell_of E m slot) x) ≡ is_some x
     some_map None = refl
     some_map (Some d) = refl
 
@@ -340,7 +369,7 @@ count_few D m R f c P is =
 pub slot_joined : (directories : List (Option ℕ)) (bytes two : List ℕ) (roles roles' : List Role) (giver giver_page p d page f c : ℕ) (right : Bool) → IsSound directories bytes roles → directory_of directories p ≡ Some d
     → 0x40000 ≤ page → page < 0xf0000 → map.get (spaces_in directories bytes) (record { pid = p; page = page }) ≡ None → is_some (table_of (frame_bytes bytes) d (slot_number page)) ≡ true
     → Names (entries_in (directory_of directories) (frame_bytes bytes)) (record { pid = giver; page = giver_page }) f → slice_get roles f ≡ Some (Page c) → roles' ≡ slice_set roles f (Page (c + 1))
-    → frame_bytes two ≡ with_entry (frame_bytes bytes) (frame_number (dir_word (frame_bytes bytes) d (slot_number page))) page (record { frame = f; write = right; may = right; accessed = false; dirty = false }) → length two ≡ length bytes
+    → frame_bytes two ≡ with_entry (frame_bytes bytes) (frame_number (dir_word (frame_bytes bytes) d (slot_number page))) page (record { frame = f; write = right; may = right; accessed = false; dirty = false; lazy = false }) → length two ≡ length bytes
     → SlotJoined directories giver giver_page p page right bytes roles two roles'
 unfolding spaces_in
 slot_joined directories bytes two roles roles' giver giver_page p d page f c right sound live low high unmapped table given role now is_two long_two =
@@ -351,7 +380,7 @@ slot_joined directories bytes two roles roles' giver giver_page p d page f c rig
     let R' : Roles = slice_get roles' in
     let T : Tables D m R = sound.tables in
     let slot : Slot = record { pid = p; page = page } in
-    let e : PageEntry = record { frame = f; write = right; may = right; accessed = false; dirty = false } in
+    let e : PageEntry = record { frame = f; write = right; may = right; accessed = false; dirty = false; lazy = false } in
     let E : Entries = entries_in D m in
     let at = some_is (table_of m d (slot_number page)) table in
     let t : ℕ = at.0 in
@@ -364,43 +393,38 @@ slot_joined directories bytes two roles roles' giver giver_page p d page f c rig
     let role_t : R t ≡ Some (Table p (slot_number page)) = T.table p (slot_number page) t up_table in
     let is : frame_bytes two ≡ m2 = is_two ∙ ap (λ g. with_entry m g page e) (table_by_word (dir_word m d (slot_number page)) t at.1) in
     let E2 : entries_in D (frame_bytes two) ≡ map.insert E slot e = ap (entries_in D) is ∙ entries-insert D m R' Tb p d page t (entry_word e) live at.1 (entry_word-lt e in_memory.small) e (word_entry-entry_word e in_memory.small) few low high in
-    let none : map.get E slot ≡ None = none_before E m (map.get E slot) (sym (get-spaces_of E m slot) ∙ unmapped) in
+    let none : map.get E slot ≡ None = none_before E m slot (map.get E slot) (sym (get-spaces_of E m slot) ∙ unmapped) in
     let same_length : length roles' ≡ length roles = ap length now ∙ length-set roles f (Page (c + 1)) in
     let page_kept : (q : Slot) (x : PageEntry) → map.get E q ≡ Some x → m2 x.frame ≡ m x.frame = λ q x was.
-    let a = sound.pages.pages q x was in
-    let r = a.1 in
-    with_frame-other m t x.frame _ (λ same. let k : R x.frame ≡ R t = ap R same in cc) in
-    let named : e ≡ record { frame = given.0.frame; write = right; may = right; accessed = false; dirty = false } = (λ i. record { frame = sym given.2 i; write = right; may = right; accessed = false; dirty = false }) in
+    with_frame-other m t x.frame _ (no_table R x.frame t p (slot_number page) (sound.pages.pages q x was) role_t) in
+    let named : e ≡ record { frame = given.0.frame; write = right; may = right; accessed = false; dirty = false; lazy = false } = (λ i. record { frame = sym given.2 i; write = right; may = right; accessed = false; dirty = false; lazy = false }) in
+    let up : 1 ≤ f = above T in
+    let rules : IsKernelEntry e = record { frame = λ _. up; zero = λ h. cc; clean = λ h. cc; right = λ h. h; touched = λ h. h } in
     record {
       slot = record {
         sound = record {
           size = long_two ∙ sound.size ∙ ap (λ n. 4096 * n) (sym same_length);
           few = subst (λ n. n ≤ 4096) (sym same_length) sound.few;
           pids = sound.pids;
-          tables = subst (λ x. Tables D x R') (sym is) (tables-entry D m R' Tb p d page t (entry_word e) live at.1 (entry_word-lt e in_memory.small) (inr (entry_word-names e in_memory.small (above T) (λ h. h) (λ h. h))));
+          tables = subst (λ x. Tables D x R') (sym is) (tables-entry D m R' Tb p d page t (entry_word e) live at.1 (entry_word-lt e in_memory.small) (inr (entry_word-names e in_memory.small rules)));
           pages = subst (λ x. Pages x R') (sym E2) (pages-join E R R' slot e c sound.pages none role own others);
         };
-        cost = (λ i. total_cost directories (spaces_of (E2 i) (frame_bytes two))) ∙ total-entry directories E m (frame_bytes two) slot e (cell_of E m e) d few live none;
-        weight = let k = weight-set roles f (Page c) (Page (c + 1)) role in let n : frames_weight roles' ≡ frames_weight (slice_set roles f (Page (c + 1))) = ap frames_weight now in omega (arith, k, n);
+        cost = (λ i. total_cost directories (spaces_of (E2 i) (frame_bytes two))) ∙ total-entry directories E m (frame_bytes two) slot e (cell_of E m slot e) d few live none;
+        weight = let k = weight-set roles f (Page c) (Page (c + 1)) role in let n : frames_weight roles' ≡ frames_weight (slice_set roles f (Page (c + 1))) = ap frames_weight now in
+            let l : lazy_count (entries_in D (frame_bytes two)) ≡ lazy_count E = ap lazy_count E2 ∙ lazy-real E slot e none (λ z. omega (arith, z, up)) in omega (arith, k, n, l);
         length = same_length;
         own = subst (λ x. InUseAt D x p (slot_number page)) (sym is) (use_own D m R' Tb p d page t (entry_word e) live at.1 (entry_word-lt e in_memory.small) (entry_word-present e));
         others = λ q r n use_at. subst (λ x. InUseAt D x q r) (sym is) (use_kept D m R' Tb p d page t (entry_word e) live at.1 (entry_word-lt e in_memory.small) (entry_word-present e) q r use_at);
       };
-      spaces = (λ i. spaces_of (E2 i) (is i)) ∙ (λ i. spaces_of (map.insert E slot (named i)) m2) ∙ join_refines E m2 (record { pid = giver; page = giver_page }) slot given.0 right given.1 none ∙ ap (λ x. joined x (record { pid = giver; page = giver_page }) slot right) (same_bytes E m m2 page_kept);
+      spaces = (λ i. spaces_of (E2 i) (is i)) ∙ (λ i. spaces_of (map.insert E slot (named i)) m2) ∙ join_refines E m2 (record { pid = giver; page = giver_page }) slot given.0 right given.1 (not_same given.0.frame 0 (λ z. let s = given.2 in omega (arith, z, s, up))) none ∙ ap (λ x. joined x (record { pid = giver; page = giver_page }) slot right) (same_bytes E m m2 page_kept);
     }
   where
     above : Tables (directory_of directories) (frame_bytes bytes) (slice_get roles) → 1 ≤ f
     above T = let n : f ≢ 0 = (λ z. let a = T.zero_role in let r = role in let k : slice_get roles 0 ≡ slice_get roles f = ap (slice_get roles) (sym z) in cc) in omega arith
 
-pub record HasPage (roles : List Role) (f : ℕ) : Type 0 where
-  pub count : ℕ
-  pub page : slice_get roles f ≡ Some (Page count)
-
--- a frame that an entry names is a page
-pub page_of_name : (directories : List (Option ℕ)) (bytes : List ℕ) (roles : List Role) (slot : Slot) (f : ℕ) → IsSound directories bytes roles → Names (entries_in (directory_of directories) (frame_bytes bytes)) slot f → HasPage roles f
-page_of_name directories bytes roles slot f sound given =
-    let a = sound.pages.pages slot given.0 given.1 in
-    record { count = a.0; page = ap (slice_get roles) (sym given.2) ∙ a.1 }
+-- a frame other than frame 0 that a slot's entry names is a page
+pub page_of_name : (directories : List (Option ℕ)) (bytes : List ℕ) (roles : List Role) (slot : Slot) (f : ℕ) → IsSound directories bytes roles → Names (entries_in (directory_of directories) (frame_bytes bytes)) slot f → 1 ≤ f → HasPage roles f
+page_of_name directories bytes roles slot f sound given up = page_held directories bytes roles f sound (subst (λ g. HoldsPage (slice_get roles g)) given.2 (sound.pages.pages slot given.0 given.1)) up
 
 -- the entry that was read is the one that the map has
 pub named_entry : (directories : List (Option ℕ)) (bytes : List ℕ) (roles : List Role) (p d page : ℕ) (e : PageEntry) → IsSound directories bytes roles → directory_of directories p ≡ Some d → 0x40000 ≤ page → page < 0xf0000
@@ -426,16 +450,27 @@ pub record Place (bytes : List ℕ) (roles : List Role) (d page : ℕ) (e : Page
   pub table : is_some (table_of (frame_bytes bytes) d (slot_number page)) ≡ true
 
 pub stored_place : (directories : List (Option ℕ)) (bytes : List ℕ) (roles : List Role) (p d page : ℕ) (e : PageEntry) → IsSound directories bytes roles → directory_of directories p ≡ Some d → 0x40000 ≤ page → page < 0xf0000
-    → entry_at (frame_bytes bytes) d page ≡ Some e → Place bytes roles d page e
-stored_place directories bytes roles p d page e sound live low high is =
+    → entry_at (frame_bytes bytes) d page ≡ Some e → e.lazy ≡ false → Place bytes roles d page e
+stored_place directories bytes roles p d page e sound live low high is real =
     let n = named_entry directories bytes roles p d page e sound live low high is in
-    let r = page_of_name directories bytes roles (record { pid = p; page = page }) e.frame sound n in
+    let r = page_of_name directories bytes roles (record { pid = p; page = page }) e.frame sound n ((entry_rules directories bytes roles p d page e sound live is).frame real) in
     record {
       inside = inside directories bytes roles e.frame (Page r.count) sound r.page;
       loose = page_loose (slice_get roles) e.frame r.count r.page;
       long = sound.tables.long e.frame (Page r.count) r.page;
       table = ap is_some (found (directory_of directories) (frame_bytes bytes) p d page e is).there;
     }
+
+-- an entry that was read where a slot isn't lazy
+pub real_entry : (x : Option PageEntry) (e : PageEntry) → x ≡ Some e → is_lazy_entry x ≡ false → e.lazy ≡ false
+real_entry x e is real = sym (ap is_lazy_entry is) ∙ real
+
+-- the frame that an entry names lies in memory
+pub named_inside : (directories : List (Option ℕ)) (bytes : List ℕ) (roles : List Role) (p d page : ℕ) (e : PageEntry) → IsSound directories bytes roles → directory_of directories p ≡ Some d → 0x40000 ≤ page → page < 0xf0000
+    → entry_at (frame_bytes bytes) d page ≡ Some e → Inside bytes e.frame
+named_inside directories bytes roles p d page e sound live low high is =
+    let there = get_user (directory_of directories) (frame_bytes bytes) p d page e live (live_small directories p d sound.pids live) low high is in
+    holds_inside directories bytes roles e.frame sound (sound.pages.pages (record { pid = p; page = page }) e there)
 
 -- a page keeps its length under a store
 pub written_long : (frame : List ℕ) (at : ℕ) (size : Size) (value : ℕ) → length frame ≡ 4096 → at < 4096 → at % byte_count size ≡ 0 → length (write_at frame at (bytes_of (byte_count size) value)) ≡ 4096
@@ -444,7 +479,7 @@ written_long frame at Four value long l aligned = sym (ap length (word_is_write 
 
 -- the cell of a slot whose entry was read
 pub cell_read : (directories : List (Option ℕ)) (bytes : List ℕ) (p d page : ℕ) (e : PageEntry) → directory_of directories p ≡ Some d → p < 64 → 0x40000 ≤ page → page < 0xf0000 → entry_at (frame_bytes bytes) d page ≡ Some e
-    → cell_or_fresh (spaces_in directories bytes) (record { pid = p; page = page }) ≡ cell_of (entries_in (directory_of directories) (frame_bytes bytes)) (frame_bytes bytes) e
+    → cell_or_fresh (spaces_in directories bytes) (record { pid = p; page = page }) ≡ cell_of (entries_in (directory_of directories) (frame_bytes bytes)) (frame_bytes bytes) (record { pid = p; page = page }) e
 unfolding spaces_in
 cell_read directories bytes p d page e live few low high is =
     cell_at (entries_in (directory_of directories) (frame_bytes bytes)) (frame_bytes bytes) (record { pid = p; page = page }) e (get_user (directory_of directories) (frame_bytes bytes) p d page e live few low high is)
@@ -465,6 +500,7 @@ touched directories bytes two roles p d page e sound live low high is_entry is_t
           (ap (λ (c : Cell). record c { write = e.write; accessed = true }) cell ∙ sym (ap (λ (c : Cell). record c { accessed = true }) cell));
       cost = h.cost;
       in_use = h.in_use;
+      lazy = h.lazy;
     }
 
 -- the right to write was set or cleared in a slot, and nothing else changed
@@ -483,4 +519,5 @@ page_protected directories bytes two roles p d page e write sound live low high 
           (ap (λ (c : Cell). record c { write = write; accessed = e.accessed }) cell ∙ sym (ap (λ (c : Cell). record c { write = write }) cell));
       cost = h.cost;
       in_use = h.in_use;
+      lazy = h.lazy;
     }

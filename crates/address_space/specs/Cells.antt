@@ -2,7 +2,9 @@
 use Rattle.std.proofs.Common.{ℕ, Bool, false, ◌==◌, List, Option, Some, None}
 use Rattle.page_words.specs.FiniteMap as map
 use Rattle.page_words.specs.FiniteMap.{Order, Map}
+use Rattle.page_words.specs.FiniteSet as set
 use Rattle.page_words.specs.FiniteSet.{Set}
+use Rattle.std.specs.Prelude.{if◌then◌else◌}
 use Rattle.address_space.specs.Spaces.{Slot, slot_order, Cell, Spaces}
 use Rattle.page_map.specs.declared.PageEntry.{PageEntry}
 
@@ -21,12 +23,18 @@ nothing slot entry = tt
 abbrev pub holders_of : Entries → ℕ → Set slot_order
 holders_of entries f = map.retain_keys (map.map_values nothing entries) (λ slot. names f (map.get entries slot))
 
-abbrev pub cell_of : Entries → (ℕ → List ℕ) → PageEntry → Cell
-cell_of entries bytes entry = record { write = entry.write; may = entry.may; accessed = entry.accessed; dirty = entry.dirty; bytes = bytes entry.frame; holders = holders_of entries entry.frame }
+-- the group of a slot that names a frame: the slots that name it. Frame 0 is nobody's, and what names it is lazy
+-- and in a group of its own
+abbrev pub group_of : Entries → Slot → ℕ → Set slot_order
+group_of entries slot f = if f == 0 then set.insert set.empty slot else holders_of entries f
 
-abbrev pub each_cell : Entries → (ℕ → List ℕ) → Slot → PageEntry → Cell
-each_cell entries bytes slot entry = cell_of entries bytes entry
+abbrev pub cell_of : Entries → (ℕ → List ℕ) → Slot → PageEntry → Cell
+cell_of entries bytes slot entry = record { write = entry.write; may = entry.may; accessed = entry.accessed; dirty = entry.dirty; bytes = bytes entry.frame; holders = group_of entries slot entry.frame }
 
 -- the spaces that they stand for
 abbrev pub spaces_of : Entries → (ℕ → List ℕ) → Spaces
-spaces_of entries bytes = map.map_values (each_cell entries bytes) entries
+spaces_of entries bytes = map.map_values (cell_of entries bytes) entries
+
+-- how many slots are lazy
+abbrev pub lazy_count : Entries → ℕ
+lazy_count entries = set.len (holders_of entries 0)

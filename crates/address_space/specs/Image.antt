@@ -1,9 +1,10 @@
 -- What memory's own words say: the tables and pages that directories name, when directories, roles and words
 -- agree, and which spaces they stand for.
-use Rattle.std.specs.Prelude.{◌≡◌, ℕ, ◌*◌, ◌<◌, ◌↔◌, Bool, true, false, ◌&&◌, nat_lt, nat_le, if◌then◌else◌, IsTrue, List, length, Option, Some, None, slice_get}
+use Rattle.std.specs.Prelude.{◌≡◌, ℕ, ◌+◌, ◌*◌, ◌<◌, ◌≤◌, ◌↔◌, Bool, true, false, ◌&&◌, nat_lt, nat_le, if◌then◌else◌, IsTrue, MatchBool, List, length, Option, Some, None, slice_get}
 use Rattle.std.specs.Option.{option_and_then, option_map, unwrap_or}
 use Rattle.page_words.specs.Addresses.{slot_number, index_number}
-use Rattle.page_words.specs.Words.{frame_number, is_present, is_writable, is_accessed, is_dirty, has_may, IsKernelDirWord, IsKernelTableWord}
+use Rattle.page_words.specs.Words.{frame_number, is_present, is_accessed, is_dirty, has_may, is_lazy, is_granted, IsKernelDirWord, IsKernelTableWord}
+use Rattle.alloc_table.specs.Roles.{frames_in_use}
 use Rattle.page_words.specs.FiniteMap as map
 use Rattle.page_words.specs.FiniteMap.{Order}
 use Rattle.page_words.specs.FiniteSet as set
@@ -12,6 +13,7 @@ use Rattle.phys_memory.specs.Bytes.{frame_bytes, word_in}
 use Rattle.alloc_table.specs.declared.Role.{Role}
 use Rattle.alloc_table.specs.declared.Role.TheVariants.{Reserved, Directory, Table, Page}
 use Rattle.address_space.specs.Spaces.{Slot, slot_order, Cell, Spaces, zeros}
+use Rattle.address_space.specs.Sound.{View}
 
 -- what there is of address spaces outside the abstract machine
 pub record Image : Type 0 where
@@ -21,6 +23,10 @@ pub record Image : Type 0 where
   pub bytes : List ℕ
   -- one for each frame
   pub roles : List Role
+
+-- what the address spaces keep outside the abstract machine
+abbrev pub image_of : View → Image
+image_of v = record { directories = v.directories; bytes = v.bytes; roles = v.roles }
 
 -- ---- What an image names
 
@@ -50,9 +56,17 @@ present_word image table word = if nat_lt table (length image.roles) && is_prese
 abbrev pub page_word : Image → Slot → Option ℕ
 page_word image slot = option_and_then (λ t. present_word image t (word_of image t (index_number slot.page))) (table_at image slot.pid (slot_number slot.page))
 
--- the frame that it names
+-- whether a slot has a lazy page
+abbrev pub is_lazy_at : Image → Slot → Bool
+is_lazy_at image slot = unwrap_or (option_map is_lazy (page_word image slot)) false
+
+-- the frame of its own that a word names
+abbrev pub own_frame : ℕ → Option ℕ
+own_frame word = if is_lazy word then None else Some (frame_number word)
+
+-- the frame of a slot's page, where it isn't lazy
 abbrev pub page_frame : Image → Slot → Option ℕ
-page_frame image slot = option_map frame_number (page_word image slot)
+page_frame image slot = option_and_then own_frame (page_word image slot)
 
 -- ---- When an image is sound
 
@@ -82,27 +96,37 @@ pub record IsSoundImage (image : Image) : Type 0 where
   -- each table has a present word
   pub in_use : (p s t : ℕ) → table_at image p s ≡ Some t → (i : ℕ) × (i < 1024) × (is_present (word_of image t i) ≡ true)
 
+-- the frames in use and the lazy pages are together at most this many
+pub record LeavesRoom (image : Image) (total : ℕ) : Type 0 where
+  pub lazy : ℕ
+  pub counted : IsCount lazy (λ slot. IsTrue (is_lazy_at image slot))
+  pub fit : frames_in_use image.roles + lazy ≤ total
+
 -- ---- What an image stands for
 
--- a cell by its word, the bytes of its frame and the slots that name that frame
-pub record CellStands (image : Image) (word : ℕ) (cell : Cell) : Type 0 where
-  pub write : cell.write ≡ is_writable word
+-- the slots of one group: those that name one frame, and a lazy one by itself
+abbrev pub IsOneGroup : Image → Slot → ℕ → Slot → Type 0
+IsOneGroup image slot word other = MatchBool (is_lazy word) (other ≡ slot) (page_frame image other ≡ Some (frame_number word))
+
+-- a cell by its word, the bytes of its frame, which for a lazy one is frame 0, and its group
+pub record CellStands (image : Image) (slot : Slot) (word : ℕ) (cell : Cell) : Type 0 where
+  pub write : cell.write ≡ is_granted word
   pub may : cell.may ≡ has_may word
   pub accessed : cell.accessed ≡ is_accessed word
   pub dirty : cell.dirty ≡ is_dirty word
   pub bytes : cell.bytes ≡ frame_bytes image.bytes (frame_number word)
-  pub group : (slot : Slot) → IsTrue (set.contains cell.holders slot) ↔ (page_frame image slot ≡ Some (frame_number word))
+  pub group : (other : Slot) → IsTrue (set.contains cell.holders other) ↔ IsOneGroup image slot word other
 
-abbrev pub SlotStands : Image → Option ℕ → Option Cell → Type 0
-SlotStands image None None = Unit {0}
-SlotStands image (Some word) (Some cell) = CellStands image word cell
-SlotStands image None (Some cell) = ⊥
-SlotStands image (Some word) None = ⊥
+abbrev pub SlotStands : Image → Slot → Option ℕ → Option Cell → Type 0
+SlotStands image slot None None = Unit {0}
+SlotStands image slot (Some word) (Some cell) = CellStands image slot word cell
+SlotStands image slot None (Some cell) = ⊥
+SlotStands image slot (Some word) None = ⊥
 
 -- the image is sound, and the slots that it maps are those of the spaces
 pub record StandsFor (image : Image) (spaces : Spaces) : Type 0 where
   pub sound : IsSoundImage image
-  pub cells : (slot : Slot) → SlotStands image (page_word image slot) (map.get spaces slot)
+  pub cells : (slot : Slot) → SlotStands image slot (page_word image slot) (map.get spaces slot)
 
 -- an image stands for at most one set of spaces
 abbrev pub StandsForOne : Type 0

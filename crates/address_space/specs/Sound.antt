@@ -1,5 +1,5 @@
 -- When directories, memory and roles agree, and the spaces that they stand for.
-use Rattle.std.specs.Prelude.{◌≡◌, ◌≢◌, ℕ, zero, suc, ◌+◌, ◌*◌, ◌^◌, ◌<◌, ◌≤◌, Bool, true, if◌then◌else◌, List, length, replicate, Option, Some, None, is_some, slice_get, ◌⊎◌, sum_by, refl}
+use Rattle.std.specs.Prelude.{◌≡◌, ◌≢◌, ℕ, zero, suc, ◌+◌, ◌*◌, ◌^◌, ◌<◌, ◌≤◌, Bool, true, false, if◌then◌else◌, List, length, replicate, Option, Some, None, is_some, slice_get, ◌⊎◌, sum_by, refl}
 use Rattle.std.specs.Coded.{Coded, code_by, coded×, coded_list, coded_ℕ, coded_option}
 use Rattle.address_space.specs.Codes.{spaces_code}
 use Rattle.std.specs.Option.{option_and_then, unwrap_or}
@@ -17,7 +17,7 @@ use Rattle.page_words.specs.FiniteSet as set
 use Rattle.address_space.specs.Spaces.{Slot, Spaces, cost, need, fresh, joined, without, is_slot, is_of}
 use Rattle.page_words.specs.FiniteMap.{collect}
 use Rattle.address_space.specs.Slots.{user_slots}
-use Rattle.address_space.specs.Cells.{Entries, holders_of, spaces_of}
+use Rattle.address_space.specs.Cells.{Entries, holders_of, lazy_count, spaces_of}
 
 abbrev pub Directories : Type 0
 Directories = ℕ → Option ℕ
@@ -54,9 +54,13 @@ pub record Tables (D : Directories) (m : Frames) (R : Roles) : Type 0 where
   pub table_words : (p s t i : ℕ) → table_in D m p s ≡ Some t → i < 1024 → IsKernelTableWord (word_in (m t) i)
   pub long : (f : ℕ) (r : Role) → R f ≡ Some r → length (m f) ≡ 4096
 
--- the pages: each frame that an entry names is one, and its count is the number of its slots
+-- what an entry may name: the reserved frame, or a page
+abbrev pub HoldsPage : Option Role → Type 0
+HoldsPage role = (role ≡ Some Reserved) ⊎ ((c : ℕ) × (role ≡ Some (Page c)))
+
+-- the pages: each frame that an entry names is frame 0 or a page, whose count is the number of its slots
 pub record Pages (E : Entries) (R : Roles) : Type 0 where
-  pub pages : (slot : Slot) (e : PageEntry) → map.get E slot ≡ Some e → (c : ℕ) × (R e.frame ≡ Some (Page c))
+  pub pages : (slot : Slot) (e : PageEntry) → map.get E slot ≡ Some e → HoldsPage (R e.frame)
   pub counts : (f c : ℕ) → R f ≡ Some (Page c) → (0 < c) × (c ≡ set.len (holders_of E f))
 
 -- the frames of memory, without the costs
@@ -93,11 +97,15 @@ pub record View : Type 0 where
   pub bytes : List ℕ
   pub roles : List Role
 
--- the type's invariant: the frames agree, and weigh no more than the costs, so that none is missing
+-- what the frames weigh, with one more for each lazy page, as if it had its frame already
+abbrev pub weight_in : List (Option ℕ) → List ℕ → List Role → ℕ
+weight_in directories bytes roles = frames_weight roles + lazy_count (entries_in (directory_of directories) (frame_bytes bytes))
+
+-- the type's invariant: the frames agree, and with the lazy pages weigh no more than the costs, so that none is missing
 pub record IsSpaces (directories : List (Option ℕ)) (bytes : List ℕ) (roles : List Role) : Type 0 where
   pub sound : IsSound directories bytes roles
   pub in_use : InUse (directory_of directories) (frame_bytes bytes)
-  pub weighs : frames_weight roles ≤ 1 + total_cost directories (spaces_in directories bytes)
+  pub weighs : weight_in directories bytes roles ≤ 1 + total_cost directories (spaces_in directories bytes)
   pub within : 1 + total_cost directories (spaces_in directories bytes) ≤ length roles
 
 -- how many frames a slot without a table needs more
@@ -111,7 +119,7 @@ pub record TableGiven (directories : List (Option ℕ)) (p s : ℕ) (bytes : Lis
   pub entries : entries_in (directory_of directories) (frame_bytes bytes') ≡ entries_in (directory_of directories) (frame_bytes bytes)
   pub spaces : spaces_in directories bytes' ≡ spaces_in directories bytes
   pub table : (t : ℕ) × (table_in (directory_of directories) (frame_bytes bytes') p s ≡ Some t)
-  pub weight : frames_weight roles' ≡ frames_weight roles + table_need (table_in (directory_of directories) (frame_bytes bytes) p s)
+  pub weight : weight_in directories bytes' roles' ≡ weight_in directories bytes roles + table_need (table_in (directory_of directories) (frame_bytes bytes) p s)
   pub length : length roles' ≡ length roles
   pub others : (q r : ℕ) → (q ≡ p → r ≡ s → ⊥) → InUseAt (directory_of directories) (frame_bytes bytes) q r → InUseAt (directory_of directories) (frame_bytes bytes') q r
 
@@ -119,7 +127,7 @@ pub record TableGiven (directories : List (Option ℕ)) (p s : ℕ) (bytes : Lis
 pub record SlotAdded (directories : List (Option ℕ)) (p page : ℕ) (bytes : List ℕ) (roles : List Role) (bytes' : List ℕ) (roles' : List Role) : Type 0 where
   pub sound : IsSound directories bytes' roles'
   pub cost : total_cost directories (spaces_in directories bytes') ≡ total_cost directories (spaces_in directories bytes) + need (spaces_in directories bytes) p page
-  pub weight : frames_weight roles' ≡ frames_weight roles + 1
+  pub weight : weight_in directories bytes' roles' ≡ weight_in directories bytes roles + 1
   pub length : length roles' ≡ length roles
   pub own : InUseAt (directory_of directories) (frame_bytes bytes') p (slot_number page)
   pub others : (q r : ℕ) → (q ≡ p → r ≡ slot_number page → ⊥) → InUseAt (directory_of directories) (frame_bytes bytes) q r → InUseAt (directory_of directories) (frame_bytes bytes') q r
@@ -149,6 +157,14 @@ pub record Touched (directories : List (Option ℕ)) (spaces' : Spaces) (bytes :
   pub spaces : spaces_in directories bytes' ≡ spaces'
   pub cost : total_cost directories (spaces_in directories bytes') ≡ total_cost directories (spaces_in directories bytes)
   pub in_use : InUse (directory_of directories) (frame_bytes bytes) → InUse (directory_of directories) (frame_bytes bytes')
+  pub lazy : lazy_count (entries_in (directory_of directories) (frame_bytes bytes')) ≡ lazy_count (entries_in (directory_of directories) (frame_bytes bytes))
+
+-- a lazy page got a frame of its own
+pub record PageFilled (directories : List (Option ℕ)) (p page : ℕ) (bytes : List ℕ) (roles : List Role) (bytes' : List ℕ) (roles' : List Role) : Type 0 where
+  pub after : IsSpaces directories bytes' roles'
+  pub spaces : spaces_in directories bytes' ≡ spaces_in directories bytes
+  pub real : (e : PageEntry) × (entry_in (directory_of directories) (frame_bytes bytes') (record { pid = p; page = page }) ≡ Some e) × (e.lazy ≡ false)
+  pub length : length roles' ≡ length roles
 
 -- a process got a blank directory
 pub record SpaceAdded (directories : List (Option ℕ)) (p : ℕ) (bytes : List ℕ) (roles : List Role) (directories' : List (Option ℕ)) (bytes' : List ℕ) (roles' : List Role) : Type 0 where
@@ -176,6 +192,11 @@ pub record IsShared (m : Frames) (directory page : ℕ) : Type 0 where
 pub record TableFreed (roles : List Role) (freed : Option ℕ) (roles' : List Role) : Type 0 where
   pub kept : freed ≡ None → roles' ≡ roles
   pub released : (t : ℕ) → freed ≡ Some t → IsReleased roles t roles'
+
+-- the frame of an entry that went was released, where it had one
+pub record EntryLeft (roles : List Role) (e : PageEntry) (roles' : List Role) : Type 0 where
+  pub lazy : e.lazy ≡ true → roles' ≡ roles
+  pub real : e.lazy ≡ false → IsReleased roles e.frame roles'
 
 -- a slot left its group
 pub record SlotRemoved (directories : List (Option ℕ)) (p page : ℕ) (bytes : List ℕ) (roles : List Role) (bytes' : List ℕ) (roles' : List Role) : Type 0 where

@@ -1,8 +1,9 @@
 //! What an access, or a change of rights, makes of a page's entry.
 
-ghost use Rattle.std.specs.Prelude.{◌≡◌, true};
+ghost use Rattle.std.specs.Prelude.{◌≡◌, true, false};
 
 use page_map::PageEntry;
+use page_words::Frame;
 
 /// An entry through which a load has completed.
 pub fn loaded(entry: PageEntry) -> PageEntry
@@ -29,4 +30,15 @@ pub fn with_right(entry: PageEntry, write: bool) -> PageEntry
     ensures { result ≡ record entry { write = write } }
 {
     PageEntry { write, ..entry }
+}
+
+/// An entry whose page has this frame of its own.
+pub fn filled(entry: PageEntry, frame: Frame) -> PageEntry
+    ensures { result ≡ record entry { frame = frame; lazy = false } }
+{
+    PageEntry {
+        frame,
+        lazy: false,
+        ..entry
+    }
 }

@@ -10,18 +10,19 @@ ghost use Rattle.std.specs.Prelude.{◌≡◌, ◌≢◌, ◌↔◌, IfOk, IsErr
 ghost use Rattle.page_words.specs.Addresses.{slot_number, page_number, offset_number, byte_count, IsUserPage};
 ghost use Rattle.phys_memory.specs.Bytes.{blank_bytes, frame_bytes, with_frame};
 ghost use Rattle.alloc_table.specs.Roles.{free_frames, frames_in_use, CanBeTaken, IsTaken, IsPageBelow, IsInUse, opening_roles};
-ghost use Rattle.page_map.specs.Entries.{table_of, entry_at, IsPageMap};
+ghost use Rattle.page_map.specs.Entries.{table_of, entry_at, is_lazy_entry, IsPageMap};
 ghost use Rattle.page_words.specs.FiniteMap as map;
 ghost use Rattle.address_space.specs.Spaces.{need, fresh, joined, stored, write_at, bytes_of, without, slot_at, value_of, bytes_at, cell_or_fresh, accessed, protected, cost, is_slot, is_of};
-ghost use Rattle.address_space.specs.Image.{StandsFor, StandsForOne};
+ghost use Rattle.address_space.specs.Image.{StandsFor, StandsForOne, LeavesRoom, image_of, is_lazy_at};
 ghost use Rattle.address_space.specs.Walks.{WalksAgree};
 ghost use Rattle.address_space.specs.Shown.{shown};
 ghost use Rattle.std.specs.Option.{option_map};
-ghost use Rattle.address_space.specs.Sound.{IsSound, directory_of, table_in, entries_in, spaces_in, total_cost, table_need, TableGiven, PageAdded, SlotJoined, Touched, Names, Inside, IsSpaces, TableFreed, SlotRemoved, SpaceAdded};
+ghost use Rattle.address_space.specs.Sound.{IsSound, directory_of, table_in, entries_in, spaces_in, total_cost, table_need, TableGiven, PageAdded, SlotJoined, Touched, Names, Inside, IsSpaces, TableFreed, EntryLeft, SlotRemoved, SpaceAdded, PageFilled};
 
 mod charges;
 mod drops;
 mod entries;
+mod fills;
 mod rights;
 
 use alloc_table::{FrameTable, Role};
@@ -97,36 +98,34 @@ fn give_table(
     }
 }
 
-/// Maps a page of zeros.
+/// Maps a lazy page, which reads as zeros.
 fn add_page(
     memory: &mut Memory,
-    frames: &mut FrameTable,
+    frames: &FrameTable,
     directories: &[Option<Frame>; 64],
     pid: Pid,
     directory: Frame,
     page: Page,
     write: bool,
 )
-    requires sound { IsSound directories.now memory.old frames.old }
+    requires sound { IsSound directories.now memory.old frames.now }
     requires live { directory_of directories.now pid ≡ Some directory }
     requires user { IsUserPage page }
     requires unmapped { map.get (spaces_in directories.now memory.old) (record { pid = pid; page = page }) ≡ None }
     requires table { is_some (table_of (frame_bytes memory.old) directory (slot_number page)) ≡ true }
-    requires room { 0 < free_frames frames.old }
-    ensures { PageAdded directories.now pid page write memory.old frames.old memory.new frames.new }
+    ensures { PageAdded directories.now pid page write memory.old frames.now memory.new frames.now }
 {
-    let frame = take(frames, Role::Page { count: 1 });
-    memory.zero_frame(frame);
     page_map::set_entry(
         memory,
         directory,
         page,
         PageEntry {
-            frame,
+            frame: Frame(0),
             write,
             may: true,
             accessed: false,
             dirty: false,
+            lazy: true,
         },
     );
 }
@@ -150,6 +149,7 @@ fn add_holder(
     requires unmapped { map.get (spaces_in directories.now memory.old) (record { pid = pid; page = page }) ≡ None }
     requires table { is_some (table_of (frame_bytes memory.old) directory (slot_number page)) ≡ true }
     requires given { Names (entries_in (directory_of directories.now) (frame_bytes memory.old)) (record { pid = giver; page = giver_page }) frame }
+    requires real { 1 ≤ frame }
     ensures { SlotJoined directories.now giver giver_page pid page right memory.old frames.old memory.new frames.new }
 {
     frames.hold(frame);
@@ -163,6 +163,7 @@ fn add_holder(
             may: right,
             accessed: false,
             dirty: false,
+            lazy: false,
         },
     );
 }
@@ -174,6 +175,16 @@ fn free_table(frames: &mut FrameTable, freed: Option<Frame>)
 {
     if let Some(table) = freed {
         frames.release(table);
+    }
+}
+
+/// Releases the frame of an entry that went, where it had one of its own.
+fn leave(frames: &mut FrameTable, entry: PageEntry)
+    requires { entry.lazy ≡ false → IsInUse frames.old entry.frame }
+    ensures { EntryLeft frames.old entry frames.new }
+{
+    if !entry.lazy {
+        frames.release(entry.frame);
     }
 }
 
@@ -194,7 +205,7 @@ fn remove_entry(
 {
     let entry = page_map::entry(memory, directory, page).unwrap();
     let freed = page_map::clear_entry(memory, directory, page);
-    frames.release(entry.frame);
+    leave(frames, entry);
     free_table(frames, freed);
 }
 
@@ -238,6 +249,7 @@ fn store(
     requires live { directory_of directories.now pid ≡ Some directory }
     requires user { IsUserPage page }
     requires mapped { is_some (entry_at (frame_bytes memory.old) directory page) ≡ true }
+    requires real { is_lazy_entry (entry_at (frame_bytes memory.old) directory page) ≡ false }
     requires inside { at < 4096 }
     requires aligned { at % byte_count size ≡ 0 }
     ensures { Touched directories.now (stored (spaces_in directories.now memory.old) (record { pid = pid; page = page }) at (bytes_of (byte_count size) value)) memory.old frames.now memory.new }
@@ -309,6 +321,19 @@ fn holders(frames: &FrameTable, frame: Frame) -> u32
     }
 }
 
+/// How many slots a group has: a lazy page is alone, and any other has the slots that name its frame.
+fn group_size(frames: &FrameTable, lazy: bool, frame: Frame) -> u32
+    requires { lazy ≡ false → IsPageBelow frames.now frame 4294967295 }
+    ensures lazy { lazy ≡ true → result ≡ 1 }
+    ensures real { lazy ≡ false → slice_get frames.now frame ≡ Some (Role.Page result) }
+{
+    if lazy {
+        1
+    } else {
+        holders(frames, frame)
+    }
+}
+
 /// The cell of a slot.
 fn cell_in(
     memory: &Memory,
@@ -328,7 +353,7 @@ fn cell_in(
         may: entry.may,
         accessed: entry.accessed,
         dirty: entry.dirty,
-        holders: holders(frames, entry.frame),
+        holders: group_size(frames, entry.lazy, entry.frame),
     })
 }
 
@@ -481,7 +506,7 @@ impl Spaces {
         );
         add_page(
             &mut self.memory,
-            &mut self.frames,
+            &self.frames,
             &self.directories,
             pid,
             directory,
@@ -497,6 +522,7 @@ impl Spaces {
         requires live { is_some (directory_of self.old.directories pid) ≡ true }
         requires user { IsUserPage page }
         requires unmapped { map.get self.old.spaces (record { pid = pid; page = page }) ≡ None }
+        requires real { is_lazy_at (image_of self.old) (record { pid = giver; page = giver_page }) ≡ false }
         requires room { 1 + total_cost self.old.directories self.old.spaces + need self.old.spaces pid page ≤ length self.old.roles }
         ensures spaces { self.new.spaces ≡ joined self.old.spaces (record { pid = giver; page = giver_page }) (record { pid = pid; page = page }) right }
         ensures directories { self.new.directories ≡ self.old.directories }
@@ -528,10 +554,41 @@ impl Spaces {
         );
     }
 
-    /// Stores through a mapped slot, and sets accessed and dirty in it.
+    /// Whether a slot has a lazy page, which has no frame of its own yet.
+    pub fn is_lazy(&self, pid: Pid, page: Page) -> bool
+        requires user { IsUserPage page }
+        ensures { result ≡ is_lazy_at (image_of self.now) (record { pid = pid; page = page }) }
+    {
+        fills::is_lazy_in(&self.memory, &self.frames, &self.directories, pid, page)
+    }
+
+    /// Gives a lazy page a frame of its own; any other stays as it is. What is mapped stays the same.
+    pub fn fill(&mut self, pid: Pid, page: Page)
+        requires mapped { is_some (map.get self.old.spaces (record { pid = pid; page = page })) ≡ true }
+        requires user { IsUserPage page }
+        ensures spaces { self.new.spaces ≡ self.old.spaces }
+        ensures directories { self.new.directories ≡ self.old.directories }
+        ensures real { is_lazy_at (image_of self.new) (record { pid = pid; page = page }) ≡ false }
+        ensures frames { length self.new.roles ≡ length self.old.roles }
+    {
+        if fills::is_lazy_in(&self.memory, &self.frames, &self.directories, pid, page) {
+            let directory = home(&self.directories, pid);
+            fills::fill_page(
+                &mut self.memory,
+                &mut self.frames,
+                &self.directories,
+                pid,
+                directory,
+                page,
+            );
+        }
+    }
+
+    /// Stores through a mapped slot that isn't lazy, and sets accessed and dirty in it.
     pub fn write(&mut self, pid: Pid, address: Vaddr, size: Size, value: u32)
         requires mapped { is_some (map.get self.old.spaces (slot_at pid address)) ≡ true }
         requires user { IsUserPage (page_number address) }
+        requires real { is_lazy_at (image_of self.old) (slot_at pid address) ≡ false }
         requires aligned { address % byte_count size ≡ 0 }
         ensures spaces { self.new.spaces ≡ stored self.old.spaces (slot_at pid address) (offset_number address) (bytes_of (byte_count size) value) }
         ensures directories { self.new.directories ≡ self.old.directories }
@@ -733,15 +790,15 @@ impl Spaces {
         self.frames.role(frame)
     }
 
-    /// What memory's own words say of these spaces, that their costs leave frame 0 alone, and that no more
-    /// frames are in use than they cost. It computes nothing.
+    /// What memory's own words say of these spaces, that their costs leave frame 0 alone, and that the
+    /// frames in use and the lazy pages are together no more than they cost. It computes nothing.
     pub fn stands(&self)
-        ensures image { StandsFor (record { directories = self.now.directories; bytes = self.now.bytes; roles = self.now.roles }) self.now.spaces }
-        ensures walks { WalksAgree (record { directories = self.now.directories; bytes = self.now.bytes; roles = self.now.roles }) self.now.spaces }
+        ensures image { StandsFor (image_of self.now) self.now.spaces }
+        ensures walks { WalksAgree (image_of self.now) self.now.spaces }
         ensures costs { 1 + total_cost self.now.directories self.now.spaces ≤ length self.now.roles }
         ensures each { (p : ℕ) → is_some (directory_of self.now.directories p) ≡ true → 1 + cost self.now.spaces p ≤ length self.now.roles }
         ensures few { length self.now.roles ≤ 4096 }
-        ensures used { frames_in_use self.now.roles ≤ total_cost self.now.directories self.now.spaces }
+        ensures used { LeavesRoom (image_of self.now) (total_cost self.now.directories self.now.spaces) }
     {
         let _ = &self.memory;
     }

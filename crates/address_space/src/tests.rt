@@ -28,6 +28,7 @@ fn share_page(rt: &impl Abort, spaces: &mut Spaces, giver: Pid, pid: Pid, page: 
     assert!(rt; spaces.directory(pid).is_some());
     assert!(rt; spaces.cell(giver, page).is_some());
     assert!(rt; spaces.cell(pid, page).is_none());
+    spaces.fill(giver, page);
     spaces.join(giver, page, pid, page, false);
 }
 
@@ -77,7 +78,10 @@ fn maps_writes_reads_and_unmaps(rt: HostRuntime) -> Result<(), Fail> {
     assert_eq!(rt; spaces.need(root, page), 2);
     assert!(rt; spaces.cell(root, page).is_none());
     spaces.map_zero(root, page, true);
+    assert!(rt; spaces.is_lazy(root, page));
     assert!(rt; spaces.cell(root, page).is_some());
+    spaces.fill(root, page);
+    assert!(rt; !spaces.is_lazy(root, page));
     spaces.write(root, address, Size::Four, 0x00c0_ffee);
     assert!(rt; spaces.cell(root, page).is_some());
     assert_eq!(rt; spaces.peek(root, Vaddr(0x4000_0ffd), Size::One), 0xff);
@@ -128,6 +132,7 @@ fn drops_a_space_and_keeps_what_is_shared(rt: HostRuntime) -> Result<(), Fail> {
     map_page(&rt, &mut spaces, root, Page(0xeffff));
     share_page(&rt, &mut spaces, root, child, page);
     assert!(rt; spaces.cell(root, page).is_some());
+    assert!(rt; !spaces.is_lazy(root, page));
     spaces.write(root, address, Size::Four, 0x00c0_ffee);
     end(&rt, &mut spaces, root);
     assert!(rt; spaces.cell(root, page).is_none());

@@ -15,7 +15,10 @@ use Rattle.process_table.specs.Calls.{is_misaligned, access_value, after_access,
 use Rattle.process_table.specs.declared.causes.Cause.TheVariants.{Misaligned, Quota}
 use Rattle.fault_handler.specs.declared.plans.Plan.{Plan}
 use Rattle.fault_handler.specs.declared.plans.Plan.TheVariants as plan
-use Rattle.fault_handler.specs.Plans.{plan_of, absent, goes_on}
+use Rattle.fault_handler.specs.Plans.{plan_of, with_fill, plan_at, absent, goes_on}
+use Rattle.address_space.specs.Image.{is_lazy_at}
+use Rattle.process_table.specs.View.{View}
+use Rattle.process_table.specs.Image.{memory_of}
 
 -- a line that stops does not apply where the plan goes on
 skip : (b : Bool) (x y : Plan) → goes_on x ≡ false → goes_on (if b then x else y) ≡ true → (b ≡ false) × (goes_on y ≡ true) × ((if b then x else y) ≡ y)
@@ -132,3 +135,39 @@ settled s t x p address size access is g other first = elim (ready s p address s
   | inl h ↦ settled-at_once s t p address size access h.1 (other (complete_first x (is ∙ h.0)))
   | inr h ↦ settled-first s p address h.1 t size access (first (is ∙ h.0))
 ]
+
+-- a plan that may fill goes on where the plain one does, and maps first where that does
+pub fill_goes_on : (lazy : Bool) (access : Access) (x : Plan) → goes_on (with_fill lazy access x) ≡ goes_on x
+fill_goes_on lazy access plan.Complete = by (is_write access && lazy)
+  where
+    by : (b : Bool) → goes_on (if b then plan.Fill else plan.Complete) ≡ true
+    by true = refl
+    by false = refl
+fill_goes_on lazy access plan.MapZero = refl
+fill_goes_on lazy access plan.Fill = refl
+fill_goes_on lazy access (plan.Fault fault) = refl
+fill_goes_on lazy access (plan.Refused cause) = refl
+
+pub fill_maps : (lazy : Bool) (access : Access) (x : Plan) → with_fill lazy access x ≡ plan.MapZero → x ≡ plan.MapZero
+fill_maps lazy access plan.Complete e = absurd (by (is_write access && lazy) e)
+  where
+    by : (b : Bool) → (if b then plan.Fill else plan.Complete) ≡ plan.MapZero → ⊥
+    by true e = cc
+    by false e = cc
+fill_maps lazy access plan.MapZero e = refl
+fill_maps lazy access plan.Fill e = cc
+fill_maps lazy access (plan.Fault fault) e = cc
+fill_maps lazy access (plan.Refused cause) e = cc
+
+-- the same for the plan as memory stands
+pub settled_at : (v : View) (t : State) (x : Plan) (p address : ℕ) (size : Size) (access : Access) → x ≡ plan_at v p address size access → goes_on x ≡ true
+    → (x ≢ plan.MapZero → t ≡ v.state) → (x ≡ plan.MapZero → t ≡ after_map v.state p (page_number address) true) → IsSettled v.state t p address size access
+settled_at v t x p address size access is g other first =
+    settled v.state t plain p address size access refl (sym (fill_goes_on lazy access plain) ∙ sym (ap goes_on is) ∙ g)
+    (λ n. other (λ e. n (fill_maps lazy access plain (sym is ∙ e)))) (λ e. first (is ∙ ap (with_fill lazy access) e))
+  where
+    lazy : Bool
+    lazy = is_lazy_at (memory_of v) (slot_at p address)
+
+    plain : Plan
+    plain = plan_of v.state p address size access

@@ -10,7 +10,9 @@ ghost use Rattle.address_space.specs.Spaces.{slot_at};
 ghost use Rattle.process_table.specs.State.{is_live, is_mapped};
 ghost use Rattle.process_table.specs.Answers.{map_answer};
 ghost use Rattle.process_table.specs.Calls.{is_misaligned, access_value, after_access, after_map};
-ghost use Rattle.fault_handler.specs.Plans.{plan_of, absent, goes_on};
+ghost use Rattle.address_space.specs.Image.{is_lazy_at};
+ghost use Rattle.process_table.specs.Image.{memory_of};
+ghost use Rattle.fault_handler.specs.Plans.{plan_of, plan_at, absent, goes_on};
 
 mod plans;
 
@@ -35,12 +37,12 @@ fn absent_code(access: Access) -> u8
     }
 }
 
-/// What an access of a live process comes to.
+/// What an access of a live process comes to, whether its page is lazy or not.
 ///
 /// The first that applies: Misaligned where the address is no multiple of the size; a fault of code 4
 /// (a read) or 6 (a write) outside the user range; a fault of code 7 for a write where the page is
 /// mapped without the right to write; Quota where the page is not mapped and there is no room for it.
-pub fn plan(processes: &Processes, pid: Pid, address: Vaddr, size: Size, access: Access) -> Plan
+fn outcome(processes: &Processes, pid: Pid, address: Vaddr, size: Size, access: Access) -> Plan
     requires live { is_live processes.now.state pid ≡ true }
     ensures { result ≡ plan_of processes.now.state pid address size access }
 {
@@ -62,6 +64,36 @@ pub fn plan(processes: &Processes, pid: Pid, address: Vaddr, size: Size, access:
         Some(_) => Plan::Complete,
         None if processes.can_map(pid, page).is_err() => Plan::Refused(Cause::Quota),
         None => Plan::MapZero,
+    }
+}
+
+/// What an access of a live process comes to.
+///
+/// The first that applies: Misaligned where the address is no multiple of the size; a fault of code 4
+/// (a read) or 6 (a write) outside the user range; a fault of code 7 for a write where the page is
+/// mapped without the right to write; Quota where the page is not mapped and there is no room for it.
+/// A write that is allowed to a lazy page fills it first.
+pub fn plan(processes: &Processes, pid: Pid, address: Vaddr, size: Size, access: Access) -> Plan
+    requires live { is_live processes.now.state pid ≡ true }
+    ensures { result ≡ plan_at processes.now pid address size access }
+{
+    let plan = outcome(processes, pid, address, size, access);
+    if plan == Plan::Complete && access == Access::Write && processes.is_lazy(pid, page_of(address)) {
+        Plan::Fill
+    } else {
+        plan
+    }
+}
+
+/// Gives the page of a write a frame of its own, where it is lazy.
+fn fill_first(processes: &mut Processes, pid: Pid, address: Vaddr, access: Access)
+    requires mapped { is_mapped processes.old.state (slot_at pid address) ≡ true }
+    requires user { IsUserPage (page_number address) }
+    ensures state { processes.new.state ≡ processes.old.state }
+    ensures real { access ≡ Access.Write → is_lazy_at (memory_of processes.new) (slot_at pid address) ≡ false }
+{
+    if access == Access::Write {
+        processes.fill(pid, page_of(address));
     }
 }
 
@@ -87,12 +119,13 @@ pub fn settle(
     value: u32,
 ) -> u32
     requires live { is_live processes.old.state pid ≡ true }
-    requires plan { plan ≡ plan_of processes.old.state pid address size access }
+    requires plan { plan ≡ plan_at processes.old pid address size access }
     requires completes { goes_on plan ≡ true }
     ensures value { result ≡ access_value processes.old.state pid address size access }
     ensures state { processes.new.state ≡ after_access processes.old.state pid address size access value }
 {
     map_first(processes, plan, pid, address);
+    fill_first(processes, pid, address, access);
     processes.access(pid, address, size, access, value)
 }
 

@@ -8,6 +8,8 @@ pub enum Plan {
     Complete,
     /// A fresh page of zeros is mapped first.
     MapZero,
+    /// The page is mapped with the right to write, and lazy: it gets a frame of its own first.
+    Fill,
     /// A page fault, with the processor's error code.
     Fault(PageFault),
     Refused(Cause),

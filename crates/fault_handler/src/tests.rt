@@ -37,6 +37,7 @@ fn accessed(
     match plan {
         Plan::Complete => settle(processes, plan, pid, address, Size::Four, access, value),
         Plan::MapZero => settle(processes, plan, pid, address, Size::Four, access, value),
+        Plan::Fill => settle(processes, plan, pid, address, Size::Four, access, value),
         _ => 0xffff_ffff,
     }
 }

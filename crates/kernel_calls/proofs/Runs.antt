@@ -44,6 +44,7 @@ went-on (plan.Refused k) r h = h
 went-on (plan.Fault f) r h = h
 went-on plan.Complete r h = refl
 went-on plan.MapZero r h = refl
+went-on plan.Fill r h = refl
 
 -- an access that goes on is to a mapped page, or there is room for it
 reachable : (s : State) (p address : ℕ) (size : Size) (access : Access) → goes_on (plan_of s p address size access) ≡ true → IsReachable s (slot_at p address)

@@ -4,10 +4,11 @@ use Rattle.page_words.specs.declared.addresses.Pid.{Pid}
 use Rattle.address_space.specs.Spaces.{cost}
 use Rattle.quota_tree.specs.declared.Container.{Container}
 use Rattle.process_table.specs.State.{State, is_live}
+use Rattle.process_table.specs.View.{View}
 use Rattle.process_table.specs.Calls.{map_refusal, unmap_refusal, protect_refusal, offer_refusal, withdraw_refusal, accept_refusal, spawn_refusal, exit_refusal}
 use Rattle.process_table.specs.declared.causes.Cause.{Cause}
 use Rattle.process_table.specs.declared.causes.Cause.TheVariants as cause
-use Rattle.fault_handler.specs.Plans.{plan_of}
+use Rattle.fault_handler.specs.Plans.{plan_at}
 use Rattle.fault_handler.specs.declared.plans.Plan.{Plan}
 use Rattle.fault_handler.specs.declared.plans.Plan.TheVariants as plan
 use Rattle.table_walk.specs.declared.Access.TheVariants.{Read, Write}
@@ -24,23 +25,23 @@ abbrev pub refused_plan : Option Cause → Plan
 refused_plan (Some cause) = plan.Refused cause
 refused_plan None = plan.Complete
 
--- what a call of a live process comes to
-abbrev pub plan_of_call : State → ℕ → Call → Plan
-plan_of_call s p (call.Load addr size) = plan_of s p addr size Read
-plan_of_call s p (call.Store addr size value) = plan_of s p addr size Write
-plan_of_call s p (call.Map page write) = refused_plan (map_refusal s p page)
-plan_of_call s p (call.Unmap page) = refused_plan (unmap_refusal s p page)
-plan_of_call s p (call.Protect page write) = refused_plan (protect_refusal s p page write)
-plan_of_call s p (call.Info page) = refused_plan (protect_refusal s p page false)
-plan_of_call s p (call.Offer page target write) = refused_plan (offer_refusal s p page target write)
-plan_of_call s p (call.Withdraw page target) = refused_plan (withdraw_refusal s p page target)
-plan_of_call s p (call.Accept giver giver_page page) = refused_plan (accept_refusal s p giver giver_page page)
-plan_of_call s p (call.Spawn quota) = refused_plan (spawn_refusal s p quota)
-plan_of_call s p call.Exit = refused_plan (exit_refusal s p)
-plan_of_call s p call.Quota = plan.Complete
+-- what a call of a live process comes to, as memory stands
+abbrev pub plan_of_call : View → ℕ → Call → Plan
+plan_of_call v p (call.Load addr size) = plan_at v p addr size Read
+plan_of_call v p (call.Store addr size value) = plan_at v p addr size Write
+plan_of_call v p (call.Map page write) = refused_plan (map_refusal v.state p page)
+plan_of_call v p (call.Unmap page) = refused_plan (unmap_refusal v.state p page)
+plan_of_call v p (call.Protect page write) = refused_plan (protect_refusal v.state p page write)
+plan_of_call v p (call.Info page) = refused_plan (protect_refusal v.state p page false)
+plan_of_call v p (call.Offer page target write) = refused_plan (offer_refusal v.state p page target write)
+plan_of_call v p (call.Withdraw page target) = refused_plan (withdraw_refusal v.state p page target)
+plan_of_call v p (call.Accept giver giver_page page) = refused_plan (accept_refusal v.state p giver giver_page page)
+plan_of_call v p (call.Spawn quota) = refused_plan (spawn_refusal v.state p quota)
+plan_of_call v p call.Exit = refused_plan (exit_refusal v.state p)
+plan_of_call v p call.Quota = plan.Complete
 
-abbrev pub plan_of_event : State → Event → Plan
-plan_of_event s e = if is_live s e.pid then plan_of_call s e.pid e.call else plan.Refused cause.NoProcess
+abbrev pub plan_of_event : View → Event → Plan
+plan_of_event v e = if is_live v.state e.pid then plan_of_call v e.pid e.call else plan.Refused cause.NoProcess
 
 -- what a process is charged for, 0 where it is not live
 abbrev pub charge_in : State → ℕ → ℕ
@@ -50,8 +51,9 @@ charge_in s p = if is_live s p then cost s.spaces p else 0
 abbrev pub charge_after : State → Event → ℕ
 charge_after s e = charge_in (next s e) e.pid
 
-abbrev pub decision_of : State → Event → Decision
-decision_of s e = record { event = e; plan = plan_of_event s e; reply = answer s e; used_after = charge_after s e }
+-- the reply and the charge are those of the state alone; the plan says also whether a page gets its frame first
+abbrev pub decision_of : View → Event → Decision
+decision_of v e = record { event = e; plan = plan_of_event v e; reply = answer v.state e; used_after = charge_after v.state e }
 
 -- ---- By the test of a call
 
@@ -79,6 +81,7 @@ planned e (plan.Refused cause) r charge used = refusal_of e cause used
 planned e (plan.Fault fault) r charge used = record { event = e; plan = plan.Fault fault; reply = reply.Fault fault.addr fault.code; used_after = used }
 planned e plan.Complete r charge used = record { event = e; plan = plan.Complete; reply = r; used_after = charge }
 planned e plan.MapZero r charge used = record { event = e; plan = plan.MapZero; reply = r; used_after = charge }
+planned e plan.Fill r charge used = record { event = e; plan = plan.Fill; reply = r; used_after = charge }
 
 -- the reply to a process that asks for its quota
 abbrev pub told : Container → Reply

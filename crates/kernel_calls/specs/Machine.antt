@@ -28,6 +28,7 @@ planned_or (plan.Refused cause) otherwise = reply.Refused cause
 planned_or (plan.Fault fault) otherwise = reply.Fault fault.addr fault.code
 planned_or plan.Complete otherwise = otherwise
 planned_or plan.MapZero otherwise = otherwise
+planned_or plan.Fill otherwise = otherwise
 
 -- a cell's flags, and the size of its group
 abbrev pub info_of : Cell → Reply

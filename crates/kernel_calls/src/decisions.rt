@@ -4,7 +4,7 @@ ghost use Rattle.std.specs.Prelude.{◌≡◌, ◌≢◌, true, false, Some};
 ghost use Rattle.address_space.specs.Spaces.{cost, cell_or_fresh};
 ghost use Rattle.process_table.specs.State.{is_live, is_mapped, container_of};
 ghost use Rattle.process_table.specs.Calls.{at_page, after_load, loaded};
-ghost use Rattle.fault_handler.specs.Plans.{plan_of, goes_on};
+ghost use Rattle.fault_handler.specs.Plans.{plan_at, goes_on};
 ghost use Rattle.table_walk.specs.declared.Access.TheVariants as access;
 ghost use Rattle.kernel_calls.specs.declared.calls.Call.TheVariants as call;
 ghost use Rattle.kernel_calls.specs.declared.calls.Reply.TheVariants as reply;
@@ -91,6 +91,7 @@ fn by_plan(event: &Event, plan: &Plan, reply: &Reply, charge: u32, used: u32) ->
         Plan::Fault(fault) => made(event, plan, &fault_told(fault), used),
         Plan::Complete => made(event, plan, reply, charge),
         Plan::MapZero => made(event, plan, reply, charge),
+        Plan::Fill => made(event, plan, reply, charge),
     }
 }
 
@@ -105,24 +106,27 @@ fn charge_by(
     used: u32,
 ) -> u32
     requires live { is_live processes.now.state pid ≡ true }
-    requires plan { plan.now ≡ plan_of processes.now.state pid address size access }
+    requires plan { plan.now ≡ plan_at processes.now pid address size access }
     ensures { goes_on plan.now ≡ true → result ≡ cost (after_load processes.now.state pid address).spaces pid }
 {
     match plan {
         Plan::Complete => processes.access_charge(pid, address, size),
         Plan::MapZero => processes.access_charge(pid, address, size),
-        _ => used,
+        Plan::Fill => processes.access_charge(pid, address, size),
+        Plan::Refused(_) => used,
+        Plan::Fault(_) => used,
     }
 }
 
 /// What a load of a live process gives, where it goes on.
 fn value_by(processes: &Processes, plan: &Plan, pid: Pid, address: Vaddr, size: Size) -> u32
-    requires plan { plan.now ≡ plan_of processes.now.state pid address size access.Read }
+    requires plan { plan.now ≡ plan_at processes.now pid address size access.Read }
     ensures { goes_on plan.now ≡ true → result ≡ loaded processes.now.state pid address size }
 {
     match plan {
         Plan::Complete => processes.spaces().peek(pid, address, size),
         Plan::MapZero => 0,
+        Plan::Fill => 0,
         Plan::Refused(_) => 0,
         Plan::Fault(_) => 0,
     }
@@ -138,7 +142,7 @@ fn decide_load(
     requires live { is_live processes.now.state event.now.pid ≡ true }
     requires load { event.now.call ≡ call.Load address size }
     requires used { used ≡ cost processes.now.state.spaces event.now.pid }
-    ensures { result ≡ decision_of processes.now.state event.now }
+    ensures { result ≡ decision_of processes.now event.now }
 {
     let pid = event.pid;
     let plan = fault_handler::plan(processes, pid, address, size, Access::Read);
@@ -147,7 +151,6 @@ fn decide_load(
     by_plan(event, &plan, &Reply::Value(value), charge, used)
 }
 
-#[tactic(auto, using(crate::proofs::Charges::store_charge))]
 fn decide_store(
     processes: &Processes,
     event: &Event,
@@ -159,7 +162,7 @@ fn decide_store(
     requires live { is_live processes.now.state event.now.pid ≡ true }
     requires store { event.now.call ≡ call.Store address size value }
     requires used { used ≡ cost processes.now.state.spaces event.now.pid }
-    ensures { result ≡ decision_of processes.now.state event.now }
+    ensures { result ≡ decision_of processes.now event.now }
 {
     let pid = event.pid;
     let plan = fault_handler::plan(processes, pid, address, size, Access::Write);
@@ -187,7 +190,7 @@ fn decide_info(processes: &Processes, event: &Event, page: Page, used: u32) -> D
     requires live { is_live processes.now.state event.now.pid ≡ true }
     requires info { event.now.call ≡ call.Info page }
     requires used { used ≡ cost processes.now.state.spaces event.now.pid }
-    ensures { result ≡ decision_of processes.now.state event.now }
+    ensures { result ≡ decision_of processes.now event.now }
 {
     match processes.can_protect(event.pid, page, false) {
         Ok(_) => answered(event, info_told(processes, event.pid, page), used),
@@ -211,7 +214,7 @@ fn quota_told(container: &Container) -> Reply
 fn decide_live(processes: &Processes, event: &Event, container: &Container) -> Decision
     requires live { is_live processes.now.state event.now.pid ≡ true }
     requires container { container_of processes.now.state event.now.pid ≡ Some container.now }
-    ensures { result ≡ decision_of processes.now.state event.now }
+    ensures { result ≡ decision_of processes.now event.now }
 {
     let pid = event.pid;
     let used = container.used;
@@ -250,7 +253,7 @@ fn decide_live(processes: &Processes, event: &Event, container: &Container) -> D
 
 /// What is decided of an event.
 pub(crate) fn decide_on(processes: &Processes, event: &Event) -> Decision
-    ensures { result ≡ decision_of processes.now.state event.now }
+    ensures { result ≡ decision_of processes.now event.now }
 {
     match processes.container(event.pid) {
         Some(container) => decide_live(processes, event, &container),

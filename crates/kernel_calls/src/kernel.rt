@@ -4,9 +4,11 @@ ghost use Rattle.std.specs.Prelude.{◌≡◌, ◌↔◌, ◌*◌, ◌<◌, ◌�
 ghost use Rattle.address_space.specs.Sound.{directory_of};
 ghost use Rattle.address_space.specs.Walks.{WalksAgree};
 ghost use Rattle.process_table.specs.State.{open_with, container_of};
-ghost use Rattle.process_table.specs.Image.{StandsFor, image_of};
+ghost use Rattle.process_table.specs.Image.{StandsFor, image_of, memory_of};
 ghost use Rattle.process_table.specs.WellFormed.{IsWellFormed, total};
-ghost use Rattle.alloc_table.specs.Roles.{frames_in_use};
+ghost use Rattle.address_space.specs.Image.{LeavesRoom};
+ghost use Rattle.address_space.specs.Spaces.{zeros};
+ghost use Rattle.phys_memory.specs.Bytes.{frame_bytes};
 ghost use Rattle.fault_handler.specs.Plans.{goes_on};
 ghost use Rattle.kernel_calls.specs.Machine.{answer, after, next, answers, end_of, completes};
 ghost use Rattle.kernel_calls.specs.Decisions.{decision_of, charge_after};
@@ -50,7 +52,7 @@ impl Model for Core {
 
 /// Carries out a call that is neither refused nor a fault.
 fn complete(processes: &mut Processes, decision: &Decision)
-    requires decided { decision.now ≡ decision_of processes.old.state decision.now.event }
+    requires decided { decision.now ≡ decision_of processes.old decision.now.event }
     requires completes { goes_on decision.now.plan ≡ true }
     ensures { processes.new.state ≡ after processes.old.state decision.now.event.pid decision.now.event.call }
 {
@@ -88,7 +90,7 @@ fn complete(processes: &mut Processes, decision: &Decision)
 
 /// Carries out what was decided.
 fn carry_out(processes: &mut Processes, decision: &Decision)
-    requires decided { decision.now ≡ decision_of processes.old.state decision.now.event }
+    requires decided { decision.now ≡ decision_of processes.old decision.now.event }
     ensures state { processes.new.state ≡ next processes.old.state decision.now.event }
     ensures kept { completes decision.now.reply ≡ false → processes.new ≡ processes.old }
 {
@@ -97,6 +99,7 @@ fn carry_out(processes: &mut Processes, decision: &Decision)
         Plan::Fault(_) => {}
         Plan::Complete => complete(processes, decision),
         Plan::MapZero => complete(processes, decision),
+        Plan::Fill => complete(processes, decision),
     }
 }
 
@@ -121,7 +124,7 @@ impl Core {
 
     /// What is decided of an event: its plan, its reply and the charge of its process afterwards.
     pub fn decide(&self, event: &Event) -> Decision
-        ensures decision { result ≡ decision_of self.now.state event.now }
+        ensures decision { result ≡ decision_of self.now event.now }
         ensures reply { result.reply ≡ answer self.now.state event.now }
         ensures charge { result.used_after ≡ charge_after self.now.state event.now }
     {
@@ -130,7 +133,7 @@ impl Core {
 
     /// Carries out what was decided on this state.
     pub fn commit(&mut self, decision: Decision) -> Reply
-        requires { decision ≡ decision_of self.old.state decision.event }
+        requires { decision ≡ decision_of self.old decision.event }
         ensures reply { result ≡ decision.reply }
         ensures state { self.new.state ≡ next self.old.state decision.event }
         ensures stands { StandsFor (image_of self.new) self.new.state }
@@ -166,12 +169,14 @@ impl Core {
     }
 
     /// That memory's own words say what the state says, and that the processor's walk of any directory,
-    /// at any address, ends as the state says; that no more frames are in use than all live processes
-    /// cost together; and that the state is well formed. It computes nothing.
+    /// at any address, ends as the state says; that the frames in use and the lazy pages are together no
+    /// more than all live processes cost; that frame 0 holds zeros; and that the state is well formed. It
+    /// computes nothing.
     pub fn stands(&self)
         ensures image { StandsFor (image_of self.now) self.now.state }
         ensures walks { WalksAgree (image_of self.now).memory self.now.state.spaces }
-        ensures used { frames_in_use self.now.roles ≤ total self.now.state }
+        ensures used { LeavesRoom (memory_of self.now) (total self.now.state) }
+        ensures zeros { frame_bytes self.now.bytes 0 ≡ zeros }
         ensures well_formed { IsWellFormed self.now.state }
     {
         self.processes.stands();

@@ -67,7 +67,7 @@ walk_to_page : (bytes : List ℕ) (d address w v : ℕ) (access : Access) → is
     → NamesTable w → is_outside bytes (frame_number w) ≡ false → word_at bytes (word_place (frame_number w) (index_number (page_number address))) ≡ v → NamesPage v
     → walk_of bytes d address access ≡ end_at_entry bytes address access (Some (entry_from v))
 unfolding walk_of
-walk_to_page bytes d address w v access inside is names table_inside also page = rw (inside, is, names.present, table_inside, also, page.present, names.user, page.user, names.writable) refl
+walk_to_page bytes d address w v access inside is names table_inside also page = rw (inside, is, names.present, table_inside, also, page.present, names.user, page.user, names.writable, page.writable) refl
 
 -- the walk of a page map ends as the entry of the page says
 pub walks_read_entries : WalksReadEntries

@@ -57,7 +57,7 @@ module _ (bytes after : List ℕ) (d page : ℕ) (e : PageEntry) (P : IsPageMap 
       let there = table_there m d (slot_number page) present in
       let T = tables_of_map bytes d P in
       map_of_tables after (length bytes) (with_word_at m t page (entry_word e)) d
-      (tables-written (length bytes) m d page t (entry_word e) T (user_slot page user) there (entry_word-lt e fits) (inr (entry_word-names e fits k.frame k.right k.touched)))
+      (tables-written (length bytes) m d page t (entry_word e) T (user_slot page user) there (entry_word-lt e fits) (inr (entry_word-names e fits k)))
       frames size
 
   pub set-foreign : (f : ℕ) → IsForeign (frame_bytes bytes) d f → frame_bytes after f ≡ frame_bytes bytes f

@@ -1,11 +1,11 @@
 -- A mark on a page map touches one entry.
-use Rattle.std.proofs.Common.{◌≡◌, ◌≢◌, ℕ, ◌+◌, ◌*◌, ◌^◌, ◌<◌, ◌≤◌, true, List, length, refl, ap, sym, ◌∙◌, subst, arith, inl, inr, Option, Some, None, ◌/◌}
-use Rattle.std.specs.Prelude.{◌⊎◌, bit_or}
+use Rattle.std.proofs.Common.{◌≡◌, ◌≢◌, ℕ, ◌+◌, ◌*◌, ◌^◌, ◌<◌, ◌≤◌, Bool, true, false, List, length, refl, ap, sym, ◌∙◌, subst, arith, inl, inr, Option, Some, None, ◌/◌}
+use Rattle.std.specs.Prelude.{◌⊎◌, bit_or, not, ◌&&◌}
 use Rattle.std.specs.Option.{option_and_then}
 use Rattle.std.proofs.lemmas.Nat.{or_lt}
 use Rattle.std.proofs.lemmas.Bool.{cases_eq}
 use Rattle.page_words.specs.Addresses.{IsUserPage, page_number, slot_number, index_number}
-use Rattle.page_words.specs.Words.{with_flag, frame_number, is_writable, is_accessed, is_dirty, has_may, NamesTable, NamesPage, IsKernelDirWord, IsKernelTableWord}
+use Rattle.page_words.specs.Words.{with_flag, frame_number, is_writable, is_accessed, is_dirty, has_may, is_lazy, is_granted, NamesTable, NamesPage, IsKernelDirWord, IsKernelTableWord}
 use Rattle.page_words.proofs.Flags.{set_flag_other, set_flag_frame, flag-with_flag_same}
 use Rattle.page_words.specs.FiniteMap as map
 use Rattle.phys_memory.specs.Bytes.{frame_bytes, word_at, with_word, word_place, word_in, with_word_in}
@@ -43,40 +43,60 @@ accessed_names w k = record {
   bit_11 = set_flag_other w 5 11 (omega arith) ∙ k.bit_11;
 }
 
--- a table word with bit 5 set, or bit 6 where bit 5 is
-flagged_names : (w k : ℕ) → NamesPage w → (k ≡ 5) ⊎ ((k ≡ 6) × (is_accessed w ≡ true)) → NamesPage (with_flag w k true)
+-- a table word with bit 5 set, or bit 6 where bit 5 is and the word isn't lazy
+flagged_names : (w k : ℕ) → NamesPage w → (k ≡ 5) ⊎ ((k ≡ 6) × (is_accessed w ≡ true) × (is_lazy w ≡ false)) → NamesPage (with_flag w k true)
 flagged_names w k n which = record {
-  frame = let f = set_flag_frame w k (at_most which) in let h = n.frame in omega arith;
+  frame = λ real. let f = set_flag_frame w k (at_most which) in let h = n.frame (sym lazy ∙ real) in omega arith;
+  zero = λ is. set_flag_frame w k (at_most which) ∙ n.zero (sym lazy ∙ is);
+  clean = λ is. clean which (sym lazy ∙ is);
   present = set_flag_other w k 0 (apart 0 which (omega arith) (omega arith)) ∙ n.present;
   user = set_flag_other w k 2 (apart 2 which (omega arith) (omega arith)) ∙ n.user;
   bit_3 = set_flag_other w k 3 (apart 3 which (omega arith) (omega arith)) ∙ n.bit_3;
   bit_4 = set_flag_other w k 4 (apart 4 which (omega arith) (omega arith)) ∙ n.bit_4;
   bit_7 = set_flag_other w k 7 (apart 7 which (omega arith) (omega arith)) ∙ n.bit_7;
   bit_8 = set_flag_other w k 8 (apart 8 which (omega arith) (omega arith)) ∙ n.bit_8;
-  bit_10 = set_flag_other w k 10 (apart 10 which (omega arith) (omega arith)) ∙ n.bit_10;
-  bit_11 = set_flag_other w k 11 (apart 11 which (omega arith) (omega arith)) ∙ n.bit_11;
-  right = λ r. set_flag_other w k 9 (apart 9 which (omega arith) (omega arith)) ∙ n.right (sym (set_flag_other w k 1 (apart 1 which (omega arith) (omega arith))) ∙ r);
+  writable = set_flag_other w k 1 (apart 1 which (omega arith) (omega arith)) ∙ n.writable ∙ sym (λ i. granted i && not (lazy i));
+  right = λ r. set_flag_other w k 9 (apart 9 which (omega arith) (omega arith)) ∙ n.right (sym granted ∙ r);
   touched = λ d. touched which;
 }
   where
-    apart : (j : ℕ) → (k ≡ 5) ⊎ ((k ≡ 6) × (is_accessed w ≡ true)) → j ≢ 5 → j ≢ 6 → j ≢ k
+    apart : (j : ℕ) → (k ≡ 5) ⊎ ((k ≡ 6) × (is_accessed w ≡ true) × (is_lazy w ≡ false)) → j ≢ 5 → j ≢ 6 → j ≢ k
     apart j (inl e) a b = omega arith
     apart j (inr h) a b = let e = h.0 in omega arith
 
-    at_most : (k ≡ 5) ⊎ ((k ≡ 6) × (is_accessed w ≡ true)) → k < 12
+    at_most : (k ≡ 5) ⊎ ((k ≡ 6) × (is_accessed w ≡ true) × (is_lazy w ≡ false)) → k < 12
     at_most (inl e) = omega arith
     at_most (inr h) = let e = h.0 in omega arith
 
-    touched : (k ≡ 5) ⊎ ((k ≡ 6) × (is_accessed w ≡ true)) → is_accessed (with_flag w k true) ≡ true
+    lazy : is_lazy (with_flag w k true) ≡ is_lazy w
+    lazy = set_flag_other w k 10 (apart 10 which (omega arith) (omega arith))
+
+    granted : is_granted (with_flag w k true) ≡ is_granted w
+    granted = set_flag_other w k 11 (apart 11 which (omega arith) (omega arith))
+
+    clean : (k ≡ 5) ⊎ ((k ≡ 6) × (is_accessed w ≡ true) × (is_lazy w ≡ false)) → is_lazy w ≡ true → is_dirty (with_flag w k true) ≡ false
+    clean (inl e) is = set_flag_other w k 6 (omega arith) ∙ n.clean is
+    clean (inr h) is = let real = h.2 in cc
+
+    touched : (k ≡ 5) ⊎ ((k ≡ 6) × (is_accessed w ≡ true) × (is_lazy w ≡ false)) → is_accessed (with_flag w k true) ≡ true
     touched (inl e) = ap (λ j. is_accessed (with_flag w j true)) e ∙ flag-with_flag_same w 5 true (omega arith)
     touched (inr h) = let e = h.0 in set_flag_other w k 5 (omega arith) ∙ h.1
 
 is_accessed_now : (w : ℕ) → is_accessed (accessed_word w) ≡ true
 is_accessed_now w = flag-with_flag_same w 5 true (omega arith)
 
-touched_names : (access : Access) (w : ℕ) → NamesPage w → NamesPage (touched_word access w)
-touched_names Read w n = flagged_names w 5 n (inl refl)
-touched_names Write w n = flagged_names (accessed_word w) 6 (flagged_names w 5 n (inl refl)) (inr (refl, is_accessed_now w))
+-- a word that lets writes through isn't lazy
+not_lazy : (w : ℕ) → NamesPage w → is_writable w ≡ true → is_lazy w ≡ false
+not_lazy w n right = by (is_granted w) (is_lazy w) (sym n.writable ∙ right)
+  where
+    by : (g l : Bool) → (g && not l) ≡ true → l ≡ false
+    by true false h = refl
+    by true true h = cc
+    by false l h = cc
+
+touched_names : (access : Access) (w : ℕ) → NamesPage w → (access ≡ Write → is_writable w ≡ true) → NamesPage (touched_word access w)
+touched_names Read w n right = flagged_names w 5 n (inl refl)
+touched_names Write w n right = flagged_names (accessed_word w) 6 (flagged_names w 5 n (inl refl)) (inr (refl, is_accessed_now w, set_flag_other w 5 10 (omega arith) ∙ not_lazy w n (right refl)))
 
 touched_lt : (access : Access) (w : ℕ) → w < 2 ^ 32 → touched_word access w < 2 ^ 32
 touched_lt Read w h = or_lt 32 w 32 h (omega arith)
@@ -84,15 +104,16 @@ touched_lt Write w h = or_lt 32 (bit_or w 32) 64 (or_lt 32 w 32 h (omega arith))
 
 entry_from-touched : (access : Access) (w : ℕ) → entry_from (touched_word access w) ≡ touched_entry access (entry_from w)
 entry_from-touched Read w =
-    rw (set_flag_frame w 5 (omega arith), set_flag_other w 5 1 (omega arith), set_flag_other w 5 9 (omega arith), is_accessed_now w, set_flag_other w 5 6 (omega arith)) refl
+    rw (set_flag_frame w 5 (omega arith), set_flag_other w 5 11 (omega arith), set_flag_other w 5 9 (omega arith), is_accessed_now w, set_flag_other w 5 6 (omega arith), set_flag_other w 5 10 (omega arith)) refl
 entry_from-touched Write w =
     let v = accessed_word w in
     let frame : frame_number (touched_word Write w) ≡ frame_number w = set_flag_frame v 6 (omega arith) ∙ set_flag_frame w 5 (omega arith) in
-    let write : is_writable (touched_word Write w) ≡ is_writable w = set_flag_other v 6 1 (omega arith) ∙ set_flag_other w 5 1 (omega arith) in
+    let write : is_granted (touched_word Write w) ≡ is_granted w = set_flag_other v 6 11 (omega arith) ∙ set_flag_other w 5 11 (omega arith) in
+    let lazy : is_lazy (touched_word Write w) ≡ is_lazy w = set_flag_other v 6 10 (omega arith) ∙ set_flag_other w 5 10 (omega arith) in
     let may : has_may (touched_word Write w) ≡ has_may w = set_flag_other v 6 9 (omega arith) ∙ set_flag_other w 5 9 (omega arith) in
     let accessed : is_accessed (touched_word Write w) ≡ true = set_flag_other v 6 5 (omega arith) ∙ is_accessed_now w in
     let dirty : is_dirty (touched_word Write w) ≡ true = flag-with_flag_same v 6 true (omega arith) in
-    rw (frame, write, may, accessed, dirty) refl
+    rw (frame, write, may, accessed, dirty, lazy) refl
 
 -- ---- The directory word, with the same table
 
@@ -199,6 +220,9 @@ module _ (bytes : List ℕ) (d address v w : ℕ) (access : Access) (e : PageEnt
       let page_inside : 4096 * (w / 4096) < length bytes = omega (arith, leads.inside, named) in
       omega arith
 
+  right : access ≡ Write → is_writable w ≡ true
+  right is = sym (ap is_writable table_is) ∙ (walked bytes d address access can.found).table_right is
+
   lt_accessed : accessed_word v < 2 ^ 32
   lt_accessed = or_lt 32 v 32 lt_v (omega arith)
 
@@ -234,14 +258,14 @@ module _ (bytes : List ℕ) (d address v w : ℕ) (access : Access) (e : PageEnt
         ap (λ f. entries_of f d) frames
         ∙ entries-insert (with_dir_word (frame_bytes bytes) d (slot_number (page_number address)) (accessed_word v)) _ d (page_number address) (touched_entry access e) user
         (entry_own (length bytes) _ d (page_number address) (frame_number v) (touched_word access w) T_half small there_half (touched_lt access w lt_w)
-        ∙ present_entry (touched_word access w) (touched_names access w page_names).present ∙ ap Some (entry_from-touched access w ∙ ap (touched_entry access) holds))
+        ∙ present_entry (touched_word access w) (touched_names access w page_names right).present ∙ ap Some (entry_from-touched access w ∙ ap (touched_entry access) holds))
         (λ q h n. entry_other (length bytes) _ d (page_number address) (frame_number v) (touched_word access w) T_half small there_half (touched_lt access w lt_w) q (user_slot q h) n)
         ∙ ap (λ es. map.insert es (page_number address) (touched_entry access e))
         (entries-same (frame_bytes bytes) (with_dir_word (frame_bytes bytes) d (slot_number (page_number address)) (accessed_word v)) d d
         (λ q h. entry_stays (length bytes) (frame_bytes bytes) d (slot_number (page_number address)) (accessed_word v) T small lt_accessed same_table q (user_slot q h)));
     stays =
         map_of_tables (marked bytes d address access) (length bytes) _ d
-        (tables-written (length bytes) _ d (page_number address) (frame_number v) (touched_word access w) T_half small there_half (touched_lt access w lt_w) (inr (touched_names access w page_names)))
+        (tables-written (length bytes) _ d (page_number address) (frame_number v) (touched_word access w) T_half small there_half (touched_lt access w lt_w) (inr (touched_names access w page_names right)))
         frames size;
     foreign = λ f F.
         (λ i. frames i f)

@@ -1,25 +1,29 @@
 -- What the words that are written say.
-use Rattle.std.proofs.Common.{◌≡◌, ◌≢◌, ℕ, ◌-◌, ◌^◌, ◌<◌, ◌≤◌, Bool, true, false, refl, ap, sym, ◌∙◌, arith}
-use Rattle.std.specs.Prelude.{Some}
+use Rattle.std.proofs.Common.{◌≡◌, ◌≢◌, ℕ, ◌-◌, ◌^◌, ◌<◌, ◌≤◌, Bool, true, false, refl, ap, sym, ◌∙◌, subst, arith}
+use Rattle.std.specs.Prelude.{Some, not, ◌&&◌}
 use Rattle.std.proofs.lemmas.Nat.{or_lt, and_le_l}
 use Rattle.std.proofs.Math.Pow.{pow-lt}
-use Rattle.page_words.specs.Words.{flag, with_flag, with_frame as word_with_frame, frame_number, is_present, is_writable, is_accessed, is_dirty, has_may, NamesPage, NamesTable}
+use Rattle.page_words.specs.Words.{flag, with_flag, with_frame as word_with_frame, frame_number, is_present, is_writable, is_accessed, is_dirty, has_may, is_lazy, is_granted, NamesPage, NamesTable}
 use Rattle.page_words.proofs.Flags.{flag-with_flag_same, flag-with_flag_other, flag-with_frame, frame-with_flag, frame-with_frame}
 use Rattle.page_map.specs.declared.PageEntry.{PageEntry}
-use Rattle.page_map.specs.Entries.{entry_from, entry_word, link_word, word_table, word_entry}
+use Rattle.page_map.specs.Entries.{entry_from, lets_writes, walked_word, entry_word, IsKernelEntry, link_word, word_table, word_entry}
 
 -- a flag that was set before another one still reads
 kept : (w k j : ℕ) (b c : Bool) → k < 32 → j < 32 → j ≢ k → flag w j ≡ c → flag (with_flag w k b) j ≡ c
 kept w k j b c h i n e = flag-with_flag_other w k j b h i n ∙ e
 
+-- a flag of an entry's word below the two that say lazy and granted
+outer : (e : PageEntry) (j : ℕ) (c : Bool) → j < 10 → flag (walked_word e) j ≡ c → flag (entry_word e) j ≡ c
+outer e j c l h = kept _ 11 j e.write c (omega arith) (omega arith) (omega arith) (kept _ 10 j e.lazy c (omega arith) (omega arith) (omega arith) h)
+
 pub entry_word-present : (e : PageEntry) → is_present (entry_word e) ≡ true
-entry_word-present e =
-    kept _ 6 0 e.dirty true (omega arith) (omega arith) (omega arith)
+entry_word-present e = outer e 0 true (omega arith)
+    (kept _ 6 0 e.dirty true (omega arith) (omega arith) (omega arith)
     (kept _ 5 0 e.accessed true (omega arith) (omega arith) (omega arith)
     (kept _ 9 0 e.may true (omega arith) (omega arith) (omega arith)
-    (kept _ 1 0 e.write true (omega arith) (omega arith) (omega arith)
+    (kept _ 1 0 (lets_writes e) true (omega arith) (omega arith) (omega arith)
     (kept _ 2 0 true true (omega arith) (omega arith) (omega arith)
-    (flag-with_flag_same (word_with_frame 0 e.frame) 0 true (omega arith))))))
+    (flag-with_flag_same (word_with_frame 0 e.frame) 0 true (omega arith)))))))
 
 with_flag_lt : (w k : ℕ) (b : Bool) → w < 2 ^ 32 → k < 32 → with_flag w k b < 2 ^ 32
 with_flag_lt w k true h i = or_lt 32 w (2 ^ k) h (pow-lt i)
@@ -37,24 +41,31 @@ keeps w f k b h r =
 
 entry_word-keeps : (e : PageEntry) → e.frame < 2 ^ 20 → Keeps (entry_word e) e.frame
 entry_word-keeps e h =
-    keeps _ _ 6 e.dirty (omega arith) (keeps _ _ 5 e.accessed (omega arith) (keeps _ _ 9 e.may (omega arith)
-    (keeps _ _ 1 e.write (omega arith) (keeps _ _ 2 true (omega arith) (keeps _ _ 0 true (omega arith)
-    (record { small = omega arith; frame = frame-with_frame 0 e.frame }))))))
+    keeps _ _ 11 e.write (omega arith) (keeps _ _ 10 e.lazy (omega arith)
+    (keeps _ _ 6 e.dirty (omega arith) (keeps _ _ 5 e.accessed (omega arith) (keeps _ _ 9 e.may (omega arith)
+    (keeps _ _ 1 (lets_writes e) (omega arith) (keeps _ _ 2 true (omega arith) (keeps _ _ 0 true (omega arith)
+    (record { small = omega arith; frame = frame-with_frame 0 e.frame }))))))))
+
+-- what the processor reads in the word of an entry: whether writes go through
+entry_word-writable : (e : PageEntry) → is_writable (entry_word e) ≡ lets_writes e
+entry_word-writable e = outer e 1 (lets_writes e) (omega arith)
+    (kept _ 6 1 e.dirty (lets_writes e) (omega arith) (omega arith) (omega arith)
+    (kept _ 5 1 e.accessed (lets_writes e) (omega arith) (omega arith) (omega arith)
+    (kept _ 9 1 e.may (lets_writes e) (omega arith) (omega arith) (omega arith) (flag-with_flag_same _ 1 (lets_writes e) (omega arith)))))
 
 pub entry_from-entry_word : (e : PageEntry) → e.frame < 2 ^ 20 → entry_from (entry_word e) ≡ e
 entry_from-entry_word e h =
-    let write : is_writable (entry_word e) ≡ e.write =
-    kept _ 6 1 e.dirty e.write (omega arith) (omega arith) (omega arith)
-    (kept _ 5 1 e.accessed e.write (omega arith) (omega arith) (omega arith)
-    (kept _ 9 1 e.may e.write (omega arith) (omega arith) (omega arith) (flag-with_flag_same _ 1 e.write (omega arith)))) in
-    let may : has_may (entry_word e) ≡ e.may =
-    kept _ 6 9 e.dirty e.may (omega arith) (omega arith) (omega arith)
-    (kept _ 5 9 e.accessed e.may (omega arith) (omega arith) (omega arith) (flag-with_flag_same _ 9 e.may (omega arith))) in
-    let accessed : is_accessed (entry_word e) ≡ e.accessed =
-    kept _ 6 5 e.dirty e.accessed (omega arith) (omega arith) (omega arith) (flag-with_flag_same _ 5 e.accessed (omega arith)) in
-    let dirty : is_dirty (entry_word e) ≡ e.dirty = flag-with_flag_same _ 6 e.dirty (omega arith) in
+    let write : is_granted (entry_word e) ≡ e.write = flag-with_flag_same _ 11 e.write (omega arith) in
+    let lazy : is_lazy (entry_word e) ≡ e.lazy =
+    kept _ 11 10 e.write e.lazy (omega arith) (omega arith) (omega arith) (flag-with_flag_same _ 10 e.lazy (omega arith)) in
+    let may : has_may (entry_word e) ≡ e.may = outer e 9 e.may (omega arith)
+    (kept _ 6 9 e.dirty e.may (omega arith) (omega arith) (omega arith)
+    (kept _ 5 9 e.accessed e.may (omega arith) (omega arith) (omega arith) (flag-with_flag_same _ 9 e.may (omega arith)))) in
+    let accessed : is_accessed (entry_word e) ≡ e.accessed = outer e 5 e.accessed (omega arith)
+    (kept _ 6 5 e.dirty e.accessed (omega arith) (omega arith) (omega arith) (flag-with_flag_same _ 5 e.accessed (omega arith))) in
+    let dirty : is_dirty (entry_word e) ≡ e.dirty = outer e 6 e.dirty (omega arith) (flag-with_flag_same _ 6 e.dirty (omega arith)) in
     let frame = (entry_word-keeps e h).frame in
-    rw (frame, write, may, accessed, dirty) refl
+    rw (frame, write, may, accessed, dirty, lazy) refl
 
 pub entry_word-lt : (e : PageEntry) → e.frame < 2 ^ 20 → entry_word e < 2 ^ 32
 entry_word-lt e h = (entry_word-keeps e h).small
@@ -63,36 +74,40 @@ pub word_entry-entry_word : (e : PageEntry) → e.frame < 2 ^ 20 → word_entry 
 word_entry-entry_word e h = rw (entry_word-present e, entry_from-entry_word e h) refl
 
 -- a flag that an entry doesn't set
-entry_flag : (e : PageEntry) (j : ℕ) → j < 12 → j ≢ 0 → j ≢ 1 → j ≢ 2 → j ≢ 5 → j ≢ 6 → j ≢ 9 → flag 0 j ≡ false → flag (entry_word e) j ≡ false
-entry_flag e j l a b c d f g z =
-    kept _ 6 j e.dirty false (omega arith) (omega arith) f
+entry_flag : (e : PageEntry) (j : ℕ) → j < 10 → j ≢ 0 → j ≢ 1 → j ≢ 2 → j ≢ 5 → j ≢ 6 → j ≢ 9 → flag 0 j ≡ false → flag (entry_word e) j ≡ false
+entry_flag e j l a b c d f g z = outer e j false l
+    (kept _ 6 j e.dirty false (omega arith) (omega arith) f
     (kept _ 5 j e.accessed false (omega arith) (omega arith) d
     (kept _ 9 j e.may false (omega arith) (omega arith) g
-    (kept _ 1 j e.write false (omega arith) (omega arith) b
+    (kept _ 1 j (lets_writes e) false (omega arith) (omega arith) b
     (kept _ 2 j true false (omega arith) (omega arith) c
     (kept _ 0 j true false (omega arith) (omega arith) a
-    (flag-with_frame 0 e.frame j l ∙ z))))))
+    (flag-with_frame 0 e.frame j (omega arith) ∙ z)))))))
 
-pub entry_word-names : (e : PageEntry) → e.frame < 2 ^ 20 → 1 ≤ e.frame → (e.write ≡ true → e.may ≡ true) → (e.dirty ≡ true → e.accessed ≡ true) → NamesPage (entry_word e)
-entry_word-names e h o right touched =
+pub entry_word-names : (e : PageEntry) → e.frame < 2 ^ 20 → IsKernelEntry e → NamesPage (entry_word e)
+entry_word-names e h k =
     let from = entry_from-entry_word e h in
+    let granted : is_granted (entry_word e) ≡ e.write = ap (λ (x : PageEntry). x.write) from in
+    let lazy : is_lazy (entry_word e) ≡ e.lazy = ap (λ (x : PageEntry). x.lazy) from in
+    let frame : frame_number (entry_word e) ≡ e.frame = (entry_word-keeps e h).frame in
     record {
-      frame = omega (arith, (entry_word-keeps e h).frame);
+      frame = λ real. subst (λ f. 1 ≤ f) (sym frame) (k.frame (sym lazy ∙ real));
+      zero = λ is. frame ∙ k.zero (sym lazy ∙ is);
+      clean = λ is. ap (λ (x : PageEntry). x.dirty) from ∙ k.clean (sym lazy ∙ is);
       present = entry_word-present e;
-      user =
-          kept _ 6 2 e.dirty true (omega arith) (omega arith) (omega arith)
+      writable = entry_word-writable e ∙ sym (λ i. granted i && not (lazy i));
+      user = outer e 2 true (omega arith)
+          (kept _ 6 2 e.dirty true (omega arith) (omega arith) (omega arith)
           (kept _ 5 2 e.accessed true (omega arith) (omega arith) (omega arith)
           (kept _ 9 2 e.may true (omega arith) (omega arith) (omega arith)
-          (kept _ 1 2 e.write true (omega arith) (omega arith) (omega arith)
-          (flag-with_flag_same _ 2 true (omega arith)))));
+          (kept _ 1 2 (lets_writes e) true (omega arith) (omega arith) (omega arith)
+          (flag-with_flag_same _ 2 true (omega arith))))));
       bit_3 = entry_flag e 3 (omega arith) (omega arith) (omega arith) (omega arith) (omega arith) (omega arith) (omega arith) refl;
       bit_4 = entry_flag e 4 (omega arith) (omega arith) (omega arith) (omega arith) (omega arith) (omega arith) (omega arith) refl;
       bit_7 = entry_flag e 7 (omega arith) (omega arith) (omega arith) (omega arith) (omega arith) (omega arith) (omega arith) refl;
       bit_8 = entry_flag e 8 (omega arith) (omega arith) (omega arith) (omega arith) (omega arith) (omega arith) (omega arith) refl;
-      bit_10 = entry_flag e 10 (omega arith) (omega arith) (omega arith) (omega arith) (omega arith) (omega arith) (omega arith) refl;
-      bit_11 = entry_flag e 11 (omega arith) (omega arith) (omega arith) (omega arith) (omega arith) (omega arith) (omega arith) refl;
-      right = λ w. ap (λ (x : PageEntry). x.may) from ∙ right (sym (ap (λ (x : PageEntry). x.write) from) ∙ w);
-      touched = λ d. ap (λ (x : PageEntry). x.accessed) from ∙ touched (sym (ap (λ (x : PageEntry). x.dirty) from) ∙ d);
+      right = λ w. ap (λ (x : PageEntry). x.may) from ∙ k.right (sym granted ∙ w);
+      touched = λ d. ap (λ (x : PageEntry). x.accessed) from ∙ k.touched (sym (ap (λ (x : PageEntry). x.dirty) from) ∙ d);
     }
 
 link_keeps : (t : ℕ) → t < 2 ^ 20 → Keeps (link_word t) t

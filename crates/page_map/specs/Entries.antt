@@ -1,9 +1,9 @@
 -- The words of one directory and its tables, and what they say of each page. Memory is seen by its
 -- frames, as a function from frames to bytes.
-use Rattle.std.specs.Prelude.{◌≡◌, ◌≢◌, ℕ, ◌+◌, ◌*◌, ◌<◌, ◌≤◌, true, false, if◌then◌else◌, List, length, replicate, Option, Some, None}
+use Rattle.std.specs.Prelude.{◌≡◌, ◌≢◌, ℕ, ◌+◌, ◌*◌, ◌<◌, ◌≤◌, Bool, true, false, not, ◌&&◌, if◌then◌else◌, List, length, replicate, Option, Some, None}
 use Rattle.std.specs.Option.{option_and_then}
 use Rattle.page_words.specs.Addresses.{slot_number, index_number}
-use Rattle.page_words.specs.Words.{with_flag, with_frame as word_with_frame, frame_number, is_present, is_writable, is_accessed, is_dirty, has_may, IsKernelDirWord, IsKernelTableWord}
+use Rattle.page_words.specs.Words.{with_flag, with_frame as word_with_frame, frame_number, is_present, is_accessed, is_dirty, has_may, is_lazy, is_granted, IsKernelDirWord, IsKernelTableWord}
 use Rattle.phys_memory.specs.Bytes.{frame_bytes, word_in, with_word_in, with_frame}
 use Rattle.page_map.specs.declared.PageEntry.{PageEntry}
 
@@ -24,23 +24,38 @@ table_of m directory slot = word_table (dir_word m directory slot)
 
 -- the entry that a present table word holds
 abbrev pub entry_from : ℕ → PageEntry
-entry_from word = record { frame = frame_number word; write = is_writable word; may = has_may word; accessed = is_accessed word; dirty = is_dirty word }
+entry_from word = record { frame = frame_number word; write = is_granted word; may = has_may word; accessed = is_accessed word; dirty = is_dirty word; lazy = is_lazy word }
 
 -- the entry that a table word holds
 abbrev pub word_entry : ℕ → Option PageEntry
 word_entry word = if is_present word then Some (entry_from word) else None
 
+-- whether there is an entry, and it is lazy
+abbrev pub is_lazy_entry : Option PageEntry → Bool
+is_lazy_entry None = false
+is_lazy_entry (Some e) = e.lazy
+
 -- the entry of a page, where there is one
 abbrev pub entry_at : Frames → ℕ → ℕ → Option PageEntry
 entry_at m directory page = option_and_then (λ table. word_entry (word_in (m table) (index_number page))) (table_of m directory (slot_number page))
 
--- the table word of an entry: present, a user's, with the entry's frame and flags
-abbrev pub entry_word : PageEntry → ℕ
-entry_word e = with_flag (with_flag (with_flag (with_flag (with_flag (with_flag (word_with_frame 0 e.frame) 0 true) 2 true) 1 e.write) 9 e.may) 5 e.accessed) 6 e.dirty
+-- whether the processor lets writes to an entry's page through: where they are granted and it has a frame
+abbrev pub lets_writes : PageEntry → Bool
+lets_writes e = e.write && not e.lazy
 
--- an entry whose word the kernel writes
+-- what the processor reads of the table word of an entry: present, a user's, with the entry's frame and flags
+abbrev pub walked_word : PageEntry → ℕ
+walked_word e = with_flag (with_flag (with_flag (with_flag (with_flag (with_flag (word_with_frame 0 e.frame) 0 true) 2 true) 1 (lets_writes e)) 9 e.may) 5 e.accessed) 6 e.dirty
+
+-- the table word of an entry
+abbrev pub entry_word : PageEntry → ℕ
+entry_word e = with_flag (with_flag (walked_word e) 10 e.lazy) 11 e.write
+
+-- an entry whose word the kernel writes: a lazy one is on frame 0 and clean, any other on another frame
 pub record IsKernelEntry (e : PageEntry) : Type 0 where
-  pub frame : 1 ≤ e.frame
+  pub frame : e.lazy ≡ false → 1 ≤ e.frame
+  pub zero : e.lazy ≡ true → e.frame ≡ 0
+  pub clean : e.lazy ≡ true → e.dirty ≡ false
   pub right : e.write ≡ true → e.may ≡ true
   pub touched : e.dirty ≡ true → e.accessed ≡ true
 

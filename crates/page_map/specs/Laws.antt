@@ -11,7 +11,7 @@ use Rattle.table_walk.specs.declared.WalkEnd.TheVariants.{Outside}
 use Rattle.table_walk.specs.Walk.{walk_of, not_present, not_allowed, is_write, is_outside}
 use Rattle.table_walk.specs.Marks.{CanBeMarked, accessed_word, touched_word, marked}
 use Rattle.page_map.specs.declared.PageEntry.{PageEntry}
-use Rattle.page_map.specs.Entries.{Frames, dir_word, word_table, word_entry, entry_at, entry_word, link_word, IsKernelEntry, IsPageMap, IsForeign}
+use Rattle.page_map.specs.Entries.{Frames, dir_word, word_table, word_entry, entry_at, entry_word, lets_writes, link_word, IsKernelEntry, IsPageMap, IsForeign}
 use Rattle.page_map.specs.Pages.{entries_of}
 
 -- at a page of the user range the map has what the page's two words say
@@ -50,7 +50,7 @@ BlankFramesMapNothing = (m : Frames) (directory : ℕ) → m directory ≡ repli
 abbrev pub end_at_entry : List ℕ → ℕ → Access → Option PageEntry → Result ℕ WalkEnd
 end_at_entry bytes address access None = not_present address access
 end_at_entry bytes address access (Some e) =
-    if is_write access && not e.write then not_allowed address access
+    if is_write access && not (lets_writes e) then not_allowed address access
     else if is_outside bytes e.frame then Err Outside
     else Ok e.frame
 
@@ -61,7 +61,7 @@ WalksReadEntries = (bytes : List ℕ) (directory address : ℕ) (access : Access
 
 -- the entry of a page after an access to it
 abbrev pub touched_entry : Access → PageEntry → PageEntry
-touched_entry access e = record { frame = e.frame; write = e.write; may = e.may; accessed = true; dirty = (if is_write access then true else e.dirty) }
+touched_entry access e = record { frame = e.frame; write = e.write; may = e.may; accessed = true; dirty = (if is_write access then true else e.dirty); lazy = e.lazy }
 
 -- memory with both words of a page as an access to it leaves them
 abbrev pub with_touched_words : Frames → ℕ → ℕ → Access → Frames

@@ -27,7 +27,7 @@ const SLOT_END: u32 = 960;
 /// What a page map says of a page.
 #[derive(Clone, Copy, Debug, PartialEq, Eq)]
 pub struct PageEntry {
-    /// The frame that holds the page's bytes.
+    /// The frame that holds the page's bytes: frame 0, which holds zeros, for a lazy page.
     pub frame: Frame,
     /// Whether the process may write to the page now.
     pub write: bool,
@@ -37,6 +37,9 @@ pub struct PageEntry {
     pub accessed: bool,
     /// Whether the page was written.
     pub dirty: bool,
+    /// Whether the page has no frame of its own yet. It reads as zeros, and the processor lets no write
+    /// to it through.
+    pub lazy: bool,
 }
 
 fn word_of(entry: PageEntry) -> u32
@@ -47,10 +50,12 @@ fn word_of(entry: PageEntry) -> u32
     word.set_frame(entry.frame);
     word.set_present(true);
     word.set_user(true);
-    word.set_writable(entry.write);
+    word.set_writable(entry.write && !entry.lazy);
     word.set_may(entry.may);
     word.set_accessed(entry.accessed);
     word.set_dirty(entry.dirty);
+    word.set_lazy(entry.lazy);
+    word.set_granted(entry.write);
     word.word()
 }
 
@@ -114,10 +119,11 @@ fn word_entry(memory: &Memory, table: Frame, index: u32) -> Option<PageEntry>
     if word.present() {
         Some(PageEntry {
             frame: word.frame(),
-            write: word.writable(),
+            write: word.granted(),
             may: word.may(),
             accessed: word.accessed(),
             dirty: word.dirty(),
+            lazy: word.lazy(),
         })
     } else {
         None
@@ -193,8 +199,8 @@ fn store_entry(memory: &mut Memory, directory: Frame, page: Page, entry: PageEnt
 
 /// Sets a page's entry. The slot of the page must have a table.
 ///
-/// The map stays a map where the entry is one that the kernel writes: its frame is not frame 0, `write`
-/// is set only with `may`, and `dirty` only with `accessed`.
+/// The map stays a map where the entry is one that the kernel writes: a lazy one names frame 0 and is not
+/// dirty, any other names another frame; `write` is set only with `may`, and `dirty` only with `accessed`.
 pub fn set_entry(memory: &mut Memory, directory: Frame, page: Page, entry: PageEntry)
     requires user { IsUserPage page }
     requires frame { entry.frame < 2 ^ 20 }

@@ -32,9 +32,10 @@ fn maps_and_clears_a_page(rt: HostRuntime) -> Result<(), Fail> {
         may: true,
         accessed: false,
         dirty: false,
+        lazy: false,
     };
     set_entry(&mut memory, directory, page, mapped);
-    assert_eq!(rt; memory.read_word(0x2000), 0x3207);
+    assert_eq!(rt; memory.read_word(0x2000), 0x3a07);
     match entry(&memory, directory, page) {
         Some(PageEntry { frame, write, .. }) => {
             assert_eq!(rt; frame, Frame(3));

@@ -1,5 +1,5 @@
 ghost use Rattle.std.specs.Prelude.{◌≡◌, ◌<◌, ◌^◌};
-ghost use Rattle.page_words.specs.Words.{flag, with_flag, frame_number, with_frame, is_present, is_writable, is_user, is_accessed, is_dirty, has_may};
+ghost use Rattle.page_words.specs.Words.{flag, with_flag, frame_number, with_frame, is_present, is_writable, is_user, is_accessed, is_dirty, has_may, is_lazy, is_granted};
 ghost use Rattle.page_words.specs.Words.{DirWordsByFields, TableWordsByFields, FlagsStandAlone, FrameStandsAlone};
 
 use super::addresses::Frame;
@@ -16,6 +16,10 @@ const ACCESSED: u32 = 5;
 const DIRTY: u32 = 6;
 
 const MAY: u32 = 9;
+
+const LAZY: u32 = 10;
+
+const GRANTED: u32 = 11;
 
 /// Whether a bit is 1.
 fn bit(word: u32, place: u32) -> bool
@@ -253,6 +257,22 @@ impl TableWord {
         bit(self.word, MAY)
     }
 
+    /// Whether the page has no frame of its own yet and reads as zeros (bit 10, which the processor
+    /// ignores; this kernel's own).
+    pub fn lazy(self) -> bool
+        ensures { result ≡ is_lazy self }
+    {
+        bit(self.word, LAZY)
+    }
+
+    /// Whether the process may write to the page now (bit 11, which the processor ignores; this
+    /// kernel's own).
+    pub fn granted(self) -> bool
+        ensures { result ≡ is_granted self }
+    {
+        bit(self.word, GRANTED)
+    }
+
     /// Sets or clears bit 0, and no other bit.
     pub fn set_present(&mut self, value: bool)
         ensures { self.new ≡ with_flag self.old 0 value }
@@ -293,6 +313,20 @@ impl TableWord {
         ensures { self.new ≡ with_flag self.old 9 value }
     {
         self.word = set_bit(self.word, MAY, value); // PTE: bit 9
+    }
+
+    /// Sets or clears bit 10, and no other bit.
+    pub fn set_lazy(&mut self, value: bool)
+        ensures { self.new ≡ with_flag self.old 10 value }
+    {
+        self.word = set_bit(self.word, LAZY, value); // PTE: bit 10
+    }
+
+    /// Sets or clears bit 11, and no other bit.
+    pub fn set_granted(&mut self, value: bool)
+        ensures { self.new ≡ with_flag self.old 11 value }
+    {
+        self.word = set_bit(self.word, GRANTED, value); // PTE: bit 11
     }
 }
 

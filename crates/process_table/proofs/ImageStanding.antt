@@ -33,14 +33,14 @@ module _ (M : memory.Image) (S : Spaces) (stands : memory.StandsFor M S) (p : �
   abbrev page_at : ℕ → Slot
   page_at page = record { pid = p; page = page }
 
-  both_or_none : (w : Option ℕ) (c : Option Cell) → memory.SlotStands M w c → is_some c ≡ is_some w
-  both_or_none None None h = refl
-  both_or_none None (Some c) h = absurd h
-  both_or_none (Some w) None h = absurd h
-  both_or_none (Some w) (Some c) h = refl
+  both_or_none : (slot : Slot) (w : Option ℕ) (c : Option Cell) → memory.SlotStands M slot w c → is_some c ≡ is_some w
+  both_or_none slot None None h = refl
+  both_or_none slot None (Some c) h = absurd h
+  both_or_none slot (Some w) None h = absurd h
+  both_or_none slot (Some w) (Some c) h = refl
 
   page_is : (page : ℕ) → set.contains (pages_of S p) page ≡ is_some (page_word M (page_at page))
-  page_is page = contains-pages_of S p page ∙ both_or_none (page_word M (page_at page)) (map.get S (page_at page)) (stands.cells (page_at page))
+  page_is page = contains-pages_of S p page ∙ both_or_none (page_at page) (page_word M (page_at page)) (map.get S (page_at page)) (stands.cells (page_at page))
 
   through : (x : Option ℕ) (f : ℕ → Option ℕ) → is_some (option_and_then f x) ≡ true → is_some x ≡ true
   through None f h = cc

@@ -115,7 +115,7 @@ child-has_none v c p asked child kept is = no_directory (directory_of v.director
 
 -- a process without a directory has nothing mapped
 nothing-mapped : (image : Image) (S : Spaces) (p page : ℕ) → StandsFor image S → directory_at image p ≡ None → map.contains_key S (record { pid = p; page = page }) ≡ false
-nothing-mapped image S p page stands none = by (map.get S slot) (subst (λ x. SlotStands image x (map.get S slot)) absent (stands.cells slot))
+nothing-mapped image S p page stands none = by (map.get S slot) (subst (λ x. SlotStands image slot x (map.get S slot)) absent (stands.cells slot))
   where
     slot : Slot
     slot = record { pid = p; page = page }
@@ -123,7 +123,7 @@ nothing-mapped image S p page stands none = by (map.get S slot) (subst (λ x. Sl
     absent : page_word image slot ≡ None
     absent = rw none refl
 
-    by : (x : Option Cell) → SlotStands image None x → is_some x ≡ false
+    by : (x : Option Cell) → SlotStands image slot None x → is_some x ≡ false
     by None h = refl
     by (Some cell) h = absurd h
 

@@ -16,9 +16,13 @@ pub record Image : Type 0 where
   -- what is known of each process, where it is live
   pub containers : ℕ → Option Container
 
+-- memory as it stands
+abbrev pub memory_of : View → memory.Image
+memory_of v = record { directories = v.directories; bytes = v.bytes; roles = v.roles }
+
 -- memory as it stands, and what the machine tells of each process
 abbrev pub image_of : View → Image
-image_of v = record { memory = record { directories = v.directories; bytes = v.bytes; roles = v.roles }; containers = container_of v.state }
+image_of v = record { memory = memory_of v; containers = container_of v.state }
 
 -- n is the number of numbers that have P
 pub record IsCount (n : ℕ) (P : ℕ → Type 0) : Type 0 where

@@ -9,8 +9,9 @@ ghost use Rattle.process_table.specs.State.{is_live, is_mapped, has_no_room, con
 ghost use Rattle.process_table.specs.Calls.{at_page, map_refusal, unmap_refusal, exit_refusal, after_map, after_unmap, after_protect, after_offer, after_withdraw, after_accept, after_spawn, after_exit, after_load, after_access, access_value, is_misaligned};
 ghost use Rattle.process_table.specs.Answers.{map_answer, unmap_answer, protect_answer, offer_answer, withdraw_answer, accept_answer, spawn_answer, exit_answer};
 ghost use Rattle.process_table.specs.View.{state_of, IsProcesses};
-ghost use Rattle.process_table.specs.Image.{StandsFor, image_of};
-ghost use Rattle.alloc_table.specs.Roles.{frames_in_use};
+ghost use Rattle.process_table.specs.Image.{StandsFor, image_of, memory_of};
+ghost use Rattle.address_space.specs.Image as memory;
+ghost use Rattle.address_space.specs.Image.{LeavesRoom, is_lazy_at};
 ghost use Rattle.process_table.specs.WellFormed.{IsWellFormed, total};
 ghost use Rattle.address_space.specs.Walks.{WalksAgree};
 ghost use Rattle.quota_tree.specs.Book.{number_of_children};
@@ -272,6 +273,7 @@ fn complete_access(
     requires user { IsUserPage (page_number address) }
     requires mapped { is_some (map.get spaces.old.spaces (slot_at pid address)) ≡ true }
     requires aligned { is_misaligned address size ≡ false }
+    requires real { access ≡ Access.Write → is_lazy_at (memory.image_of spaces.old) (slot_at pid address) ≡ false }
     ensures kept { IsProcesses spaces.new quotas.now }
     ensures value { result ≡ access_value (state_of spaces.old quotas.now offers.now) pid address size access }
     ensures state { state_of spaces.new quotas.now offers.now ≡ after_access (state_of spaces.old quotas.now offers.now) pid address size access value }
@@ -283,6 +285,18 @@ fn complete_access(
             0
         }
     }
+}
+
+/// Gives a lazy page a frame of its own.
+fn fill_page(spaces: &mut Spaces, quotas: &Quotas, pid: Pid, page: Page)
+    requires kept { IsProcesses spaces.old quotas.now }
+    requires user { IsUserPage page }
+    requires mapped { is_some (map.get spaces.old.spaces (record { pid = pid; page = page })) ≡ true }
+    ensures kept { IsProcesses spaces.new quotas.now }
+    ensures spaces { spaces.new.spaces ≡ spaces.old.spaces }
+    ensures real { is_lazy_at (memory.image_of spaces.new) (record { pid = pid; page = page }) ≡ false }
+{
+    spaces.fill(pid, page);
 }
 
 /// Process 0 alone.
@@ -564,6 +578,7 @@ impl Processes {
         requires user { IsUserPage (page_number address) }
         requires aligned { is_misaligned address size ≡ false }
         requires right { access ≡ Access.Write → (cell_or_fresh self.old.state.spaces (slot_at pid address)).write ≡ true }
+        requires real { access ≡ Access.Write → is_lazy_at (memory_of self.old) (slot_at pid address) ≡ false }
         ensures value { result ≡ access_value self.old.state pid address size access }
         ensures state { self.new.state ≡ after_access self.old.state pid address size access value }
     {
@@ -579,14 +594,32 @@ impl Processes {
         )
     }
 
+    /// Whether a process's page is lazy: it has no frame of its own yet.
+    pub fn is_lazy(&self, pid: Pid, page: Page) -> bool
+        requires user { IsUserPage page }
+        ensures { result ≡ is_lazy_at (memory_of self.now) (record { pid = pid; page = page }) }
+    {
+        self.spaces.is_lazy(pid, page)
+    }
+
+    /// Gives a mapped page a frame of its own, where it is lazy. The state stays.
+    pub fn fill(&mut self, pid: Pid, page: Page)
+        requires mapped { is_mapped self.old.state (record { pid = pid; page = page }) ≡ true }
+        requires user { IsUserPage page }
+        ensures state { self.new.state ≡ self.old.state }
+        ensures real { is_lazy_at (memory_of self.new) (record { pid = pid; page = page }) ≡ false }
+    {
+        fill_page(&mut self.spaces, &self.quotas, pid, page);
+    }
+
     /// What memory's own words and the containers say of this state, that all processes together cost
     /// at most all frames but frame 0, and that the state is well formed. It computes nothing.
     pub fn stands(&self)
         ensures image { StandsFor (image_of self.now) self.now.state }
-        ensures walks { WalksAgree (record { directories = self.now.directories; bytes = self.now.bytes; roles = self.now.roles }) self.now.state.spaces }
+        ensures walks { WalksAgree (memory_of self.now) self.now.state.spaces }
         ensures total { 1 + total self.now.state ≤ length self.now.roles }
         ensures few { length self.now.roles ≤ 4096 }
-        ensures used { frames_in_use self.now.roles ≤ total self.now.state }
+        ensures used { LeavesRoom (memory_of self.now) (total self.now.state) }
         ensures well_formed { IsWellFormed self.now.state }
     {
         self.spaces.stands();

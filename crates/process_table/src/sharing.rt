@@ -261,5 +261,6 @@ pub fn join_page(
 {
     let need = spaces.need(pid, page);
     take_room(spaces, quotas, pid, need);
+    spaces.fill(giver, giver_page);
     spaces.join(giver, giver_page, pid, page, right);
 }

@@ -101,6 +101,7 @@ fn store(rt: &impl Abort, processes: &mut Processes, pid: Pid, address: Vaddr, v
         .cell(pid, page)
         .expect(rt, "a mapped page");
     assert!(rt; cell.write);
+    processes.fill(pid, page);
     processes.access(pid, address, Size::Four, Access::Write, value);
 }
 

@@ -8,12 +8,12 @@ use Rattle.address_space.proofs.add_holder.Goals as goal
 
 pub hold-requires : goal.hold-requires
 hold-requires c =
-    let r = page_of_name c.args.directories.now c.args.memory.now c.args.frames.now _ c.args.frame c.requires.sound c.requires.given in
+    let r = page_of_name c.args.directories.now c.args.memory.now c.args.frames.now _ c.args.frame c.requires.sound c.requires.given c.requires.real in
     record { count = r.count; page = r.page; below = count_few (directory_of c.args.directories.now) (frame_bytes c.args.memory.now) (slice_get c.args.frames.now) c.args.frame r.count c.requires.sound.pages r.page }
 
 pub set_entry-requires-clause-frame : goal.set_entry-requires-clause-frame
 set_entry-requires-clause-frame c =
-    let r = page_of_name c.args.directories.now c.args.memory.now c.args.frames.now _ c.args.frame c.requires.sound c.requires.given in
+    let r = page_of_name c.args.directories.now c.args.memory.now c.args.frames.now _ c.args.frame c.requires.sound c.requires.given c.requires.real in
     (inside c.args.directories.now c.args.memory.now c.args.frames.now c.args.frame (Page r.count) c.requires.sound r.page).small
 
 pub set_entry-requires-clause-map : goal.set_entry-requires-clause-map

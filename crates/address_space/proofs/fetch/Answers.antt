@@ -2,7 +2,7 @@ use Rattle.std.proofs.Common.{ap, sym, ◌∙◌}
 use Rattle.page_words.specs.Addresses.{byte_count}
 use Rattle.address_space.specs.Spaces.{Cell, value_of, bytes_at}
 use Rattle.address_space.proofs.Steps.{page_map_of, live_small}
-use Rattle.address_space.proofs.Stores.{stored_place, cell_read}
+use Rattle.address_space.proofs.Stores.{named_inside, cell_read}
 use Rattle.address_space.proofs.fetch.Goals as goal
 
 pub entry-requires-clause-map : goal.entry-requires-clause-map
@@ -10,8 +10,8 @@ entry-requires-clause-map c = page_map_of c.args.directories.now c.args.memory.n
 
 pub number_at-requires-clause-frame : goal.number_at-requires-clause-frame
 number_at-requires-clause-frame c =
-    (stored_place c.args.directories.now c.args.memory.now c.args.frames.now c.args.pid c.args.directory c.args.page c.unwrap-entry.result c.requires.sound c.requires.live c.requires.user.0 c.requires.user.1
-    (sym c.entry.ensures.words ∙ c.unwrap-entry.ensures)).inside
+    (named_inside c.args.directories.now c.args.memory.now c.args.frames.now c.args.pid c.args.directory c.args.page c.unwrap-entry.result c.requires.sound c.requires.live c.requires.user.0 c.requires.user.1
+    (sym c.entry.ensures.words ∙ c.unwrap-entry.ensures))
 
 pub returns : goal.returns
 returns c =

@@ -1,24 +1,29 @@
 use Rattle.std.proofs.Common.{ap, ◌∙◌}
 use Rattle.process_table.specs.View.{View}
-use Rattle.fault_handler.proofs.Settled.{settled}
+use Rattle.fault_handler.proofs.Settled.{settled_at}
 use Rattle.fault_handler.proofs.settle.Goals as goal
+
+pub fill_first-requires-clause-mapped : goal.fill_first-requires-clause-mapped
+fill_first-requires-clause-mapped c =
+    (settled_at c.args.processes.now c.map_first.new.processes.state c.args.plan c.args.pid c.args.address c.args.size c.args.access c.requires.plan c.requires.completes
+    (λ n. ap (λ (v : View). v.state) (c.map_first.ensures.other n)) c.map_first.ensures.mapped).mapped
 
 pub access-requires-clause-mapped : goal.access-requires-clause-mapped
 access-requires-clause-mapped c =
-    (settled c.args.processes.now.state c.map_first.new.processes.state c.args.plan c.args.pid c.args.address c.args.size c.args.access c.requires.plan c.requires.completes
-    (λ n. ap (λ (v : View). v.state) (c.map_first.ensures.other n)) c.map_first.ensures.mapped).mapped
+    (settled_at c.args.processes.now c.fill_first.new.processes.state c.args.plan c.args.pid c.args.address c.args.size c.args.access c.requires.plan c.requires.completes
+    (λ n. c.fill_first.ensures.state ∙ ap (λ (v : View). v.state) (c.map_first.ensures.other n)) (λ e. c.fill_first.ensures.state ∙ c.map_first.ensures.mapped e)).mapped
 
 pub access-requires-clause-right : goal.access-requires-clause-right
 access-requires-clause-right c =
-    (settled c.args.processes.now.state c.map_first.new.processes.state c.args.plan c.args.pid c.args.address c.args.size c.args.access c.requires.plan c.requires.completes
-    (λ n. ap (λ (v : View). v.state) (c.map_first.ensures.other n)) c.map_first.ensures.mapped).right
+    (settled_at c.args.processes.now c.fill_first.new.processes.state c.args.plan c.args.pid c.args.address c.args.size c.args.access c.requires.plan c.requires.completes
+    (λ n. c.fill_first.ensures.state ∙ ap (λ (v : View). v.state) (c.map_first.ensures.other n)) (λ e. c.fill_first.ensures.state ∙ c.map_first.ensures.mapped e)).right
 
 pub returns-clause-value : goal.returns-clause-value
 returns-clause-value c =
-    c.access.ensures.value ∙ (settled c.args.processes.now.state c.map_first.new.processes.state c.args.plan c.args.pid c.args.address c.args.size c.args.access c.requires.plan c.requires.completes
-    (λ n. ap (λ (v : View). v.state) (c.map_first.ensures.other n)) c.map_first.ensures.mapped).value
+    c.access.ensures.value ∙ (settled_at c.args.processes.now c.fill_first.new.processes.state c.args.plan c.args.pid c.args.address c.args.size c.args.access c.requires.plan c.requires.completes
+    (λ n. c.fill_first.ensures.state ∙ ap (λ (v : View). v.state) (c.map_first.ensures.other n)) (λ e. c.fill_first.ensures.state ∙ c.map_first.ensures.mapped e)).value
 
 pub returns-clause-state : goal.returns-clause-state
 returns-clause-state c =
-    c.access.ensures.state ∙ (settled c.args.processes.now.state c.map_first.new.processes.state c.args.plan c.args.pid c.args.address c.args.size c.args.access c.requires.plan c.requires.completes
-    (λ n. ap (λ (v : View). v.state) (c.map_first.ensures.other n)) c.map_first.ensures.mapped).state c.args.value
+    c.access.ensures.state ∙ (settled_at c.args.processes.now c.fill_first.new.processes.state c.args.plan c.args.pid c.args.address c.args.size c.args.access c.requires.plan c.requires.completes
+    (λ n. c.fill_first.ensures.state ∙ ap (λ (v : View). v.state) (c.map_first.ensures.other n)) (λ e. c.fill_first.ensures.state ∙ c.map_first.ensures.mapped e)).state c.args.value

@@ -5,7 +5,7 @@ pub returns-clause-entries : goal.returns-clause-entries
 returns-clause-entries c = word_entry-entry_word
 
 pub returns-clause-entry_words : goal.returns-clause-entry_words
-returns-clause-entry_words c = λ e fits kernel. entry_word-names e fits kernel.frame kernel.right kernel.touched
+returns-clause-entry_words c = λ e fits kernel. entry_word-names e fits kernel
 
 pub returns-clause-tables : goal.returns-clause-tables
 returns-clause-tables c = word_table-link_word

@@ -1,10 +1,12 @@
-use Rattle.std.proofs.Common.{◌≡◌, sym, ◌∙◌, subst, true, refl}
+use Rattle.std.proofs.Common.{◌≡◌, sym, ◌∙◌, subst, true, false, refl}
 use Rattle.std.specs.Prelude.{is_some}
 use Rattle.page_words.specs.FiniteMap as map
 use Rattle.address_space.specs.Sound.{View, TableGiven, Names}
+use Rattle.address_space.specs.Image.{is_lazy_at}
+use Rattle.address_space.proofs.Standing.{lazy_read}
 use Rattle.address_space.proofs.Costed.{Room, room_for_table, mapped}
 use Rattle.address_space.proofs.Steps.{page_map_of}
-use Rattle.address_space.proofs.Stores.{mapped_slot, mapped_live, mapped_entry, named_entry}
+use Rattle.address_space.proofs.Stores.{mapped_slot, mapped_live, mapped_entry, named_entry, entry_rules, real_entry}
 use Rattle.address_space.proofs.Spaces.join.Goals as goal
 
 pub home-from-requires : goal.home-from-requires
@@ -39,3 +41,11 @@ invariant_of-self c =
     let given = subst (λ s. TableGiven c.self.inside.directories c.args.pid s c.self.inside.memory c.self.inside.frames c.give_table.new.memory c.give_table.new.frames) c.slot_of-slot.ensures c.give_table.ensures in
     mapped c.self.inside.directories c.self.inside.memory c.give_table.new.memory c.add_holder.new.memory c.self.inside.frames c.give_table.new.frames c.add_holder.new.frames c.args.pid c.args.page
     c.self.invariant room given c.add_holder.ensures.slot
+
+pub add_holder-requires-clause-real : goal.add_holder-requires-clause-real
+add_holder-requires-clause-real c =
+    let U : View → Type 0 = λ v. is_lazy_at (record { directories = v.directories; bytes = v.bytes; roles = v.roles }) (record { pid = c.args.giver; page = c.args.giver_page }) ≡ false in
+    let is = sym c.entry.ensures.words ∙ c.unwrap-entry.ensures in
+    let real = lazy_read c.self.inside.directories c.self.inside.memory c.self.inside.frames c.args.giver c.home-from.result c.args.giver_page c.self.invariant.sound c.home-from.ensures ∙ subst U (sym c.self.view_is) c.requires.real in
+    (entry_rules c.self.inside.directories c.self.inside.memory c.self.inside.frames c.args.giver c.home-from.result c.args.giver_page c.unwrap-entry.result c.self.invariant.sound c.home-from.ensures is).frame
+    (real_entry _ c.unwrap-entry.result is real)

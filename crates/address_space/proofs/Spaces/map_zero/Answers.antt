@@ -1,6 +1,6 @@
 use Rattle.std.proofs.Common.{subst, sym}
 use Rattle.address_space.specs.Sound.{View, TableGiven}
-use Rattle.address_space.proofs.Costed.{Room, room_for_page, room_for_table, mapped}
+use Rattle.address_space.proofs.Costed.{Room, room_for_table, mapped}
 use Rattle.address_space.proofs.Spaces.map_zero.Goals as goal
 
 pub give_table-requires-clause-room : goal.give_table-requires-clause-room
@@ -9,17 +9,10 @@ give_table-requires-clause-room c =
     let room = subst P (sym c.self.view_is) c.requires.room in
     rw c.slot_of-slot.ensures (room_for_table c.self.inside.directories c.self.inside.memory c.self.inside.frames c.args.pid c.args.page c.self.invariant room)
 
-pub add_page-requires-clause-room : goal.add_page-requires-clause-room
-add_page-requires-clause-room c =
-    let P : View → Type 0 = λ v. Room v.directories v.spaces v.roles c.args.pid c.args.page in
-    let room = subst P (sym c.self.view_is) c.requires.room in
-    let given = subst (λ s. TableGiven c.self.inside.directories c.args.pid s c.self.inside.memory c.self.inside.frames c.give_table.new.memory c.give_table.new.frames) c.slot_of-slot.ensures c.give_table.ensures in
-    room_for_page c.self.inside.directories c.self.inside.memory c.give_table.new.memory c.self.inside.frames c.give_table.new.frames c.args.pid c.args.page c.self.invariant room given
-
 pub invariant_of-self : goal.invariant_of-self
 invariant_of-self c =
     let P : View → Type 0 = λ v. Room v.directories v.spaces v.roles c.args.pid c.args.page in
     let room = subst P (sym c.self.view_is) c.requires.room in
     let given = subst (λ s. TableGiven c.self.inside.directories c.args.pid s c.self.inside.memory c.self.inside.frames c.give_table.new.memory c.give_table.new.frames) c.slot_of-slot.ensures c.give_table.ensures in
-    mapped c.self.inside.directories c.self.inside.memory c.give_table.new.memory c.add_page.new.memory c.self.inside.frames c.give_table.new.frames c.add_page.new.frames c.args.pid c.args.page
+    mapped c.self.inside.directories c.self.inside.memory c.give_table.new.memory c.add_page.new.memory c.self.inside.frames c.give_table.new.frames c.give_table.new.frames c.args.pid c.args.page
     c.self.invariant room given c.add_page.ensures.slot

@@ -20,4 +20,5 @@ invariant_of-self c =
     let cost = c.set_right.ensures.cost in
     let weighs = c.self.invariant.weighs in
     let within = c.self.invariant.within in
-    record { sound = c.set_right.ensures.sound; in_use = c.set_right.ensures.in_use c.self.invariant.in_use; weighs = omega (arith, cost, weighs); within = omega (arith, cost, within) }
+    let lazy = c.set_right.ensures.lazy in
+    record { sound = c.set_right.ensures.sound; in_use = c.set_right.ensures.in_use c.self.invariant.in_use; weighs = omega (arith, cost, weighs, lazy); within = omega (arith, cost, within) }

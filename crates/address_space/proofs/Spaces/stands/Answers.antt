@@ -1,14 +1,16 @@
-use Rattle.std.proofs.Common.{◌≡◌, ℕ, ◌+◌, ◌≤◌, subst, arith, true}
+use Rattle.std.proofs.Common.{◌≡◌, ℕ, ◌+◌, ◌≤◌, subst, arith, refl, true}
 use Rattle.std.specs.Prelude.{length, is_some}
 use Rattle.alloc_table.specs.Roles.{frames_in_use}
 use Rattle.alloc_table.proofs.RoleLemmas.{in-use-and-reserved}
-use Rattle.address_space.specs.Image.{StandsFor}
-use Rattle.address_space.specs.Sound.{View, total_cost, directory_of, spaces_in}
+use Rattle.address_space.specs.Image.{StandsFor, LeavesRoom}
+use Rattle.address_space.specs.Sound.{View, total_cost, directory_of, entries_in, spaces_in}
+use Rattle.address_space.specs.Cells.{lazy_count, holders_of}
+use Rattle.phys_memory.specs.Bytes.{frame_bytes}
 use Rattle.address_space.specs.Spaces.{cost}
 use Rattle.address_space.proofs.Openings.{cost_within}
 use Rattle.address_space.specs.Walks.{WalksAgree}
 use Rattle.address_space.proofs.WalkEnds.{walks_agree}
-use Rattle.address_space.proofs.Standing.{image_stands}
+use Rattle.address_space.proofs.Standing.{image_stands, lazy_slots}
 use Rattle.address_space.proofs.Spaces.stands.Goals as goal
 
 pub returns-clause-image : goal.returns-clause-image
@@ -35,8 +37,12 @@ returns-clause-walks c =
 pub returns-clause-used : goal.returns-clause-used
 returns-clause-used c =
     let kept = c.self.invariant in
-    subst (λ (v : View). frames_in_use v.roles ≤ total_cost v.directories v.spaces) c.self.view_is
-    (less _ _ _ (in-use-and-reserved c.self.inside.frames kept.sound.tables.zero_role (λ f count is. (kept.sound.pages.counts f count is).0)) kept.weighs)
-  where
-    less : (n w t : ℕ) → n + 1 ≤ w → w ≤ 1 + t → n ≤ t
-    less n w t a b = omega arith
+    let E = entries_in (directory_of c.self.inside.directories) (frame_bytes c.self.inside.memory) in
+    let n = in-use-and-reserved c.self.inside.frames kept.sound.tables.zero_role (λ f count is. (kept.sound.pages.counts f count is).0) in
+    let w = kept.weighs in
+    subst (λ (v : View). LeavesRoom (record { directories = v.directories; bytes = v.bytes; roles = v.roles }) (total_cost v.directories v.spaces)) c.self.view_is
+    (record {
+      lazy = lazy_count E;
+      counted = record { members = holders_of E 0; are = lazy_slots c.self.inside.directories c.self.inside.memory c.self.inside.frames kept.sound; count = refl };
+      fit = omega (arith, n, w);
+    })

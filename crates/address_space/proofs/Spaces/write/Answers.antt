@@ -1,9 +1,11 @@
-use Rattle.std.proofs.Common.{◌≡◌, ap, sym, subst, true}
+use Rattle.std.proofs.Common.{arith, ◌≡◌, ◌∙◌, ap, sym, subst, true, false}
 use Rattle.std.specs.Prelude.{is_some}
 use Rattle.page_words.specs.Addresses.{page_number}
 use Rattle.page_words.specs.FiniteMap as map
 use Rattle.address_space.specs.Spaces.{slot_at}
 use Rattle.address_space.specs.Sound.{View}
+use Rattle.address_space.specs.Image.{is_lazy_at}
+use Rattle.address_space.proofs.Standing.{lazy_read}
 use Rattle.address_space.proofs.Stores.{mapped_slot, mapped_live, mapped_entry}
 use Rattle.address_space.proofs.Spaces.write.Goals as goal
 
@@ -17,3 +19,17 @@ store-requires-clause-mapped c =
     let U : View → Type 0 = λ v. is_some (map.get v.spaces (slot_at c.args.pid c.args.address)) ≡ true in
     rw c.page_of-page.ensures.value
     (ap is_some (mapped_entry c.self.inside.directories c.self.inside.memory c.args.pid c.home-directory.result (page_number c.args.address) (mapped_slot c.self.inside.directories c.self.inside.memory c.args.pid (page_number c.args.address) (subst U (sym c.self.view_is) c.requires.mapped)) c.home-directory.ensures))
+
+pub store-requires-clause-real : goal.store-requires-clause-real
+store-requires-clause-real c =
+    let U : View → Type 0 = λ v. is_lazy_at (record { directories = v.directories; bytes = v.bytes; roles = v.roles }) (slot_at c.args.pid c.args.address) ≡ false in
+    rw c.page_of-page.ensures.value
+    (lazy_read c.self.inside.directories c.self.inside.memory c.self.inside.frames c.args.pid c.home-directory.result (page_number c.args.address) c.self.invariant.sound c.home-directory.ensures ∙ subst U (sym c.self.view_is) c.requires.real)
+
+pub invariant_of-self : goal.invariant_of-self
+invariant_of-self c =
+    let cost = c.store.ensures.cost in
+    let weighs = c.self.invariant.weighs in
+    let within = c.self.invariant.within in
+    let lazy = c.store.ensures.lazy in
+    record { sound = c.store.ensures.sound; in_use = c.store.ensures.in_use c.self.invariant.in_use; weighs = omega (arith, cost, weighs, lazy); within = omega (arith, cost, within) }

@@ -5,7 +5,7 @@ use Rattle.phys_memory.specs.Bytes.{frame_bytes}
 use Rattle.page_map.specs.declared.PageEntry.{PageEntry}
 use Rattle.page_map.specs.Entries.{dir_word, with_entry}
 use Rattle.address_space.proofs.Steps.{page_map_of}
-use Rattle.address_space.proofs.Stores.{page_protected, stored_place}
+use Rattle.address_space.proofs.Stores.{page_protected, named_inside}
 use Rattle.address_space.proofs.rights.set_right.Goals as goal
 
 pub entry-requires-clause-map : goal.entry-requires-clause-map
@@ -14,8 +14,8 @@ entry-requires-clause-map c = page_map_of c.args.directories.now c.args.memory.n
 pub set_entry-requires-clause-frame : goal.set_entry-requires-clause-frame
 set_entry-requires-clause-frame c =
     subst (λ (e : PageEntry). e.frame < 2 ^ 20) (sym c.with_right.ensures)
-    (stored_place c.args.directories.now c.args.memory.now c.args.frames.now c.args.pid c.args.directory c.args.page c.unwrap-entry.result c.requires.sound c.requires.live c.requires.user.0 c.requires.user.1
-    (sym c.entry.ensures.words ∙ c.unwrap-entry.ensures)).inside.small
+    (named_inside c.args.directories.now c.args.memory.now c.args.frames.now c.args.pid c.args.directory c.args.page c.unwrap-entry.result c.requires.sound c.requires.live c.requires.user.0 c.requires.user.1
+    (sym c.entry.ensures.words ∙ c.unwrap-entry.ensures)).small
 
 pub set_entry-requires-clause-map : goal.set_entry-requires-clause-map
 set_entry-requires-clause-map c = page_map_of c.args.directories.now c.args.memory.now c.args.frames.now c.args.pid c.args.directory c.requires.sound c.requires.live

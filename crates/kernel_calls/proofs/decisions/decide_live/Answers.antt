@@ -8,25 +8,25 @@ returns-in-Map c =
     let s = c.args.processes.now.state in
     let e = c.args.event.now in
     c.done_or_refused.ensures ∙ ap (λ t. tested e t c.args.container.now.used) c.can_map.ensures
-    ∙ decided-map s e c.in-Map.page c.in-Map.write c.args.container.now.used c.in-Map.is c.requires.live (used-container s e.pid c.args.container.now c.requires.container)
+    ∙ decided-map c.args.processes.now e c.in-Map.page c.in-Map.write c.args.container.now.used c.in-Map.is c.requires.live (used-container s e.pid c.args.container.now c.requires.container)
 
 pub returns-in-Spawn : goal.returns-in-Spawn
 returns-in-Spawn c =
     let s = c.args.processes.now.state in
     let e = c.args.event.now in
     c.child_or_refused.ensures ∙ ap (λ t. spawned e t c.args.container.now.used) c.can_spawn.ensures
-    ∙ decided-spawn s e c.in-Spawn.quota c.args.container.now.used c.in-Spawn.is c.requires.live (used-container s e.pid c.args.container.now c.requires.container)
+    ∙ decided-spawn c.args.processes.now e c.in-Spawn.quota c.args.container.now.used c.in-Spawn.is c.requires.live (used-container s e.pid c.args.container.now c.requires.container)
 
 pub returns-in-Protect : goal.returns-in-Protect
 returns-in-Protect c =
     let s = c.args.processes.now.state in
     let e = c.args.event.now in
     c.done_or_refused-in-Protect.ensures ∙ ap (λ t. tested e t c.args.container.now.used) c.can_protect.ensures
-    ∙ decided-protect s e c.in-Protect.page c.in-Protect.write c.args.container.now.used c.in-Protect.is c.requires.live (used-container s e.pid c.args.container.now c.requires.container)
+    ∙ decided-protect c.args.processes.now e c.in-Protect.page c.in-Protect.write c.args.container.now.used c.in-Protect.is c.requires.live (used-container s e.pid c.args.container.now c.requires.container)
 
 pub returns-in-Offer : goal.returns-in-Offer
 returns-in-Offer c =
     let s = c.args.processes.now.state in
     let e = c.args.event.now in
     c.done_or_refused-in-Offer.ensures ∙ ap (λ t. tested e t c.args.container.now.used) c.can_offer.ensures
-    ∙ decided-offer s e c.in-Offer.page c.in-Offer.target c.in-Offer.write c.args.container.now.used c.in-Offer.is c.requires.live (used-container s e.pid c.args.container.now c.requires.container)
+    ∙ decided-offer c.args.processes.now e c.in-Offer.page c.in-Offer.target c.in-Offer.write c.args.container.now.used c.in-Offer.is c.requires.live (used-container s e.pid c.args.container.now c.requires.container)

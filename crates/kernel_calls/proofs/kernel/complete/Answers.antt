@@ -6,5 +6,5 @@ use Rattle.kernel_calls.proofs.kernel.complete.Goals as goal
 
 pub spawn-requires : goal.spawn-requires
 spawn-requires c =
-    spawn-ok c.args.processes.now.state c.args.decision.now.event c.in-Spawn.quota c.in-Spawn.is
+    spawn-ok c.args.processes.now c.args.decision.now.event c.in-Spawn.quota c.in-Spawn.is
     (sym (ap (λ (d : Decision). goes_on d.plan) c.requires.decided) ∙ c.requires.completes)

@@ -1,5 +1,5 @@
 use Rattle.std.proofs.Common.{◌+◌, ap, sym, subst, ◌∙◌}
-use Rattle.address_space.specs.Spaces.{Slot, cost}
+use Rattle.address_space.specs.Spaces.{Slot, cost, joined}
 use Rattle.address_space.proofs.Totals.{cost-joined, cost-joined_other}
 use Rattle.quota_tree.specs.Containers.{used_of}
 use Rattle.process_table.specs.View.{IsProcesses}
@@ -14,7 +14,8 @@ returns-clause-kept c =
     let giver : Slot = record { pid = c.args.giver; page = c.args.giver_page } in
     let slot : Slot = record { pid = p; page = c.args.page } in
     let used = used_of q p + c.need-need.result in
+    let spaces = c.join.ensures.spaces ∙ ap (λ S. joined S giver slot c.args.right) c.fill.ensures.spaces in
     subst (IsProcesses c.join.new.self) (sym c.take_room.ensures.quotas)
-    (charged-one v c.join.new.self q p used c.requires.kept c.join.ensures.directories c.join.ensures.frames
-    ((λ i. c.requires.kept.charged p c.requires.live i + c.need-need.ensures.value i) ∙ sym (cost-joined v.spaces giver slot c.args.right c.requires.unmapped) ∙ sym (ap (λ S. cost S p) c.join.ensures.spaces))
-    (λ other n. ap (λ S. cost S other) c.join.ensures.spaces ∙ cost-joined_other v.spaces giver slot c.args.right other n))
+    (charged-one v c.join.new.self q p used c.requires.kept (c.join.ensures.directories ∙ c.fill.ensures.directories) (c.join.ensures.frames ∙ c.fill.ensures.frames)
+    ((λ i. c.requires.kept.charged p c.requires.live i + c.need-need.ensures.value i) ∙ sym (cost-joined v.spaces giver slot c.args.right c.requires.unmapped) ∙ sym (ap (λ S. cost S p) spaces))
+    (λ other n. ap (λ S. cost S other) spaces ∙ cost-joined_other v.spaces giver slot c.args.right other n))

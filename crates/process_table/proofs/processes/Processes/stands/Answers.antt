@@ -1,5 +1,5 @@
 use Rattle.std.proofs.Common.{◌+◌, ◌≤◌, ap, subst, length, is_some}
-use Rattle.alloc_table.specs.Roles.{frames_in_use}
+use Rattle.address_space.specs.Image.{LeavesRoom}
 use Rattle.address_space.specs.Walks.{WalksAgree}
 use Rattle.quota_tree.specs.Book.{given, quota_of}
 use Rattle.process_table.specs.Image.{StandsFor, image_of}
@@ -32,5 +32,5 @@ returns-clause-well_formed c = subst (λ (v : View). IsWellFormed v.state) c.sel
 pub returns-clause-used : goal.returns-clause-used
 returns-clause-used c =
     let v : View = view_of c.self.inside.spaces c.self.inside.quotas c.self.inside.offers in
-    subst (λ (v : View). frames_in_use v.roles ≤ total v.state) c.self.view_is
-    (subst (λ n. frames_in_use v.roles ≤ n) (total-book v.directories v.state c.self.invariant.kept.live c.within.ensures.numbers) c.stands.ensures.used)
+    subst (λ (v : View). LeavesRoom (record { directories = v.directories; bytes = v.bytes; roles = v.roles }) (total v.state)) c.self.view_is
+    (subst (LeavesRoom (record { directories = v.directories; bytes = v.bytes; roles = v.roles })) (total-book v.directories v.state c.self.invariant.kept.live c.within.ensures.numbers) c.stands.ensures.used)

@@ -1,0 +1,8 @@
+use Rattle.std.proofs.Common.{ap}
+use Rattle.address_space.specs.Spaces.{cost}
+use Rattle.process_table.proofs.Charges.{charged-same}
+use Rattle.process_table.proofs.processes.fill_page.Goals as goal
+
+pub returns-clause-kept : goal.returns-clause-kept
+returns-clause-kept c =
+    charged-same c.args.spaces.now c.fill.new.self c.args.quotas.now c.requires.kept c.fill.ensures.directories c.fill.ensures.frames (λ q. ap (λ S. cost S q) c.fill.ensures.spaces)
