@@ -240,8 +240,10 @@ module _ (directories : List (Option ℕ)) (bytes : List ℕ) (roles : List Role
   alone : (slot other : Slot) → IsTrue (set.contains {o = slot_order} (set.insert set.empty slot) other) ↔ (other ≡ slot)
   alone slot other = elim (same_or_not slot_order other slot) [
     | inl h ↦ (λ _. h.0, λ _. contains-insert {o = slot_order} set.empty slot other ∙ ap (λ b. b || false) h.1)
-    | inr h ↦ (λ t. absurd (let e : false ≡ true = sym (contains-insert {o = slot_order} set.empty slot other ∙ ap (λ b. b || false) h) ∙ t in cc),
-        λ e. absurd (let b = same_itself slot_order slot in let c : same slot_order other slot ≡ true = ap (λ x. same slot_order x slot) e ∙ b in cc))
+    | inr h ↦ (
+      λ t. absurd (let e : false ≡ true = sym (contains-insert {o = slot_order} set.empty slot other ∙ ap (λ b. b || false) h) ∙ t in cc),
+      λ e. absurd (let b = same_itself slot_order slot in let c : same slot_order other slot ≡ true = ap (λ x. same slot_order x slot) e ∙ b in cc),
+    )
   ]
 
   whole_group : (slot : Slot) (word : ℕ) → NamesPage word → (other : Slot) → IsTrue (set.contains (group_of E slot (frame_number word)) other) ↔ IsOneGroup image slot word other

@@ -20,9 +20,9 @@ use Rattle.page_map.specs.Entries.{Frames, dir_word, word_table, table_of, with_
 use Rattle.page_words.specs.FiniteMap as map
 use Rattle.address_space.specs.Spaces.{Slot, fresh}
 use Rattle.address_space.specs.Cells.{Entries, lazy_count, cell_of, spaces_of}
-use Rattle.address_space.specs.Sound.{Directories, Roles, directory_of, table_in, entries_in, spaces_in, Tables, Pages, HoldsPage, IsSound, TableGiven, PageAdded, table_need, InUseAt, total_cost, Inside}
+use Rattle.address_space.specs.Sound.{Directories, Roles, directory_of, table_in, entry_in, entries_in, spaces_in, Tables, Pages, HoldsPage, IsSound, TableGiven, PageAdded, table_need, InUseAt, total_cost, Inside}
 use Rattle.address_space.proofs.CostSteps.{total-entry}
-use Rattle.address_space.proofs.EntrySteps.{Loose, entries-insert, tables-entry, use_own, use_kept}
+use Rattle.address_space.proofs.EntrySteps.{Loose, entries-insert, entry_own, tables-entry, use_own, use_kept}
 use Rattle.address_space.proofs.FrameSteps.{tables-linked, linked-entries, linked-own, linked-others, linked-other, kept_table, loose-directory, tables-loose}
 use Rattle.address_space.proofs.PageSteps.{same_bytes, pages-role, pages-lazy, lazy-more, no_free, no_table, no_directory}
 
@@ -176,6 +176,7 @@ page_added directories bytes two roles p d page t write sound live low high unma
         own = subst (λ x. InUseAt D x p (slot_number page)) (sym is) (use_own D m R T p d page t (entry_word e) live there (entry_word-lt e small) (entry_word-present e));
         others = λ q r n use_at. subst (λ x. InUseAt D x q r) (sym is) (use_kept D m R T p d page t (entry_word e) live there (entry_word-lt e small) (entry_word-present e) q r use_at);
       };
+      lazy = (e, ap (λ x. entry_in D x slot) is ∙ entry_own D m R T p d page t (entry_word e) live there (entry_word-lt e small) ∙ word_entry-entry_word e small, refl);
       spaces = (λ i. spaces_of (E2 i) (is i)) ∙ lazy_refines E m2 slot write none zero ∙ ap (λ x. map.insert x slot (fresh slot write)) (same_bytes E m m2 page_kept);
     }
 

@@ -136,6 +136,7 @@ pub record SlotAdded (directories : List (Option ℕ)) (p page : ℕ) (bytes : L
 pub record PageAdded (directories : List (Option ℕ)) (p page : ℕ) (write : Bool) (bytes : List ℕ) (roles : List Role) (bytes' : List ℕ) (roles' : List Role) : Type 0 where
   pub slot : SlotAdded directories p page bytes roles bytes' roles'
   pub spaces : spaces_in directories bytes' ≡ map.insert (spaces_in directories bytes) (record { pid = p; page = page }) (fresh (record { pid = p; page = page }) write)
+  pub lazy : (e : PageEntry) × (entry_in (directory_of directories) (frame_bytes bytes') (record { pid = p; page = page }) ≡ Some e) × (e.lazy ≡ true)
 
 -- a frame lies in memory
 pub record Inside (bytes : List ℕ) (f : ℕ) : Type 0 where

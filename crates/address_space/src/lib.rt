@@ -327,11 +327,7 @@ fn group_size(frames: &FrameTable, lazy: bool, frame: Frame) -> u32
     ensures lazy { lazy ≡ true → result ≡ 1 }
     ensures real { lazy ≡ false → slice_get frames.now frame ≡ Some (Role.Page result) }
 {
-    if lazy {
-        1
-    } else {
-        holders(frames, frame)
-    }
+    if lazy { 1 } else { holders(frames, frame) }
 }
 
 /// The cell of a slot.
@@ -484,13 +480,14 @@ impl Spaces {
         );
     }
 
-    /// Maps a page of zeros.
+    /// Maps a page of zeros, which is lazy: it takes no frame but one for its table, where that is missing.
     pub fn map_zero(&mut self, pid: Pid, page: Page, write: bool)
         requires live { is_some (directory_of self.old.directories pid) ≡ true }
         requires user { IsUserPage page }
         requires unmapped { map.get self.old.spaces (record { pid = pid; page = page }) ≡ None }
         requires room { 1 + total_cost self.old.directories self.old.spaces + need self.old.spaces pid page ≤ length self.old.roles }
         ensures spaces { self.new.spaces ≡ map.insert self.old.spaces (record { pid = pid; page = page }) (fresh (record { pid = pid; page = page }) write) }
+        ensures lazy { is_lazy_at (image_of self.new) (record { pid = pid; page = page }) ≡ true }
         ensures directories { self.new.directories ≡ self.old.directories }
         ensures frames { length self.new.roles ≡ length self.old.roles }
     {

@@ -8,7 +8,7 @@ ghost use Rattle.std.specs.Prelude.{◌≡◌, ◌≢◌, Bool, true, false, not
 ghost use Rattle.page_words.specs.Addresses.{page_number, IsUserPage};
 ghost use Rattle.address_space.specs.Spaces.{slot_at};
 ghost use Rattle.process_table.specs.State.{is_live, is_mapped};
-ghost use Rattle.process_table.specs.Answers.{map_answer};
+ghost use Rattle.process_table.specs.TestAnswers.{map_answer};
 ghost use Rattle.process_table.specs.Calls.{is_misaligned, access_value, after_access, after_map};
 ghost use Rattle.address_space.specs.Image.{is_lazy_at};
 ghost use Rattle.process_table.specs.Image.{memory_of};
@@ -78,37 +78,44 @@ pub fn plan(processes: &Processes, pid: Pid, address: Vaddr, size: Size, access:
     ensures { result ≡ plan_at processes.now pid address size access }
 {
     let plan = outcome(processes, pid, address, size, access);
-    if plan == Plan::Complete && access == Access::Write && processes.is_lazy(pid, page_of(address)) {
+    if plan == Plan::Complete
+        && access == Access::Write
+        && processes.is_lazy(pid, page_of(address))
+    {
         Plan::Fill
     } else {
         plan
     }
 }
 
-/// Gives the page of a write a frame of its own, where it is lazy.
-fn fill_first(processes: &mut Processes, pid: Pid, address: Vaddr, access: Access)
+/// Gives the page of a write a frame of its own, where it may be lazy: a write that completes at once
+/// is to a page that has one.
+fn fill_first(processes: &mut Processes, plan: &Plan, pid: Pid, address: Vaddr, access: Access)
     requires mapped { is_mapped processes.old.state (slot_at pid address) ≡ true }
     requires user { IsUserPage (page_number address) }
+    requires complete { plan.now ≡ Plan.Complete → access ≡ Access.Write → is_lazy_at (memory_of processes.old) (slot_at pid address) ≡ false }
     ensures state { processes.new.state ≡ processes.old.state }
+    ensures complete { plan.now ≡ Plan.Complete → processes.new ≡ processes.old }
     ensures real { access ≡ Access.Write → is_lazy_at (memory_of processes.new) (slot_at pid address) ≡ false }
 {
-    if access == Access::Write {
+    if access == Access::Write && *plan != Plan::Complete {
         processes.fill(pid, page_of(address));
     }
 }
 
 /// Maps the page of an access that is to be mapped first.
-fn map_first(processes: &mut Processes, plan: Plan, pid: Pid, address: Vaddr)
-    requires page { plan ≡ Plan.MapZero → IsOk (map_answer processes.old.state pid (page_number address)) }
-    ensures other { plan ≢ Plan.MapZero → processes.new ≡ processes.old }
-    ensures mapped { plan ≡ Plan.MapZero → processes.new.state ≡ after_map processes.old.state pid (page_number address) true }
+fn map_first(processes: &mut Processes, plan: &Plan, pid: Pid, address: Vaddr)
+    requires page { plan.now ≡ Plan.MapZero → IsOk (map_answer processes.old.state pid (page_number address)) }
+    ensures other { plan.now ≢ Plan.MapZero → processes.new ≡ processes.old }
+    ensures mapped { plan.now ≡ Plan.MapZero → processes.new.state ≡ after_map processes.old.state pid (page_number address) true }
 {
-    if plan == Plan::MapZero {
+    if *plan == Plan::MapZero {
         processes.map(pid, page_of(address), true);
     }
 }
 
 /// Carries out an access that completes, by the plan of this state: the value read, or 0 after a write.
+/// An access that completes at once takes no frame.
 pub fn settle(
     processes: &mut Processes,
     plan: Plan,
@@ -123,9 +130,10 @@ pub fn settle(
     requires completes { goes_on plan ≡ true }
     ensures value { result ≡ access_value processes.old.state pid address size access }
     ensures state { processes.new.state ≡ after_access processes.old.state pid address size access value }
+    ensures frames { plan ≡ Plan.Complete → processes.new.roles ≡ processes.old.roles }
 {
-    map_first(processes, plan, pid, address);
-    fill_first(processes, pid, address, access);
+    map_first(processes, &plan, pid, address);
+    fill_first(processes, &plan, pid, address, access);
     processes.access(pid, address, size, access, value)
 }
 

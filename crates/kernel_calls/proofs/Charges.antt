@@ -11,24 +11,6 @@ use Rattle.process_table.specs.State.{State, is_live, child_of}
 use Rattle.process_table.specs.Calls.{at_page, after_load, after_store, after_map, after_spawn, after_exit}
 use Rattle.quota_tree.proofs.BookFacts.{contains_key-insert}
 
-none : (x : Option Cell) → is_some x ≡ false → x ≡ None
-none None h = refl
-none (Some c) h = cc
-
--- a store is charged as a load is
-pub store_charge : (s : State) (p address : ℕ) (size : Size) (value : ℕ) → cost (after_store s p address size value).spaces p ≡ cost (after_load s p address).spaces p
-store_charge s p address size value = by (map.contains_key s.spaces slot) refl
-  where
-    slot : Slot
-    slot = slot_at p address
-
-    new : List ℕ
-    new = bytes_of (byte_count size) value
-
-    by : (b : Bool) → map.contains_key s.spaces slot ≡ b → cost (stored s.spaces slot (offset_number address) new) p ≡ cost (accessed s.spaces slot) p
-    by true is = cost-stored_mapped s.spaces slot (offset_number address) new is ∙ sym (cost-accessed_mapped s.spaces slot is)
-    by false is = let n = none (map.get s.spaces slot) is in cost-stored_new s.spaces slot (offset_number address) new n ∙ sym (cost-accessed_new s.spaces slot n)
-
 -- a page is charged whatever its right
 pub map_charge : (s : State) (p page : ℕ) (write : Bool) → cost (after_map s p page write).spaces p ≡ cost (after_map s p page true).spaces p
 map_charge s p page write = cost-same (after_map s p page write).spaces (after_map s p page true).spaces p at

@@ -10,7 +10,7 @@ use Rattle.process_table.specs.State.{State, is_live, child_of, container_of, sh
 use Rattle.process_table.specs.Calls.{at_page, map_refusal, protect_refusal, offer_refusal, spawn_refusal, after_map, after_protect}
 use Rattle.address_space.proofs.Totals.{cost-protected_of}
 use Rattle.process_table.proofs.Refusals.{may_protect}
-use Rattle.process_table.specs.Answers.{first_cause, number_unless, child_unless, map_answer, protect_answer, offer_answer, spawn_answer}
+use Rattle.process_table.specs.TestAnswers.{first_cause, number_unless, child_unless, map_answer, protect_answer, offer_answer, spawn_answer}
 use Rattle.process_table.specs.declared.causes.Cause.{Cause}
 use Rattle.process_table.specs.declared.causes.Cause.TheVariants as cause
 use Rattle.address_space.specs.Image.{is_lazy_at}

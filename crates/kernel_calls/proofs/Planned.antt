@@ -23,7 +23,7 @@ use Rattle.kernel_calls.specs.declared.calls.Event.{Event}
 use Rattle.kernel_calls.specs.declared.calls.Reply.{Reply}
 use Rattle.kernel_calls.specs.declared.calls.Reply.TheVariants as reply
 use Rattle.kernel_calls.proofs.Decided.{next-stays, next-goes}
-use Rattle.kernel_calls.proofs.Charges.{store_charge}
+use Rattle.process_table.proofs.StoreCharge.{store_charge}
 
 -- a plan that goes on keeps the reply and the charge
 planned-goes : (e : Event) (x : Plan) (r : Reply) (charge used : ℕ) → goes_on x ≡ true → planned e x r charge used ≡ record { event = e; plan = x; reply = r; used_after = charge }
@@ -92,8 +92,11 @@ pub decided-store : (v : View) (e : Event) (address : ℕ) (size : Size) (value 
 decided-store v e address size value charge used is live used_is charge_is =
     decided-access v e address size Write reply.Done reply.Done charge used live used_is
     (ap (plan_of_call v e.pid) is) (ap (answer_of v.state e.pid) is) refl
-    (λ g. (refl, ap (λ c. charge_in (after v.state e.pid c) e.pid) is ∙ ap (λ b. if b then cost (after_store v.state e.pid address size value).spaces e.pid else 0) live
-    ∙ store_charge v.state e.pid address size value ∙ sym (charge_is g)))
+    (λ g. (
+      refl,
+      ap (λ c. charge_in (after v.state e.pid c) e.pid) is ∙ ap (λ b. if b then cost (after_store v.state e.pid address size value).spaces e.pid else 0) live
+          ∙ store_charge v.state e.pid address size value ∙ sym (charge_is g),
+    ))
 
 -- a read maps its page first exactly where the page is not mapped, and fills none
 pub read_maps : (v : View) (p address : ℕ) (size : Size) → plan_at v p address size Read ≡ plan.MapZero → plan_of v.state p address size Read ≡ plan.MapZero

@@ -223,6 +223,8 @@ impl Core {
 #[cfg(test)]
 mod event_tests;
 #[cfg(test)]
+mod lazy_tests;
+#[cfg(test)]
 mod machine_tests;
 #[cfg(test)]
 mod tests;

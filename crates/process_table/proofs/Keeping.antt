@@ -13,7 +13,7 @@ use Rattle.table_walk.specs.declared.Access.{Access}
 use Rattle.table_walk.specs.declared.Access.TheVariants.{Read, Write}
 use Rattle.process_table.specs.State.{State, is_live, is_mapped, child_of}
 use Rattle.process_table.specs.Calls.{map_refusal, protect_refusal, offer_refusal, accept_refusal, spawn_refusal, exit_refusal, after_map, after_protect, after_offer, after_accept, after_spawn, after_exit, after_access, is_misaligned}
-use Rattle.process_table.specs.Answers.{child_unless, map_answer, protect_answer, offer_answer, accept_answer, spawn_answer, exit_answer}
+use Rattle.process_table.specs.TestAnswers.{child_unless, map_answer, protect_answer, offer_answer, accept_answer, spawn_answer, exit_answer}
 use Rattle.process_table.specs.View.{IsProcesses, IsWhole}
 use Rattle.process_table.specs.WellFormed.{IsWellFormed}
 use Rattle.process_table.specs.declared.causes.Cause.{Cause}

@@ -1,6 +1,6 @@
 pub mod BookLaws
 pub mod CellLaws
-pub mod Charges
+pub mod Charged
 pub mod ImageStanding
 pub mod Keeping
 pub mod Ranges
@@ -9,3 +9,4 @@ pub mod SharingLaws
 pub mod Sizes
 pub mod SpaceLaws
 pub mod Spawns
+pub mod StoreCharge

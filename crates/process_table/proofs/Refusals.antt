@@ -10,7 +10,7 @@ use Rattle.address_space.proofs.Totals.{cost-joined}
 use Rattle.page_sharing.specs.Offers.{offer_of, pending}
 use Rattle.process_table.specs.State.{State, is_live, is_mapped, has_no_room}
 use Rattle.process_table.specs.Calls.{at_page, map_refusal, protect_refusal, offer_refusal, accept_refusal, offered}
-use Rattle.process_table.specs.Answers.{first_cause, number_unless, map_answer, accept_answer}
+use Rattle.process_table.specs.TestAnswers.{first_cause, number_unless, map_answer, accept_answer}
 use Rattle.process_table.specs.declared.causes.Cause.{Cause}
 use Rattle.process_table.specs.declared.causes.Cause.TheVariants.{NoProcess}
 use borrow.Author.Tests.{eq-eqb}
@@ -127,6 +127,14 @@ no_cause s p cause number ok = by (is_live s p) cause ok refl refl
     by true None h live is = (live, is)
     by true (Some c) h live is = cc
     by false x h live is = cc
+
+-- where there is no first cause, the process is live and there is no cause
+pub no_first_cause : (s : State) (p : ℕ) (cause : Option Cause) → first_cause s p cause ≡ None → (is_live s p ≡ true) × (cause ≡ None)
+no_first_cause s p cause none = by (is_live s p) none refl
+  where
+    by : (live : Bool) → (if live then cause else Some NoProcess) ≡ None → is_live s p ≡ live → (is_live s p ≡ true) × (cause ≡ None)
+    by true h live = (live, h)
+    by false h live = cc
 
 -- the charge that the test of a map answers
 pub map-charge : (s : State) (p page charge : ℕ) → is_live s p ≡ true → map_refusal s p page ≡ None → charge ≡ cost s.spaces p + need s.spaces p page → map_answer s p page ≡ Ok charge

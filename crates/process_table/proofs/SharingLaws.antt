@@ -268,6 +268,14 @@ giver_mapped s p giver giver_page w there =
     (o.0, o.1)
 
 -- and its page is one of the user range
+-- a mapped slot lies in the user range
+pub mapped_user : (s : State) (slot : Slot) → IsWellFormed s → map.contains_key s.spaces slot ≡ true → IsUserPage slot.page
+mapped_user s slot w mapped = by (map.get s.spaces slot) refl mapped
+  where
+    by : (x : Option Cell) → map.get s.spaces slot ≡ x → is_some x ≡ true → IsUserPage slot.page
+    by None is h = cc
+    by (Some g) is h = (w.cells slot g is).user
+
 pub giver_user : (s : State) (p giver giver_page : ℕ) → IsWellFormed s → map.contains_key s.offers (offer_of giver giver_page p) ≡ true → IsUserPage giver_page
 giver_user s p giver giver_page w there = let g = giver_mapped s p giver giver_page w there in (w.cells (at_page giver giver_page) g.0 g.1).user
 

@@ -21,19 +21,12 @@ use Rattle.quota_tree.specs.Containers.{Containers, IsLive, used_of, room_of, to
 use Rattle.page_sharing.specs.Offers.{Offers}
 use Rattle.process_table.specs.State.{room, child_of}
 use Rattle.process_table.specs.Calls.{spawn_refusal}
-use Rattle.process_table.specs.Answers.{child_unless, spawn_answer}
+use Rattle.process_table.specs.TestAnswers.{translated, child_unless, spawn_answer}
 use Rattle.process_table.specs.View.{state_of, IsProcesses}
 use Rattle.process_table.specs.declared.causes.Cause.{Cause}
 use Rattle.process_table.specs.declared.causes.Cause.TheVariants as cause
-use Rattle.process_table.proofs.Charges.{differ, room-for}
+use Rattle.process_table.proofs.Charged.{differ, room-for}
 use Rattle.process_table.proofs.Ranges.{found}
-
--- a quota's fault, as the kernel names it
-abbrev pub translated : Result Pid QuotaFault → Result Pid Cause
-translated (Ok child) = Ok child
-translated (Err quota.BadQuota) = Err cause.BadQuota
-translated (Err quota.TableFull) = Err cause.TableFull
-translated (Err quota.NoRoom) = Err cause.Quota
 
 room-is : (v : frames.View) (c : Containers) (o : Offers) (p : ℕ) → IsProcesses v c → IsLive c p → room_of c p ≡ room (state_of v c o) p
 room-is v c o p kept live = ap (λ u. quota_of c.book p - u - given c.book p) (kept.charged p live)

@@ -2,10 +2,10 @@
 #![tactic(auto)]
 
 mod causes;
+mod charges;
+mod checks;
 mod laws;
 mod processes;
-mod rooms;
-mod sharing;
 
 pub use causes::Cause;
 pub use laws::{calls_keep_states_well_formed, images_stand_for_one};

@@ -1,13 +1,17 @@
+//! The type of the processes, and its calls.
+
 ghost use Rattle.std.specs.Prelude.{◌≡◌, ◌≢◌, ◌↔◌, ℕ, ◌+◌, ◌≤◌, ◌<◌, ◌%◌, Bool, true, false, not, Some, None, Ok, IsOk, IfOk, IsErrOf, length, is_some, replicate, slice_get};
 ghost use Rattle.page_words.specs.Addresses.{page_number, byte_count, IsUserPage, is_user_page};
 ghost use Rattle.page_words.specs.FiniteMap as map;
 ghost use Rattle.alloc_table.specs.Roles.{opening_roles};
-ghost use Rattle.address_space.specs.Spaces.{cost, need, slot_at, fresh, without, is_slot, is_of, cell_or_fresh};
+ghost use Rattle.address_space.specs.Spaces.{cost, need, slot_at, fresh, without, is_slot, is_of, cell_or_fresh, protected, joined};
+ghost use Rattle.page_sharing.specs.Offers.{offer_of};
+ghost use Rattle.std.specs.Option.{unwrap_or};
 ghost use Rattle.address_space.specs.Sound.{directory_of, total_cost};
 ghost use Rattle.quota_tree.specs.Containers.{IsLive, used_of, room_of, with_used, split_answer, after_split, opening};
 ghost use Rattle.process_table.specs.State.{is_live, is_mapped, has_no_room, container_of, open_with};
-ghost use Rattle.process_table.specs.Calls.{at_page, map_refusal, unmap_refusal, exit_refusal, after_map, after_unmap, after_protect, after_offer, after_withdraw, after_accept, after_spawn, after_exit, after_load, after_access, access_value, is_misaligned};
-ghost use Rattle.process_table.specs.Answers.{map_answer, unmap_answer, protect_answer, offer_answer, withdraw_answer, accept_answer, spawn_answer, exit_answer};
+ghost use Rattle.process_table.specs.Calls.{at_page, map_refusal, unmap_refusal, exit_refusal, after_map, after_unmap, after_protect, after_offer, after_withdraw, after_accept, after_spawn, after_exit, after_load, after_store, after_access, access_value, is_misaligned};
+ghost use Rattle.process_table.specs.TestAnswers.{translated, map_answer, unmap_answer, protect_answer, offer_answer, withdraw_answer, accept_answer, spawn_answer, exit_answer};
 ghost use Rattle.process_table.specs.View.{state_of, IsProcesses};
 ghost use Rattle.process_table.specs.Image.{StandsFor, image_of, memory_of};
 ghost use Rattle.address_space.specs.Image as memory;
@@ -18,13 +22,13 @@ ghost use Rattle.quota_tree.specs.Book.{number_of_children};
 ghost use Rattle.table_walk.specs.declared.Access.TheVariants as access_variant;
 
 use crate::causes::Cause;
-use crate::rooms::{charge_at, charge_with, charge_without, is_full, take_room};
-use crate::sharing::{
-    accept_test, join_page, offer_test, protect_test, set_right, take_offer, withdraw_test,
+use crate::charges::{charge_at, charge_of, charge_with, charge_without};
+use crate::checks::{
+    accept_check, exit_check, map_check, offer_check, protect_check, unmap_check, withdraw_check,
 };
 use address_space::{Spaces, SpacesFault};
 use page_sharing::Offers;
-use page_words::{Page, Pid, Size, Vaddr, in_user_range, page_of};
+use page_words::{Page, Pid, Size, Vaddr};
 use quota_tree::{Container, QuotaFault, Quotas};
 use std::alloc::Global;
 use std::marker::Model;
@@ -71,103 +75,16 @@ fn is_process(quotas: &Quotas, pid: Pid) -> bool
     quotas.get(pid).is_some()
 }
 
-/// Why a live process may not map a page, where it may not.
-fn map_check(
-    spaces: &Spaces,
-    quotas: &Quotas,
-    offers: &Offers,
-    pid: Pid,
-    page: Page,
-) -> Option<Cause>
-    requires kept { IsProcesses spaces.now quotas.now }
-    requires live { IsLive quotas.now pid }
-    ensures { result ≡ map_refusal (state_of spaces.now quotas.now offers.now) pid page }
+/// Charges a live process for frames that it has room for, which are then free.
+fn take_room(spaces: &Spaces, quotas: &mut Quotas, pid: Pid, frames: u32)
+    requires kept { IsProcesses spaces.now quotas.old }
+    requires live { IsLive quotas.old pid }
+    requires room { frames ≤ room_of quotas.old pid }
+    ensures quotas { quotas.new ≡ with_used quotas.old pid (used_of quotas.old pid + frames) }
+    ensures room { 1 + total_cost spaces.now.directories spaces.now.spaces + frames ≤ length spaces.now.roles }
 {
-    let is_bad = !in_user_range(page);
-    if is_bad {
-        Some(Cause::BadPage)
-    } else if spaces.cell(pid, page).is_some() {
-        Some(Cause::Mapped)
-    } else if is_full(spaces, quotas, offers, pid, page) {
-        Some(Cause::Quota)
-    } else {
-        None
-    }
-}
-
-/// Why a live process may not unmap a page, where it may not.
-fn unmap_check(
-    spaces: &Spaces,
-    quotas: &Quotas,
-    offers: &Offers,
-    pid: Pid,
-    page: Page,
-) -> Option<Cause>
-    ensures { result ≡ unmap_refusal (state_of spaces.now quotas.now offers.now) pid page }
-{
-    if !in_user_range(page) {
-        Some(Cause::BadPage)
-    } else if spaces.cell(pid, page).is_none() {
-        Some(Cause::NotMapped)
-    } else {
-        None
-    }
-}
-
-/// The charge of a live process after a map, or the cause against it.
-fn map_test(
-    spaces: &Spaces,
-    quotas: &Quotas,
-    offers: &Offers,
-    pid: Pid,
-    page: Page,
-) -> Result<u32, Cause>
-    requires kept { IsProcesses spaces.now quotas.now }
-    requires live { IsLive quotas.now pid }
-    ensures { result ≡ map_answer (state_of spaces.now quotas.now offers.now) pid page }
-{
-    match map_check(spaces, quotas, offers, pid, page) {
-        Some(cause) => Err(cause),
-        None => Ok(charge_with(spaces, quotas, pid, page)),
-    }
-}
-
-/// The charge of a live process after an unmap, or the cause against it.
-fn unmap_test(
-    spaces: &Spaces,
-    quotas: &Quotas,
-    offers: &Offers,
-    pid: Pid,
-    page: Page,
-) -> Result<u32, Cause>
-    requires kept { IsProcesses spaces.now quotas.now }
-    requires live { IsLive quotas.now pid }
-    ensures { result ≡ unmap_answer (state_of spaces.now quotas.now offers.now) pid page }
-{
-    match unmap_check(spaces, quotas, offers, pid, page) {
-        Some(cause) => Err(cause),
-        None => Ok(charge_without(spaces, quotas, pid, page)),
-    }
-}
-
-/// The number of a live process's next child of that quota, or the cause against it.
-fn spawn_test(
-    spaces: &Spaces,
-    quotas: &Quotas,
-    offers: &Offers,
-    pid: Pid,
-    quota: u32,
-) -> Result<Pid, Cause>
-    requires kept { IsProcesses spaces.now quotas.now }
-    requires live { IsLive quotas.now pid }
-    ensures { result ≡ spawn_answer (state_of spaces.now quotas.now offers.now) pid quota }
-{
-    match quotas.can_split(pid, quota) {
-        Ok(child) => Ok(child),
-        Err(QuotaFault::BadQuota) => Err(Cause::BadQuota),
-        Err(QuotaFault::TableFull) => Err(Cause::TableFull),
-        Err(QuotaFault::NoRoom) => Err(Cause::Quota),
-    }
+    quotas.charge(pid, frames);
+    quotas.within();
 }
 
 /// Maps a page of zeros.
@@ -201,6 +118,69 @@ fn remove_page(spaces: &mut Spaces, quotas: &mut Quotas, pid: Pid, page: Page)
     quotas.refund(pid, relief);
 }
 
+/// Sets the right to write to a mapped page.
+fn set_right(spaces: &mut Spaces, quotas: &Quotas, pid: Pid, page: Page, write: bool)
+    requires kept { IsProcesses spaces.old quotas.now }
+    requires user { IsUserPage page }
+    requires mapped { is_some (map.get spaces.old.spaces (record { pid = pid; page = page })) ≡ true }
+    requires right { write ≡ true → (cell_or_fresh spaces.old.spaces (record { pid = pid; page = page })).may ≡ true }
+    ensures kept { IsProcesses spaces.new quotas.now }
+    ensures spaces { spaces.new.spaces ≡ protected spaces.old.spaces (record { pid = pid; page = page }) write }
+{
+    // No charge changes: only the contract reads the quotas.
+    let _ = quotas;
+    spaces.protect(pid, page, write);
+}
+
+/// Takes out a pending offer, and gives its right.
+fn take_offer(offers: &mut Offers, giver: Pid, page: Page, target: Pid) -> bool
+    requires { map.contains_key offers.old (offer_of giver page target) ≡ true }
+    ensures right { result ≡ unwrap_or (map.get offers.old (offer_of giver page target)) false }
+    ensures offers { offers.new ≡ map.remove offers.old (offer_of giver page target) }
+{
+    offers.take(giver, page, target).unwrap()
+}
+
+/// Adds a page of a process to the group of another's, with this right.
+fn join_page(
+    spaces: &mut Spaces,
+    quotas: &mut Quotas,
+    giver: Pid,
+    giver_page: Page,
+    pid: Pid,
+    page: Page,
+    right: bool,
+)
+    requires kept { IsProcesses spaces.old quotas.old }
+    requires live { IsLive quotas.old pid }
+    requires given { is_some (map.get spaces.old.spaces (record { pid = giver; page = giver_page })) ≡ true }
+    requires from { IsUserPage giver_page }
+    requires user { IsUserPage page }
+    requires unmapped { map.get spaces.old.spaces (record { pid = pid; page = page }) ≡ None }
+    requires room { need spaces.old.spaces pid page ≤ room_of quotas.old pid }
+    ensures kept { IsProcesses spaces.new quotas.new }
+    ensures spaces { spaces.new.spaces ≡ joined spaces.old.spaces (record { pid = giver; page = giver_page }) (record { pid = pid; page = page }) right }
+    ensures book { quotas.new.book ≡ quotas.old.book }
+{
+    let need = spaces.need(pid, page);
+    take_room(spaces, quotas, pid, need);
+    spaces.fill(giver, giver_page);
+    spaces.join(giver, giver_page, pid, page, right);
+}
+
+/// The number of a live process's next child of that quota, or the cause against it.
+fn child_number(quotas: &Quotas, pid: Pid, quota: u32) -> Result<Pid, Cause>
+    requires live { IsLive quotas.now pid }
+    ensures { result ≡ translated (split_answer quotas.now pid quota) }
+{
+    match quotas.can_split(pid, quota) {
+        Ok(child) => Ok(child),
+        Err(QuotaFault::BadQuota) => Err(Cause::BadQuota),
+        Err(QuotaFault::TableFull) => Err(Cause::TableFull),
+        Err(QuotaFault::NoRoom) => Err(Cause::Quota),
+    }
+}
+
 /// Makes a child with a space of its own.
 fn add_process(spaces: &mut Spaces, quotas: &mut Quotas, pid: Pid, quota: u32) -> Pid
     requires kept { IsProcesses spaces.old quotas.old }
@@ -217,31 +197,6 @@ fn add_process(spaces: &mut Spaces, quotas: &mut Quotas, pid: Pid, quota: u32) -
     quotas.within();
     spaces.fresh(child);
     child
-}
-
-/// Why a live process may not exit, where it may not.
-fn exit_check(spaces: &Spaces, quotas: &Quotas, offers: &Offers, pid: Pid) -> Option<Cause>
-    requires live { IsLive quotas.now pid }
-    ensures { result ≡ exit_refusal (state_of spaces.now quotas.now offers.now) pid }
-{
-    if pid.number() == 0 {
-        Some(Cause::RootExit)
-    } else if quotas.get(pid).unwrap().children > 0 {
-        Some(Cause::HasChildren)
-    } else {
-        None
-    }
-}
-
-/// That a live process that exits is charged nothing then, or the cause against it.
-fn exit_test(spaces: &Spaces, quotas: &Quotas, offers: &Offers, pid: Pid) -> Result<u32, Cause>
-    requires live { IsLive quotas.now pid }
-    ensures { result ≡ exit_answer (state_of spaces.now quotas.now offers.now) pid }
-{
-    match exit_check(spaces, quotas, offers, pid) {
-        Some(cause) => Err(cause),
-        None => Ok(0),
-    }
 }
 
 /// Takes a process away, whose quota returns to its parent.
@@ -277,6 +232,7 @@ fn complete_access(
     ensures kept { IsProcesses spaces.new quotas.now }
     ensures value { result ≡ access_value (state_of spaces.old quotas.now offers.now) pid address size access }
     ensures state { state_of spaces.new quotas.now offers.now ≡ after_access (state_of spaces.old quotas.now offers.now) pid address size access value }
+    ensures roles { spaces.new.roles ≡ spaces.old.roles }
 {
     match access {
         Access::Read => spaces.read(pid, address, size),
@@ -358,10 +314,10 @@ impl Processes {
     pub fn can_map(&self, pid: Pid, page: Page) -> Result<u32, Cause>
         ensures { result ≡ map_answer self.now.state pid page }
     {
-        if !self.live(pid) {
-            return Err(Cause::NoProcess);
+        match map_check(self, pid, page) {
+            Some(cause) => Err(cause),
+            None => Ok(charge_with(self, pid, page)),
         }
-        map_test(&self.spaces, &self.quotas, &self.offers, pid, page)
     }
 
     /// Maps a page of zeros that the process may map, with the right to write as asked.
@@ -377,10 +333,10 @@ impl Processes {
     pub fn can_unmap(&self, pid: Pid, page: Page) -> Result<u32, Cause>
         ensures { result ≡ unmap_answer self.now.state pid page }
     {
-        if !self.live(pid) {
-            return Err(Cause::NoProcess);
+        match unmap_check(self, pid, page) {
+            Some(cause) => Err(cause),
+            None => Ok(charge_without(self, pid, page)),
         }
-        unmap_test(&self.spaces, &self.quotas, &self.offers, pid, page)
     }
 
     /// Takes a page away that the process may unmap; the offers of it go.
@@ -398,10 +354,10 @@ impl Processes {
     pub fn can_protect(&self, pid: Pid, page: Page, write: bool) -> Result<u32, Cause>
         ensures { result ≡ protect_answer self.now.state pid page write }
     {
-        if !self.live(pid) {
-            return Err(Cause::NoProcess);
+        match protect_check(self, pid, page, write) {
+            Some(cause) => Err(cause),
+            None => Ok(charge_of(self, pid)),
         }
-        protect_test(&self.spaces, &self.quotas, &self.offers, pid, page, write)
     }
 
     /// Sets or clears the right to write to a page, which the process may.
@@ -418,18 +374,10 @@ impl Processes {
     pub fn can_offer(&self, pid: Pid, page: Page, target: Pid, write: bool) -> Result<u32, Cause>
         ensures { result ≡ offer_answer self.now.state pid page target write }
     {
-        if !self.live(pid) {
-            return Err(Cause::NoProcess);
+        match offer_check(self, pid, page, target, write) {
+            Some(cause) => Err(cause),
+            None => Ok(charge_of(self, pid)),
         }
-        offer_test(
-            &self.spaces,
-            &self.quotas,
-            &self.offers,
-            pid,
-            page,
-            target,
-            write,
-        )
     }
 
     /// Makes an offer that the process may make, with the right to write or without it.
@@ -445,10 +393,10 @@ impl Processes {
     pub fn can_withdraw(&self, pid: Pid, page: Page, target: Pid) -> Result<u32, Cause>
         ensures { result ≡ withdraw_answer self.now.state pid page target }
     {
-        if !self.live(pid) {
-            return Err(Cause::NoProcess);
+        match withdraw_check(self, pid, page, target) {
+            Some(cause) => Err(cause),
+            None => Ok(charge_of(self, pid)),
         }
-        withdraw_test(&self.spaces, &self.quotas, &self.offers, pid, page, target)
     }
 
     /// Takes back an offer that is pending.
@@ -470,18 +418,10 @@ impl Processes {
     ) -> Result<u32, Cause>
         ensures { result ≡ accept_answer self.now.state pid giver giver_page page }
     {
-        if !self.live(pid) {
-            return Err(Cause::NoProcess);
+        match accept_check(self, pid, giver, giver_page, page) {
+            Some(cause) => Err(cause),
+            None => Ok(charge_with(self, pid, page)),
         }
-        accept_test(
-            &self.spaces,
-            &self.quotas,
-            &self.offers,
-            pid,
-            giver,
-            giver_page,
-            page,
-        )
     }
 
     /// Accepts an offer that the process may accept: its page is the giver's page too from now on, with
@@ -517,7 +457,7 @@ impl Processes {
         if !self.live(pid) {
             return Err(Cause::NoProcess);
         }
-        spawn_test(&self.spaces, &self.quotas, &self.offers, pid, quota)
+        child_number(&self.quotas, pid, quota)
     }
 
     /// Makes a child of a process that may have it, with that quota and an empty space, and gives its
@@ -535,10 +475,10 @@ impl Processes {
     pub fn can_exit(&self, pid: Pid) -> Result<u32, Cause>
         ensures { result ≡ exit_answer self.now.state pid }
     {
-        if !self.live(pid) {
-            return Err(Cause::NoProcess);
+        match exit_check(self, pid) {
+            Some(cause) => Err(cause),
+            None => Ok(0),
         }
-        exit_test(&self.spaces, &self.quotas, &self.offers, pid)
     }
 
     /// Takes away a process that may exit: its space, its offers and the offers to it go, and its quota
@@ -551,16 +491,17 @@ impl Processes {
         self.offers.drop_process(pid);
     }
 
-    /// What a live process is charged for once the page of an access is mapped. The address is a
-    /// multiple of the size, and lies in the user range.
+    /// What a live process is charged for after a load or a store that completes, once its page is
+    /// mapped. The address is a multiple of the size, and lies in the user range.
     pub fn access_charge(&self, pid: Pid, address: Vaddr, size: Size) -> u32
         requires live { is_live self.now.state pid ≡ true }
         requires user { IsUserPage (page_number address) }
         requires aligned { is_misaligned address size ≡ false }
-        ensures { result ≡ cost (after_load self.now.state pid address).spaces pid }
+        ensures load { result ≡ cost (after_load self.now.state pid address).spaces pid }
+        ensures store { (value : ℕ) → result ≡ cost (after_store self.now.state pid address size value).spaces pid }
     {
         let _ = size;
-        charge_at(&self.spaces, &self.quotas, &self.offers, pid, address)
+        charge_at(self, pid, address)
     }
 
     /// An access through a mapped page that the process may access so, at a multiple of the size: the
@@ -575,12 +516,12 @@ impl Processes {
         value: u32,
     ) -> u32
         requires mapped { is_mapped self.old.state (slot_at pid address) ≡ true }
-        requires user { IsUserPage (page_number address) }
         requires aligned { is_misaligned address size ≡ false }
         requires right { access ≡ Access.Write → (cell_or_fresh self.old.state.spaces (slot_at pid address)).write ≡ true }
         requires real { access ≡ Access.Write → is_lazy_at (memory_of self.old) (slot_at pid address) ≡ false }
         ensures value { result ≡ access_value self.old.state pid address size access }
         ensures state { self.new.state ≡ after_access self.old.state pid address size access value }
+        ensures roles { self.new.roles ≡ self.old.roles }
     {
         complete_access(
             &mut self.spaces,
@@ -605,7 +546,6 @@ impl Processes {
     /// Gives a mapped page a frame of its own, where it is lazy. The state stays.
     pub fn fill(&mut self, pid: Pid, page: Page)
         requires mapped { is_mapped self.old.state (record { pid = pid; page = page }) ≡ true }
-        requires user { IsUserPage page }
         ensures state { self.new.state ≡ self.old.state }
         ensures real { is_lazy_at (memory_of self.new) (record { pid = pid; page = page }) ≡ false }
     {

@@ -1,7 +1,8 @@
 //! Some thousands of events of all twelve calls, and what holds of frames, charges and shares after them.
 
+use super::lazy_tests::word_at;
 use super::*;
-use page_words::{Page, Size, Vaddr};
+use page_words::{Page, Size, TableWord, Vaddr};
 use std::test::Fail;
 
 /// An offer that was made, of which an event may be the answer.
@@ -129,6 +130,29 @@ fn frames_held(core: &Core) -> u32 {
     sum
 }
 
+/// How many lazy pages a table has, which hold no frame.
+fn lazy_pages_in(core: &Core, table: Frame) -> u32 {
+    let mut lazy = 0_u32;
+    for index in 0..1024 {
+        let word = TableWord::read(word_at(core, table, index));
+        if word.present() && word.lazy() {
+            lazy = lazy.wrapping_add(1);
+        }
+    }
+    lazy
+}
+
+/// How many lazy pages there are.
+fn lazy_pages(core: &Core) -> u32 {
+    let mut sum = 0_u32;
+    for f in 0..core.frames() {
+        if let Role::Table { .. } = core.role(Frame(f)) {
+            sum = sum.wrapping_add(lazy_pages_in(core, Frame(f)));
+        }
+    }
+    sum
+}
+
 /// What all live processes are charged for.
 fn charged(core: &Core) -> Result<u32, Fail> {
     let mut sum = 0_u32;
@@ -194,11 +218,12 @@ fn pages_of(core: &Core, wanted: u32) -> u32 {
     pages
 }
 
-/// For each number of holders, the frames with that many and the slots that are told that number agree.
-/// All pages that are mapped are in play, and 128 slots are.
+/// For each number of holders, the frames with that many and the slots that are told that number agree,
+/// and a lazy page is told one. All pages that are mapped are in play, and 128 slots are.
 fn shares_agree(core: &Core) -> Result<bool, Fail> {
-    let mut all = true;
-    for holders in 1..129 {
+    let alone = pages_of(core, 1).wrapping_add(lazy_pages(core));
+    let mut all = slots_told(core, 1)? == alone;
+    for holders in 2..129 {
         all = all && slots_told(core, holders)? == holders.wrapping_mul(pages_of(core, holders));
     }
     Ok(all)
@@ -301,7 +326,8 @@ fn flags_shares_and_counts_agree_after_many_events(rt: HostRuntime) -> Result<()
         }
         core.run(&events, &mut replies);
         count_done(&events, &replies, &mut done);
-        assert_eq!(rt; charged(&core)?, frames_held(&core), "round {round}");
+        let held = frames_held(&core).wrapping_add(lazy_pages(&core));
+        assert_eq!(rt; charged(&core)?, held, "round {round}");
         assert!(rt; flags_agree(&core)?, "round {round}");
         assert!(rt;
             sides_agree(&core, &events[31], replies[31]),

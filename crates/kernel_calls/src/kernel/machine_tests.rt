@@ -58,8 +58,8 @@ fn value_of(child: u8, n: u32) -> u32 {
     child as u32 * 1000 + n % 1000
 }
 
-/// Takes 59 pages of four regions, by Map, Load and Store in turn: 64 frames with the tables and the
-/// directory.
+/// Takes 59 pages of four regions, by Map, Load and Store in turn: 64 of its quota with the tables and
+/// the directory, and 24 frames, since only the 19 pages that were stored to have one.
 fn fills_its_quota(core: &mut Core, pid: Pid) -> bool {
     let child = pid.number();
     let mut all = true;
@@ -75,12 +75,28 @@ fn fills_its_quota(core: &mut Core, pid: Pid) -> bool {
     all
 }
 
+/// What a child's page has: what was stored in it, or 0.
+fn kept_value(child: u8, n: u32) -> u32 {
+    if n % 3 == 2 { value_of(child, n) } else { 0 }
+}
+
+/// Stores in each page what it has, so that each has a frame: 64 with the tables and the directory.
+fn stores_to_its_pages(core: &mut Core, pid: Pid) -> bool {
+    let child = pid.number();
+    let mut all = true;
+    for n in 0..59 {
+        let call = store(child_page(child, n), kept_value(child, n));
+        all = all && gives(core, pid, call, Reply::Done);
+    }
+    all
+}
+
 /// Each page still has what was stored in it.
 fn has_its_pages(core: &mut Core, pid: Pid) -> bool {
     let child = pid.number();
     let mut all = true;
     for n in 0..59 {
-        let value = if n % 3 == 2 { value_of(child, n) } else { 0 };
+        let value = kept_value(child, n);
         let kept = gives(core, pid, load(child_page(child, n)), Reply::Value(value));
         all = all && kept;
     }
@@ -178,17 +194,31 @@ fn only_the_root_is_left(core: &Core, root: Pid) -> bool {
     all
 }
 
-/// The root takes 61 pages of one region, the last 62 frames of memory, or gives them back.
-fn root_pages(core: &mut Core, root: Pid, take: bool) -> bool {
+/// The root maps 61 pages of one region, the last of its quota, which take one frame for their table.
+fn root_maps(core: &mut Core, root: Pid) -> bool {
     let mut all = true;
     for n in 0..61 {
         let page = user_page(n);
-        let call = if take {
-            Call::Map { page, write: true }
-        } else {
-            Call::Unmap { page }
-        };
-        all = all && gives(core, root, call, Reply::Done);
+        all = all && gives(core, root, Call::Map { page, write: true }, Reply::Done);
+    }
+    all
+}
+
+/// The root stores to these pages, which takes the last 61 frames of memory.
+fn root_stores(core: &mut Core, root: Pid) -> bool {
+    let mut all = true;
+    for n in 0..61 {
+        all = all && gives(core, root, store(user_page(n), n), Reply::Done);
+    }
+    all
+}
+
+/// The root gives these pages back.
+fn root_unmaps(core: &mut Core, root: Pid) -> bool {
+    let mut all = true;
+    for n in 0..61 {
+        let page = user_page(n);
+        all = all && gives(core, root, Call::Unmap { page }, Reply::Done);
     }
     all
 }
@@ -243,8 +273,15 @@ fn sixty_three_children_fill_their_quotas(rt: HostRuntime) -> Result<(), Fail> {
         let pid = Pid::new(number).ok_or("no child")?;
         assert!(rt; is_full_and_refused(&mut core, pid), "{number}");
     }
+    assert_eq!(rt; free_frames(&core), 4096 - 2 - 63 * 24);
+    for number in 1..64 {
+        let pid = Pid::new(number).ok_or("no child")?;
+        assert!(rt; stores_to_its_pages(&mut core, pid), "{number}");
+    }
     assert_eq!(rt; free_frames(&core), 62);
-    assert!(rt; root_pages(&mut core, root, true));
+    assert!(rt; root_maps(&mut core, root));
+    assert_eq!(rt; free_frames(&core), 61);
+    assert!(rt; root_stores(&mut core, root));
     assert_eq!(rt; free_frames(&core), 0);
     assert!(rt; is_refused_more_pages(&mut core, root, user_page(61)));
     assert!(rt; refuses(&mut core, root, Call::Exit, Cause::RootExit));
@@ -253,7 +290,7 @@ fn sixty_three_children_fill_their_quotas(rt: HostRuntime) -> Result<(), Fail> {
         assert!(rt; has_its_pages(&mut core, pid), "{number}");
     }
     assert!(rt; all_children_exit(&mut core));
-    assert!(rt; root_pages(&mut core, root, false));
+    assert!(rt; root_unmaps(&mut core, root));
     let left = core.container(root).ok_or("no container")?;
     assert_eq!(rt; left, at_boot);
     assert_eq!(rt; (left.used, left.given, left.children), (1, 0, 0));

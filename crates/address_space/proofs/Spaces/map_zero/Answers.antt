@@ -1,5 +1,7 @@
-use Rattle.std.proofs.Common.{subst, sym}
+use Rattle.std.proofs.Common.{ap, subst, sym, ◌∙◌}
 use Rattle.address_space.specs.Sound.{View, TableGiven}
+use Rattle.page_map.specs.Entries.{is_lazy_entry}
+use Rattle.address_space.proofs.Standing.{same_lazy}
 use Rattle.address_space.proofs.Costed.{Room, room_for_table, mapped}
 use Rattle.address_space.proofs.Spaces.map_zero.Goals as goal
 
@@ -16,3 +18,9 @@ invariant_of-self c =
     let given = subst (λ s. TableGiven c.self.inside.directories c.args.pid s c.self.inside.memory c.self.inside.frames c.give_table.new.memory c.give_table.new.frames) c.slot_of-slot.ensures c.give_table.ensures in
     mapped c.self.inside.directories c.self.inside.memory c.give_table.new.memory c.add_page.new.memory c.self.inside.frames c.give_table.new.frames c.give_table.new.frames c.args.pid c.args.page
     c.self.invariant room given c.add_page.ensures.slot
+
+pub returns-clause-lazy : goal.returns-clause-lazy
+returns-clause-lazy c =
+    let added = c.add_page.ensures in
+    same_lazy c.self.inside.directories c.add_page.new.memory c.give_table.new.frames added.slot.sound (record { pid = c.args.pid; page = c.args.page })
+    ∙ ap is_lazy_entry added.lazy.1 ∙ added.lazy.2

@@ -4,7 +4,7 @@ use Rattle.address_space.proofs.Costs.{cost-insert}
 use Rattle.quota_tree.specs.Containers.{used_of}
 use Rattle.process_table.specs.View.{IsProcesses}
 use Rattle.address_space.proofs.Totals.{cost-insert_other}
-use Rattle.process_table.proofs.Charges.{charged-one}
+use Rattle.process_table.proofs.Charged.{charged-one}
 use Rattle.process_table.proofs.processes.add_page.Goals as goal
 
 pub returns-clause-kept : goal.returns-clause-kept

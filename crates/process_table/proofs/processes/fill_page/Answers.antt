@@ -1,6 +1,6 @@
 use Rattle.std.proofs.Common.{ap}
 use Rattle.address_space.specs.Spaces.{cost}
-use Rattle.process_table.proofs.Charges.{charged-same}
+use Rattle.process_table.proofs.Charged.{charged-same}
 use Rattle.process_table.proofs.processes.fill_page.Goals as goal
 
 pub returns-clause-kept : goal.returns-clause-kept

@@ -5,7 +5,7 @@ use Rattle.process_table.specs.View.{IsProcesses}
 use Rattle.address_space.proofs.Departures.{slot_of_process}
 use Rattle.address_space.proofs.PageSteps.{not_same}
 use Rattle.address_space.proofs.Totals.{cost-without_other}
-use Rattle.process_table.proofs.Charges.{charged-one}
+use Rattle.process_table.proofs.Charged.{charged-one}
 use Rattle.process_table.proofs.processes.remove_page.Goals as goal
 
 less : (u k n m : ℕ) → u ≡ n → m + k ≡ n → u - k ≡ m

@@ -1,6 +1,6 @@
 use Rattle.std.proofs.Common.{sym, subst}
 use Rattle.process_table.specs.View.{IsProcesses}
-use Rattle.process_table.proofs.Charges.{charged-exit}
+use Rattle.process_table.proofs.Charged.{charged-exit}
 use Rattle.process_table.proofs.processes.remove_process.Goals as goal
 
 pub returns-clause-kept : goal.returns-clause-kept

@@ -2,7 +2,7 @@ use Rattle.std.proofs.Common.{sym, ap, subst, ◌∙◌}
 use Rattle.std.specs.Prelude.{IsOk}
 use Rattle.address_space.specs.Spaces.{joined}
 use Rattle.process_table.specs.State.{State}
-use Rattle.process_table.specs.Answers.{accept_answer}
+use Rattle.process_table.specs.TestAnswers.{accept_answer}
 use Rattle.process_table.specs.Calls.{at_page, accept_refusal, after_accept}
 use Rattle.process_table.specs.View.{View, state_of}
 use Rattle.process_table.proofs.Keeping.{whole, keeps-accept}

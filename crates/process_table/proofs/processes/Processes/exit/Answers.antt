@@ -1,7 +1,7 @@
 use Rattle.std.proofs.Common.{sym, subst}
 use Rattle.std.specs.Prelude.{IsOk}
 use Rattle.process_table.specs.State.{State}
-use Rattle.process_table.specs.Answers.{exit_answer}
+use Rattle.process_table.specs.TestAnswers.{exit_answer}
 use Rattle.process_table.specs.Calls.{after_exit}
 use Rattle.process_table.specs.View.{View, state_of}
 use Rattle.process_table.proofs.Keeping.{whole, keeps-exit}

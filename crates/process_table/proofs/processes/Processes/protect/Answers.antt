@@ -1,7 +1,7 @@
 use Rattle.std.proofs.Common.{refl, sym, subst}
 use Rattle.std.specs.Prelude.{IsOk}
 use Rattle.process_table.specs.State.{State}
-use Rattle.process_table.specs.Answers.{protect_answer}
+use Rattle.process_table.specs.TestAnswers.{protect_answer}
 use Rattle.process_table.specs.Calls.{after_protect}
 use Rattle.process_table.specs.View.{View, state_of}
 use Rattle.process_table.proofs.Keeping.{whole, keeps-protect}

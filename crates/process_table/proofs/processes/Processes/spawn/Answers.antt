@@ -2,10 +2,10 @@ use Rattle.std.proofs.Common.{refl, ap, sym, subst, ◌∙◌}
 use Rattle.std.specs.Prelude.{IsOk}
 use Rattle.page_words.specs.FiniteMap as map
 use Rattle.quota_tree.specs.Containers.{Containers}
-use Rattle.process_table.specs.Answers.{spawn_answer}
+use Rattle.process_table.specs.TestAnswers.{translated, spawn_answer}
 use Rattle.process_table.specs.Calls.{after_spawn}
 use Rattle.process_table.specs.View.{View, state_of}
-use Rattle.process_table.proofs.Spawns.{spawn-may, spawn-split, child-is, translated}
+use Rattle.process_table.proofs.Spawns.{spawn-may, spawn-split, child-is}
 use Rattle.process_table.specs.State.{State}
 use Rattle.process_table.proofs.Keeping.{whole, keeps-spawn}
 use Rattle.process_table.proofs.processes.Processes.spawn.Goals as goal

@@ -1,8 +1,8 @@
 use Rattle.std.proofs.Common.{ap, ◌∙◌, length}
 use Rattle.address_space.specs.Spaces.{cost}
 use Rattle.address_space.proofs.Totals.{cost-protected_of}
-use Rattle.process_table.proofs.Charges.{charged-same}
-use Rattle.process_table.proofs.sharing.set_right.Goals as goal
+use Rattle.process_table.proofs.Charged.{charged-same}
+use Rattle.process_table.proofs.processes.set_right.Goals as goal
 
 pub returns-clause-kept : goal.returns-clause-kept
 returns-clause-kept c =

@@ -3,8 +3,8 @@ use Rattle.address_space.specs.Spaces.{Slot, cost, joined}
 use Rattle.address_space.proofs.Totals.{cost-joined, cost-joined_other}
 use Rattle.quota_tree.specs.Containers.{used_of}
 use Rattle.process_table.specs.View.{IsProcesses}
-use Rattle.process_table.proofs.Charges.{charged-one}
-use Rattle.process_table.proofs.sharing.join_page.Goals as goal
+use Rattle.process_table.proofs.Charged.{charged-one}
+use Rattle.process_table.proofs.processes.join_page.Goals as goal
 
 pub returns-clause-kept : goal.returns-clause-kept
 returns-clause-kept c =

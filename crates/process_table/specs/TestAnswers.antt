@@ -6,6 +6,9 @@ use Rattle.process_table.specs.State.{State, is_live, child_of}
 use Rattle.process_table.specs.Calls.{map_refusal, unmap_refusal, protect_refusal, offer_refusal, withdraw_refusal, accept_refusal, spawn_refusal, exit_refusal, after_map, after_unmap, after_accept}
 use Rattle.process_table.specs.declared.causes.Cause.{Cause}
 use Rattle.process_table.specs.declared.causes.Cause.TheVariants.{NoProcess}
+use Rattle.quota_tree.specs.declared.QuotaFault.{QuotaFault}
+use Rattle.quota_tree.specs.declared.QuotaFault.TheVariants as quota
+use Rattle.process_table.specs.declared.causes.Cause.TheVariants as cause
 
 -- that the process is not live, and else the call's own cause
 abbrev pub first_cause : State → ℕ → Option Cause → Option Cause
@@ -49,3 +52,10 @@ spawn_answer s p quota = child_unless (first_cause s p (spawn_refusal s p quota)
 -- a process that is gone is charged nothing
 abbrev pub exit_answer : State → ℕ → Result ℕ Cause
 exit_answer s p = number_unless (first_cause s p (exit_refusal s p)) 0
+
+-- a quota's fault, as the kernel names it
+abbrev pub translated : Result Pid QuotaFault → Result Pid Cause
+translated (Ok child) = Ok child
+translated (Err quota.BadQuota) = Err cause.BadQuota
+translated (Err quota.TableFull) = Err cause.TableFull
+translated (Err quota.NoRoom) = Err cause.Quota

@@ -1,5 +1,5 @@
-use Rattle.process_table.proofs.Charges.{room-taken}
-use Rattle.process_table.proofs.rooms.take_room.Goals as goal
+use Rattle.process_table.proofs.Charged.{room-taken}
+use Rattle.process_table.proofs.processes.take_room.Goals as goal
 
 pub returns-clause-room : goal.returns-clause-room
 returns-clause-room c =

@@ -1,0 +1,15 @@
+use Rattle.std.proofs.Common.{◌≡◌, true, ap, sym, ◌∙◌, subst}
+use Rattle.quota_tree.specs.Containers.{IsLive}
+use Rattle.process_table.specs.State.{is_live}
+use Rattle.process_table.specs.TestAnswers.{spawn_answer}
+use Rattle.process_table.specs.View.{View}
+use Rattle.process_table.proofs.Spawns.{spawn-split}
+use Rattle.process_table.proofs.processes.Processes.can_spawn.Goals as goal
+
+pub returns : goal.returns
+returns c =
+    let p = c.args.pid in
+    let live = subst (λ (v : View). is_live v.state p ≡ true) (sym c.self.view_is) (sym c.live.ensures ∙ c.if-not-live.false) in
+    c.child_number.ensures
+    ∙ sym (spawn-split c.self.inside.spaces c.self.inside.quotas c.self.inside.offers p c.args.quota c.self.invariant.kept live)
+    ∙ ap (λ (v : View). spawn_answer v.state p c.args.quota) c.self.view_is

@@ -1,0 +1,12 @@
+use Rattle.std.proofs.Common.{◌≡◌, true, sym, subst}
+use Rattle.process_table.specs.State.{State, is_mapped}
+use Rattle.process_table.specs.Calls.{at_page}
+use Rattle.process_table.specs.View.{View, state_of}
+use Rattle.process_table.proofs.SharingLaws.{mapped_user}
+use Rattle.process_table.proofs.processes.Processes.fill.Goals as goal
+
+pub fill_page-requires-clause-user : goal.fill_page-requires-clause-user
+fill_page-requires-clause-user c =
+    let s : State = state_of c.self.inside.spaces c.self.inside.quotas c.self.inside.offers in
+    let slot = at_page c.args.pid c.args.page in
+    mapped_user s slot c.self.invariant.well_formed (subst (λ (v : View). is_mapped v.state slot ≡ true) (sym c.self.view_is) c.requires.mapped)

@@ -1,0 +1,84 @@
+//! What a live process is charged for, and what it has room for.
+
+ghost use Rattle.std.specs.Prelude.{◌≡◌, ◌+◌, ◌≤◌, ◌<◌, true};
+ghost use Rattle.page_words.specs.Addresses.{page_number, IsUserPage};
+ghost use Rattle.address_space.specs.Spaces.{cost, need, without, is_slot};
+ghost use Rattle.process_table.specs.State.{is_live, is_mapped, has_no_room, room};
+ghost use Rattle.process_table.specs.Calls.{at_page, after_load};
+
+use crate::processes::Processes;
+use page_words::{Page, Pid, Vaddr, page_of};
+
+/// What a live process is charged for.
+pub fn charge_of(processes: &Processes, pid: Pid) -> u32
+    requires live { is_live processes.now.state pid ≡ true }
+    ensures charge { result ≡ cost processes.now.state.spaces pid }
+    ensures few { result < 4096 }
+{
+    processes.stands();
+    processes.spaces().stands();
+    processes.container(pid).unwrap().used
+}
+
+/// What is left of a live process's quota.
+fn room_of(processes: &Processes, pid: Pid) -> u32
+    requires live { is_live processes.now.state pid ≡ true }
+    ensures { result ≡ room processes.now.state pid }
+{
+    processes.stands();
+    let container = processes.container(pid).unwrap();
+    container.quota - container.used - container.given
+}
+
+/// What one more page costs a live process.
+fn need_of(processes: &Processes, pid: Pid, page: Page) -> u32
+    requires live { is_live processes.now.state pid ≡ true }
+    requires user { IsUserPage page }
+    ensures value { result ≡ need processes.now.state.spaces pid page }
+    ensures most { result ≤ 2 }
+{
+    processes.stands();
+    processes.spaces().need(pid, page)
+}
+
+/// Whether a live process has no room for one more page.
+pub fn is_full(processes: &Processes, pid: Pid, page: Page) -> bool
+    requires live { is_live processes.now.state pid ≡ true }
+    requires user { IsUserPage page }
+    ensures { result ≡ has_no_room processes.now.state (at_page pid page) }
+{
+    room_of(processes, pid) < need_of(processes, pid, page)
+}
+
+/// What a live process is charged for once a page is mapped that is not.
+pub fn charge_with(processes: &Processes, pid: Pid, page: Page) -> u32
+    requires live { is_live processes.now.state pid ≡ true }
+    requires user { IsUserPage page }
+    ensures { result ≡ cost processes.now.state.spaces pid + need processes.now.state.spaces pid page }
+{
+    charge_of(processes, pid) + need_of(processes, pid, page)
+}
+
+/// What a live process is charged for once a mapped page is gone.
+pub fn charge_without(processes: &Processes, pid: Pid, page: Page) -> u32
+    requires live { is_live processes.now.state pid ≡ true }
+    requires user { IsUserPage page }
+    requires mapped { is_mapped processes.now.state (at_page pid page) ≡ true }
+    ensures { result ≡ cost (without processes.now.state.spaces (is_slot pid page)) pid }
+{
+    charge_of(processes, pid) - processes.spaces().relief(pid, page)
+}
+
+/// What a live process is charged for once the page of an address is mapped.
+pub fn charge_at(processes: &Processes, pid: Pid, address: Vaddr) -> u32
+    requires live { is_live processes.now.state pid ≡ true }
+    requires user { IsUserPage (page_number address) }
+    ensures { result ≡ cost (after_load processes.now.state pid address).spaces pid }
+{
+    let page = page_of(address);
+    if processes.spaces().cell(pid, page).is_some() {
+        charge_of(processes, pid)
+    } else {
+        charge_with(processes, pid, page)
+    }
+}
