@@ -1,8 +1,8 @@
 -- The chain of free frames: what it says of the free set, and that each write of a ledger keeps it.
-use Rattle.std.proofs.Common.{◌≡◌, ◌≢◌, ℕ, zero, suc, ◌+◌, ◌-◌, ◌<◌, ◌≤◌, inl, inr, Bool, true, false, cond, not, ◌&&◌, ◌||◌, List, [], ◌∷◌, length, map, get_or, refl, sym, ap, subst, ◌∙◌, arith, count_by, replicate}
+use Rattle.std.proofs.Common.{◌≡◌, ◌≢◌, ℕ, zero, suc, ◌+◌, ◌-◌, ◌<◌, ◌≤◌, inl, inr, Bool, true, false, cond, not, ◌&&◌, ◌||◌, List, [], ◌∷◌, length, map, get_or, refl, sym, ap, subst, ◌∙◌, arith, replicate}
 use Rattle.std.specs.Prelude.{slice_set, AllPairs}
 use Rattle.std.specs.List.{All, range_with_len}
-use Rattle.std.proofs.lemmas.List.{get_or-set_same, get_or-set_other, length-replicate, get_or_default, map-set, length-map, length-set}
+use Rattle.std.proofs.lemmas.List.{get_or-set_same, get_or-set_other, length-replicate, map-set, length-map, length-set}
 use Rattle.std.proofs.lemmas.List.Elements.{All-head, All-tail, All-cons}
 use Rattle.std.proofs.lemmas.List.Kept.{AllPairs-cons}
 use Rattle.std.proofs.lemmas.List.Sums.{count_by-le-length}
@@ -158,11 +158,15 @@ module _ (places : List ℕ) (head count : ℕ) (ledger : IsLedger places head c
         fewest = omega (arith, length-set places f head, ledger.fewest);
         most = omega (arith, length-set places f head, ledger.most);
         reserved = get_or-set_other places f 0 head IN_USE not_0 ∙ ledger.reserved;
-        chain = (f ∷ frames, record {
-          linked = (refl, subst P (sym (get_or-set_same places f head IN_USE h)) (IsChain-set places head f head frames new list.linked));
-          once = AllPairs-cons (λ a b. a ≢ b) f frames new list.once;
-          each = ap (λ s. set.insert s f) list.each ∙ sym (ap (λ l. l.free) (seen_as-put_back f h));
-        }, ap (λ n. n + 1) ledger.chain.2 ∙ (omega arith));
+        chain = (
+          f ∷ frames,
+          record {
+            linked = (refl, subst P (sym (get_or-set_same places f head IN_USE h)) (IsChain-set places head f head frames new list.linked));
+            once = AllPairs-cons (λ a b. a ≢ b) f frames new list.once;
+            each = ap (λ s. set.insert s f) list.each ∙ sym (ap (λ l. l.free) (seen_as-put_back f h));
+          },
+          ap (λ n. n + 1) ledger.chain.2 ∙ (omega arith),
+        );
       }
 
   -- the first frame taken
@@ -180,16 +184,19 @@ module _ (places : List ℕ) (head count : ℕ) (ledger : IsLedger places head c
       let Q : ℕ → Type 0 = λ k. All (λ q. k ≢ q) frames in
       let new : All (λ q. head ≢ q) frames = subst Q (sym list.linked.0) others in
       let P : ℕ → Type 0 = λ k. IsChain places (number_at places k) frames in
-      let linked : IsChain places (number_at places head) frames = subst P (sym list.linked.0) list.linked.1 in
-      (frames, record {
-        linked = IsChain-set places (number_at places head) head IN_USE frames new linked;
-        once = once-tail x frames list.once;
-        each =
-            sym (remove-insert (members frames) head (no_member head frames new))
-            ∙ ap (λ k. set.remove (set.insert (members frames) k) head) list.linked.0
-            ∙ ap (λ s. set.remove s head) list.each
-            ∙ sym (ap (λ l. l.free) (seen_as-take more));
-      }, omega arith)
+      let linked : IsChain places (number_at places head) frames = subst P (sym list.linked.0) list.linked.1 in (
+        frames,
+        record {
+          linked = IsChain-set places (number_at places head) head IN_USE frames new linked;
+          once = once-tail x frames list.once;
+          each =
+              sym (remove-insert (members frames) head (no_member head frames new))
+              ∙ ap (λ k. set.remove (set.insert (members frames) k) head) list.linked.0
+              ∙ ap (λ s. set.remove s head) list.each
+              ∙ sym (ap (λ l. l.free) (seen_as-take more));
+        },
+        omega arith,
+      )
 
   pub IsLedger-take : (next : ℕ) → head ≢ END → next ≡ number_at places head → IsLedger (slice_set places head IN_USE) next (count - 1)
   IsLedger-take next more is =

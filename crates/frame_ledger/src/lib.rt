@@ -9,6 +9,9 @@ ghost use Rattle.page_words.specs.FiniteSet as set;
 ghost use Rattle.frame_ledger.specs.FreeFrames.{opening, IsFree, IsTaken, with_free};
 ghost use Rattle.frame_ledger.specs.FreeList.{all_in_use};
 
+#[cfg(test)]
+mod tests;
+
 use page_words::Frame;
 use std::alloc::Global;
 use std::marker::Model;
@@ -149,47 +152,5 @@ impl Ledger {
         ensures free { (frame : ℕ) → IsFree self.now frame → (1 ≤ frame) × (frame < self.now.frames) }
     {
         let _ = &self.places;
-    }
-}
-
-#[cfg(test)]
-mod tests {
-    use super::*;
-    use std::test::Fail;
-
-    #[test]
-    fn takes_each_frame_once(rt: HostRuntime) -> Result<(), Fail> {
-        let mut ledger = Ledger::new(rt.alloc(), 16)?;
-        assert_eq!(rt; ledger.free_count(), 15);
-        for _ in 0..15 {
-            let frame = ledger.take().ok_or("a frame is free")?;
-            assert!(rt; !ledger.is_free(frame));
-        }
-        assert_eq!(rt; ledger.free_count(), 0);
-        assert_eq!(rt; ledger.take(), None);
-        Ok(())
-    }
-
-    #[test]
-    fn takes_again_what_was_put_back(rt: HostRuntime) -> Result<(), Fail> {
-        let mut ledger = Ledger::new(rt.alloc(), 16)?;
-        let frame = ledger.take().ok_or("a frame is free")?;
-        ledger.put_back(frame);
-        assert!(rt; ledger.is_free(frame));
-        assert_eq!(rt; ledger.free_count(), 15);
-        ledger.within();
-        Ok(())
-    }
-
-    #[test]
-    fn refuses_other_sizes(rt: HostRuntime) {
-        for (frames, fault) in [
-            (15, Some(LedgerFault::BadSize)),
-            (16, None),
-            (4096, None),
-            (4097, Some(LedgerFault::BadSize)),
-        ] {
-            assert_eq!(rt; Ledger::new(rt.alloc(), frames).err(), fault);
-        }
     }
 }

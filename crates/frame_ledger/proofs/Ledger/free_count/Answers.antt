@@ -1,4 +1,4 @@
-use Rattle.std.proofs.Common.{◌≡◌, ap, ◌∙◌}
+use Rattle.std.proofs.Common.{ap, ◌∙◌}
 use Rattle.page_words.specs.FiniteSet as set
 use Rattle.frame_ledger.proofs.Chains.{count_is}
 use Rattle.frame_ledger.proofs.Ledger.free_count.Goals as goal

@@ -1,4 +1,4 @@
-use Rattle.std.proofs.Common.{◌≡◌, ◌<◌, ◌≤◌, false, length, ap, ◌∙◌, arith}
+use Rattle.std.proofs.Common.{◌≡◌, false, length, ap, ◌∙◌, arith}
 use Rattle.page_words.specs.FiniteSet as set
 use Rattle.frame_ledger.specs.FreeFrames.{with_free}
 use Rattle.frame_ledger.specs.FreeList.{seen_as}
