@@ -1,2 +1,2 @@
 pub mod FreeFrames
-pub mod Marks
+pub mod FreeList

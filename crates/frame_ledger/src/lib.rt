@@ -4,9 +4,13 @@
 //! was made for. Frame 0 is never free.
 #![tactic(auto)]
 
-ghost use Rattle.std.specs.Prelude.{◌≡◌, ℕ, ◌<◌, ◌≤◌, ◌↔◌, true, false, IsTrue, IfOk, IsErrOf, IfSome, IsNone, position, count_by};
+ghost use Rattle.std.specs.Prelude.{◌≡◌, ℕ, ◌<◌, ◌≤◌, ◌↔◌, false, IfOk, IfErr, IsErrOf, IfSome, IsNone};
 ghost use Rattle.page_words.specs.FiniteSet as set;
 ghost use Rattle.frame_ledger.specs.FreeFrames.{opening, IsFree, IsTaken, with_free};
+ghost use Rattle.frame_ledger.specs.FreeList.{all_in_use};
+
+#[cfg(test)]
+mod tests;
 
 use page_words::Frame;
 use std::alloc::Global;
@@ -27,10 +31,21 @@ pub enum LedgerFault {
     NoMemory,
 }
 
-/// The free frames among the frames 0 to n - 1.
+/// What ends the list of free frames: the number of frame 0, which is never free.
+const END: u32 = 0;
+
+/// What stands in the place of a frame in use: no frame has this number.
+const IN_USE: u32 = u32::MAX;
+
+/// The free frames among the frames 0 to n - 1, as a list through one place a frame.
 #[derive(Debug, Drop)]
 pub struct Ledger {
-    free: Vec<bool>,
+    /// For each frame the next free one, END at the last of them, and IN_USE where it isn't free.
+    places: Vec<u32>,
+    /// The first free frame, or END.
+    head: u32,
+    /// How many frames are free.
+    count: u32,
 }
 
 impl Model for Ledger {
@@ -40,17 +55,11 @@ impl Model for Ledger {
 
     ghost coded = { free_frames_code };
 
-    ghost use Rattle.frame_ledger.specs.Marks.{seen_as, IsLedger};
+    ghost use Rattle.frame_ledger.specs.FreeList.{seen_as, IsLedger};
 
-    ghost view = { λ ledger. seen_as ledger.free.items };
+    ghost view = { λ ledger. seen_as ledger.places.items };
 
-    ghost invariant = { λ ledger. IsLedger ledger.free.items };
-}
-
-fn first_marked(marks: &[bool]) -> Option<usize>
-    ensures { result ≡ position (λ mark. mark) marks.now }
-{
-    marks.iter().position(|mark| *mark)
+    ghost invariant = { λ ledger. IsLedger ledger.places.items ledger.head ledger.count };
 }
 
 impl Ledger {
@@ -65,11 +74,26 @@ impl Ledger {
         if frames < FEWEST_FRAMES || frames > MOST_FRAMES {
             return Err(LedgerFault::BadSize);
         }
-        match vec![in alloc; true; frames as usize] {
-            Ok(mut free) => {
-                free[0] = false;
-                Ok(Ledger { free })
-            }
+        let mut ledger = Ledger::full(alloc, frames)?;
+        for frame in (1..frames).rev() {
+            ledger.put_back(Frame(frame));
+        }
+        Ok(ledger)
+    }
+
+    /// A ledger of which no frame is free, of 16 to 4,096 frames.
+    fn full(alloc: Global, frames: u32) -> Result<Ledger, LedgerFault>
+        requires fewest { FEWEST_FRAMES ≤ frames }
+        requires most { frames ≤ MOST_FRAMES }
+        ensures ledger { IfOk result (λ ledger. ledger ≡ all_in_use frames) }
+        ensures no_memory { IfErr result (λ fault. fault ≡ LedgerFault.NoMemory) }
+    {
+        match vec![in alloc; IN_USE; frames as usize] {
+            Ok(places) => Ok(Ledger {
+                places,
+                head: END,
+                count: 0,
+            }),
             Err(_) => Err(LedgerFault::NoMemory),
         }
     }
@@ -82,9 +106,15 @@ impl Ledger {
         ensures none { IsNone result ↔ (set.len self.old.free ≡ 0) }
         ensures kept { IsNone result → (self.new ≡ self.old) }
     {
-        let frame = first_marked(&self.free)?;
-        self.free[frame] = false;
-        Some(Frame(frame as u32))
+        let frame = self.head;
+        if frame == END {
+            return None;
+        }
+        let place = frame as usize;
+        self.head = self.places[place];
+        self.places[place] = IN_USE;
+        self.count -= 1;
+        Some(Frame(frame))
     }
 
     /// Makes a frame free. It is one of 1 to n - 1, and isn't free.
@@ -94,8 +124,10 @@ impl Ledger {
         requires in_use { set.contains self.old.free frame ≡ false }
         ensures { self.new ≡ with_free self.old frame }
     {
-        let index = frame.0 as usize;
-        self.free[index] = true;
+        let place = frame.0 as usize;
+        self.places[place] = self.head;
+        self.head = frame.0;
+        self.count += 1;
     }
 
     /// Whether a frame, one of 0 to n - 1, is free.
@@ -103,14 +135,14 @@ impl Ledger {
         requires { frame < self.now.frames }
         ensures { result ≡ set.contains self.now.free frame }
     {
-        self.free[frame.0 as usize]
+        self.places[frame.0 as usize] != IN_USE
     }
 
     /// How many frames are free: 0 to n - 1.
     pub fn free_count(&self) -> u32
         ensures { result ≡ set.len self.now.free }
     {
-        self.free.iter().filter(|mark| **mark).count() as u32
+        self.count
     }
 
     /// There are 16 to 4,096 frames, and each that is free is one of 1 to n - 1.
@@ -119,48 +151,6 @@ impl Ledger {
         ensures most { self.now.frames ≤ MOST_FRAMES }
         ensures free { (frame : ℕ) → IsFree self.now frame → (1 ≤ frame) × (frame < self.now.frames) }
     {
-        let _ = &self.free;
-    }
-}
-
-#[cfg(test)]
-mod tests {
-    use super::*;
-    use std::test::Fail;
-
-    #[test]
-    fn takes_each_frame_once(rt: HostRuntime) -> Result<(), Fail> {
-        let mut ledger = Ledger::new(rt.alloc(), 16)?;
-        assert_eq!(rt; ledger.free_count(), 15);
-        for _ in 0..15 {
-            let frame = ledger.take().ok_or("a frame is free")?;
-            assert!(rt; !ledger.is_free(frame));
-        }
-        assert_eq!(rt; ledger.free_count(), 0);
-        assert_eq!(rt; ledger.take(), None);
-        Ok(())
-    }
-
-    #[test]
-    fn takes_again_what_was_put_back(rt: HostRuntime) -> Result<(), Fail> {
-        let mut ledger = Ledger::new(rt.alloc(), 16)?;
-        let frame = ledger.take().ok_or("a frame is free")?;
-        ledger.put_back(frame);
-        assert!(rt; ledger.is_free(frame));
-        assert_eq!(rt; ledger.free_count(), 15);
-        ledger.within();
-        Ok(())
-    }
-
-    #[test]
-    fn refuses_other_sizes(rt: HostRuntime) {
-        for (frames, fault) in [
-            (15, Some(LedgerFault::BadSize)),
-            (16, None),
-            (4096, None),
-            (4097, Some(LedgerFault::BadSize)),
-        ] {
-            assert_eq!(rt; Ledger::new(rt.alloc(), frames).err(), fault);
-        }
+        let _ = &self.places;
     }
 }
