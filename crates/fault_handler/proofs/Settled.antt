@@ -1,6 +1,6 @@
 -- An access that goes on: what its plan tells, and that mapping its page first leaves what the definition says.
-use Rattle.std.proofs.Common.{◌≡◌, ◌≢◌, ℕ, Bool, true, false, not, ◌&&◌, cond, refl, sym, ap, subst, ◌∙◌, inl, inr, Option, Some, None, is_some, unwrap_or}
-use Rattle.std.specs.Prelude.{if◌then◌else◌, ◌⊎◌}
+use Rattle.std.proofs.Common.{◌≡◌, ◌≢◌, ℕ, ◌-◌, nat_lt, arith, Ok, Bool, true, false, not, ◌&&◌, cond, refl, sym, ap, subst, ◌∙◌, inl, inr, Option, Some, None, is_some, unwrap_or}
+use Rattle.std.specs.Prelude.{if◌then◌else◌, ◌⊎◌, IsOk}
 use Rattle.page_words.specs.Addresses.{page_number, offset_number, byte_count, is_user_page}
 use Rattle.page_words.specs.declared.addresses.Size.{Size}
 use Rattle.page_words.specs.FiniteMap as map
@@ -9,13 +9,20 @@ use Rattle.address_space.specs.Spaces.{Slot, Cell, slot_order, slot_at, cell_or_
 use Rattle.address_space.proofs.MapFirst.{accessed-fresh, stored-fresh}
 use Rattle.table_walk.specs.declared.Access.{Access}
 use Rattle.table_walk.specs.declared.Access.TheVariants.{Read, Write}
-use Rattle.table_walk.specs.Walk.{is_write}
-use Rattle.process_table.specs.State.{State, is_mapped, has_no_room}
+use Rattle.table_walk.specs.Walk.{is_write, page_fault}
+use Rattle.process_table.specs.State.{State, is_live, is_mapped, has_no_room}
 use Rattle.process_table.specs.Calls.{is_misaligned, access_value, after_access, after_map}
-use Rattle.process_table.specs.declared.causes.Cause.TheVariants.{Misaligned, Quota}
+use Rattle.process_table.specs.declared.causes.Cause.TheVariants.{NoProcess, BadPage, Mapped, Misaligned, Quota}
+use Rattle.process_table.specs.TestAnswers.{map_answer, number_unless}
+use Rattle.quota_tree.specs.Book.{Member, given}
+use Rattle.address_space.specs.Spaces.{cost, need, regions_of, pages_of}
+use Rattle.page_words.specs.FiniteSet as set
+use Rattle.page_words.specs.Addresses.{slot_number}
+use Rattle.table_walk.specs.declared.PageFault.{PageFault}
+use Rattle.std.specs.Option.{option_map}
 use Rattle.fault_handler.specs.declared.plans.Plan.{Plan}
 use Rattle.fault_handler.specs.declared.plans.Plan.TheVariants as plan
-use Rattle.fault_handler.specs.Plans.{plan_of, with_fill, plan_at, absent, goes_on}
+use Rattle.fault_handler.specs.Plans.{plan_of, with_fill, plan_at, goes_on}
 use Rattle.address_space.specs.Image.{is_lazy_at}
 use Rattle.process_table.specs.View.{View}
 use Rattle.process_table.specs.Image.{memory_of}
@@ -35,14 +42,14 @@ pub ready : (s : State) (p address : ℕ) (size : Size) (access : Access) → go
     ⊎ ((plan_of s p address size access ≡ plan.MapZero) × (map.contains_key s.spaces (slot_at p address) ≡ false))
 ready s p address size access g =
     let a = skip (is_misaligned address size) (plan.Refused Misaligned) _ refl g in
-    let b = skip (not (is_user_page (page_number address))) (plan.Fault (record { addr = address; code = absent access })) _ refl a.1 in
+    let b = skip (not (is_user_page (page_number address))) (plan.Fault (page_fault address access false)) _ refl a.1 in
     by (a.2 ∙ b.2) (is_mapped s slot) refl b.1
   where
     slot : Slot
     slot = slot_at p address
 
     mapped_plan : Plan
-    mapped_plan = if is_write access && not (cell_or_fresh s.spaces slot).write then plan.Fault (record { addr = address; code = 7 }) else plan.Complete
+    mapped_plan = if is_write access && not (cell_or_fresh s.spaces slot).write then plan.Fault (page_fault address access true) else plan.Complete
 
     unmapped_plan : Plan
     unmapped_plan = if has_no_room s slot then plan.Refused Quota else plan.MapZero
@@ -51,7 +58,7 @@ ready s p address size access g =
         → ((plan_of s p address size access ≡ plan.Complete) × IsAllowed s slot access) ⊎ ((plan_of s p address size access ≡ plan.MapZero) × (map.contains_key s.spaces slot ≡ false))
     by is true m h =
         let e : (if is_mapped s slot then mapped_plan else unmapped_plan) ≡ mapped_plan = ap (λ b. if b then mapped_plan else unmapped_plan) m in
-        let k = skip (is_write access && not (cell_or_fresh s.spaces slot).write) (plan.Fault (record { addr = address; code = 7 })) plan.Complete refl (sym (ap goes_on e) ∙ h) in
+        let k = skip (is_write access && not (cell_or_fresh s.spaces slot).write) (plan.Fault (page_fault address access true)) plan.Complete refl (sym (ap goes_on e) ∙ h) in
         inl (is ∙ e ∙ k.2, (m, k.0))
     by is false m h =
         let e : (if is_mapped s slot then mapped_plan else unmapped_plan) ≡ unmapped_plan = ap (λ b. if b then mapped_plan else unmapped_plan) m in
@@ -66,7 +73,7 @@ of_not false h = cc
 pub reached : (s : State) (p address : ℕ) (size : Size) (access : Access) → goes_on (plan_of s p address size access) ≡ true → (is_misaligned address size ≡ false) × (is_user_page (page_number address) ≡ true)
 reached s p address size access g =
     let a = skip (is_misaligned address size) (plan.Refused Misaligned) _ refl g in
-    let b = skip (not (is_user_page (page_number address))) (plan.Fault (record { addr = address; code = absent access })) _ refl a.1 in
+    let b = skip (not (is_user_page (page_number address))) (plan.Fault (page_fault address access false)) _ refl a.1 in
     (a.0, of_not _ b.0)
 
 -- the state before the access itself: its page is mapped with the right, and the access gives and leaves what it would have
@@ -171,3 +178,48 @@ settled_at v t x p address size access is g other first =
 
     plain : Plan
     plain = plan_of v.state p address size access
+
+-- a process with room for a page is live
+roomy_is_live : (s : State) (slot : Slot) → has_no_room s slot ≡ false → is_live s slot.pid ≡ true
+roomy_is_live s slot roomy = by (map.get s.book slot.pid) refl
+  where
+    needs : (b : Bool) → nat_lt 0 (if b then 1 else 2) ≡ true
+    needs true = refl
+    needs false = refl
+
+    none : (cost given n : ℕ) → nat_lt 0 n ≡ true → nat_lt (0 - cost - given) n ≡ true
+    none cost given n h = ap (λ k. nat_lt k n) (omega arith) ∙ h
+
+    by : (x : Option Member) → map.get s.book slot.pid ≡ x → is_some (map.get s.book slot.pid) ≡ true
+    by (Some member) is = ap is_some is
+    by None is =
+        let full : has_no_room s slot ≡ true =
+        ap (λ (y : Option Member). nat_lt (unwrap_or (option_map (λ member. member.quota) y) 0 - cost s.spaces slot.pid - given s.book slot.pid) (need s.spaces slot.pid slot.page)) is
+        ∙ none (cost s.spaces slot.pid) (given s.book slot.pid) (need s.spaces slot.pid slot.page) (needs (set.contains (regions_of (pages_of s.spaces slot.pid)) (slot_number slot.page))) in
+        let both : true ≡ false = sym full ∙ roomy in
+        cc
+
+-- a plan to map a page first tells that the page is of the user range and not mapped, and that there is room
+maps_first : (a u m w r : Bool) (outside right : PageFault)
+    → (if a then plan.Refused Misaligned else if not u then plan.Fault outside else if m then (if w then plan.Fault right else plan.Complete) else if r then plan.Refused Quota else plan.MapZero) ≡ plan.MapZero
+    → (u ≡ true) × (m ≡ false) × (r ≡ false)
+maps_first true u m w r outside right h = cc
+maps_first false false m w r outside right h = cc
+maps_first false true true true r outside right h = cc
+maps_first false true true false r outside right h = cc
+maps_first false true false w true outside right h = cc
+maps_first false true false w false outside right h = (refl, refl, refl)
+
+-- so the page may be mapped
+pub may_map_first : (v : View) (x : Plan) (p address : ℕ) (size : Size) (access : Access) → x ≡ plan_at v p address size access → x ≡ plan.MapZero → IsOk (map_answer v.state p (page_number address))
+may_map_first v x p address size access is first =
+    let s = v.state in
+    let slot = slot_at p address in
+    let plain : plan_of s p address size access ≡ plan.MapZero = fill_maps (is_lazy_at (memory_of v) slot) access (plan_of s p address size access) (sym is ∙ first) in
+    let tells = maps_first (is_misaligned address size) (is_user_page (page_number address)) (is_mapped s slot) (is_write access && not (cell_or_fresh s.spaces slot).write) (has_no_room s slot)
+        (page_fault address access false) (page_fault address access true) plain in
+    let live = roomy_is_live s slot tells.2 in
+    let n = cost (after_map s p (page_number address) true).spaces p in
+    let ok : map_answer s p (page_number address) ≡ Ok n =
+        λ i. number_unless (if live i then (if not (tells.0 i) then Some BadPage else if tells.1 i then Some Mapped else if tells.2 i then Some Quota else None) else Some NoProcess) n in
+    subst IsOk (sym ok) refl

@@ -12,7 +12,7 @@ ghost use Rattle.process_table.specs.TestAnswers.{map_answer};
 ghost use Rattle.process_table.specs.Calls.{is_misaligned, access_value, after_access, after_map};
 ghost use Rattle.address_space.specs.Image.{is_lazy_at};
 ghost use Rattle.process_table.specs.Image.{memory_of};
-ghost use Rattle.fault_handler.specs.Plans.{plan_of, plan_at, absent, goes_on};
+ghost use Rattle.fault_handler.specs.Plans.{plan_of, plan_at, goes_on};
 
 mod plans;
 
@@ -25,16 +25,6 @@ fn is_aligned(address: Vaddr, size: Size) -> bool
     ensures { result ≡ not (is_misaligned address size) }
 {
     address.0 % size.bytes() == 0
-}
-
-/// The error code of an access to a page that is not mapped and can't be.
-fn absent_code(access: Access) -> u8
-    ensures { result ≡ absent access }
-{
-    match access {
-        Access::Read => 4,
-        Access::Write => 6,
-    }
 }
 
 /// What an access of a live process comes to, whether its page is lazy or not.
@@ -51,16 +41,12 @@ fn outcome(processes: &Processes, pid: Pid, address: Vaddr, size: Size, access: 
     }
     let page = page_of(address);
     if !in_user_range(page) {
-        return Plan::Fault(PageFault {
-            addr: address,
-            code: absent_code(access),
-        });
+        return Plan::Fault(PageFault::new(address, access, false));
     }
     match processes.spaces().cell(pid, page) {
-        Some(cell) if access == Access::Write && !cell.write => Plan::Fault(PageFault {
-            addr: address,
-            code: 7,
-        }),
+        Some(cell) if access == Access::Write && !cell.write => {
+            Plan::Fault(PageFault::new(address, access, true))
+        }
         Some(_) => Plan::Complete,
         None if processes.can_map(pid, page).is_err() => Plan::Refused(Cause::Quota),
         None => Plan::MapZero,
@@ -125,7 +111,6 @@ pub fn settle(
     access: Access,
     value: u32,
 ) -> u32
-    requires live { is_live processes.old.state pid ≡ true }
     requires plan { plan ≡ plan_at processes.old pid address size access }
     requires completes { goes_on plan ≡ true }
     ensures value { result ≡ access_value processes.old.state pid address size access }

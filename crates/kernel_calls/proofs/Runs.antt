@@ -9,7 +9,7 @@ use Rattle.address_space.specs.Spaces.{cell_or_fresh, slot_at}
 use Rattle.quota_tree.specs.Book.{Member, quota_of}
 use Rattle.table_walk.specs.declared.Access.{Access}
 use Rattle.table_walk.specs.declared.Access.TheVariants.{Read, Write}
-use Rattle.table_walk.specs.Walk.{is_write}
+use Rattle.table_walk.specs.Walk.{page_fault, is_write}
 use Rattle.process_table.specs.State.{State, open_with, is_live, is_mapped, has_no_room}
 use Rattle.process_table.specs.Calls.{is_misaligned, map_refusal, protect_refusal, offer_refusal, accept_refusal, spawn_refusal, exit_refusal}
 use Rattle.process_table.specs.Laws.{IsReachable}
@@ -19,7 +19,7 @@ use Rattle.process_table.specs.declared.causes.Cause.TheVariants as cause
 use Rattle.process_table.proofs.BookLaws.{well_formed-open, well_formed-unmap, well_formed-spawn, well_formed-exit, root-spawn, root-exit, total-within}
 use Rattle.process_table.proofs.SpaceLaws.{well_formed-map, well_formed-load, well_formed-store}
 use Rattle.process_table.proofs.SharingLaws.{well_formed-protect, well_formed-offer, well_formed-withdraw, well_formed-accept}
-use Rattle.fault_handler.specs.Plans.{plan_of, absent, goes_on}
+use Rattle.fault_handler.specs.Plans.{plan_of, goes_on}
 use Rattle.fault_handler.specs.declared.plans.Plan.{Plan}
 use Rattle.fault_handler.specs.declared.plans.Plan.TheVariants as plan
 use Rattle.fault_handler.proofs.Settled.{reached}
@@ -53,8 +53,8 @@ reachable s p address size access g =
   where
     by : (a b m w r : Bool) → goes_on (
         if a then plan.Refused cause.Misaligned else
-        if not b then plan.Fault (record { addr = address; code = absent access }) else
-        if m then if w then plan.Fault (record { addr = address; code = 7 }) else plan.Complete
+        if not b then plan.Fault (page_fault address access false) else
+        if m then if w then plan.Fault (page_fault address access true) else plan.Complete
         else
         if r then plan.Refused cause.Quota else
         plan.MapZero) ≡ true → (m ≡ true) ⊎ (r ≡ false)

@@ -5,8 +5,10 @@ use Rattle.std.proofs.lemmas.Bool.Decides.{nat_tests}
 use Rattle.page_words.specs.Words.{frame_number, is_present, is_user, is_writable}
 use Rattle.table_walk.specs.declared.Access.{Access}
 use Rattle.table_walk.specs.declared.Access.TheVariants.{Read, Write}
+use Rattle.table_walk.specs.declared.PageFault.{PageFault}
 use Rattle.table_walk.specs.declared.WalkEnd.{WalkEnd}
-use Rattle.table_walk.specs.Walk.{walk_of, dir_word, table_word, is_outside, is_write, fault, Leads, WalksFindWhatLeads}
+use Rattle.table_walk.specs.declared.WalkEnd.TheVariants.{Fault}
+use Rattle.table_walk.specs.Walk.{walk_of, dir_word, table_word, is_outside, is_write, page_fault, Leads, WalksFindWhatLeads}
 
 found : (bytes : List ℕ) (directory address : ℕ) (access : Access) (frame : ℕ)
     → Leads bytes directory address access frame → walk_of bytes directory address access ≡ Ok frame
@@ -19,8 +21,8 @@ else_taken : {A E : Type 0} (b : Bool) (l r : Result A E) (x : A) → (l ≡ Ok 
 else_taken true l r x n h = absurd (n h)
 else_taken false l r x n h = (refl, h)
 
-fault_no_frame : (address : ℕ) (access : Access) (rights : ℕ) (frame : ℕ) → fault address access rights ≡ Ok frame → ⊥
-fault_no_frame address access rights frame h = cc
+fault_no_frame : (fault : PageFault) (frame : ℕ) → ◌≡◌ {A = Result ℕ WalkEnd} (Err (Fault fault)) (Ok frame) → ⊥
+fault_no_frame fault frame h = cc
 
 true_of_not : (b : Bool) → not b ≡ false → b ≡ true
 true_of_not true h = refl
@@ -48,11 +50,11 @@ leads bytes directory address access frame e =
     let d = dir_word bytes directory address in
     let t = table_word bytes directory address in
     let s1 = else_taken (is_outside bytes directory) _ _ frame (λ n. cc) e in
-    let s2 = else_taken (not (is_present d)) _ _ frame (fault_no_frame address access 0 frame) s1.1 in
+    let s2 = else_taken (not (is_present d)) _ _ frame (fault_no_frame (page_fault address access false) frame) s1.1 in
     let s3 = else_taken (is_outside bytes (frame_number d)) _ _ frame (λ n. cc) s2.1 in
-    let s4 = else_taken (not (is_present t)) _ _ frame (fault_no_frame address access 0 frame) s3.1 in
-    let s5 = else_taken (not (is_user d && is_user t)) _ _ frame (fault_no_frame address access 1 frame) s4.1 in
-    let s6 = else_taken (is_write access && not (is_writable d && is_writable t)) _ _ frame (fault_no_frame address access 1 frame) s5.1 in
+    let s4 = else_taken (not (is_present t)) _ _ frame (fault_no_frame (page_fault address access false) frame) s3.1 in
+    let s5 = else_taken (not (is_user d && is_user t)) _ _ frame (fault_no_frame (page_fault address access true) frame) s4.1 in
+    let s6 = else_taken (is_write access && not (is_writable d && is_writable t)) _ _ frame (fault_no_frame (page_fault address access true) frame) s5.1 in
     let s7 = else_taken (is_outside bytes (frame_number t)) _ _ frame (λ n. cc) s6.1 in
     let named : frame ≡ frame_number t = frame_of (frame_number t) frame s7.1 in
     record {

@@ -5,6 +5,7 @@ use Rattle.page_words.specs.Words.{frame_number, is_present, is_writable, is_use
 use Rattle.phys_memory.specs.Bytes.{word_at, word_place}
 use Rattle.table_walk.specs.declared.Access.{Access}
 use Rattle.table_walk.specs.declared.Access.TheVariants.{Read, Write}
+use Rattle.table_walk.specs.declared.PageFault.{PageFault}
 use Rattle.table_walk.specs.declared.WalkEnd.{WalkEnd}
 use Rattle.table_walk.specs.declared.WalkEnd.TheVariants.{Fault, Outside}
 
@@ -32,22 +33,24 @@ abbrev pub is_write : Access → Bool
 is_write Read = false
 is_write Write = true
 
--- the error code of a user-mode access: bit 2 is 1, bit 1 says that it is a write, and bit 0 is given
-abbrev pub error_code : Access → ℕ → ℕ
-error_code Read rights = 4 + rights
-error_code Write rights = 6 + rights
+-- the error code of a user-mode access: bit 2 is 1, bit 1 says that it is a write, and bit 0 that the page is present
+abbrev pub error_code : Access → Bool → ℕ
+error_code Read false = 4
+error_code Read true = 5
+error_code Write false = 6
+error_code Write true = 7
 
--- a fault at an address, with bit 0 of its error code
-abbrev pub fault : ℕ → Access → ℕ → Result ℕ WalkEnd
-fault address access rights = Err (Fault (record { addr = address; code = error_code access rights }))
+-- the fault of an access at an address
+abbrev pub page_fault : ℕ → Access → Bool → PageFault
+page_fault address access present = record { addr = address; code = error_code access present }
 
 -- a word of the way isn't present
 abbrev pub not_present : ℕ → Access → Result ℕ WalkEnd
-not_present address access = fault address access 0
+not_present address access = Err (Fault (page_fault address access false))
 
 -- the words of the way are present, and don't give the right
 abbrev pub not_allowed : ℕ → Access → Result ℕ WalkEnd
-not_allowed address access = fault address access 1
+not_allowed address access = Err (Fault (page_fault address access true))
 
 -- what stands beside the first test that is true, or else the last
 abbrev pub first_that_applies : {X : Type 0} → List (Bool × X) → X → X

@@ -10,7 +10,7 @@
 ghost use Rattle.std.specs.Prelude.{◌^◌, ◌≡◌, ℕ, ◌+◌, ◌*◌, ◌%◌, ◌<◌, ◌≤◌, length, IsOk};
 ghost use Rattle.std.specs.Result.{ForOk};
 ghost use Rattle.phys_memory.specs.Bytes.{word_place};
-ghost use Rattle.table_walk.specs.Walk.{WalksFindWhatLeads, not_present, not_allowed, walk_of};
+ghost use Rattle.table_walk.specs.Walk.{WalksFindWhatLeads, page_fault, not_present, not_allowed, walk_of};
 ghost use Rattle.table_walk.specs.declared.Access.{Access};
 ghost use Rattle.table_walk.specs.Marks.{ChangesTwoWords, MarksChangeTwoWords, MarksKeepWalks, StandsApart, marked};
 
@@ -36,6 +36,22 @@ pub struct PageFault {
     pub code: u8,
 }
 
+impl PageFault {
+    /// The fault of a user-mode access: to a page that is not present, or to one that is present and does
+    /// not give the right.
+    pub fn new(addr: Vaddr, access: Access, present: bool) -> PageFault
+        ensures { result ≡ page_fault addr access present }
+    {
+        let code = match (access, present) {
+            (Access::Read, false) => 4,
+            (Access::Read, true) => 5,
+            (Access::Write, false) => 6,
+            (Access::Write, true) => 7,
+        };
+        PageFault { addr, code }
+    }
+}
+
 /// How a walk ends that finds no frame.
 #[derive(Clone, Copy, Debug, PartialEq, Eq)]
 pub enum WalkEnd {
@@ -57,21 +73,13 @@ fn place_of(frame: Frame, index: u32) -> usize
 fn absent(addr: Vaddr, access: Access) -> Result<Frame, WalkEnd>
     ensures { result ≡ not_present addr access }
 {
-    let code = match access {
-        Access::Read => 4,
-        Access::Write => 6,
-    };
-    Err(WalkEnd::Fault(PageFault { addr, code }))
+    Err(WalkEnd::Fault(PageFault::new(addr, access, false)))
 }
 
 fn forbidden(addr: Vaddr, access: Access) -> Result<Frame, WalkEnd>
     ensures { result ≡ not_allowed addr access }
 {
-    let code = match access {
-        Access::Read => 5,
-        Access::Write => 7,
-    };
-    Err(WalkEnd::Fault(PageFault { addr, code }))
+    Err(WalkEnd::Fault(PageFault::new(addr, access, true)))
 }
 
 /// The frame that an address leads to by the map of a directory, for a user-mode access. It ends on any

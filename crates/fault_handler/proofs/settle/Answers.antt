@@ -1,6 +1,6 @@
 use Rattle.std.proofs.Common.{ap, ◌∙◌}
 use Rattle.process_table.specs.View.{View}
-use Rattle.fault_handler.proofs.Settled.{settled_at}
+use Rattle.fault_handler.proofs.Settled.{settled_at, may_map_first}
 use Rattle.fault_handler.proofs.settle.Goals as goal
 
 pub fill_first-requires-clause-mapped : goal.fill_first-requires-clause-mapped
@@ -27,3 +27,6 @@ pub returns-clause-state : goal.returns-clause-state
 returns-clause-state c =
     c.access.ensures.state ∙ (settled_at c.args.processes.now c.fill_first.new.processes.state c.args.plan c.args.pid c.args.address c.args.size c.args.access c.requires.plan c.requires.completes
     (λ n. c.fill_first.ensures.state ∙ ap (λ (v : View). v.state) (c.map_first.ensures.other n)) (λ e. c.fill_first.ensures.state ∙ c.map_first.ensures.mapped e)).state c.args.value
+
+pub map_first-requires-clause-page : goal.map_first-requires-clause-page
+map_first-requires-clause-page c = may_map_first c.args.processes.now c.args.plan c.args.pid c.args.address c.args.size c.args.access c.requires.plan
