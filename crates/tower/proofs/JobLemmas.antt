@@ -1,29 +1,22 @@
 -- Which subcommands a command line may name.
-use Rattle.std.proofs.Common.{◌≡◌, ◌∙◌, ℕ, Bool, ◌&&◌, ◌||◌, cond, not, true, false, List, [], ◌∷◌, Option, Some, None, IfSome, refl, sym, ap, subst, codes}
+use Rattle.std.proofs.Common.{◌≡◌, ◌∙◌, ℕ, Bool, ◌&&◌, true, false, List, [], ◌∷◌, Option, Some, None, refl, sym, ap, codes}
 use Rattle.std.specs.Char.{digit_value}
 use Rattle.std.specs.List.{list_all}
-use Rattle.std.specs.Prelude.{⊤, Box, option_map, ◌^◌, fold, length, nat_lt, option_and_then, unwrap_or, Result, Ok, Err}
+use Rattle.std.specs.Prelude.{◌^◌, length, nat_lt, Result, Ok, Err}
+use Rattle.std.specs.Option.{option_map_or}
 use Rattle.std.specs.Result.{result_ok}
-use Rattle.std.specs.Box.{box_value}
-use Rattle.std.specs.Str.{bytes_eq}
 use Rattle.std.specs.Str.Parse.{AllDigits, ParsesUnsigned, digits_value, without_leading_plus}
 use Rattle.std.proofs.lemmas.Bool.{lt-ltb, ltb-true}
-use Rattle.std.proofs.lemmas.Slice.Eq.{bytes_eq-Decides}
-use Rattle.clap.specs.Lexer.{long_of, short_of}
 use Rattle.clap.specs.Kinds.{Kinds, or_else}
-use Rattle.clap.specs.Faults.{turn_fault, walk_fault, word_fault, other_fault, fault_of}
-use Rattle.clap.specs.Walk.{Held, Names, Outcome, Row, Rule, Step, Text, Waiting, Walk, walked, walked_from, walk_from, nothing_held, word_met, subcommand_or_other, subcommand_met, long_or_other, short_or_plain, after_flag, plain_word, after_step, to_positional, arg_by_index, answers_to, next, trailing, subcommand, value, idle, option, positional, done, waits, plain, refused, long_met, arg_by_long, bundle}
-use Rattle.clap.specs.Simple.{Shape, App, is_simple, label_of, rows_at, built, entered, names_of, argument_words, subcommand_of, subcommand_rows, subcommand_rows_of}
+use Rattle.clap.specs.Walk.{Row, Text}
+use Rattle.clap.specs.Simple.{is_simple}
 use Rattle.clap.specs.Faults.{is_simple_and_free}
-use Rattle.clap.specs.Matches.{ReadsOne, subcommand_name_of}
-use Rattle.clap.specs.declared.parser.matches.ArgMatches.{ArgMatches}
-use Rattle.clap.specs.declared.parser.matches.ArgMatches.TheViews.{out-ArgMatches, out-SubCommand}
-use Rattle.clap.specs.declared.parser.matches.SubCommand.{SubCommand}
+use Rattle.clap.specs.Matches.{TriesOne}
 use Rattle.clap.specs.ValueTests.{is_numeral}
 use Rattle.clap.specs.Words.{one_of}
 use Rattle.clap.proofs.OnLiterals.{clap_on_literals}
 use Rattle.clap.proofs.WalkLemmas.{both}
-use Rattle.tower.specs.Jobs.{tower_app, number_named, frames_in, job_named}
+use Rattle.tower.specs.Jobs.{tower_app, number_named, frames_in}
 
 pub tower_is_simple : is_simple tower_app ≡ true
 unfolding clap_on_literals
@@ -35,11 +28,11 @@ tower_is_free = refl
 
 -- ---- The number of frames
 
-digits_pass : (ds : List ℕ) → AllDigits 10 ds → list_all (λ d. nat_lt (digit_value d) 10) ds ≡ true
+pub digits_pass : (ds : List ℕ) → AllDigits 10 ds → list_all (λ d. nat_lt (digit_value d) 10) ds ≡ true
 digits_pass [] are = refl
 digits_pass (d ∷ ds) are = rw (lt-ltb (digit_value d) 10 are.0) (digits_pass ds are.1)
 
-digits_are : (ds : List ℕ) → list_all (λ d. nat_lt (digit_value d) 10) ds ≡ true → AllDigits 10 ds
+pub digits_are : (ds : List ℕ) → list_all (λ d. nat_lt (digit_value d) 10) ds ≡ true → AllDigits 10 ds
 digits_are [] pass = tt
 digits_are (d ∷ ds) pass =
     let parts = both _ _ pass in
@@ -59,174 +52,43 @@ number_read {E} text (Err e) h = go (is_numeral (without_leading_plus text) && n
         let inner = both _ _ outer.0 in
         absurd (h ((ltb-true _ _ inner.0, digits_are (without_leading_plus text) inner.1), ltb-true _ _ outer.1))
 
+-- the number that was read, or 16 where there is none
+abbrev pub or_16 : {E : Type 0} → Result (Option ℕ) E → Option ℕ
+or_16 (Ok (Some n)) = Some n
+or_16 (Ok None) = Some 16
+or_16 (Err e) = None
+
 -- what the getter of a number answers, by the text that it reads
-pub frames_read : {E : Type 0} (G : List ℕ → Result ℕ E → Type 0) (rows : List Row) (text : Option Text) (r : Option ℕ) → text ≡ one_of (codes "frames") rows
-    → ((u : List ℕ) (x : Result ℕ E) → G u x → ParsesUnsigned 32 10 u x) → (text ≡ None → r ≡ None) → ((t : Text) → text ≡ Some t → ReadsOne G t r) → unwrap_or r 16 ≡ frames_in rows
-frames_read {E} G rows text r is parses none reads = ap (λ o. unwrap_or o 16) (go text refl) ∙ ap (λ o. unwrap_or (option_and_then number_named o) 16) is
+pub frames_read : {E : Type 0} (G : List ℕ → Result ℕ E → Type 0) (rows : List Row) (text : Option Text) (r : Result (Option ℕ) E) → text ≡ one_of (codes "frames") rows
+    → ((u : List ℕ) (x : Result ℕ E) → G u x → ParsesUnsigned 32 10 u x) → (text ≡ None → r ≡ Ok None) → ((t : Text) → text ≡ Some t → TriesOne G t r) → or_16 r ≡ frames_in rows
+frames_read {E} G rows text r is parses none reads = go text refl ∙ ap (λ o. option_map_or number_named o (Some 16)) is
   where
-    named : (t : Text) (o : Option ℕ) → ReadsOne G t o → o ≡ number_named t
-    named t (Some n) found =
+    tried : (t : Text) (o : Result (Option ℕ) E) → TriesOne G t o → or_16 o ≡ number_named t
+    tried t (Ok (Some n)) found =
         let read : Result ℕ E = Ok n in
         sym (number_read t read (parses t read found))
-    named t None found = sym (number_read t (Err found.0) (parses t (Err found.0) found.1))
+    tried t (Ok None) found = absurd found
+    tried t (Err e) found = sym (number_read t (Err e) (parses t (Err e) found))
 
-    go : (o : Option Text) → text ≡ o → r ≡ option_and_then number_named o
-    go None e = none e
-    go (Some t) e = named t r (reads t e)
+    go : (o : Option Text) → text ≡ o → or_16 r ≡ option_map_or number_named o (Some 16)
+    go None e = ap or_16 (none e)
+    go (Some t) e = tried t r (reads t e)
+
+pub found_some : {E : Type 0} (r : Result (Option ℕ) E) (o : Option ℕ) (n : ℕ) → r ≡ Ok o → o ≡ Some n → or_16 r ≡ Some n
+found_some r o n is some = rw (is, some) refl
+
+pub found_none : {E : Type 0} (r : Result (Option ℕ) E) (o : Option ℕ) → r ≡ Ok o → o ≡ None → or_16 r ≡ Some 16
+found_none r o is none = rw (is, none) refl
+
+pub found_other : {E : Type 0} (r : Result (Option ℕ) E) (e : E) → r ≡ Err e → or_16 r ≡ None
+found_other r e is = rw is refl
 
 -- ---- No fault in either part
 
-first_none : (a b : Kinds) → or_else a b ≡ [] → a ≡ []
+pub first_none : (a b : Kinds) → or_else a b ≡ [] → a ≡ []
 first_none [] b none = refl
 first_none (k ∷ ks) b none = cc
 
-second_none : (a b : Kinds) → or_else a b ≡ [] → b ≡ []
+pub second_none : (a b : Kinds) → or_else a b ≡ [] → b ≡ []
 second_none [] b none = none
 second_none (k ∷ ks) b none = cc
-
--- ---- `help` is never entered
-
-abbrev is_not_help : Text → Bool
-is_not_help name = not (bytes_eq name (codes "help"))
-
--- a step that enters a subcommand does not enter `help`
-abbrev EntersNoHelp : Step → Type 0
-EntersNoHelp (next waiting) = ⊤
-EntersNoHelp (trailing position) = ⊤
-EntersNoHelp (subcommand name) = is_not_help name ≡ true
-EntersNoHelp value = ⊤
-
--- the walk did not stop at `help`
-abbrev StopsNotAtHelp : Option (Text × List Text) → Type 0
-StopsNotAtHelp None = ⊤
-StopsNotAtHelp (Some p) = is_not_help p.0 ≡ true
-
-plain_enters : (c : List Rule) (waiting : Waiting) (word : Text) (h : Held) → EntersNoHelp (plain_word c waiting word h).1
-plain_enters c idle word h = tt
-plain_enters c (option id) word h = tt
-plain_enters c positional word h = tt
-
-flag_enters : (c : List Rule) (waiting : Waiting) (word : Text) (h : Held) (o : Outcome) → EntersNoHelp (after_flag c waiting word h o).1
-flag_enters c waiting word h done = tt
-flag_enters c waiting word h (waits id) = tt
-flag_enters c waiting word h plain = plain_enters c waiting word h
-flag_enters c waiting word h refused = plain_enters c waiting word h
-
-short_enters : (c : List Rule) (waiting : Waiting) (word : Text) (flags : Option Text) (h : Held) → EntersNoHelp (short_or_plain c waiting word flags h).1
-short_enters c waiting word None h = plain_enters c waiting word h
-short_enters c waiting word (Some flags) h = flag_enters c waiting word (bundle c flags h).0 (bundle c flags h).1
-
-other_enters : (c : List Rule) (waiting : Waiting) (word : Text) (long : Option (Text × Option Text)) (h : Held) → EntersNoHelp (long_or_other c waiting word long h).1
-other_enters c waiting word None h = short_enters c waiting word (short_of word) h
-other_enters c waiting word (Some p) h = flag_enters c waiting word (long_met c (arg_by_long c p.0) p.1 h).0 (long_met c (arg_by_long c p.0) p.1 h).1
-
-named_enters : (s : Shape) (name word : Text) (h : Held) → s.disable_help_subcommand ≡ false → other_fault s (Some name) word h ≡ [] → is_not_help name ≡ true
-named_enters s name word h on none = go (bytes_eq name (codes "help")) refl
-  where
-    go : (b : Bool) → bytes_eq name (codes "help") ≡ b → not b ≡ true
-    go false is = refl
-    go true is =
-        let bad = rw (is, on) at none in
-        cc
-
-dashes_enter : (c : List Rule) (waiting : Waiting) (position : ℕ) (word : Text) (h : Held) (b : Bool) → EntersNoHelp (cond b (h, trailing position) (long_or_other c waiting word (long_of word) h)).1
-dashes_enter c waiting position word h true = tt
-dashes_enter c waiting position word h false = other_enters c waiting word (long_of word) h
-
-word_enters : (s : Shape) (names : Names) (is_trailing : Bool) (waiting : Waiting) (position : ℕ) (word : Text) (h : Held) → s.disable_help_subcommand ≡ false
-    → word_fault s names is_trailing waiting word h ≡ [] → EntersNoHelp (word_met s.rules names is_trailing waiting position word h).1
-word_enters s names true waiting position word h on none = tt
-word_enters s names false waiting position word h on none = go (subcommand_met names waiting word) none
-  where
-    go : (met : Option Text) → other_fault s met word h ≡ [] → EntersNoHelp (subcommand_or_other s.rules met waiting position word h).1
-    go (Some name) fault = named_enters s name word h on fault
-    go None fault = dashes_enter s.rules waiting position word h (bytes_eq word (45 ∷ 45 ∷ []))
-
-positional_stops : (c : List Rule) (found : Option Rule) (word : Text) (w : Walk) (h : Held) → w.stopped ≡ None → StopsNotAtHelp (to_positional c found word w h).stopped
-positional_stops c None word w h fresh = rw fresh tt
-positional_stops c (Some a) word w h fresh = tt
-
-step_stops : (c : List Rule) (word : Text) (w : Walk) (h : Held) (step : Step) → w.stopped ≡ None → EntersNoHelp step → StopsNotAtHelp (after_step c word w h step).stopped
-step_stops c word w h (next waiting) fresh enters = rw fresh tt
-step_stops c word w h (trailing position) fresh enters = rw fresh tt
-step_stops c word w h (subcommand name) fresh enters = enters
-step_stops c word w h value fresh enters = positional_stops c (arg_by_index c w.position) word w h fresh
-
-turn_stops : (s : Shape) (names : Names) (w : Walk) (word : Text) → s.disable_help_subcommand ≡ false → turn_fault s names w word ≡ [] → StopsNotAtHelp w.stopped
-    → StopsNotAtHelp (walked s.rules names w word).stopped
-unfolding walked
-turn_stops s names w word on none before = go w.stopped refl none before
-  where
-    go : (o : Option (Text × List Text)) → w.stopped ≡ o → turn_fault s names (record w { stopped = o }) word ≡ [] → StopsNotAtHelp o → StopsNotAtHelp (walked_from s.rules names o w word).stopped
-    go (Some p) is fault stops = stops
-    go None is fault stops =
-        let met = word_met s.rules names w.is_trailing w.waiting w.position word w.held in
-        step_stops s.rules word w met.0 met.1 is (word_enters s names w.is_trailing w.waiting w.position word w.held on (first_none _ _ fault))
-
-walk_stops : (s : Shape) (names : Names) (w : Walk) (words : List Text) → s.disable_help_subcommand ≡ false → walk_fault s names w words ≡ [] → StopsNotAtHelp w.stopped
-    → StopsNotAtHelp (fold (walked s.rules names) w words).stopped
-unfolding walk_fault
-walk_stops s names w [] on none before = before
-walk_stops s names w (word ∷ words) on none before =
-    walk_stops s names (walked s.rules names w word) words on (second_none _ _ none) (turn_stops s names w word on (first_none _ _ none) before)
-
--- ---- The program's only subcommand is `run`
-
-same_either_way : (a b : Text) → bytes_eq a b ≡ true → bytes_eq b a ≡ true
-same_either_way a b same = (bytes_eq-Decides b a).1 (sym ((bytes_eq-Decides a b).0 same))
-
-abbrev IsRun : Option (Text × List Row) → Type 0
-IsRun found = IfSome found (λ p. bytes_eq p.0 (codes "run") ≡ true)
-
-or_false : (b : Bool) → (b || false) ≡ true → b ≡ true
-or_false true is = refl
-or_false false is = is
-
--- of two subcommands, the second of which is `help`
-enters_first : (a : App) (run help : Shape) → a.subs ≡ run ∷ help ∷ [] → run.name ≡ codes "run" → help.name ≡ codes "help" → help.aliases ≡ []
-    → (stop : Option (Text × List Text)) → StopsNotAtHelp stop → IsRun (entered a stop)
-enters_first a run help subs run_name help_name aliases None stops = tt
-enters_first a run help subs run_name help_name aliases (Some p) stops = rw subs (first (answers_to p.0 (label_of run)) (answers_to p.0 (label_of help)) refl)
-  where
-    first : (is_run is_help : Bool) → answers_to p.0 (label_of help) ≡ is_help
-        → IsRun (option_map (λ s. rows_at s p.1) (cond is_run (Some run) (cond is_help (Some help) None)))
-    first true is_help is = rw run_name refl
-    first false false is = tt
-    first false true is =
-        let named : (bytes_eq (codes "help") p.0 || false) ≡ true = rw (help_name, aliases) at is in
-        let same : bytes_eq p.0 (codes "help") ≡ true = same_either_way (codes "help") p.0 (or_false _ named) in
-        let bad = rw same at stops in
-        cc
-
-enters_run : (stop : Option (Text × List Text)) → StopsNotAtHelp stop → IsRun (entered (built tower_app) stop)
-unfolding clap_on_literals
-enters_run stop stops = enters_first (built tower_app) _ _ refl refl refl refl stop stops
-
-pub only_run : (words : List Text) → fault_of tower_app words ≡ [] → IsRun (subcommand_of tower_app words)
-only_run words none = enters_run _ (walk_stops (built tower_app).top (names_of (built tower_app)) (walk_from nothing_held) (argument_words tower_app words) refl (first_none _ _ none) tt)
-
--- ---- What the parse answers
-
--- the name of what was entered stands in its rows
-name_in_rows : {Z : Type 0} (sub : Option (Box SubCommand Z)) → option_map (λ b. (out-SubCommand (box_value b)).name.now) sub ≡ option_map (λ p. p.0) (subcommand_rows sub)
-name_in_rows None = refl
-name_in_rows (Some b) = refl
-
-both_parts : (o : Option (Text × List Row)) (name : Text) (rows : List Row) → Some name ≡ option_map (λ p. p.0) o → Some rows ≡ option_map (λ p. p.1) o → o ≡ Some (name, rows)
-both_parts None name rows named found = cc
-both_parts (Some p) name rows named found =
-    let same : name ≡ p.0 = cc in
-    let equal : rows ≡ p.1 = cc in
-    rw (same, equal) refl
-
--- the subcommand of matches that are those of the words
-pub found_is : (m : ArgMatches) (words : List Text) (name : Text) (rows : List Row) → subcommand_rows_of m ≡ subcommand_of tower_app words
-    → Some name ≡ subcommand_name_of m → Some rows ≡ option_map (λ p. p.1) (subcommand_rows_of m) → subcommand_of tower_app words ≡ Some (name, rows)
-found_is m words name rows same named found =
-    sym same ∙ both_parts (subcommand_rows_of m) name rows (named ∙ name_in_rows (out-ArgMatches m).subcommand) found
-
-pub never_none : (words : List Text) (name : Text) (rows : List Row) → fault_of tower_app words ≡ [] → subcommand_of tower_app words ≡ Some (name, rows) → job_named name rows ≡ None → ⊥
-never_none words name rows none is asked =
-    let run : bytes_eq name (codes "run") ≡ true = subst IsRun is (only_run words none) in
-    let some = rw run at asked in
-    cc

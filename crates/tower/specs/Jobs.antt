@@ -1,7 +1,8 @@
 -- What a command line asks for.
 --     tower_app      the program's commands, as `clap` reads them
 --     job_asked found      the job of the subcommand that the words name, and of what was found behind it
-use Rattle.std.specs.Prelude.{ℕ, ◌^◌, ◌&&◌, true, nat_lt, List, Option, Some, None, pos, codes, unwrap_or, option_and_then, if◌then◌else◌}
+use Rattle.std.specs.Prelude.{ℕ, ◌^◌, ◌&&◌, true, nat_lt, List, Option, Some, None, pos, codes, option_map, if◌then◌else◌}
+use Rattle.std.specs.Option.{option_map_or}
 use Rattle.std.specs.Str.{bytes_eq}
 use Rattle.std.specs.Str.Parse.{digits_value, without_leading_plus}
 use Rattle.clap.specs.ValueTests.{is_numeral}
@@ -32,12 +33,12 @@ number_named text =
     if is_numeral digits && nat_lt (digits_value 10 digits) (2 ^ 32) then Some (digits_value 10 digits) else None
 
 -- the number of frames, by the option's text as it is read (`-0` is read as `0`): 16 where it is absent
-abbrev pub frames_in : List Row → ℕ
-frames_in rows = unwrap_or (option_and_then number_named (one_of (codes "frames") rows)) 16
+abbrev pub frames_in : List Row → Option ℕ
+frames_in rows = option_map_or number_named (one_of (codes "frames") rows) (Some 16)
 
 -- the job of a subcommand's name, and of what was found behind it
 abbrev pub job_named : Text → List Row → Option Job
-job_named name rows = if bytes_eq name (codes "run") then Some (Run (frames_in rows)) else None
+job_named name rows = if bytes_eq name (codes "run") then option_map (λ frames. Run frames) (frames_in rows) else None
 
 abbrev pub job_asked : Option (Text × List Row) → Option Job
 job_asked None = None

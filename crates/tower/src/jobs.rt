@@ -46,11 +46,15 @@ fn tower_command<'a>(alloc: Global) -> Result<Command<'a>, AllocError>
     Ok(tower.subcommand_required(true))
 }
 
-/// The number of frames that was asked for.
-fn frames_of(matches: &ArgMatches<'_>) -> u32
+/// The number of frames that was asked for; None where what stands there is no number.
+fn frames_of(matches: &ArgMatches<'_>) -> Option<u32>
     ensures { result ≡ frames_in (rows_of (found_of matches.now)) }
 {
-    matches.get_one::<u32>("frames").unwrap_or(FRAMES)
+    match matches.try_get_one::<u32>("frames") {
+        Ok(Some(frames)) => Some(frames),
+        Ok(None) => Some(FRAMES),
+        Err(_) => None,
+    }
 }
 
 /// The job of the subcommand of that name, by what was found behind it.
@@ -58,9 +62,10 @@ fn job_named(name: &str, matches: &ArgMatches<'_>) -> Option<Job>
     ensures { result ≡ job_named name.now (rows_of (found_of matches.now)) }
 {
     match name {
-        "run" => Some(Job::Run {
-            frames: frames_of(matches),
-        }),
+        "run" => {
+            let frames = frames_of(matches)?;
+            Some(Job::Run { frames })
+        }
         _ => None,
     }
 }

@@ -1,7 +1,8 @@
 use Rattle.std.proofs.Common.{map, ap, sym, ◌∙◌}
 use Rattle.std.proofs.lemmas.Result.{err_from_is_err_and}
 use Rattle.clap.specs.Words.{App, fault_of, found_of, is_simple, is_simple_and_free, rows_of, subcommand_of, takes}
-use Rattle.tower.proofs.JobLemmas.{tower_is_simple, tower_is_free, found_is, never_none}
+use Rattle.tower.proofs.CommandLemmas.{found_is, never_none}
+use Rattle.tower.proofs.JobLemmas.{tower_is_simple, tower_is_free}
 use Rattle.tower.proofs.jobs.job_of.Goals as goal
 
 pub returns-in_err-matches-clause-taken : goal.returns-in_err-matches-clause-taken
