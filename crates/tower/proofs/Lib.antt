@@ -7,3 +7,5 @@ pub mod ScriptLemmas
 pub mod ProgressLemmas
 pub mod RunLemmas
 pub mod JobLemmas
+pub mod ValueLemmas
+pub mod CommandLemmas

@@ -56,10 +56,11 @@ wrote_on a b c text more waited waits before after = record {
 pub wrote_front : (a b c : Option (List ℕ)) (text waited : List ℕ) → LeavesUnwritten a b text waited → AppendsFront b c waited → AppendsFront a c text
 wrote_front a b c text waited before after = (
   after.0,
+  after.1,
   record {
-    written = before.written ++ after.1.written;
-    whole = before.whole ∙ ap (λ bytes. before.written ++ bytes) after.1.whole ∙ sym (append_assoc before.written after.1.written after.0);
-    grown = Appends-trans a b c before.written after.1.written before.grown after.1.grown;
+    written = before.written ++ after.2.written;
+    whole = before.whole ∙ ap (λ bytes. before.written ++ bytes) after.2.whole ∙ sym (append_assoc before.written after.2.written after.0);
+    grown = Appends-trans a b c before.written after.2.written before.grown after.2.grown;
   },
 )
 

@@ -1,5 +1,5 @@
 -- What a whole run comes to, from what was read of the script.
-use Rattle.std.proofs.Common.{◌≡◌, ℕ, ◌+◌, ◌<◌, ◌≤◌, true, false, List, [], ◌∷◌, ◌++◌, length, take, refl, sym, ap, subst, ◌∙◌, arith, append_assoc, append-nil, Option, Some, None, IfSome, Result, Ok, Err, ◌↔◌}
+use Rattle.std.proofs.Common.{◌≡◌, ℕ, ◌+◌, ◌<◌, ◌≤◌, true, false, List, [], ◌∷◌, ◌++◌, length, take, refl, sym, ap, subst, ◌∙◌, arith, append_assoc, append-nil, length-append, Option, Some, None, IfSome, Result, Ok, Err, ◌↔◌}
 use Rattle.std.specs.Result.{IsErrOf, OnOk, IfErr}
 use Rattle.std.specs.Io.KnownBytes.{Appends, Keeps, Consumes, IsAtEnd}
 use Rattle.std.specs.List.{list_all}
@@ -93,10 +93,11 @@ front_of_all frames read rest good start now fits begins front =
     let added = text_of (answers (end_of (open_with frames) (events_in good)) more.0) in
     let text = ap (replies_text frames) more.1 ∙ replies_text-append frames (events_in good) more.0 in (
       front.0 ++ added,
+      omega (arith, front.1, length-append front.0 added),
       record {
-        written = front.1.written;
-        whole = text ∙ ap (λ t. t ++ added) front.1.whole ∙ append_assoc front.1.written front.0 added;
-        grown = front.1.grown;
+        written = front.2.written;
+        whole = text ∙ ap (λ t. t ++ added) front.2.whole ∙ append_assoc front.2.written front.0 added;
+        grown = front.2.grown;
       },
     )
 
@@ -141,12 +142,16 @@ ran_into_line frames remained remains read NoMemory waits start now fits taken s
 ran_into_line frames remained remains read TooLong waits start now fits taken stops = absurd stops
 ran_into_line frames remained remains read ReadFailed waits start now fits taken stops = absurd stops
 
+-- the open line of what was read may still end well
+line_so_far : (frames : ℕ) (read : List ℕ) (session : Session) (start now : Option (List ℕ)) → Reached frames read session start now → is_too_long (open_line read) ≡ false
+line_so_far frames read session start now reached = le-ltb 100 (length (open_line read)) (subst (λ (bs : List ℕ). length bs ≤ 100) reached.line reached.short)
+
 -- the limit was reached, and a byte came after it
 pub ran_past : (frames : ℕ) (remained mid remains : Option (List ℕ)) (read more : List ℕ) (session : Session) (start now : Option (List ℕ)) → length read ≡ limit → Consumes remained mid read → Consumes mid remains more → 0 < length more
     → Reached frames read session start now → RanInto frames TooLong remained remains session.output start now
 ran_past frames remained mid remains read [] session start now at taken past some reached = absurd (omega arith)
 ran_past frames remained mid remains read (b ∷ more) session start now at taken past some reached =
-    let short : is_too_long (open_line read) ≡ false = le-ltb 100 (length (open_line read)) (subst (λ (bs : List ℕ). length bs ≤ 100) reached.line reached.short) in
+    let short = line_so_far frames read session start now reached in
     of_input _ remained remains (read ++ b ∷ more) (Consumes-trans remained mid remains read (b ∷ more) taken past) (λ rest is.
     let all : (read ++ b ∷ more) ++ rest ≡ read ++ b ∷ (more ++ rest) = append_assoc read (b ∷ more) rest in (
       ap fault_of all ∙ fault_past read b (more ++ rest) at short reached.sound,
@@ -156,7 +161,7 @@ ran_past frames remained mid remains read (b ∷ more) session start now at take
 pub ran_into_reader : (frames : ℕ) (remained mid remains : Option (List ℕ)) (read : List ℕ) (session : Session) (start now : Option (List ℕ)) → length read ≤ limit → Consumes remained mid read → Keeps mid remains
     → Reached frames read session start now → ReadSome frames remained remains session.output start now
 ran_into_reader frames remained mid remains read session start now fits taken kept reached =
-    record { read = read; within = fits; taken = Consumes-kept remained mid remains read taken kept; sound = reached.sound; text = reached.text }
+    record { read = read; within = fits; taken = Consumes-kept remained mid remains read taken kept; sound = reached.sound; short = line_so_far frames read session start now reached; text = reached.text }
 
 -- ---- What waits is written at the end
 
@@ -167,29 +172,31 @@ if_some_map (Some xs) f p = f xs p
 wrote_all : (a b c : Option (List ℕ)) (text waits : List ℕ) → LeavesUnwritten a b text waits → Appends b c waits → Appends a c text
 wrote_all a b c text waits before after = subst (Appends a c) (sym before.whole) (Appends-trans a b c before.written waits before.grown after)
 
-front_of_nothing : (xs ys : List ℕ) → xs ++ ys ≡ [] → xs ≡ []
-front_of_nothing [] ys e = refl
-front_of_nothing (x ∷ xs) ys e = cc
+-- nothing waited after a front of the text was written
+nothing_more : (a b c : Option (List ℕ)) (text waits : List ℕ) → AppendsFront a b text → waits ≡ [] → Appends b c waits → AppendsFront a c text
+nothing_more a b c text waits front none after = (
+  front.0,
+  front.1,
+  record {
+    written = front.2.written;
+    whole = front.2.whole;
+    grown = subst (Appends a c) (ap (λ bs. front.2.written ++ bs) none ∙ append-nil front.2.written) (Appends-trans a b c front.2.written waits front.2.grown after);
+  },
+)
 
-nothing_cut : (a b c : Option (List ℕ)) (text waits : List ℕ) → AppendsFront a b text → waits ≡ [] → AppendsFront b c waits → AppendsFront a c text
-nothing_cut a b c text waits front none after =
-    let parts : after.1.written ++ after.0 ≡ [] = sym after.1.whole ∙ none in (
-      front.0,
-      record {
-        written = front.1.written;
-        whole = front.1.whole;
-        grown = subst (Appends a c) (ap (λ bs. front.1.written ++ bs) (front_of_nothing after.1.written after.0 parts) ∙ append-nil front.1.written) (Appends-trans a b c front.1.written after.1.written front.1.grown after.1.grown);
-      },
-    )
+-- no write fails where nothing waits
+nothing_cut : (b c : Option (List ℕ)) (waits : List ℕ) → waits ≡ [] → AppendsFront b c waits → ⊥
+nothing_cut b c waits none front =
+    let parts : length front.2.written + length front.0 ≡ 0 = sym (length-append front.2.written front.0) ∙ ap length (sym front.2.whole ∙ none) in
+    omega (arith, front.1)
 
 pub ends_by : (frames : ℕ) (fault : ScriptFault) (remained remains : Option (List ℕ)) (waits : List ℕ) (start now last : Option (List ℕ)) → RanInto frames fault remained remains waits start now → Appends now last waits
     → (IsBeforeReading fault → ⊥) × EndsBy frames fault remained remains start last
 ends_by frames (Malformed line) remained remains waits start now last run written = (λ early. early, if_some_map remained (λ input parts. (parts.0, wrote_all start now last _ waits parts.1 written)) run)
 ends_by frames TooLong remained remains waits start now last run written = (λ early. early, if_some_map remained (λ input parts. (parts.0, wrote_all start now last _ waits parts.1 written)) run)
-ends_by frames ReadFailed remained remains waits start now last run written = (λ early. early, (run.read, run.taken, run.sound, wrote_all start now last _ waits run.text written))
+ends_by frames ReadFailed remained remains waits start now last run written = (λ early. early, record { read = run.read; within = run.within; taken = run.taken; sound = run.sound; short = run.short; text = wrote_all start now last _ waits run.text written })
 ends_by frames WriteFailed remained remains waits start now last run written =
-    let nothing : AppendsFront now last waits = ([], record { written = waits; whole = sym (append-nil waits); grown = written }) in
-    (λ early. early, if_some_map remained (λ input front. nothing_cut start now last _ waits front run.0 nothing) run.1)
+    (λ early. early, if_some_map remained (λ input front. nothing_more start now last _ waits front run.0 written) run.1)
 ends_by frames BadSize remained remains waits start now last run written = absurd run
 ends_by frames NoMemory remained remains waits start now last run written = absurd run
 
@@ -203,7 +210,7 @@ ends_cut frames (Malformed line) remained remains waits start now last run cut =
 ends_cut frames TooLong remained remains waits start now last run cut = (λ early. early, if_some_map remained (λ input parts. wrote_front start now last _ waits parts.1 cut) run)
 ends_cut frames ReadFailed remained remains waits start now last run cut =
     (λ early. early, of_input _ remained remains run.read run.taken (λ rest is. front_of_all frames run.read rest (closed_lines run.read) start last run.within (begins_at run.read run.sound) (wrote_front start now last _ waits run.text cut)))
-ends_cut frames WriteFailed remained remains waits start now last run cut = (λ early. early, if_some_map remained (λ input front. nothing_cut start now last _ waits front run.0 cut) run.1)
+ends_cut frames WriteFailed remained remains waits start now last run cut = absurd (nothing_cut now last waits run.0 cut)
 ends_cut frames BadSize remained remains waits start now last run cut = absurd run
 ends_cut frames NoMemory remained remains waits start now last run cut = absurd run
 

@@ -3,6 +3,8 @@ use Rattle.std.specs.Prelude.{◌≡◌, ℕ, List, ◌++◌, codes, decimal}
 use Rattle.kernel_calls.specs.declared.kernel.BootFault.{BootFault}
 use Rattle.kernel_calls.specs.declared.kernel.BootFault.TheVariants as boot
 use Rattle.tower.specs.declared.faults.ScriptFault.{ScriptFault}
+use Rattle.tower.specs.declared.words.WordsFault.{WordsFault}
+use Rattle.tower.specs.declared.words.WordsFault.TheVariants as words
 use Rattle.tower.specs.declared.faults.ScriptFault.TheVariants.{BadSize, NoMemory, Malformed, TooLong, ReadFailed, WriteFailed}
 
 abbrev pub fault_text : ScriptFault → List ℕ
@@ -26,3 +28,12 @@ status_of (Malformed line) = 2
 status_of TooLong = 2
 status_of ReadFailed = 1
 status_of WriteFailed = 1
+
+abbrev pub words_text : WordsFault → List ℕ
+words_text words.NoMemory = codes "tower: out of memory"
+words_text words.NotText = codes "tower: a word of the command line is not text"
+
+-- words that are not text are a refused command line
+abbrev pub status_of_words : WordsFault → ℕ
+status_of_words words.NoMemory = 1
+status_of_words words.NotText = 2

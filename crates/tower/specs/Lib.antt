@@ -7,3 +7,4 @@ pub mod Faults
 pub mod Script
 pub mod Progress
 pub mod Jobs
+pub mod WorkedScripts

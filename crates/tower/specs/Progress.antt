@@ -4,8 +4,9 @@
 --     Stops      why the session stopped at a line
 --     Finished, StopsAtLast      the last line, without a line feed, was carried out too;  why it was not
 --     Ran, RanInto      what a run came to, with replies that wait to be written
+--     EndsReading      what a run that ended by a failed read did
 --     EndsBy      what a run that ended by a fault did
-use Rattle.std.specs.Prelude.{◌≡◌, ℕ, ◌+◌, ◌≤◌, Bool, true, List, [], ◌∷◌, ◌++◌, length, Option, Some, None, IfSome}
+use Rattle.std.specs.Prelude.{◌≡◌, ℕ, ◌+◌, ◌≤◌, Bool, true, false, List, [], ◌∷◌, ◌++◌, length, Option, Some, None, IfSome}
 use Rattle.std.specs.List.{list_all}
 use Rattle.std.specs.Io.KnownBytes.{Appends, Keeps, Consumes}
 use Rattle.process_table.specs.State.{State, open_with}
@@ -15,6 +16,7 @@ use Rattle.tower.specs.declared.faults.ScriptFault.TheVariants.{BadSize, NoMemor
 use Rattle.tower.specs.declared.lines.Line.{Line}
 use Rattle.tower.specs.declared.lines.Line.TheVariants as line
 use Rattle.tower.specs.declared.session.Session.{Session}
+use Rattle.tower.specs.Lines.{is_too_long}
 use Rattle.tower.specs.Output.{LeavesUnwritten, AppendsFront}
 use Rattle.tower.specs.Replies.{reply_line}
 use Rattle.tower.specs.Script.{lines_of, closed_lines, open_line, judged_to, limit, is_malformed, is_sound, events_in, events_of, fault_of, replies_text}
@@ -115,6 +117,7 @@ pub record ReadSome (frames : ℕ) (remained remains : Option (List ℕ)) (waits
   pub within : length read ≤ limit
   pub taken : Consumes remained remains read
   pub sound : list_all is_sound (closed_lines read) ≡ true
+  pub short : is_too_long (open_line read) ≡ false
   pub text : LeavesUnwritten held holds (replies_text frames (events_in (closed_lines read))) waits
 
 abbrev pub RanInto : ℕ → ScriptFault → Option (List ℕ) → Option (List ℕ) → List ℕ → Option (List ℕ) → Option (List ℕ) → Type 0
@@ -125,14 +128,26 @@ RanInto frames WriteFailed remained remains waits held holds = (waits ≡ []) ×
 RanInto frames BadSize remained remains waits held holds = ⊥
 RanInto frames NoMemory remained remains waits held holds = ⊥
 
+-- What was read before a read failed lies within the limit of a script, none of its complete lines
+-- is malformed, the line after them is not too long so far, and the replies to the complete lines,
+-- and nothing else, were written.
+pub record EndsReading (frames : ℕ) (remained remains held holds : Option (List ℕ)) : Type 0 where
+  pub read : List ℕ
+  pub within : length read ≤ limit
+  pub taken : Consumes remained remains read
+  pub sound : list_all is_sound (closed_lines read) ≡ true
+  pub short : is_too_long (open_line read) ≡ false
+  pub text : Appends held holds (replies_text frames (events_in (closed_lines read)))
+
 -- What a run that ended by this fault read and wrote. A number of frames that may not be, and want of
 -- memory, come before the first read. The fault of a malformed line and of a long script is the
 -- script's own, and all replies before it were written; after a read that failed, those to the
--- complete lines that were read; after a write that failed, a front of them.
+-- complete lines that were read. A write fails only where there is text to write: a front of the
+-- replies was written then, and at least one byte of them was not.
 abbrev pub EndsBy : ℕ → ScriptFault → Option (List ℕ) → Option (List ℕ) → Option (List ℕ) → Option (List ℕ) → Type 0
 EndsBy frames BadSize remained remains held holds = Keeps remained remains × Keeps held holds
 EndsBy frames NoMemory remained remains held holds = Keeps remained remains × Keeps held holds
 EndsBy frames (Malformed line) remained remains held holds = IfSome remained (λ input. (fault_of input ≡ Some (Malformed line)) × Appends held holds (replies_text frames (events_of input)))
 EndsBy frames TooLong remained remains held holds = IfSome remained (λ input. (fault_of input ≡ Some TooLong) × Appends held holds (replies_text frames (events_of input)))
-EndsBy frames ReadFailed remained remains held holds = (read : List ℕ) × Consumes remained remains read × (list_all is_sound (closed_lines read) ≡ true) × Appends held holds (replies_text frames (events_in (closed_lines read)))
+EndsBy frames ReadFailed remained remains held holds = EndsReading frames remained remains held holds
 EndsBy frames WriteFailed remained remains held holds = IfSome remained (λ input. AppendsFront held holds (replies_text frames (events_of input)))

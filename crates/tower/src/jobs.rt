@@ -1,9 +1,9 @@
 //! The program's command line.
 
-ghost use Rattle.std.specs.Prelude.{◌≡◌, true, false, map, codes, IfOk, IfErr};
-ghost use Rattle.clap.specs.Words.{app_of, found_of, kind_of, one_text, subcommand_of, takes};
+ghost use Rattle.std.specs.Prelude.{◌≡◌, true, false, map, codes, Some, IfOk, IfErr};
+ghost use Rattle.clap.specs.Words.{app_of, fault_of, found_of, kind_of, rows_of, subcommand_of, takes, FailsBy};
 ghost use Rattle.clap.specs.declared.builder.command.Command.TheViews.{out-Command as fields_of};
-ghost use Rattle.tower.specs.Jobs.{tower_app, run_app, IsFrames, IsJobOf};
+ghost use Rattle.tower.specs.Jobs.{tower_app, run_app, frames_in, job_named, job_asked};
 
 use clap::error::ErrorKind;
 use clap::{Arg, ArgMatches, Command, Error};
@@ -46,25 +46,46 @@ fn tower_command<'a>(alloc: Global) -> Result<Command<'a>, AllocError>
     Ok(tower.subcommand_required(true))
 }
 
-/// The number of frames that was asked for.
-fn frames_of(matches: &ArgMatches<'_>) -> u32
-    ensures { IsFrames (one_text (found_of matches.now) (codes "frames")) result }
+/// The number of frames that was asked for; None where what stands there is no number.
+fn frames_of(matches: &ArgMatches<'_>) -> Option<u32>
+    ensures { result ≡ frames_in (rows_of (found_of matches.now)) }
 {
-    matches.get_one::<u32>("frames").unwrap_or(FRAMES)
+    match matches.try_get_one::<u32>("frames") {
+        Ok(Some(frames)) => Some(frames),
+        Ok(None) => Some(FRAMES),
+        Err(_) => None,
+    }
+}
+
+/// The job of the subcommand of that name, by what was found behind it.
+fn job_named(name: &str, matches: &ArgMatches<'_>) -> Option<Job>
+    ensures { result ≡ job_named name.now (rows_of (found_of matches.now)) }
+{
+    match name {
+        "run" => {
+            let frames = frames_of(matches)?;
+            Some(Job::Run { frames })
+        }
+        _ => None,
+    }
 }
 
 /// The job that the words ask for, of which the first is the program's name. What they do not spell
 /// is refused by `clap`, with its own text; a call for help is refused so too.
 pub fn job_of<'a, S: AsStr>(alloc: Global, words: &'a [S]) -> Result<Job, Error>
-    ensures job { IfOk result (IsJobOf (subcommand_of tower_app (map S.text words.now))) }
+    // An Ok comes only where `clap` finds no fault in the words, and an error is want of memory or of
+    // a kind that `clap` finds.
+    ensures fails { FailsBy (fault_of tower_app (map S.text words.now)) result }
+    ensures job { IfOk result (λ job. job_asked (subcommand_of tower_app (map S.text words.now)) ≡ Some job) }
     // Where `clap` takes the words, want of memory alone refuses them.
     ensures taken { IfErr result (λ error. takes tower_app (map S.text words.now) ≡ true → kind_of error ≡ ErrorKind.OutOfMemory) }
 {
     let matches = tower_command(alloc)?.try_get_matches_from(words)?;
-    let Some((_, run)) = matches.subcommand() else {
+    let Some((name, found)) = matches.subcommand() else {
         unreachable!();
     };
-    Ok(Job::Run {
-        frames: frames_of(run),
-    })
+    let Some(job) = job_named(name, found) else {
+        unreachable!();
+    };
+    Ok(job)
 }

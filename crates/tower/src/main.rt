@@ -3,7 +3,7 @@
 #![tactic(auto)]
 
 ghost use Rattle.std.specs.Prelude.{◌≡◌};
-ghost use Rattle.tower.specs.Faults.{status_of};
+ghost use Rattle.tower.specs.Faults.{status_of, status_of_words};
 
 mod faults;
 mod jobs;
@@ -16,14 +16,17 @@ mod session;
 #[cfg(test)]
 mod tests;
 mod tokens;
+mod words;
+#[cfg(test)]
+mod worked;
 
 use clap::error::ErrorKind;
 use faults::ScriptFault;
 use jobs::{Job, job_of};
 use script::run_script;
+use std::io;
 use std::process::ExitCode;
-use std::rt::Env;
-use std::{env, io};
+use words::{WordsFault, words};
 
 /// The exit status where the command line is refused.
 const REFUSED: u8 = 2;
@@ -68,15 +71,26 @@ fn run<R: AllocGlobal + Input + Print + Eprint>(rt: &R, words: &[String]) -> u8 
     }
 }
 
-/// The words of the command line.
-fn words<R: AllocGlobal + Env>(rt: &R) -> io::Result<Vec<String>> {
-    Ok(env::args(rt)?.collect(rt.alloc())?)
+/// The exit status where the words were not read: words that are not text are a refused command line.
+fn status_of_words(fault: WordsFault) -> u8
+    ensures { result ≡ status_of_words fault }
+{
+    match fault {
+        WordsFault::NoMemory => status_of(ScriptFault::NoMemory),
+        WordsFault::NotText => REFUSED,
+    }
+}
+
+/// Prints on standard error why the words were not read, and gives the exit status.
+fn refuse_words(rt: &impl Eprint, fault: WordsFault) -> u8 {
+    let _ = rt.eprintln(fault);
+    status_of_words(fault)
 }
 
 fn main(rt: HostRuntime) -> ExitCode {
     let status = match words(&rt) {
         Ok(words) => run(&rt, words.as_slice()),
-        Err(_) => report(&rt, ScriptFault::NoMemory),
+        Err(fault) => refuse_words(&rt, fault),
     };
     ExitCode::from(status)
 }

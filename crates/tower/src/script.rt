@@ -1,11 +1,12 @@
 //! A script's run, from its bytes to the bytes of its replies.
 
-ghost use Rattle.std.specs.Prelude.{◌≡◌, ℕ, ◌≤◌, ◌↔◌, IsErrOf, IfOk, IfErr, OnOk, IfSome, None};
+ghost use Rattle.std.specs.Prelude.{◌≡◌, ℕ, ◌≤◌, ◌↔◌, IsErrOf, IfOk, IfErr, OnOk, IfSome, None, Some};
 ghost use Rattle.std.specs.Io.KnownBytes.{Appends};
 ghost use Rattle.process_table.specs.State.{open_with};
 ghost use Rattle.kernel_calls.specs.Machine.{end_of};
 ghost use Rattle.tower.specs.Script.{events_of, fault_of, replies_text};
 ghost use Rattle.tower.specs.Progress.{EndsBy};
+ghost use Rattle.tower.specs.WorkedScripts.{second_line_malformed, reply_to_the_first};
 
 use super::faults::ScriptFault;
 use super::session::Session;
@@ -44,3 +45,10 @@ pub fn run_script<R: Read, W: Write>(
     session.run(reader, block.as_mut_slice(), writer)?;
     Ok(session.core)
 }
+
+/// What a script means whose second line is malformed, computed from the definitions: that line is its
+/// fault, and only the first line has a reply. It computes nothing.
+pub fn malformed_line_ends_a_script()
+    ensures fault { fault_of second_line_malformed ≡ Some (ScriptFault.Malformed 2) }
+    ensures replies { replies_text 16 (events_of second_line_malformed) ≡ reply_to_the_first }
+{}

@@ -1,11 +1,17 @@
-//! Whole scripts, and readers and writers that fail in mid-stream.
+//! Command lines, whole scripts, and readers and writers that fail in mid-stream.
 
 use super::faults::ScriptFault;
+use super::jobs::{Job, job_of};
+use super::refuse_words;
 use super::script::run_script;
+use super::words::{WordsFault, words};
 use arrayvec::ArrayVec;
+use clap::error::ErrorKind;
 use std::alloc::{AllocError, Global};
+use std::env::FillError;
 use std::io;
 use std::io::{Read, Write};
+use std::rt::Env;
 use std::test::Fail;
 
 const MAP_STORE_LOAD: &[u8] =
@@ -318,4 +324,91 @@ fn goes_on_after_want_of_memory(rt: HostRuntime) -> Result<(), Fail> {
     }
     assert_eq!(rt; writer.written.as_slice(), REPLIES);
     Ok(())
+}
+
+/// What `tower` and these words ask for: the number of frames, or why it is refused.
+fn asked(alloc: Global, words: &[&str]) -> Result<Result<u32, ErrorKind>, AllocError> {
+    let mut line = Vec::new(alloc);
+    line.push("tower")?;
+    line.extend_from_slice(words)?;
+    let job = job_of(alloc, line.as_slice());
+    Ok(match job {
+        Ok(Job::Run { frames }) => Ok(frames),
+        Err(error) => Err(error.kind()),
+    })
+}
+
+#[test]
+fn reads_command_lines_as_clap_does(rt: HostRuntime) -> Result<(), Fail> {
+    for (words, want) in [
+        (["run"].as_slice(), Ok(16)),
+        (["run", "--frames", "64"].as_slice(), Ok(64)),
+        (["run", "--frames=0064"].as_slice(), Ok(64)),
+        (["run", "--frames=+64"].as_slice(), Ok(64)),
+        (["run", "--frames=-0"].as_slice(), Ok(0)),
+        (["run", "--frames=4294967295"].as_slice(), Ok(4_294_967_295)),
+        (
+            ["run", "--frames=4294967296"].as_slice(),
+            Err(ErrorKind::ValueValidation),
+        ),
+        (
+            ["run", "--frames=-1"].as_slice(),
+            Err(ErrorKind::ValueValidation),
+        ),
+        (
+            ["run", "--frames", "abc"].as_slice(),
+            Err(ErrorKind::ValueValidation),
+        ),
+        (
+            ["run", "--frames", "-0"].as_slice(),
+            Err(ErrorKind::UnknownArgument),
+        ),
+        (
+            ["run", "--frames", "16", "--frames", "17"].as_slice(),
+            Err(ErrorKind::ArgumentConflict),
+        ),
+        (["run", "16"].as_slice(), Err(ErrorKind::UnknownArgument)),
+        (["run", "--help"].as_slice(), Err(ErrorKind::DisplayHelp)),
+        (["help"].as_slice(), Err(ErrorKind::DisplayHelp)),
+        (["walk"].as_slice(), Err(ErrorKind::InvalidSubcommand)),
+        ([].as_slice(), Err(ErrorKind::MissingSubcommand)),
+    ] {
+        assert_eq!(rt; asked(rt.alloc(), words)?, want, "{words:?}");
+    }
+    Ok(())
+}
+
+/// A command line whose second word is not text.
+#[derive(Drop)]
+struct NoText;
+
+impl Env for NoText {
+    fn arg(&self, i: usize, buf: &mut [u8]) -> Result<usize, FillError> {
+        let word: &[u8] = match i {
+            0 => b"tower",
+            1 => b"\xff",
+            _ => return Err(FillError::NotPresent),
+        };
+        if word.len() > buf.len() {
+            return Err(FillError::TooLong);
+        }
+        buf[..word.len()].copy_from_slice(word);
+        Ok(word.len())
+    }
+
+    fn var(&self, _name: &str, _buf: &mut [u8]) -> Result<usize, FillError> {
+        Err(FillError::NotPresent)
+    }
+
+    fn var_at(&self, _i: usize, _buf: &mut [u8]) -> Result<usize, FillError> {
+        Err(FillError::NotPresent)
+    }
+}
+
+#[test]
+fn refuses_words_that_are_not_text(rt: HostRuntime) {
+    let read = words(&(NoText, rt.alloc()));
+    assert_eq!(rt; read.err(), Some(WordsFault::NotText));
+    assert_eq!(rt; refuse_words(&rt, WordsFault::NotText), 2);
+    assert_eq!(rt; refuse_words(&rt, WordsFault::NoMemory), 1);
 }
