@@ -28,5 +28,5 @@ returns-clause-state c =
     c.access.ensures.state ∙ (settled_at c.args.processes.now c.fill_first.new.processes.state c.args.plan c.args.pid c.args.address c.args.size c.args.access c.requires.plan c.requires.completes
     (λ n. c.fill_first.ensures.state ∙ ap (λ (v : View). v.state) (c.map_first.ensures.other n)) (λ e. c.fill_first.ensures.state ∙ c.map_first.ensures.mapped e)).state c.args.value
 
-pub map_first-requires-clause-page : goal.map_first-requires-clause-page
-map_first-requires-clause-page c = may_map_first c.args.processes.now c.args.plan c.args.pid c.args.address c.args.size c.args.access c.requires.plan
+pub map_first-requires : goal.map_first-requires
+map_first-requires c = record { page = may_map_first c.args.processes.now c.args.plan c.args.pid c.args.address c.args.size c.args.access c.requires.plan }
