@@ -42,19 +42,27 @@ impl Write for BrokenWriter {
     }
 }
 
-/// Carries out a call on a core, and has the report absorb what is logged of it.
-fn logged(core: &mut Core, report: &mut Report, nth: usize, pid: Pid, call: Call) -> Reply {
-    let decision = core.decide(&Event { cpu: 0, pid, call });
-    let reply = core.commit(decision);
-    report.absorb(&LogEntry {
-        cpu: 0,
+fn event(pid: Pid, call: Call) -> Event {
+    Event { cpu: 0, pid, call }
+}
+
+/// What is logged of an event on a core, with that number of entries before it.
+fn entry_of(event: &Event, nth: usize, reply: Reply, used_after: u32) -> LogEntry {
+    LogEntry {
+        cpu: event.cpu,
         nth,
-        pid,
-        call,
+        pid: event.pid,
+        call: event.call,
         reply,
-        used_after: decision.used_after,
-    });
-    reply
+        used_after,
+    }
+}
+
+/// Carries out an event on a core: the entry that is logged of it.
+fn step(core: &mut Core, nth: usize, event: &Event) -> LogEntry {
+    let decision = core.decide(event);
+    let used_after = decision.used_after;
+    entry_of(event, nth, core.commit(decision), used_after)
 }
 
 /// Process 0 stores to its first page, makes a child with a quota of 5, and shares the page with it.
@@ -98,7 +106,7 @@ fn absorbs_a_history(rt: HostRuntime) -> Result<(), Fail> {
     assert_eq!(rt; report, report_of(&core));
     assert_eq!(rt; report.total(), 1);
     for (nth, (pid, call)) in shares_a_page(root, child).iter().enumerate() {
-        logged(&mut core, &mut report, nth, *pid, *call);
+        report.absorb(&step(&mut core, nth, &event(*pid, *call)));
         assert_eq!(rt; report, report_of(&core));
     }
     let row = Row {
@@ -112,10 +120,7 @@ fn absorbs_a_history(rt: HostRuntime) -> Result<(), Fail> {
     let mut written = Vec::new(rt.alloc());
     assert_eq!(rt; report.write_text(&mut written), Ok(()));
     assert_eq!(rt; written.as_slice(), TEXT);
-    assert_eq!(rt;
-        logged(&mut core, &mut report, 4, child, Call::Exit),
-        Reply::Done
-    );
+    report.absorb(&step(&mut core, 4, &event(child, Call::Exit)));
     assert_eq!(rt; report, report_of(&core));
     assert_eq!(rt; report.row(child), None);
     assert_eq!(rt; report.total(), 3);
