@@ -1,11 +1,10 @@
 -- Laws of histories: what one entry more leaves of their state, and which of them are legal.
-use Rattle.std.proofs.Common.{◌≡◌, ◌⊎◌, ℕ, suc, ◌+◌, ◌≤◌, ◌==◌, Bool, true, false, cond, List, [], ◌∷◌, ◌++◌, map, take, length, refl, sym, ap, subst, ◌∙◌, arith, inl, inr, append_assoc, length-append, le_refl}
+use Rattle.std.proofs.Common.{◌≡◌, ◌⊎◌, ℕ, suc, ◌+◌, List, [], ◌∷◌, ◌++◌, take, length, refl, sym, ap, subst, ◌∙◌, arith, inl, inr, append_assoc, length-append}
 use Rattle.std.proofs.Math.Seq.{take-append_seam}
 use Rattle.kernel_calls.specs.Machine.{answer, answers, end_of, next}
-use Rattle.kernel_calls.specs.declared.calls.Call.{Call}
 use Rattle.kernel_calls.specs.declared.calls.Event.{Event}
 use Rattle.kernel_calls.specs.declared.calls.Reply.{Reply}
-use Rattle.memory_report.specs.Histories.{event_of, events_of, replies_of, state_after, entries_of, calls_of, IsTold, Legal, entry_after}
+use Rattle.memory_report.specs.Histories.{event_of, events_of, replies_of, state_after, IsTold, Legal, entry_after}
 use Rattle.memory_report.specs.Laws.{EmptyIsLegal, GrowsLegal, BeginsLegal}
 use Rattle.memory_report.specs.declared.entries.LogEntry.{LogEntry}
 use Rattle.process_table.specs.State.{State, open_with}

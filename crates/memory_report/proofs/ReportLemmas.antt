@@ -1,26 +1,25 @@
 -- A report follows the machine from event to event, and its total is what all live processes cost.
-use Rattle.std.proofs.Common.{◌≡◌, ◌≢◌, ℕ, ◌+◌, ◌<◌, ◌≤◌, ◌==◌, Bool, true, false, cond, List, [], ◌∷◌, ◌++◌, map, refl, sym, ap, subst, ◌∙◌, arith, Option, Some, None, is_none, unwrap_or, sum_by}
+use Rattle.std.proofs.Common.{◌≡◌, ◌≢◌, ℕ, ◌+◌, ◌<◌, ◌≤◌, ◌==◌, Bool, true, false, cond, List, [], ◌∷◌, map, refl, sym, ap, subst, ◌∙◌, arith, Option, Some, None, is_none, unwrap_or, sum_by}
 use Rattle.std.specs.Prelude.{if◌then◌else◌, nat_lt}
 use Rattle.std.specs.List.{range_with_len}
 use Rattle.std.specs.Option.{option_map}
 use Rattle.std.proofs.lemmas.List.Sums.{sum_by-cons}
 use Rattle.address_space.proofs.AccessCosts.{cost-same, key-stored}
 use Rattle.address_space.proofs.Totals.{cost-insert_other, cost-joined_other, cost-without_other}
-use Rattle.address_space.specs.Spaces.{Slot, slot_order, Spaces, cost, cell_or_fresh, slot_at, accessed, stored, protected, joined, without, is_slot, fresh, bytes_of}
+use Rattle.address_space.specs.Spaces.{Slot, slot_order, Spaces, cost, cell_or_fresh, slot_at, accessed, stored, protected, without, is_slot, fresh, bytes_of}
 use Rattle.kernel_calls.proofs.Decided.{next-stays, next-goes}
 use Rattle.kernel_calls.proofs.Runs.{runs-stay}
 use Rattle.kernel_calls.specs.Decisions.{charge_in, charge_after}
-use Rattle.kernel_calls.specs.Machine.{answer, answer_of, after, next, completes, refused_or, planned_or}
+use Rattle.kernel_calls.specs.Machine.{answer, answer_of, after, next, completes, refused_or}
 use Rattle.kernel_calls.specs.declared.calls.Call.{Call}
 use Rattle.kernel_calls.specs.declared.calls.Call.TheVariants as call
-use Rattle.kernel_calls.specs.declared.calls.Event.{Event}
 use Rattle.kernel_calls.specs.declared.calls.Reply.{Reply}
 use Rattle.kernel_calls.specs.declared.calls.Reply.TheVariants as reply
 use Rattle.memory_report.proofs.HistoryLemmas.{state-push, last_reply, last_told}
 use Rattle.memory_report.proofs.RowLemmas.{charged, opened-is, closed-is, roomy}
-use Rattle.memory_report.specs.Histories.{event_of, events_of, state_after, Legal}
+use Rattle.memory_report.specs.Histories.{event_of, events_of, state_after}
 use Rattle.memory_report.specs.Laws.{TotalIsCost}
-use Rattle.memory_report.specs.Reports.{row_of, row_from, report_of, used_in, total_of, Absorbs}
+use Rattle.memory_report.specs.Reports.{row_of, row_from, report_of, used_in, Absorbs}
 use Rattle.memory_report.specs.Rows.{absorbed, after_call, after_spawn, IsRoomy}
 use Rattle.memory_report.specs.declared.entries.LogEntry.{LogEntry}
 use Rattle.memory_report.specs.declared.rows.Row.{Row}
@@ -34,7 +33,7 @@ use Rattle.process_table.proofs.Ranges.{found, sum-same, sum-range}
 use Rattle.process_table.proofs.SpaceLaws.{not_less}
 use Rattle.process_table.specs.Calls.{at_page, spawn_refusal, exit_refusal, after_spawn as spawned_state}
 use Rattle.process_table.specs.State.{State, is_live, room, child_of, shown}
-use Rattle.process_table.specs.WellFormed.{IsWellFormed, total}
+use Rattle.process_table.specs.WellFormed.{IsWellFormed}
 use Rattle.process_table.specs.declared.causes.Cause.{Cause}
 use Rattle.process_table.specs.declared.causes.Cause.TheVariants as cause
 use Rattle.quota_tree.specs.Book.{Member, next_number}

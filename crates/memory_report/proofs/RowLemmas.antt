@@ -1,12 +1,12 @@
 -- What each change of the machine's state does to its report.
-use Rattle.std.proofs.Common.{◌≡◌, ◌≢◌, ℕ, ◌+◌, ◌-◌, ◌<◌, ◌≤◌, ◌==◌, Bool, true, false, cond, List, get_or, length, replicate, refl, sym, ap, subst, ◌∙◌, arith, inl, inr, Option, Some, None, is_some, is_none, unwrap_or}
-use Rattle.std.specs.Prelude.{if◌then◌else◌, nat_lt, slice_set}
+use Rattle.std.proofs.Common.{◌≡◌, ◌≢◌, ℕ, ◌+◌, ◌-◌, ◌<◌, ◌≤◌, ◌==◌, Bool, true, false, cond, List, length, replicate, refl, sym, ap, subst, ◌∙◌, arith, inl, inr, Option, Some, None, is_some, unwrap_or}
+use Rattle.std.specs.Prelude.{slice_set}
 use Rattle.std.specs.Option.{option_map}
 use Rattle.std.proofs.lemmas.Bool.{cases_eq}
 use Rattle.std.proofs.lemmas.List.{get_or-set_same, get_or-set_other, get_or-replicate, length-replicate}
 use Rattle.std.proofs.lemmas.List.FromFn.{fill_by_all, get_or-map-range_with_len, length-map-range_with_len}
 use Rattle.std.proofs.Math.ListN.{length-set}
-use Rattle.address_space.specs.Spaces.{Slot, Cell, Spaces, cost, without, is_of}
+use Rattle.address_space.specs.Spaces.{Cell, Spaces, cost, is_of}
 use Rattle.address_space.proofs.Totals.{cost-without_other}
 use Rattle.memory_report.specs.Reports.{row_from, row_of, report_of}
 use Rattle.memory_report.specs.Rows.{at, with_used, with_given_back, child_row, opened, opened_by, closed, closed_by, HasRoom}
@@ -21,7 +21,7 @@ use Rattle.process_table.proofs.CellLaws.{same_Some, some_value}
 use Rattle.process_table.proofs.Sizes.{cost-no_pages}
 use Rattle.process_table.proofs.SpaceLaws.{no_value}
 use Rattle.process_table.specs.Calls.{after_exit}
-use Rattle.process_table.specs.State.{State, open_with, is_live, room, shown, container_of}
+use Rattle.process_table.specs.State.{State, open_with, is_live, room, shown}
 use Rattle.process_table.specs.WellFormed.{IsWellFormed}
 use Rattle.quota_tree.proofs.BookFacts.{child_yes, child_no, get-insert_other, get-remove_other}
 use Rattle.quota_tree.proofs.Sums.{given-insert, given-none, given-remove}

@@ -1,5 +1,5 @@
 -- Histories: lists of log entries, their states, and which of them are legal.
-use Rattle.std.specs.Prelude.{◌≡◌, ◌≤◌, ℕ, ◌==◌, List, [], ◌∷◌, ◌++◌, map, length, filter, nat_lt, if◌then◌else◌}
+use Rattle.std.specs.Prelude.{◌≡◌, ◌≤◌, ℕ, ◌==◌, List, ◌∷◌, ◌++◌, map, length, filter, nat_lt, if◌then◌else◌}
 use Rattle.kernel_calls.specs.Decisions.{charge_after}
 use Rattle.kernel_calls.specs.Machine.{answer, answers, end_of}
 use Rattle.kernel_calls.specs.declared.calls.Call.{Call}

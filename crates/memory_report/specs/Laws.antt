@@ -1,6 +1,5 @@
 -- Laws on histories and reports.
 use Rattle.std.specs.Prelude.{◌≡◌, ℕ, ◌≤◌, List, [], ◌∷◌, ◌++◌}
-use Rattle.kernel_calls.specs.Machine.{end_of}
 use Rattle.kernel_calls.specs.declared.calls.Call.{Call}
 use Rattle.memory_report.specs.Histories.{Legal, entry_after}
 use Rattle.memory_report.specs.Reports.{report_of, total_of}

@@ -1,4 +1,4 @@
-use Rattle.std.proofs.Common.{rules, List, ℕ, arith, sym, ap, subst, ◌∙◌}
+use Rattle.std.proofs.Common.{rules, List, ℕ, arith, ap, subst, ◌∙◌}
 use Rattle.std.specs.Prelude.{OnErr}
 use Rattle.memory_report.proofs.TextLemmas.{wrote_row, cut_row, at_end, cut_rest}
 use Rattle.memory_report.specs.Text.{AppendsFront, report_text, total_line}

@@ -1,6 +1,6 @@
 -- The parts of the locked value before and after a call.
 use Rattle.std.specs.Prelude.{MatchBool}
-use Rattle.std.proofs.Common.{rules, ◌≡◌, ℕ, ◌+◌, ◌<◌, ◌^◌, Bool, false, inl, List, [], ◌∷◌, ◌++◌, length, refl, sym, ap, ◌∙◌, subst, arith}
+use Rattle.std.proofs.Common.{rules, ◌≡◌, ℕ, ◌+◌, ◌<◌, ◌^◌, Bool, false, inl, List, [], ◌∷◌, ◌++◌, length, sym, ap, ◌∙◌, subst, arith}
 use Rattle.kernel_calls.specs.Machine.{next}
 use Rattle.kernel_calls.specs.declared.calls.Decision.{Decision}
 use Rattle.locked_core.proofs.Entries.{calls_few, calls_push, entry_is, logged}
@@ -12,7 +12,6 @@ use Rattle.locked_core.specs.declared.faults.Fault.TheVariants.{Stale}
 use Rattle.memory_report.proofs.HistoryLemmas.{grows_legal}
 use Rattle.memory_report.specs.Histories.{Legal, StartsWith, calls_of, entry_after}
 use Rattle.memory_report.specs.declared.entries.LogEntry.{LogEntry}
-use Rattle.process_table.specs.State.{State}
 use Rattle.locked_core.proofs.locked.Locked.call.Goals as goal
 
 pub add-requires-clause-legal : goal.add-requires-clause-legal
