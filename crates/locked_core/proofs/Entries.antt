@@ -1,0 +1,77 @@
+-- The entry of one call, and what it leaves of the log and of what is published.
+use Rattle.std.proofs.Common.{◌≡◌, ℕ, ◌+◌, ◌≤◌, ◌==◌, List, [], ◌∷◌, ◌++◌, length, Bool, true, false, refl, sym, ap, ◌∙◌, subst, arith, length-append, eq-eqb, le_refl}
+use Rattle.std.specs.Prelude.{filter, cond}
+use Rattle.std.proofs.lemmas.List.Elements.{filter-append}
+use Rattle.kernel_calls.specs.Decisions.{charge_after}
+use Rattle.kernel_calls.specs.Machine.{answer, next}
+use Rattle.kernel_calls.specs.declared.calls.Call.{Call}
+use Rattle.kernel_calls.specs.declared.calls.Decision.{Decision}
+use Rattle.kernel_calls.specs.declared.calls.Event.{Event}
+use Rattle.memory_report.proofs.HistoryLemmas.{empty_is_legal, grows_legal, state-push}
+use Rattle.memory_report.specs.Histories.{Legal, state_after, entries_of, calls_of, entry_after}
+use Rattle.memory_report.specs.Reports.{report_of, Absorbs}
+use Rattle.memory_report.specs.declared.entries.LogEntry.{LogEntry}
+use Rattle.memory_report.specs.declared.report.Report.{Report}
+use Rattle.process_table.specs.State.{State, open_with}
+
+-- no call was made yet
+pub legal_opening : (frames : ℕ) (log : List LogEntry) (core : State) → 16 ≤ frames → frames ≤ 4096 → log ≡ [] → core ≡ open_with frames → Legal frames log × (core ≡ state_after frames log)
+legal_opening frames log core low high none is = (subst (Legal frames) (sym none) (empty_is_legal frames low high), is ∙ ap (state_after frames) (sym none))
+
+-- a CPU has no more entries than there are
+pub calls_few : (cpu : ℕ) (log : List LogEntry) → calls_of cpu log ≤ length log
+calls_few cpu [] = le_refl 0
+calls_few cpu (e ∷ es) = by_case (e.cpu == cpu) (calls_few cpu es)
+  where
+    by_case : (b : Bool) → calls_of cpu es ≤ length es → length (cond b (e ∷ entries_of cpu es) (entries_of cpu es)) ≤ length (e ∷ es)
+    by_case true h = omega arith
+    by_case false h = omega arith
+
+-- what is logged of a call as it was decided
+pub entry_is : (frames : ℕ) (log : List LogEntry) (core : State) (cpu nth pid : ℕ) (call : Call) (decision : Decision) (e : LogEntry) → core ≡ state_after frames log → nth ≡ calls_of cpu log
+    → decision.reply ≡ answer core (record { cpu = cpu; pid = pid; call = call }) → decision.used_after ≡ charge_after core (record { cpu = cpu; pid = pid; call = call })
+    → e ≡ record { cpu = cpu; nth = nth; pid = pid; call = call; reply = decision.reply; used_after = decision.used_after } → e ≡ entry_after frames log cpu pid call
+entry_is frames log core cpu nth pid call decision e at count says uses is =
+    let event : Event = record { cpu = cpu; pid = pid; call = call } in
+    let r : decision.reply ≡ answer (state_after frames log) event = says ∙ ap (λ (s : State). answer s event) at in
+    let u : decision.used_after ≡ charge_after (state_after frames log) event = uses ∙ ap (λ (s : State). charge_after s event) at in
+    is ∙ (λ i. record { cpu = cpu; nth = count i; pid = pid; call = call; reply = r i; used_after = u i })
+
+-- the entries of one CPU, with one more
+pub entries_push : (cpu : ℕ) (log : List LogEntry) (e : LogEntry) → e.cpu ≡ cpu → entries_of cpu (log ++ e ∷ []) ≡ entries_of cpu log ++ e ∷ []
+entries_push cpu log e mine =
+    let P : LogEntry → Bool = λ x. x.cpu == cpu in
+    let one : filter P (e ∷ []) ≡ e ∷ [] = ap (λ b. cond b (e ∷ []) []) (eq-eqb e.cpu cpu mine) in
+    filter-append P log (e ∷ []) ∙ ap (λ l. entries_of cpu log ++ l) one
+
+pub calls_push : (cpu : ℕ) (log : List LogEntry) (e : LogEntry) → e.cpu ≡ cpu → calls_of cpu (log ++ e ∷ []) ≡ calls_of cpu log + 1
+calls_push cpu log e mine = ap length (entries_push cpu log e mine) ∙ length-append (entries_of cpu log) (e ∷ [])
+
+-- what one call leaves
+pub record IsLogged (frames : ℕ) (log new : List LogEntry) (now : State) (cpu pid : ℕ) (call : Call) : Type 0 where
+  pub legal : Legal frames new
+  pub stands : now ≡ state_after frames new
+  pub grown : new ≡ log ++ entry_after frames log cpu pid call ∷ []
+  pub calls : calls_of cpu new ≡ calls_of cpu log + 1
+
+pub logged : (frames : ℕ) (log new : List LogEntry) (core now : State) (cpu pid : ℕ) (call : Call) (e : LogEntry) → Legal frames log → core ≡ state_after frames log → e ≡ entry_after frames log cpu pid call
+    → new ≡ log ++ e ∷ [] → now ≡ next core (record { cpu = cpu; pid = pid; call = call }) → IsLogged frames log new now cpu pid call
+logged frames log new core now cpu pid call e legal at is grown moved =
+    let event : Event = record { cpu = cpu; pid = pid; call = call } in
+    let by : new ≡ log ++ entry_after frames log cpu pid call ∷ [] = grown ∙ ap (λ (x : LogEntry). log ++ x ∷ []) is in
+    record {
+      legal = subst (Legal frames) (sym by) (grows_legal frames log cpu pid call legal);
+      stands = moved ∙ ap (λ (s : State). next s event) at ∙ sym (state-push frames log (entry_after frames log cpu pid call)) ∙ ap (state_after frames) (sym by);
+      grown = by;
+      calls = ap (calls_of cpu) by ∙ calls_push cpu log (entry_after frames log cpu pid call) refl;
+    }
+
+-- what is published with one more entry
+pub shown_grown : (frames : ℕ) (log new : List LogEntry) (e : LogEntry) (report now : Report) (count : ℕ) → new ≡ log ++ e ∷ [] → count ≡ length log
+    → report ≡ report_of (state_after frames log) → Absorbs report e now → Legal frames (log ++ e ∷ [])
+    → (count + 1 ≡ length new) × Legal frames new × (now ≡ report_of (state_after frames new))
+shown_grown frames log new e report now count grown len at took legal = (
+  ap (λ (k : ℕ). k + 1) len ∙ (sym (length-append log (e ∷ [])) ∙ ap length (sym grown)),
+  subst (Legal frames) (sym grown) legal,
+  took frames log legal at ∙ ap (λ l. report_of (state_after frames l)) (sym grown),
+)

@@ -1,0 +1,6 @@
+pub mod Faults
+pub mod Makers
+pub mod Pages
+pub mod Ports
+pub mod Published
+pub mod Rules

@@ -1,0 +1,54 @@
+-- What a contract sees of a CPU, what a call that is made leaves, and when one is refused.
+use Rattle.std.specs.Prelude.{◌≡◌, ◌≢◌, ◌⊎◌, ℕ, zero, suc, ◌<◌, List, [], ◌∷◌, ◌++◌, length}
+use Rattle.kernel_calls.specs.declared.calls.Call.{Call}
+use Rattle.kernel_calls.specs.declared.calls.Reply.{Reply}
+use Rattle.locked_core.specs.declared.faults.Fault.{Fault}
+use Rattle.locked_core.specs.declared.faults.Fault.TheVariants.{NoMemory, Stale, Unread, Disagree}
+use Rattle.locked_core.specs.Rules.{GoesOn}
+use Rattle.memory_report.specs.Histories.{Legal, StartsWith, calls_of, entries_of}
+use Rattle.memory_report.specs.declared.entries.LogEntry.{LogEntry}
+
+-- its number, and the entries that it has seen
+pub record Maker : Type 0 where
+  pub number : ℕ
+  pub seen : List LogEntry
+
+abbrev pub maker : ℕ → List LogEntry → Maker
+maker number seen = record { number = number; seen = seen }
+
+-- so many CPUs, numbered from 0, that have seen nothing
+abbrev pub new_makers : ℕ → List Maker
+new_makers zero = []
+new_makers (suc n) = new_makers n ++ maker n [] ∷ []
+
+-- Where a call of a CPU was made: what it has seen now is a legal history, which begins with what it had seen and ends with the entry of that call, and of
+-- its own entries it has those that it had and this one.
+pub record IsMade (frames : ℕ) (before : Maker) (pid : ℕ) (call : Call) (reply : Reply) (after : Maker) (between : List LogEntry) (e : LogEntry) : Type 0 where
+  pub legal : Legal frames after.seen
+  pub grown : after.seen ≡ (before.seen ++ between) ++ e ∷ []
+  pub by_cpu : e.cpu ≡ before.number
+  pub for_process : e.pid ≡ pid
+  pub of_call : e.call ≡ call
+  pub with_reply : e.reply ≡ reply
+  pub own : entries_of before.number after.seen ≡ entries_of before.number before.seen ++ e ∷ []
+
+abbrev pub Makes : ℕ → Maker → ℕ → Call → Maker → Reply → Type 0
+Makes frames before pid call after reply = (between : List LogEntry) × (e : LogEntry) × IsMade frames before pid call reply after between e
+
+-- two lists are beginnings of one legal history
+abbrev pub BeginOne : ℕ → List LogEntry → List LogEntry → Type 0
+BeginOne frames log seen = (history : List LogEntry) × Legal frames history × StartsWith history log × StartsWith history seen
+
+-- Stale tells the length of the log. It and what was seen are beginnings of one legal history, and it is shorter or has another number of this CPU's entries.
+abbrev pub IsStale : ℕ → List LogEntry → ℕ → List LogEntry → Fault → Type 0
+IsStale frames log cpu seen (Stale front) = (front ≡ length log) × BeginOne frames log seen × ((length log < length seen) ⊎ (calls_of cpu log ≢ calls_of cpu seen))
+IsStale frames log cpu seen NoMemory = Unit {0}
+IsStale frames log cpu seen Unread = Unit {0}
+IsStale frames log cpu seen Disagree = Unit {0}
+
+-- Unread is answered where the kernel's history is longer than the log.
+abbrev pub IsUnread : List LogEntry → Fault → Type 0
+IsUnread log Unread = GoesOn log
+IsUnread log (Stale front) = Unit {0}
+IsUnread log NoMemory = Unit {0}
+IsUnread log Disagree = Unit {0}

@@ -1,0 +1,237 @@
+//! The history of one kernel, of which its parts know beginnings. It exists in proofs alone: what is stored is its length.
+ghost use Rattle.std.specs.Prelude.{◌≡◌, ◌+◌, ◌==◌, ◌<◌, ◌^◌, ◌++◌, ◌∷◌, [], length, true, false, List, MatchBool};
+ghost use Rattle.memory_report.specs.Histories.{Legal, StartsWith};
+ghost use Rattle.memory_report.specs.declared.entries.LogEntry.{LogEntry};
+ghost use Rattle.locked_core.specs.Rules.{GoesOn, head_of};
+
+use kernel_calls::{Call, Reply};
+use logbook::{Gain, Offer, Plain, Play, Rule, Seen, Start, Word};
+use memory_report::LogEntry;
+use page_words::Pid;
+use std::marker::{Brand, Model, PhantomData};
+
+/// The rule of the history.
+pub struct Law;
+
+impl Rule<LogEntry, u64> for Law {
+    ghost use Rattle.std.specs.Prelude.{[]};
+    ghost use base.Fml.{ftrue};
+    ghost use Rattle.locked_core.specs.Rules.{IsKept};
+
+    ghost holds = { λ cells log. IsKept cells log };
+
+    ghost first = { [] };
+
+    ghost hinted = { λ n log. Unit {0} };
+
+    ghost shows = { λ log. [] };
+
+    ghost keeps = { λ names log. ftrue };
+
+    ghost moves = { λ ask before after answer. Unit {0} };
+}
+
+/// An entry for a step that adds none.
+fn no_entry() -> LogEntry {
+    LogEntry {
+        cpu: 0,
+        nth: 0,
+        pid: Pid::new(0).unwrap(),
+        call: Call::Quota,
+        reply: Reply::Done,
+        used_after: 0,
+    }
+}
+
+/// Callers trade nothing.
+pub struct Nothing;
+
+impl Gain<LogEntry, u64> for Nothing {
+    ghost use base.Fml.{ftrue};
+
+    ghost after = { λ names about answer. ftrue };
+}
+
+/// A step that reads the length of the history.
+pub struct Look;
+
+impl Play<LogEntry, u64> for Look {
+    ghost use Rattle.locked_core.specs.Rules.{LooksUp};
+
+    ghost then = { LooksUp };
+}
+
+/// A step that adds an entry.
+pub struct Add;
+
+impl Play<LogEntry, u64> for Add {
+    ghost use Rattle.locked_core.specs.Rules.{Adds};
+
+    ghost then = { Adds };
+}
+
+impl Plain<LogEntry, LogEntry, u64> for Add {
+    ghost use Rattle.std.specs.Prelude.{None};
+
+    ghost ask = { λ entry. entry };
+
+    ghost state = { λ entry. None };
+}
+
+/// Which kernel it is. Each call of a program picks it.
+pub trait Name {
+    ghost use Rattle.std.specs.Prelude.{ℕ};
+    ghost use Rattle.logbook.specs.Pages.{Book};
+
+    ghost frames: { ℕ };
+
+    ghost book: { Book };
+}
+
+impl Name for Brand {
+    ghost use Rattle.locked_core.specs.Rules.{no_book};
+
+    ghost frames = { 0 };
+
+    ghost book = { no_book };
+}
+
+/// A beginning of the history that was seen. It has no bytes.
+pub type Beginning = Seen<LogEntry, u64, Law>;
+
+/// A book with an empty history, which has no name yet.
+#[derive(Drop)]
+pub struct Opened {
+    head: Word<LogEntry, u64, Law>,
+    pub seen: Beginning,
+    pub ghost empty: { seen.log ≡ [] },
+    pub ghost head_is: { head ≡ head_of seen.book },
+}
+
+impl Opened {
+    pub fn new() -> Opened {
+        let (seen, mut first, _second) = Seen::open(Start::alone(), 0, 0);
+        Opened {
+            head: Word::tracked(0, &mut first),
+            seen,
+        }
+    }
+
+    /// The book under a name.
+    pub fn named<N: Name>(self) -> Book<N>
+        requires { self.seen.book ≡ N.book }
+    {
+        let Opened { head, seen: _seen } = self;
+        Book {
+            head,
+            of: PhantomData,
+        }
+    }
+}
+
+/// The length of the history, which is stored once.
+#[derive(Drop)]
+pub struct Book<N: Name> {
+    head: Word<LogEntry, u64, Law>,
+    of: PhantomData<N>,
+    ghost head_is: { head ≡ head_of N.book },
+}
+
+/// A legal beginning of the history, which was seen. Contracts see it as its entries.
+#[derive(Drop)]
+pub struct Front<N: Name> {
+    count: usize,
+    seen: Beginning,
+    of: PhantomData<N>,
+}
+
+impl<N: Name> Model for Front<N> {
+    ghost use Rattle.std.specs.Prelude.{◌≡◌, List, length};
+    ghost use Rattle.memory_report.specs.declared.entries.LogEntry.{LogEntry};
+    ghost use Rattle.memory_report.specs.Histories.{Legal};
+
+    ghost Value = { List LogEntry };
+
+    ghost view = { λ f. f.seen.log };
+
+    ghost invariant = { λ f. (f.count ≡ length f.seen.log) × (f.seen.book ≡ N.book) × Legal N.frames f.seen.log };
+}
+
+impl<N: Name> Front<N> {
+    pub(crate) fn new(count: usize, seen: Beginning) -> Front<N>
+        requires { (count ≡ length seen.log) × (seen.book ≡ N.book) × Legal N.frames seen.log }
+        ensures { result ≡ seen.log }
+    {
+        Front {
+            count,
+            seen,
+            of: PhantomData,
+        }
+    }
+
+    /// How many entries it has.
+    pub fn len(&self) -> usize
+        ensures length { result ≡ length self.now }
+        ensures legal { Legal N.frames self.now }
+    {
+        self.count
+    }
+
+    /// A copy.
+    pub fn again(&self) -> Front<N>
+        ensures { result ≡ self.now }
+    {
+        Front {
+            count: self.count,
+            seen: self.seen.again(),
+            of: PhantomData,
+        }
+    }
+
+    /// Whether it is no longer than the other front. The shorter of both begins the longer one.
+    pub fn begins(&self, other: &Front<N>) -> bool
+        ensures order { MatchBool result (StartsWith other.now self.now) (StartsWith self.now other.now × (length other.now < length self.now)) }
+        ensures legal { Legal N.frames self.now }
+    {
+        let mut both = self.seen.again();
+        both.learn(&other.seen);
+        self.count <= other.count
+    }
+}
+
+impl<N: Name> Book<N> {
+    /// How long the history is, of which a beginning was seen.
+    pub(crate) fn length(&self, seen: &Beginning) -> u64
+        requires { seen.now.book ≡ N.book }
+        ensures { (history : List LogEntry) × StartsWith history seen.now.log × (length history ≡ result) }
+    {
+        let mut seen = seen.again();
+        let mut offer: Offer<LogEntry, u64, Law, Nothing> = seen.plain::<Nothing, LogEntry, Add>(
+            &no_entry(),
+        );
+        self.head.load::<Look, Nothing>(&mut seen, &mut offer)
+    }
+
+    /// Adds an entry to all that was seen, and says whether it did. It did not where the history is longer.
+    pub(crate) fn add(&self, count: usize, seen: &mut Beginning, entry: &LogEntry) -> bool
+        requires room { count + 1 < 2 ^ 64 }
+        requires seen { (count ≡ length seen.old.log) × (seen.old.book ≡ N.book) }
+        ensures added { result ≡ true → (seen.new.book ≡ N.book) × (seen.new.log ≡ seen.old.log ++ entry.now ∷ []) }
+        ensures longer { result ≡ false → GoesOn seen.old.log }
+    {
+        let mut offer: Offer<LogEntry, u64, Law, Nothing> = seen.plain::<Nothing, LogEntry, Add>(
+            entry,
+        );
+        let mut pen = seen.no_pen();
+        let found = self
+            .head
+            .compare_exchange::<Add, Nothing>(
+                count as u64,
+                count as u64 + 1,
+                seen,
+                &mut offer,
+                &mut pen,
+            );
+        found == count as u64
+    }
+}

@@ -1,0 +1,139 @@
+//! The CPUs, and what each has seen.
+
+ghost use Rattle.std.specs.Prelude.{◌≡◌, ◌+◌, [], IfOk, IfErr, OnErr, IsTrue, length, take, List};
+ghost use Rattle.locked_core.specs.Makers.{Maker, maker, Makes, IsStale, IsUnread};
+ghost use Rattle.memory_report.specs.Histories.{calls_of};
+ghost use Rattle.memory_report.specs.declared.entries.LogEntry.{LogEntry};
+
+use crate::book::{Front, Name};
+use crate::faults::Fault;
+use crate::gate::Gate;
+use crate::kernel::Kernel;
+use crate::locked::count_of;
+use kernel_calls::{Call, Reply};
+use memory_report::LogEntry;
+use page_words::Pid;
+use std::marker::Model;
+use std::sync::{MutexGuard, Wait};
+
+/// What a CPU has seen, to be told to a monitor. Contracts see it as the list of entries.
+#[derive(Drop)]
+pub struct Told<N: Name> {
+    seen: Front<N>,
+}
+
+impl<N: Name> Model for Told<N> {
+    ghost use Rattle.std.specs.Prelude.{List};
+    ghost use Rattle.memory_report.specs.declared.entries.LogEntry.{LogEntry};
+
+    ghost Value = { List LogEntry };
+
+    ghost view = { λ t. t.seen };
+}
+
+impl<N: Name> Told<N> {
+    /// How many entries it tells of.
+    pub fn front(&self) -> usize
+        ensures { result ≡ length self.now }
+    {
+        self.seen.len()
+    }
+
+    pub(crate) fn into_seen(self) -> Front<N>
+        ensures { result ≡ self }
+    {
+        let Told { seen } = self;
+        seen
+    }
+}
+
+/// One CPU of a kernel. Contracts see its number and the entries that it has seen, among which its own
+/// are the calls that it made.
+#[derive(Drop)]
+pub struct Cpu<N: Name> {
+    pub(crate) number: u8,
+    pub(crate) calls: usize,
+    pub(crate) seen: Front<N>,
+}
+
+impl<N: Name> Model for Cpu<N> {
+    ghost use Rattle.std.specs.Prelude.{◌≡◌};
+    ghost use Rattle.memory_report.specs.Histories.{calls_of};
+    ghost use Rattle.locked_core.specs.Makers.{Maker};
+
+    ghost Value = { Maker };
+
+    ghost view = { λ c. record { number = c.number; seen = c.seen } };
+
+    ghost invariant = { λ c. c.calls ≡ calls_of c.number c.seen };
+}
+
+impl<N: Name> Cpu<N> {
+    /// The CPU's number, from 0 on.
+    pub fn number(&self) -> u8
+        ensures { result ≡ self.now.number }
+    {
+        self.number
+    }
+
+    /// How many calls it made: its entries in the log.
+    pub fn calls(&self) -> usize
+        ensures { result ≡ calls_of self.now.number self.now.seen }
+    {
+        self.calls
+    }
+
+    /// What it has seen, to be told to a monitor.
+    pub fn tell(&self) -> Told<N>
+        ensures { result ≡ self.now.seen }
+    {
+        Told {
+            seen: self.seen.again(),
+        }
+    }
+
+    pub(crate) fn new(number: u8, seen: Front<N>) -> Cpu<N>
+        requires { seen ≡ [] }
+        ensures { result ≡ maker number [] }
+    {
+        Cpu {
+            number,
+            calls: 0,
+            seen,
+        }
+    }
+
+    /// Whether it made the calls that the log has of it, and has seen no more than the log. What it has
+    /// seen then begins the log.
+    pub(crate) fn agrees(&self, log: &[LogEntry], front: &Front<N>) -> bool
+        requires { front.now ≡ log.now }
+        ensures { IsTrue result → (take (length self.now.seen) log.now ≡ self.now.seen) × (calls_of self.now.number log.now ≡ calls_of self.now.number self.now.seen) }
+    {
+        self.seen.begins(front) && self.calls == count_of(log, self.number)
+    }
+
+    /// Makes a call of a process: waits for the lock, decides, carries out, logs and publishes it.
+    ///
+    /// In this order: Unread where the kernel's history is longer than the log; Stale where the log is
+    /// shorter than what this CPU has seen, or has another number of its entries; NoMemory where the log
+    /// can't grow. After each of them nothing has changed.
+    pub fn call<G: Gate + Drop, R: Wait>(
+        &mut self,
+        rt: &R,
+        kernel: &Kernel<N, G>,
+        pid: Pid,
+        call: Call,
+    ) -> Result<Reply, Fault>
+        ensures made { IfOk result (Makes N.frames self.old pid call self.new) }
+        ensures number { self.new.number ≡ self.old.number }
+        ensures calls { IfOk result (λ _. calls_of self.new.number self.new.seen ≡ calls_of self.old.number self.old.seen + 1) }
+        ensures stale { IfErr result (λ f. (log : List LogEntry) × IsStale N.frames log self.old.number self.old.seen f) }
+        ensures unread { IfErr result (λ f. (log : List LogEntry) × IsUnread log f) }
+        ensures err { OnErr result (self.new ≡ self.old) }
+    {
+        let mut guard = kernel.state.lock(rt);
+        let answer = guard.call(rt, &kernel.gate, self, pid, call);
+        MutexGuard::unlock(guard);
+        answer
+    }
+}

@@ -1,0 +1,46 @@
+//! Why a kernel was not made, and why a call of it was refused.
+
+ghost use Rattle.std.specs.Prelude.{◌≡◌};
+ghost use Rattle.locked_core.specs.Faults.{number_of};
+
+/// Why a kernel did not boot, or was not opened.
+#[derive(Clone, Copy, Debug, PartialEq, Eq)]
+pub enum BootFault {
+    /// The number of frames is not 16 to 4,096.
+    BadSize,
+    /// The number of CPUs is not 1 to 8, or that of monitors not 0 to 8.
+    BadCount,
+    /// There was no memory for it.
+    NoMemory,
+}
+
+/// Why a call was not made, or a kernel not closed. What the call was for is then as it was.
+#[derive(Clone, Copy, Debug, PartialEq, Eq)]
+pub enum Fault {
+    /// There was no memory for the log to grow.
+    NoMemory,
+    /// The log is shorter than what the CPU has seen, or its number of the CPU's entries is another than
+    /// the CPU's number of calls.
+    Stale {
+        /// How many entries the log has.
+        front: usize,
+    },
+    /// The kernel's history, as it was read under the lock, is not as long as the log.
+    Unread,
+    /// Not every CPU was handed back once, or what they say is not what the log says.
+    Disagree,
+}
+
+impl Fault {
+    /// The fault's number: 1, 2, 3 or 5.
+    pub fn number(self) -> u8
+        ensures { result ≡ number_of self }
+    {
+        match self {
+            Fault::NoMemory => 1,
+            Fault::Stale { .. } => 2,
+            Fault::Unread => 3,
+            Fault::Disagree => 5,
+        }
+    }
+}

@@ -1,0 +1,45 @@
+//! A CPU as what answers a guest's calls.
+
+ghost use Rattle.std.specs.Prelude.{◌≡◌};
+
+use crate::book::Name;
+use crate::cpu::Cpu;
+use crate::gate::Gate;
+use crate::kernel::Kernel;
+use guest_cpu::{Port, PortFault};
+use kernel_calls::{Event, Reply};
+use std::sync::Wait;
+
+/// A port over one CPU of a kernel. A guest's run over it may wait, as each call of the CPU may.
+#[derive(Drop)]
+pub struct CpuPort<'a, N: Name, G: Gate + Drop, R: Wait> {
+    rt: &'a R,
+    pub cpu: &'a mut Cpu<N>,
+    kernel: &'a Kernel<N, G>,
+}
+
+impl<'a, N: Name, G: Gate + Drop, R: Wait> CpuPort<'a, N, G, R> {
+    pub fn new(rt: &'a R, cpu: &'a mut Cpu<N>, kernel: &'a Kernel<N, G>) -> CpuPort<'a, N, G, R>
+        ensures { result.cpu.now ≡ cpu.entry.now }
+    {
+        CpuPort { rt, cpu, kernel }
+    }
+}
+
+/// Each call is one call of the CPU, whose fault is told by its number. An event of another CPU is
+/// answered by 6, and nothing is called.
+impl<'a, N: Name, G: Gate + Drop, R: Wait> Port for CpuPort<'a, N, G, R> {
+    ghost use Rattle.locked_core.specs.Ports.{IsCpuStep};
+
+    ghost step = { λ before event answer after. IsCpuStep N.frames before.cpu.now event answer after.cpu.now };
+
+    fn call(&mut self, event: Event) -> Result<Reply, PortFault> {
+        if event.cpu != self.cpu.number() {
+            return Err(PortFault(6));
+        }
+        match self.cpu.call(self.rt, self.kernel, event.pid, event.call) {
+            Ok(reply) => Ok(reply),
+            Err(fault) => Err(PortFault(fault.number())),
+        }
+    }
+}

@@ -1,0 +1,4 @@
+pub mod HistoryLemmas
+pub mod ReportLemmas
+pub mod RowLemmas
+pub mod TextLemmas

@@ -1,0 +1,199 @@
+-- A report follows the machine from event to event, and its total is what all live processes cost.
+use Rattle.std.proofs.Common.{◌≡◌, ◌≢◌, ℕ, ◌+◌, ◌<◌, ◌≤◌, ◌==◌, Bool, true, false, cond, List, [], ◌∷◌, map, refl, sym, ap, subst, ◌∙◌, arith, Option, Some, None, is_none, unwrap_or, sum_by}
+use Rattle.std.specs.Prelude.{if◌then◌else◌, nat_lt}
+use Rattle.std.specs.List.{range_with_len}
+use Rattle.std.specs.Option.{option_map}
+use Rattle.std.proofs.lemmas.List.Sums.{sum_by-cons}
+use Rattle.address_space.proofs.AccessCosts.{cost-same, key-stored}
+use Rattle.address_space.proofs.Totals.{cost-insert_other, cost-joined_other, cost-without_other}
+use Rattle.address_space.specs.Spaces.{Slot, slot_order, Spaces, cost, cell_or_fresh, slot_at, accessed, stored, protected, without, is_slot, fresh, bytes_of}
+use Rattle.kernel_calls.proofs.Decided.{next-stays, next-goes}
+use Rattle.kernel_calls.proofs.Runs.{runs-stay}
+use Rattle.kernel_calls.specs.Decisions.{charge_in, charge_after}
+use Rattle.kernel_calls.specs.Machine.{answer, answer_of, after, next, completes, refused_or}
+use Rattle.kernel_calls.specs.declared.calls.Call.{Call}
+use Rattle.kernel_calls.specs.declared.calls.Call.TheVariants as call
+use Rattle.kernel_calls.specs.declared.calls.Reply.{Reply}
+use Rattle.kernel_calls.specs.declared.calls.Reply.TheVariants as reply
+use Rattle.memory_report.proofs.HistoryLemmas.{state-push, last_reply, last_told}
+use Rattle.memory_report.proofs.RowLemmas.{charged, opened-is, closed-is, roomy}
+use Rattle.memory_report.specs.Histories.{event_of, events_of, state_after}
+use Rattle.memory_report.specs.Laws.{TotalIsCost}
+use Rattle.memory_report.specs.Reports.{row_of, row_from, report_of, used_in, Absorbs}
+use Rattle.memory_report.specs.Rows.{absorbed, after_call, after_spawn, IsRoomy}
+use Rattle.memory_report.specs.declared.entries.LogEntry.{LogEntry}
+use Rattle.memory_report.specs.declared.rows.Row.{Row}
+use Rattle.page_sharing.specs.Offers.{Offers}
+use Rattle.page_words.proofs.MapLemmas.{same-true}
+use Rattle.page_words.specs.Addresses.{offset_number, byte_count}
+use Rattle.page_words.specs.FiniteMap as map
+use Rattle.page_words.specs.FiniteMap.{same}
+use Rattle.process_table.proofs.CellLaws.{some_value}
+use Rattle.process_table.proofs.Ranges.{found, sum-same, sum-range}
+use Rattle.process_table.proofs.SpaceLaws.{not_less}
+use Rattle.process_table.specs.Calls.{at_page, spawn_refusal, exit_refusal, after_spawn as spawned_state}
+use Rattle.process_table.specs.State.{State, is_live, room, child_of, shown}
+use Rattle.process_table.specs.WellFormed.{IsWellFormed}
+use Rattle.process_table.specs.declared.causes.Cause.{Cause}
+use Rattle.process_table.specs.declared.causes.Cause.TheVariants as cause
+use Rattle.quota_tree.specs.Book.{Member, next_number}
+
+-- a call that completes has no cause to be refused
+not_refused : (x : Option Cause) (r : Reply) → completes (refused_or x r) ≡ true → x ≡ None
+not_refused None r h = refl
+not_refused (Some k) r h = cc
+
+small : (s : State) (p : ℕ) → IsWellFormed s → is_live s p ≡ true → p < 64
+small s p w live = let m = some_value (map.get s.book p) live in (w.processes p m.0 m.1).0
+
+-- of two pages of different processes neither is the other
+other_slot : (p page q page' : ℕ) → q ≢ p → same slot_order (record { pid = p; page = page }) (record { pid = q; page = page' }) ≡ false
+other_slot p page q page' n = by (same slot_order one two) refl
+  where
+    one : Slot
+    one = record { pid = p; page = page }
+
+    two : Slot
+    two = record { pid = q; page = page' }
+
+    by : (b : Bool) → same slot_order one two ≡ b → b ≡ false
+    by true is = absurd (n (ap (λ (x : Slot). x.pid) (sym (same-true slot_order one two is))))
+    by false is = refl
+
+-- a spawn that is not refused: the quota fits, and a number is free
+spawn_allowed : (a : Bool) (x : Option ℕ) (c : Bool) → (if a then Some cause.BadQuota else if is_none x then Some cause.TableFull else if c then Some cause.Quota else None) ≡ None → ((k : ℕ) × (x ≡ Some k)) × (c ≡ false)
+spawn_allowed true x c h = cc
+spawn_allowed false None c h = cc
+spawn_allowed false (Some k) true h = cc
+spawn_allowed false (Some k) false h = ((k, refl), refl)
+
+exit_allowed : (p : ℕ) (b c : Bool) → (p == 0) ≡ b → (if b then Some cause.RootExit else if c then Some cause.HasChildren else None) ≡ None → p ≢ 0
+exit_allowed p true c is h = cc
+exit_allowed p false c is h = λ zero. (let e : (p == 0) ≡ true = ap (λ n. n == 0) zero in cc)
+
+module _ (s : State) (p : ℕ) (w : IsWellFormed s) (live : is_live s p ≡ true) where
+  -- a live process is charged what it costs
+  charge_live : (T : Spaces) (O : Offers) → charge_in (record { spaces = T; book = s.book; offers = O }) p ≡ cost T p
+  charge_live T O = ap (λ b. cond b (cost T p) 0) live
+
+  stored_other : (slot : Slot) (at : ℕ) (new : List ℕ) (q : ℕ) → q ≢ slot.pid → cost (stored s.spaces slot at new) q ≡ cost s.spaces q
+  stored_other slot at new q n =
+      cost-same (stored s.spaces slot at new) (map.insert s.spaces slot (cell_or_fresh s.spaces slot)) q (key-stored s.spaces slot at new (cell_or_fresh s.spaces slot))
+      ∙ cost-insert_other s.spaces slot (cell_or_fresh s.spaces slot) q n
+
+  spawned : (quota : ℕ) → spawn_refusal s p quota ≡ None → after_spawn (report_of s) p quota (reply.Child (child_of s)) ≡ report_of (spawned_state s p quota)
+  spawned quota allowed =
+      let may = spawn_allowed (quota == 0) (next_number s.book) (nat_lt (room s p) quota) allowed in
+      let is : next_number s.book ≡ Some (child_of s) = may.0.1 ∙ ap Some (sym (ap (λ o. unwrap_or o 0) may.0.1)) in
+      opened-is s p quota (child_of s) w live is
+
+  -- what a call that completes leaves of the report
+  goes : (c : Call) (used : ℕ) → completes (answer_of s p c) ≡ true → used ≡ charge_in (after s p c) p → after_call (report_of s) p c (answer_of s p c) used ≡ report_of (after s p c)
+  goes (call.Load addr size) used done is =
+      let T = accessed s.spaces (slot_at p addr) in
+      charged s T s.offers p used (small s p w live) (is ∙ charge_live T s.offers) (cost-insert_other s.spaces (slot_at p addr) _)
+  goes (call.Store addr size value) used done is =
+      let T = stored s.spaces (slot_at p addr) (offset_number addr) (bytes_of (byte_count size) value) in
+      charged s T s.offers p used (small s p w live) (is ∙ charge_live T s.offers) (stored_other (slot_at p addr) (offset_number addr) (bytes_of (byte_count size) value))
+  goes (call.Map page write) used done is =
+      let T = map.insert s.spaces (at_page p page) (fresh (at_page p page) write) in
+      charged s T s.offers p used (small s p w live) (is ∙ charge_live T s.offers) (cost-insert_other s.spaces (at_page p page) _)
+  goes (call.Unmap page) used done is =
+      let T = without s.spaces (is_slot p page) in
+      charged s T (after s p (call.Unmap page)).offers p used (small s p w live) (is ∙ charge_live T (after s p (call.Unmap page)).offers) (λ q n. cost-without_other s.spaces (is_slot p page) q (λ page'. other_slot p page q page' n))
+  goes (call.Protect page write) used done is =
+      let T = protected s.spaces (at_page p page) write in
+      charged s T s.offers p used (small s p w live) (is ∙ charge_live T s.offers) (cost-insert_other s.spaces (at_page p page) _)
+  goes (call.Info page) used done is = charged s s.spaces s.offers p used (small s p w live) (is ∙ charge_live s.spaces s.offers) (λ q n. refl)
+  goes (call.Offer page target write) used done is =
+      let O = (after s p (call.Offer page target write)).offers in
+      charged s s.spaces O p used (small s p w live) (is ∙ charge_live s.spaces O) (λ q n. refl)
+  goes (call.Withdraw page target) used done is =
+      let O = (after s p (call.Withdraw page target)).offers in
+      charged s s.spaces O p used (small s p w live) (is ∙ charge_live s.spaces O) (λ q n. refl)
+  goes (call.Accept giver giver_page page) used done is =
+      let t = after s p (call.Accept giver giver_page page) in
+      charged s t.spaces t.offers p used (small s p w live) (is ∙ charge_live t.spaces t.offers) (cost-joined_other s.spaces (at_page giver giver_page) (at_page p page) _)
+  goes (call.Spawn quota) used done is =
+      let allowed = not_refused (spawn_refusal s p quota) (reply.Child (child_of s)) done in
+      ap (λ x. after_spawn (report_of s) p quota (refused_or x (reply.Child (child_of s)))) allowed ∙ spawned quota allowed
+  goes call.Exit used done is = closed-is s p w live (exit_allowed p (p == 0) _ refl (not_refused (exit_refusal s p) reply.Done done))
+  goes call.Quota used done is = charged s s.spaces s.offers p used (small s p w live) (is ∙ charge_live s.spaces s.offers) (λ q n. refl)
+
+  -- and a spawn that completes gives what its process can give
+  gives : (c : Call) → completes (answer_of s p c) ≡ true → IsRoomy (report_of s) p c
+  gives (call.Load addr size) done = tt
+  gives (call.Store addr size value) done = tt
+  gives (call.Map page write) done = tt
+  gives (call.Unmap page) done = tt
+  gives (call.Protect page write) done = tt
+  gives (call.Info page) done = tt
+  gives (call.Offer page target write) done = tt
+  gives (call.Withdraw page target) done = tt
+  gives (call.Accept giver giver_page page) done = tt
+  gives (call.Spawn quota) done =
+      let may = spawn_allowed (quota == 0) (next_number s.book) (nat_lt (room s p) quota) (not_refused (spawn_refusal s p quota) (reply.Child (child_of s)) done) in
+      roomy s p quota w live (not_less (room s p) quota may.1)
+  gives call.Exit done = tt
+  gives call.Quota done = tt
+
+-- an event that completes is of a live process, whose call it answers
+answered : (b : Bool) (r : Reply) → completes (if b then r else reply.Refused cause.NoProcess) ≡ true → b ≡ true
+answered true r h = refl
+answered false r h = cc
+
+module _ (s : State) (e : LogEntry) (w : IsWellFormed s) (says : e.reply ≡ answer s (event_of e)) (tells : e.used_after ≡ charge_after s (event_of e)) where
+  lives : completes (answer s (event_of e)) ≡ true → is_live s e.pid ≡ true
+  lives done = answered (is_live s e.pid) (answer_of s e.pid e.call) done
+
+  answer_is : (done : completes (answer s (event_of e)) ≡ true) → answer s (event_of e) ≡ answer_of s e.pid e.call
+  answer_is done = ap (λ b. if b then answer_of s e.pid e.call else reply.Refused cause.NoProcess) (lives done)
+
+  pub has_room : completes e.reply ≡ true → IsRoomy (report_of s) e.pid e.call
+  has_room done =
+      let goes_on : completes (answer s (event_of e)) ≡ true = sym (ap completes says) ∙ done in
+      gives s e.pid w (lives goes_on) e.call (sym (ap completes (answer_is goes_on)) ∙ goes_on)
+
+  -- the report of the next state
+  pub absorbed-next : absorbed (report_of s) e ≡ report_of (next s (event_of e))
+  absorbed-next = by (completes (answer s (event_of e))) refl
+    where
+      moved : List (Option Row)
+      moved = after_call (report_of s) e.pid e.call e.reply e.used_after
+
+      by : (b : Bool) → completes (answer s (event_of e)) ≡ b → absorbed (report_of s) e ≡ report_of (next s (event_of e))
+      by false is = ap (λ b. if b then moved else report_of s) (ap completes says ∙ is) ∙ ap report_of (sym (next-stays s (event_of e) is))
+      by true is =
+          let stays : next s (event_of e) ≡ after s e.pid e.call = next-goes s (event_of e) is in
+          ap (λ b. if b then moved else report_of s) (ap completes says ∙ is)
+          ∙ ap (λ r. after_call (report_of s) e.pid e.call r e.used_after) (says ∙ answer_is is)
+          ∙ goes s e.pid w (lives is) e.call e.used_after (sym (ap completes (answer_is is)) ∙ is) (tells ∙ ap (λ t. charge_in t e.pid) stays)
+          ∙ ap report_of (sym stays)
+
+-- what absorbing leaves, where it has room for what it spawns
+pub absorbs : (before : List (Option Row)) (e : LogEntry) (rows : List (Option Row)) → ((completes e.reply ≡ true → IsRoomy before e.pid e.call) → rows ≡ absorbed before e) → Absorbs before e rows
+absorbs before e rows leaves frames log legal is =
+    let s : State = state_after frames log in
+    let low : 2 ≤ frames = (let size = legal.size in omega arith) in
+    let w : IsWellFormed s = (runs-stay frames (events_of log) low).0 in
+    let says = last_reply frames log e legal in
+    let tells = (last_told frames log e legal).used_after in
+    leaves (λ done. subst (λ b. IsRoomy b e.pid e.call) (sym is) (has_room s e w says tells done))
+    ∙ ap (λ b. absorbed b e) is ∙ absorbed-next s e w says tells ∙ ap report_of (sym (state-push frames log e))
+
+-- ---- Totals
+
+sum-map : {A B : Type 0} (g : B → ℕ) (f : A → B) (xs : List A) → sum_by g (map f xs) ≡ sum_by (λ x. g (f x)) xs
+sum-map g f [] = refl
+sum-map g f (x ∷ xs) = sum_by-cons g (f x) (map f xs) ∙ ap (λ n. g (f x) + n) (sum-map g f xs) ∙ sym (sum_by-cons (λ x. g (f x)) x xs)
+
+used_of : (s : State) (p : ℕ) (x : Option Member) → used_in (option_map row_from (option_map (λ member. shown s p member) x)) ≡ found (λ _. cost s.spaces p) x
+used_of s p None = refl
+used_of s p (Some m) = refl
+
+pub total_is_cost : TotalIsCost
+unfolding report_of
+total_is_cost s w =
+    sum-map used_in (λ p. row_of s p) (range_with_len 0 64)
+    ∙ sum-same (λ p. used_in (row_of s p)) (λ p. found (λ _. cost s.spaces p) (map.get s.book p)) (range_with_len 0 64) (λ p. used_of s p (map.get s.book p))
+    ∙ sym (sum-range s.book (λ p _. cost s.spaces p) 64 (λ p m is. (w.processes p m is).0))

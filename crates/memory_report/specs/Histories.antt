@@ -1,0 +1,56 @@
+-- Histories: lists of log entries, their states, and which of them are legal.
+use Rattle.std.specs.Prelude.{◌≡◌, ◌≤◌, ℕ, ◌==◌, List, ◌∷◌, ◌++◌, map, length, filter, nat_lt, if◌then◌else◌}
+use Rattle.kernel_calls.specs.Decisions.{charge_after}
+use Rattle.kernel_calls.specs.Machine.{answer, answers, end_of}
+use Rattle.kernel_calls.specs.declared.calls.Call.{Call}
+use Rattle.kernel_calls.specs.declared.calls.Event.{Event}
+use Rattle.kernel_calls.specs.declared.calls.Reply.{Reply}
+use Rattle.memory_report.specs.declared.entries.LogEntry.{LogEntry}
+use Rattle.process_table.specs.State.{State, open_with}
+
+abbrev pub event_of : LogEntry → Event
+event_of e = record { cpu = e.cpu; pid = e.pid; call = e.call }
+
+abbrev pub events_of : List LogEntry → List Event
+events_of log = map event_of log
+
+abbrev pub replies_of : List LogEntry → List Reply
+replies_of log = map (λ e. e.reply) log
+
+-- the last state of the machine's run over the events of these entries, from the opening of that many frames
+abbrev pub state_after : ℕ → List LogEntry → State
+state_after frames log = end_of (open_with frames) (events_of log)
+
+-- the entries of one CPU
+abbrev pub entries_of : ℕ → List LogEntry → List LogEntry
+entries_of cpu log = filter (λ e. e.cpu == cpu) log
+
+-- how many entries one CPU has
+abbrev pub calls_of : ℕ → List LogEntry → ℕ
+calls_of cpu log = length (entries_of cpu log)
+
+-- after these entries, an entry says how many of them are of its CPU, and what its process is charged for once its event is done
+pub record IsTold (frames : ℕ) (before : List LogEntry) (e : LogEntry) : Type 0 where
+  pub nth : e.nth ≡ calls_of e.cpu before
+  pub used_after : e.used_after ≡ charge_after (state_after frames before) (event_of e)
+
+-- a history of a machine of that many frames: its replies are those of the machine's run over its events
+pub record Legal (frames : ℕ) (log : List LogEntry) : Type 0 where
+  pub size : (16 ≤ frames) × (frames ≤ 4096)
+  pub replies : replies_of log ≡ answers (open_with frames) (events_of log)
+  pub entries : (before : List LogEntry) (e : LogEntry) (rest : List LogEntry) → log ≡ before ++ e ∷ rest → IsTold frames before e
+
+-- the list begins with these entries
+abbrev pub StartsWith : List LogEntry → List LogEntry → Type 0
+StartsWith log seen = (rest : List LogEntry) × (log ≡ seen ++ rest)
+
+-- the longer of two lists, the first where they are as long
+abbrev pub longer : List LogEntry → List LogEntry → List LogEntry
+longer xs ys = if nat_lt (length xs) (length ys) then ys else xs
+
+-- what is logged of a call after these entries
+abbrev pub entry_after : ℕ → List LogEntry → ℕ → ℕ → Call → LogEntry
+entry_after frames log cpu pid call =
+    let e : Event = record { cpu = cpu; pid = pid; call = call } in
+    let s : State = state_after frames log in
+    record { cpu = cpu; nth = calls_of cpu log; pid = pid; call = call; reply = answer s e; used_after = charge_after s e }

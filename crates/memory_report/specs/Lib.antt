@@ -1,0 +1,5 @@
+pub mod Histories
+pub mod Laws
+pub mod Reports
+pub mod Rows
+pub mod Text

@@ -1,0 +1,21 @@
+//! Log entries, histories and reports.
+//!
+//! An entry tells one event with its reply. A list of entries is a legal history where its replies are
+//! those of the machine's run over its events, from its opening (specs/Histories.antt). A report says of
+//! each live process who its parent is, and what it may use, uses and gives (specs/Reports.antt); it can
+//! be read off a core, or be kept up to date by absorbing one entry after another.
+#![tactic(auto)]
+
+mod entries;
+mod laws;
+mod report;
+mod rows;
+#[cfg(test)]
+mod tests;
+mod text;
+
+pub use entries::LogEntry;
+pub use laws::{reports_add_up_costs, runs_are_legal};
+pub use report::{Report, report_of};
+pub use rows::Row;
+pub use text::WriteFailed;
