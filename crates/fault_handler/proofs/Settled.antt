@@ -217,9 +217,9 @@ may_map_first v x p address size access is first =
     let slot = slot_at p address in
     let plain : plan_of s p address size access ≡ plan.MapZero = fill_maps (is_lazy_at (memory_of v) slot) access (plan_of s p address size access) (sym is ∙ first) in
     let tells = maps_first (is_misaligned address size) (is_user_page (page_number address)) (is_mapped s slot) (is_write access && not (cell_or_fresh s.spaces slot).write) (has_no_room s slot)
-        (page_fault address access false) (page_fault address access true) plain in
+    (page_fault address access false) (page_fault address access true) plain in
     let live = roomy_is_live s slot tells.2 in
     let n = cost (after_map s p (page_number address) true).spaces p in
     let ok : map_answer s p (page_number address) ≡ Ok n =
-        λ i. number_unless (if live i then (if not (tells.0 i) then Some BadPage else if tells.1 i then Some Mapped else if tells.2 i then Some Quota else None) else Some NoProcess) n in
+    λ i. number_unless (if live i then (if not (tells.0 i) then Some BadPage else if tells.1 i then Some Mapped else if tells.2 i then Some Quota else None) else Some NoProcess) n in
     subst IsOk (sym ok) refl

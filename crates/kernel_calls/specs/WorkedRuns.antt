@@ -39,46 +39,6 @@ MapStoreLoad = Gives 16
     (reply.Fault 0x3ffffffc 4) ∷
     [])
 
--- thirteen pages, one table and one directory fill a quota of 15
-abbrev pub OneProcessFillsUp : Type 0
-OneProcessFillsUp = Gives 16
-    ((event 0 0 (call.Load 0x40000000 Four)) ∷
-    (event 0 0 (call.Load 0x40001000 Four)) ∷
-    (event 0 0 (call.Load 0x40002000 Four)) ∷
-    (event 0 0 (call.Load 0x40003000 Four)) ∷
-    (event 0 0 (call.Load 0x40004000 Four)) ∷
-    (event 0 0 (call.Load 0x40005000 Four)) ∷
-    (event 0 0 (call.Load 0x40006000 Four)) ∷
-    (event 0 0 (call.Load 0x40007000 Four)) ∷
-    (event 0 0 (call.Load 0x40008000 Four)) ∷
-    (event 0 0 (call.Load 0x40009000 Four)) ∷
-    (event 0 0 (call.Load 0x4000a000 Four)) ∷
-    (event 0 0 (call.Load 0x4000b000 Four)) ∷
-    (event 0 0 (call.Load 0x4000c000 Four)) ∷
-    (event 0 0 (call.Load 0x4000d000 Four)) ∷
-    (event 0 0 (call.Store 0x40000000 One 0xff)) ∷
-    (event 0 1 (call.Load 0x40000000 Four)) ∷
-    (event 0 0 (call.Load 0x40000000 Four)) ∷
-    [])
-    ((reply.Value 0x0) ∷
-    (reply.Value 0x0) ∷
-    (reply.Value 0x0) ∷
-    (reply.Value 0x0) ∷
-    (reply.Value 0x0) ∷
-    (reply.Value 0x0) ∷
-    (reply.Value 0x0) ∷
-    (reply.Value 0x0) ∷
-    (reply.Value 0x0) ∷
-    (reply.Value 0x0) ∷
-    (reply.Value 0x0) ∷
-    (reply.Value 0x0) ∷
-    (reply.Value 0x0) ∷
-    (reply.Refused cause.Quota) ∷
-    reply.Done ∷
-    (reply.Refused cause.NoProcess) ∷
-    (reply.Value 0xff) ∷
-    [])
-
 -- a process that has used its whole quota tells so
 abbrev pub OneProcessIsFull : Type 0
 OneProcessIsFull = Gives 16
@@ -233,10 +193,20 @@ UnmapReturnsTable = Gives 16
     (reply.Quota 15 1 0) ∷
     [])
 
--- what a run answers before a line that it does not take
-abbrev pub MalformedLine : Type 0
-MalformedLine = Gives 16
-    ((event 0 0 call.Quota) ∷
+-- a page that was mapped read-only may be stored to once it is protected as writable; no answer tells when it gets a frame
+abbrev pub LazyPage : Type 0
+LazyPage = Gives 16
+    ((event 0 0 (call.Map 0x40000 false)) ∷
+    (event 0 0 (call.Load 0x40000000 Four)) ∷
+    (event 0 0 (call.Store 0x40000000 Four 0x1)) ∷
+    (event 0 0 (call.Protect 0x40000 true)) ∷
+    (event 0 0 (call.Store 0x40000000 Four 0x1)) ∷
+    (event 0 0 (call.Info 0x40000)) ∷
     [])
-    ((reply.Quota 15 1 0) ∷
+    (reply.Done ∷
+    (reply.Value 0x0) ∷
+    (reply.Fault 0x40000000 7) ∷
+    reply.Done ∷
+    reply.Done ∷
+    (reply.Info true true true true 1) ∷
     [])

@@ -31,6 +31,26 @@ ShareBothWays = Gives 16
     (reply.Refused cause.NoOffer) ∷
     [])
 
+-- a page that nothing was stored to is shared as any other
+abbrev pub LazyShare : Type 0
+LazyShare = Gives 16
+    ((event 0 0 (call.Map 0x40000 true)) ∷
+    (event 0 0 (call.Spawn 5)) ∷
+    (event 0 0 (call.Offer 0x40000 1 true)) ∷
+    (event 1 1 (call.Accept 0 0x40000 0x40000)) ∷
+    (event 0 0 (call.Info 0x40000)) ∷
+    (event 1 1 (call.Store 0x40000000 Four 0x9)) ∷
+    (event 0 0 (call.Load 0x40000000 Four)) ∷
+    [])
+    (reply.Done ∷
+    (reply.Child 1) ∷
+    reply.Done ∷
+    reply.Done ∷
+    (reply.Info true true false false 2) ∷
+    reply.Done ∷
+    (reply.Value 0x9) ∷
+    [])
+
 -- an offer doesn't outlive its page
 abbrev pub UnmapDropsOffers : Type 0
 UnmapDropsOffers = Gives 16

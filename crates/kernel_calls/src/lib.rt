@@ -9,11 +9,15 @@ mod calls;
 mod decisions;
 mod kernel;
 mod laws;
-mod rows;
+mod worked;
 
+pub use alloc_table::Role;
 pub use calls::{Call, Decision, Event, Reply};
 pub use fault_handler::Plan;
 pub use kernel::{BootFault, Core};
 pub use laws::runs_stay_well_formed;
+pub use page_words::{Frame, Page, Pid, Size, Vaddr};
+pub use phys_memory::Memory;
 pub use process_table::Cause;
-pub use rows::{worked_runs, worked_runs_of_processes, worked_runs_of_sharing};
+pub use quota_tree::Container;
+pub use worked::{worked_runs, worked_runs_of_processes, worked_runs_of_sharing};

@@ -1,21 +1,20 @@
 //! Worked runs, as theorems on the definitions of the machine: they are computed from them.
 
-ghost use Rattle.kernel_calls.specs.WorkedRuns.{Empty, MapStoreLoad, OneProcessFillsUp, OneProcessIsFull, FramesComeBack, UserRangeEdges, DemandZero, TableIsCharged, UnmapReturnsTable, MalformedLine};
+ghost use Rattle.kernel_calls.specs.WorkedRuns.{Empty, MapStoreLoad, OneProcessIsFull, FramesComeBack, UserRangeEdges, DemandZero, TableIsCharged, UnmapReturnsTable, LazyPage};
 ghost use Rattle.kernel_calls.specs.WorkedProcesses.{QuotaRefuses, ExitReturnsQuota, ProcessTableFull};
-ghost use Rattle.kernel_calls.specs.WorkedSharing.{ShareBothWays, UnmapDropsOffers, ReadOnlyShare, OwnerLeaves, Flags, RefusalsInOrder, OfferLimit, ExitDropsOffers};
+ghost use Rattle.kernel_calls.specs.WorkedSharing.{ShareBothWays, LazyShare, UnmapDropsOffers, ReadOnlyShare, OwnerLeaves, Flags, RefusalsInOrder, OfferLimit, ExitDropsOffers};
 
 /// Runs of one process give the answers that they must. It computes nothing.
 pub fn worked_runs()
     ensures empty { Empty }
     ensures map_store_load { MapStoreLoad }
-    ensures one_process_fills_up { OneProcessFillsUp }
     ensures one_process_is_full { OneProcessIsFull }
     ensures frames_come_back { FramesComeBack }
     ensures user_range_edges { UserRangeEdges }
     ensures demand_zero { DemandZero }
     ensures table_is_charged { TableIsCharged }
     ensures unmap_returns_table { UnmapReturnsTable }
-    ensures malformed_line { MalformedLine }
+    ensures lazy_page { LazyPage }
 {}
 
 /// Runs of several processes give the answers that they must. It computes nothing.
@@ -28,6 +27,7 @@ pub fn worked_runs_of_processes()
 /// Runs of processes with pages in common give the answers that they must. It computes nothing.
 pub fn worked_runs_of_sharing()
     ensures share_both_ways { ShareBothWays }
+    ensures lazy_share { LazyShare }
     ensures unmap_drops_offers { UnmapDropsOffers }
     ensures read_only_share { ReadOnlyShare }
     ensures owner_leaves { OwnerLeaves }

@@ -1,14 +1,11 @@
 use Rattle.std.proofs.Common.{refl}
-use Rattle.kernel_calls.proofs.rows.worked_runs.Goals as goal
+use Rattle.kernel_calls.proofs.worked.worked_runs.Goals as goal
 
 pub returns-clause-empty : goal.returns-clause-empty
 returns-clause-empty c = refl
 
 pub returns-clause-map_store_load : goal.returns-clause-map_store_load
 returns-clause-map_store_load c = refl
-
-pub returns-clause-one_process_fills_up : goal.returns-clause-one_process_fills_up
-returns-clause-one_process_fills_up c = refl
 
 pub returns-clause-one_process_is_full : goal.returns-clause-one_process_is_full
 returns-clause-one_process_is_full c = refl
@@ -28,5 +25,5 @@ returns-clause-table_is_charged c = refl
 pub returns-clause-unmap_returns_table : goal.returns-clause-unmap_returns_table
 returns-clause-unmap_returns_table c = refl
 
-pub returns-clause-malformed_line : goal.returns-clause-malformed_line
-returns-clause-malformed_line c = refl
+pub returns-clause-lazy_page : goal.returns-clause-lazy_page
+returns-clause-lazy_page c = refl

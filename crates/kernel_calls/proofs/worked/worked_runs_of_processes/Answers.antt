@@ -1,5 +1,5 @@
 use Rattle.std.proofs.Common.{refl}
-use Rattle.kernel_calls.proofs.rows.worked_runs_of_processes.Goals as goal
+use Rattle.kernel_calls.proofs.worked.worked_runs_of_processes.Goals as goal
 
 pub returns-clause-quota_refuses : goal.returns-clause-quota_refuses
 returns-clause-quota_refuses c = refl

@@ -1,5 +1,5 @@
 use Rattle.std.proofs.Common.{refl}
-use Rattle.kernel_calls.proofs.rows.worked_runs_of_sharing.Goals as goal
+use Rattle.kernel_calls.proofs.worked.worked_runs_of_sharing.Goals as goal
 
 pub returns-clause-share_both_ways : goal.returns-clause-share_both_ways
 returns-clause-share_both_ways c = refl
@@ -24,3 +24,6 @@ returns-clause-offer_limit c = refl
 
 pub returns-clause-exit_drops_offers : goal.returns-clause-exit_drops_offers
 returns-clause-exit_drops_offers c = refl
+
+pub returns-clause-lazy_share : goal.returns-clause-lazy_share
+returns-clause-lazy_share c = refl
