@@ -7,12 +7,12 @@ use Rattle.page_words.specs.FiniteMap.{same}
 use Rattle.page_words.specs.FiniteSet as set
 use Rattle.page_words.specs.FiniteSet.{Set}
 use Rattle.page_words.proofs.MapLemmas.{same_or_not, get-insert, get-map_values}
-use Rattle.address_space.specs.Spaces.{Slot, slot_order, Cell, Spaces, cost, cost_of, need, accessed, stored, set_bytes, with_bytes, cell_or_fresh}
+use Rattle.address_space.specs.Spaces.{Slot, slot_order, Cell, Spaces, cost, cost_of, need, accessed, stored, set_bytes, with_bytes, cell_or_fresh, at_page}
 use Rattle.address_space.proofs.Costs.{same_pages, cost-insert}
 
 -- spaces that map the same slots cost the same
 pub cost-same : (S T : Spaces) (p : ℕ) → ((q : Slot) → map.contains_key S q ≡ map.contains_key T q) → cost S p ≡ cost T p
-cost-same S T p is = ap cost_of (same_pages S T p p (λ page. is (record { pid = p; page = page })))
+cost-same S T p is = ap cost_of (same_pages S T p p (λ page. is (at_page p page)))
 
 pub key-insert : (S : Spaces) (slot : Slot) (c : Cell) (q : Slot) → map.contains_key (map.insert S slot c) q ≡ cond (same slot_order q slot) true (map.contains_key S q)
 key-insert S slot c q = ap is_some (get-insert S slot c q) ∙ by (same slot_order q slot)

@@ -16,7 +16,7 @@ use Rattle.page_map.specs.declared.PageEntry.{PageEntry}
 use Rattle.page_map.specs.Entries.{table_of, entry_at}
 use Rattle.page_map.specs.Pages.{entries_of, counted}
 use Rattle.page_map.proofs.PageLemmas.{get-entries_user, get-entries_other, user_cases}
-use Rattle.address_space.specs.Spaces.{Cell, Spaces, cost, pages_of, regions_of}
+use Rattle.address_space.specs.Spaces.{Cell, Spaces, cost, pages_of, regions_of, at_page}
 use Rattle.address_space.specs.Cells.{cell_of}
 use Rattle.address_space.specs.Sound.{directory_of, table_in, entries_in, spaces_in, IsSpaces}
 use Rattle.address_space.proofs.Costs.{contains-pages_of}
@@ -124,7 +124,7 @@ module _ (directories : List (Option ℕ)) (bytes : List ℕ) (roles : List Role
   few = live_small directories p d spaces.sound.pids live
 
   -- what is mapped lies in the user range
-  user_cell : (page : ℕ) → map.contains_key S (record { pid = p; page = page }) ≡ true → (0x40000 ≤ page) × (page < 0xf0000)
+  user_cell : (page : ℕ) → map.contains_key S (at_page p page) ≡ true → (0x40000 ≤ page) × (page < 0xf0000)
   user_cell page there = elim (user_cases page) [
     | inl user ↦ user
     | inr out ↦ absurd (let none = ap is_some (no_cell_outside directories bytes roles p page spaces.sound out) in cc)
@@ -178,7 +178,7 @@ module _ (directories : List (Option ℕ)) (bytes : List ℕ) (roles : List Role
       ∙ sym (ap is_some (get-map_values nat_order (λ page (e : PageEntry). tt) (entries_of (frame_bytes bytes) d) page) ∙ some_map (λ (e : PageEntry). tt) (map.get (entries_of (frame_bytes bytes) d) page)))
     where
       cell : ℕ → PageEntry → Cell
-      cell page = cell_of (entries_in (directory_of directories) (frame_bytes bytes)) (frame_bytes bytes) (record { pid = p; page = page })
+      cell page = cell_of (entries_in (directory_of directories) (frame_bytes bytes)) (frame_bytes bytes) (at_page p page)
 
   count_pages : set.len (pages_of S p) ≡ map.len (entries_of (frame_bytes bytes) d)
   count_pages = ap set.len pages_are_entries ∙ len-change_each (λ page (e : PageEntry). tt) (entries_of (frame_bytes bytes) d).entries

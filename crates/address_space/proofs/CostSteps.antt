@@ -16,7 +16,7 @@ use Rattle.page_words.specs.FiniteSet as set
 use Rattle.page_words.specs.FiniteSet.{Set}
 use Rattle.page_words.specs.FiniteMap.{nat_order}
 use Rattle.page_words.specs.Addresses.{slot_number}
-use Rattle.address_space.specs.Spaces.{Slot, slot_order, Cell, Spaces, cost, cost_of, need, pages_of, regions_of}
+use Rattle.address_space.specs.Spaces.{Slot, slot_order, Cell, Spaces, cost, cost_of, need, pages_of, regions_of, at_page}
 use Rattle.address_space.specs.Slots.{user_slots}
 use Rattle.page_words.specs.FiniteMap.{same}
 use Rattle.page_words.proofs.MapLemmas.{same_itself, same-true, same_or_not, get-insert, contains-from_list, list_any-map}
@@ -61,12 +61,12 @@ sum_one f g p k a (suc n) low high own others = elim (cases_eq p a) [
 
 pub total-same : (directories : List (Option ℕ)) (S S' : Spaces) → ((q : Slot) → map_of.contains_key S' q ≡ map_of.contains_key S q) → total_cost directories S' ≡ total_cost directories S
 unfolding total_cost
-total-same directories S S' is = sum_same _ _ 0 64 (λ p _. ap (λ n. if is_some (directory_of directories p) then n else 0) (ap cost_of (same_pages S' S p p (λ page. is (record { pid = p; page = page })))))
+total-same directories S S' is = sum_same _ _ 0 64 (λ p _. ap (λ n. if is_some (directory_of directories p) then n else 0) (ap cost_of (same_pages S' S p p (λ page. is (at_page p page)))))
 
-pub other_slot : (S : Spaces) (slot : Slot) (cell : Cell) (p page : ℕ) → p ≢ slot.pid → map_of.contains_key (map_of.insert S slot cell) (record { pid = p; page = page }) ≡ map_of.contains_key S (record { pid = p; page = page })
-other_slot S slot cell p page n = ap is_some (get-insert S slot cell (record { pid = p; page = page }) ∙ elim (same_or_not slot_order (record { pid = p; page = page }) slot) [
+pub other_slot : (S : Spaces) (slot : Slot) (cell : Cell) (p page : ℕ) → p ≢ slot.pid → map_of.contains_key (map_of.insert S slot cell) (at_page p page) ≡ map_of.contains_key S (at_page p page)
+other_slot S slot cell p page n = ap is_some (get-insert S slot cell (at_page p page) ∙ elim (same_or_not slot_order (at_page p page) slot) [
   | inl h ↦ absurd (n (ap (λ (s : Slot). s.pid) h.0))
-  | inr h ↦ ap (λ b. cond b (Some cell) (map_of.get S (record { pid = p; page = page }))) h
+  | inr h ↦ ap (λ b. cond b (Some cell) (map_of.get S (at_page p page))) h
 ])
 
 pub total-insert : (directories : List (Option ℕ)) (S : Spaces) (slot : Slot) (cell : Cell) (d : ℕ) → slot.pid < 64 → directory_of directories slot.pid ≡ Some d → map_of.get S slot ≡ None
@@ -163,9 +163,9 @@ need-two D m p page none = by (set.contains (regions_of (pages_of (spaces_of (en
     some_map E q None = refl
     some_map E q (Some d) = refl
 
-    clash : (other : ℕ) → slot_number other ≡ slot_number page → map_of.contains_key (spaces_of (entries_in D m) m) (record { pid = p; page = other }) ≡ true → ⊥
+    clash : (other : ℕ) → slot_number other ≡ slot_number page → map_of.contains_key (spaces_of (entries_in D m) m) (at_page p other) ≡ true → ⊥
     clash other same_region h =
-        let q : Slot = record { pid = p; page = other } in
+        let q : Slot = at_page p other in
         let entry : is_some (cond (list_any (same slot_order q) user_slots) (entry_in D m q) None) ≡ true =
         sym (ap is_some (get-spaces_of (entries_in D m) m q) ∙ some_map (entries_in D m) q (map_of.get (entries_in D m) q) ∙ ap is_some (get-entries_in D m q)) ∙ h in
         let no : entry_in D m q ≡ None = entry_by_table D m q ∙ ap (option_and_then _) (ap (table_in D m p) same_region ∙ none) in
@@ -212,7 +212,7 @@ need-one D m p page t few low high there used =
     let other : ℕ = slot_number page * 1024 + u.0 in
     let r : slot_number other ≡ slot_number page = omega (arith, u.1) in
     let index : index_number other ≡ u.0 = omega (arith, u.1) in
-    let q : Slot = record { pid = p; page = other } in
+    let q : Slot = at_page p other in
     let entry : is_some (entry_in D m q) ≡ true =
     ap is_some (entry_by_table D m q ∙ ap (option_and_then (λ table. word_entry (word_in (m table) (index_number other)))) (ap (table_in D m p) r ∙ there) ∙ ap (λ i. word_entry (word_in (m t) i)) index)
     ∙ ap (λ b. is_some (if b then Some (entry_from (word_in (m t) u.0)) else None)) u.2 in

@@ -12,7 +12,7 @@ use Rattle.page_words.specs.FiniteSet as set
 use Rattle.page_words.specs.FiniteSet.{Set}
 use Rattle.page_words.specs.FiniteMap.{nat_order}
 use Rattle.page_words.specs.Addresses.{slot_number}
-use Rattle.address_space.specs.Spaces.{Slot, slot_order, slot_cmp, Cell, Spaces, cost, cost_of, need, pages_of, regions_of}
+use Rattle.address_space.specs.Spaces.{Slot, slot_order, slot_cmp, Cell, Spaces, cost, cost_of, need, pages_of, regions_of, at_page}
 use Rattle.page_words.specs.FiniteMap.{same}
 use Rattle.page_words.proofs.MapLemmas.{get-insert, same_set, contains-insert, contains-from_list, len-insert, list_any-put, list_any-map}
 
@@ -23,37 +23,37 @@ both_tied Greater b = refl
 
 -- whether a page stands among the slots of a process
 among : (p page : ℕ) (es : List (Slot × Cell))
-    → list_any (λ e. same nat_order page e.0.page) (where_key slot_cmp (λ slot. slot.pid == p) es) ≡ list_any (λ slot. same slot_order (record { pid = p; page = page }) slot) (map (λ e. e.0) es)
+    → list_any (λ e. same nat_order page e.0.page) (where_key slot_cmp (λ slot. slot.pid == p) es) ≡ list_any (λ slot. same slot_order (at_page p page) slot) (map (λ e. e.0) es)
 among p page [] = refl
 among p page (e ∷ es) =
-    elim (e.0.pid == p) as (λ b. (e.0.pid == p) ≡ b → list_any (λ e. same nat_order page e.0.page) (cond b (e ∷ where_key slot_cmp (λ slot. slot.pid == p) es) (where_key slot_cmp (λ slot. slot.pid == p) es)) ≡ (same slot_order (record { pid = p; page = page }) e.0 || list_any (λ slot. same slot_order (record { pid = p; page = page }) slot) (map (λ e. e.0) es))) [
+    elim (e.0.pid == p) as (λ b. (e.0.pid == p) ≡ b → list_any (λ e. same nat_order page e.0.page) (cond b (e ∷ where_key slot_cmp (λ slot. slot.pid == p) es) (where_key slot_cmp (λ slot. slot.pid == p) es)) ≡ (same slot_order (at_page p page) e.0 || list_any (λ slot. same slot_order (at_page p page) slot) (map (λ e. e.0) es))) [
       | true ↦ λ is. λ i. (sym (tied ∙ ap (λ b. b && same nat_order page e.0.page) (turned ∙ is)) i || among p page es i)
-      | false ↦ λ is. among p page es ∙ ap (λ b. b || list_any (λ slot. same slot_order (record { pid = p; page = page }) slot) (map (λ e. e.0) es)) (sym (tied ∙ ap (λ b. b && same nat_order page e.0.page) (turned ∙ is)))
+      | false ↦ λ is. among p page es ∙ ap (λ b. b || list_any (λ slot. same slot_order (at_page p page) slot) (map (λ e. e.0) es)) (sym (tied ∙ ap (λ b. b && same nat_order page e.0.page) (turned ∙ is)))
     ] refl
   where
-    tied : same slot_order (record { pid = p; page = page }) e.0 ≡ (is_eq (nat_cmp p e.0.pid) && same nat_order page e.0.page)
+    tied : same slot_order (at_page p page) e.0 ≡ (is_eq (nat_cmp p e.0.pid) && same nat_order page e.0.page)
     tied = both_tied (nat_cmp p e.0.pid) (nat_cmp page e.0.page)
 
     turned : is_eq (nat_cmp p e.0.pid) ≡ (e.0.pid == p)
     turned = (eq_by_cmp_equiv nat_order.total).symm p e.0.pid ∙ unsigned_tied e.0.pid p
 
-pub contains-pages_of : (spaces : Spaces) (p page : ℕ) → set.contains (pages_of spaces p) page ≡ map.contains_key spaces (record { pid = p; page = page })
+pub contains-pages_of : (spaces : Spaces) (p page : ℕ) → set.contains (pages_of spaces p) page ≡ map.contains_key spaces (at_page p page)
 contains-pages_of spaces p page =
     contains-from_list nat_order (map (λ entry. entry.0.page) (map.retain_keys spaces (λ slot. slot.pid == p)).entries) page
     ∙ list_any-map (λ entry. entry.0.page) (same nat_order page) (map.retain_keys spaces (λ slot. slot.pid == p)).entries
     ∙ among p page spaces.entries
-    ∙ sym (is_some-find slot_cmp (record { pid = p; page = page }) spaces.entries)
+    ∙ sym (is_some-find slot_cmp (at_page p page) spaces.entries)
 
 -- spaces with the same pages of a process cost it the same
-pub same_pages : (s t : Spaces) (p q : ℕ) → ((page : ℕ) → map.contains_key s (record { pid = p; page = page }) ≡ map.contains_key t (record { pid = q; page = page })) → pages_of s p ≡ pages_of t q
+pub same_pages : (s t : Spaces) (p q : ℕ) → ((page : ℕ) → map.contains_key s (at_page p page) ≡ map.contains_key t (at_page q page)) → pages_of s p ≡ pages_of t q
 same_pages s t p q is = same_set (pages_of s p) (pages_of t q) (λ page. contains-pages_of s p page ∙ is page ∙ sym (contains-pages_of t q page))
 
 -- one more page of a process
 pages-insert : (spaces : Spaces) (slot : Slot) (cell : Cell) → pages_of (map.insert spaces slot cell) slot.pid ≡ set.insert (pages_of spaces slot.pid) slot.page
 pages-insert spaces slot cell = same_set (pages_of (map.insert spaces slot cell) slot.pid) (set.insert (pages_of spaces slot.pid) slot.page) (λ page.
     contains-pages_of (map.insert spaces slot cell) slot.pid page
-    ∙ ap is_some (get-insert spaces slot cell (record { pid = slot.pid; page = page }))
-    ∙ some_or (same slot_order (record { pid = slot.pid; page = page }) slot) (map.get spaces (record { pid = slot.pid; page = page }))
+    ∙ ap is_some (get-insert spaces slot cell (at_page slot.pid page))
+    ∙ some_or (same slot_order (at_page slot.pid page) slot) (map.get spaces (at_page slot.pid page))
     ∙ (λ i. (both_tied (nat_cmp slot.pid slot.pid) (nat_cmp page slot.page) ∙ ap (λ b. b && same nat_order page slot.page) ((eq_by_cmp_equiv nat_order.total).refl slot.pid)) i || sym (contains-pages_of spaces slot.pid page) i)
     ∙ sym (contains-insert (pages_of spaces slot.pid) slot.page page))
   where

@@ -19,7 +19,7 @@ use Rattle.page_map.specs.declared.PageEntry.{PageEntry}
 use Rattle.page_map.specs.Entries.{Frames, word_table, word_entry, table_of, entry_at}
 use Rattle.page_map.specs.Pages.{is_mapped}
 use Rattle.page_map.proofs.PageLemmas.{get-entries_user}
-use Rattle.address_space.specs.Spaces.{Slot, slot_order, Cell, Spaces, cost, need, pages_of, regions_of, without, with_holders, is_slot, is_of}
+use Rattle.address_space.specs.Spaces.{Slot, slot_order, Cell, Spaces, cost, need, pages_of, regions_of, without, with_holders, is_slot, is_of, at_page}
 use Rattle.address_space.specs.Slots.{user_slots}
 use Rattle.address_space.specs.Cells.{Entries, lazy_count, cell_of, spaces_of}
 use Rattle.address_space.specs.Sound.{Directories, Roles, directory_of, table_in, entry_in, entries_in, spaces_in, live_cost, total_cost, Tables, Pages, IsSound, IsSpaces, SlotRemoved, IsEmptySpace, ClearedBelow, SpaceCleared, DirectoryRemoved}
@@ -79,7 +79,7 @@ without-without S first all among = same_map _ _ (λ q. get-without (without S f
 
 -- a slot is of its own process
 pub slot_of_process : (p page : ℕ) (q : Slot) → is_of p q ≡ false → is_slot p page q ≡ false
-slot_of_process p page q other = elim (same_or_not slot_order (record { pid = p; page = page }) q) [
+slot_of_process p page q other = elim (same_or_not slot_order (at_page p page) q) [
   | inl h ↦ absurd (let t : is_of p q ≡ true = ap (λ (x : Slot). x.pid == p) (sym h.0) ∙ eq-eqb p p refl in cc)
   | inr h ↦ h
 ]
@@ -137,21 +137,21 @@ no_table_outside directories bytes roles p s sound out = by (directory_of direct
     by (Some d) is = ap word_table (word d is)
 
 -- and no page
-pub no_cell_outside : (directories : List (Option ℕ)) (bytes : List ℕ) (roles : List Role) (p page : ℕ) → IsSound directories bytes roles → (page < 0x40000) ⊎ (0xf0000 ≤ page) → map.get (spaces_in directories bytes) (record { pid = p; page = page }) ≡ None
+pub no_cell_outside : (directories : List (Option ℕ)) (bytes : List ℕ) (roles : List Role) (p page : ℕ) → IsSound directories bytes roles → (page < 0x40000) ⊎ (0xf0000 ≤ page) → map.get (spaces_in directories bytes) (at_page p page) ≡ None
 unfolding spaces_in
 no_cell_outside directories bytes roles p page sound out =
     let D : Directories = directory_of directories in
     let m : Frames = frame_bytes bytes in
-    no_cell_by D m (record { pid = p; page = page })
-    (entry_by_table D m (record { pid = p; page = page }) ∙ ap (option_and_then (λ table. word_entry (word_in (m table) (index_number page)))) (no_table_outside directories bytes roles p (slot_number page) sound (elim out [ inl l ↦ inl (omega arith) | inr l ↦ inr (omega arith) ])))
+    no_cell_by D m (at_page p page)
+    (entry_by_table D m (at_page p page) ∙ ap (option_and_then (λ table. word_entry (word_in (m table) (index_number page)))) (no_table_outside directories bytes roles p (slot_number page) sound (elim out [ inl l ↦ inl (omega arith) | inr l ↦ inr (omega arith) ])))
 
 -- a page of the user range that is not mapped
 pub no_cell_unmapped : (directories : List (Option ℕ)) (bytes : List ℕ) (p d page : ℕ) → directory_of directories p ≡ Some d → 0x40000 ≤ page → page < 0xf0000 → is_mapped (frame_bytes bytes) d page ≡ false
-    → map.get (spaces_in directories bytes) (record { pid = p; page = page }) ≡ None
+    → map.get (spaces_in directories bytes) (at_page p page) ≡ None
 unfolding spaces_in
 no_cell_unmapped directories bytes p d page live low high unmapped =
     let m : Frames = frame_bytes bytes in
-    no_cell_by (directory_of directories) m (record { pid = p; page = page })
+    no_cell_by (directory_of directories) m (at_page p page)
     (ap (option_and_then (λ d. entry_at m d page)) live ∙ none_is (entry_at m d page) (ap is_some (sym (get-entries_user m d page (low, high))) ∙ unmapped))
 
 -- a page that the map has, has an entry
@@ -179,9 +179,9 @@ cleared_next directories bytes one two roles roles1 roles2 p d from page so_far 
     record {
       after = gone.after;
       spaces = ap (λ x. without x (is_of p)) gone.spaces ∙ without-without S (is_slot p page) (is_of p) (slot_of_process p page) ∙ so_far.spaces;
-      below = λ other l. ap (λ x. map.get x (record { pid = p; page = other })) gone.spaces ∙ get-without S (is_slot p page) (record { pid = p; page = other }) ∙ elim (cases_eq other page) [
-        | inl same_page ↦ ap (λ b. cond (not b) (option_map (left (is_slot p page)) (map.get S (record { pid = p; page = other }))) None) (ap (λ n. same slot_order (record { pid = p; page = page }) (record { pid = p; page = n })) same_page ∙ same_itself slot_order (record { pid = p; page = page }))
-        | inr differ ↦ nothing_if (not (is_slot p page (record { pid = p; page = other }))) (left (is_slot p page)) (map.get S (record { pid = p; page = other })) (elim (cases_lt other from) [
+      below = λ other l. ap (λ x. map.get x (at_page p other)) gone.spaces ∙ get-without S (is_slot p page) (at_page p other) ∙ elim (cases_eq other page) [
+        | inl same_page ↦ ap (λ b. cond (not b) (option_map (left (is_slot p page)) (map.get S (at_page p other))) None) (ap (λ n. same slot_order (at_page p page) (at_page p n)) same_page ∙ same_itself slot_order (at_page p page))
+        | inr differ ↦ nothing_if (not (is_slot p page (at_page p other))) (left (is_slot p page)) (map.get S (at_page p other)) (elim (cases_lt other from) [
           | inl below ↦ so_far.below other below
           | inr above ↦ no_cell_unmapped directories one p d other live (omega arith) (omega arith) (least other above (omega arith))
         ])

@@ -11,7 +11,7 @@ use Rattle.alloc_table.specs.declared.Role.TheVariants.{Reserved, Directory, Tab
 use Rattle.page_map.specs.declared.PageEntry.{PageEntry}
 use Rattle.page_map.specs.Entries.{Frames, word_table, table_of, word_entry, entry_at}
 use Rattle.page_words.specs.FiniteMap as map
-use Rattle.address_space.specs.Spaces.{Slot, slot_order}
+use Rattle.address_space.specs.Spaces.{Slot, slot_order, at_page}
 use Rattle.page_words.specs.FiniteMap.{collect}
 use Rattle.address_space.specs.Slots.{user_slots}
 use Rattle.page_words.specs.FiniteMap.{same}
@@ -72,7 +72,7 @@ module _ (D : Directories) (m : Frames) (R : Roles) (T : Tables D m R) (p d page
       by None is = refl
       by (Some d') is = ap (λ l. word_table (word_in l s)) (dir_kept q d' is)
 
-  pub entry_own : entry_in D (with_word_at m t page w) (record { pid = p; page = page }) ≡ word_entry w
+  pub entry_own : entry_in D (with_word_at m t page w) (at_page p page) ≡ word_entry w
   entry_own =
       ap (option_and_then (λ d. entry_at (with_word_at m t page w) d page)) live
       ∙ ap (option_and_then (λ table. word_entry (word_in (with_word_at m t page w table) (index_number page)))) (ap (λ l. word_table (word_in l (slot_number page))) (dir_kept p d live) ∙ there)
@@ -109,14 +109,14 @@ module _ (D : Directories) (m : Frames) (R : Roles) (T : Tables D m R) (p d page
           ∙ with_table_at d' is (table_of m d' (slot_number q.page)) refl
 
   -- the whole map has that entry more
-  pub entries-insert : (e : PageEntry) → word_entry w ≡ Some e → p < 64 → 0x40000 ≤ page → page < 0xf0000 → entries_in D (with_word_at m t page w) ≡ map.insert (entries_in D m) (record { pid = p; page = page }) e
+  pub entries-insert : (e : PageEntry) → word_entry w ≡ Some e → p < 64 → 0x40000 ≤ page → page < 0xf0000 → entries_in D (with_word_at m t page w) ≡ map.insert (entries_in D m) (at_page p page) e
   entries-insert e holds few low high = same_map _ _ (λ q.
       get-entries_in D (with_word_at m t page w) q
-      ∙ elim (same_or_not slot_order q (record { pid = p; page = page })) [
+      ∙ elim (same_or_not slot_order q (at_page p page)) [
         | inl h ↦ let u : list_any (same slot_order q) user_slots ≡ true = ap (λ q. list_any (same slot_order q) user_slots) h.0 ∙ in_user_slots p page few low high in
-            ap (λ b. cond b (entry_in D (with_word_at m t page w) q) None) u ∙ ap (entry_in D (with_word_at m t page w)) h.0 ∙ entry_own ∙ holds ∙ sym (get-insert (entries_in D m) (record { pid = p; page = page }) e q ∙ ap (λ b. cond b (Some e) (map.get (entries_in D m) q)) h.1)
-        | inr h ↦ ap (λ x. cond (list_any (same slot_order q) user_slots) x None) (entry_other q (differ q (record { pid = p; page = page }) h))
-            ∙ sym (get-entries_in D m q) ∙ sym (get-insert (entries_in D m) (record { pid = p; page = page }) e q ∙ ap (λ b. cond b (Some e) (map.get (entries_in D m) q)) h)
+            ap (λ b. cond b (entry_in D (with_word_at m t page w) q) None) u ∙ ap (entry_in D (with_word_at m t page w)) h.0 ∙ entry_own ∙ holds ∙ sym (get-insert (entries_in D m) (at_page p page) e q ∙ ap (λ b. cond b (Some e) (map.get (entries_in D m) q)) h.1)
+        | inr h ↦ ap (λ x. cond (list_any (same slot_order q) user_slots) x None) (entry_other q (differ q (at_page p page) h))
+            ∙ sym (get-entries_in D m q) ∙ sym (get-insert (entries_in D m) (at_page p page) e q ∙ ap (λ b. cond b (Some e) (map.get (entries_in D m) q)) h)
       ])
 
   word_kept : (t' i : ℕ) → i < 1024 → IsKernelTableWord w → IsKernelTableWord (word_in (m t') i) → IsKernelTableWord (word_in (with_word_at m t page w t') i)
@@ -165,14 +165,14 @@ module _ (D : Directories) (m : Frames) (R : Roles) (T : Tables D m R) (p d page
   ]
 
   -- the whole map has that entry no more
-  pub entries-remove : word_entry w ≡ None → entries_in D (with_word_at m t page w) ≡ map.remove (entries_in D m) (record { pid = p; page = page })
+  pub entries-remove : word_entry w ≡ None → entries_in D (with_word_at m t page w) ≡ map.remove (entries_in D m) (at_page p page)
   entries-remove holds = same_map _ _ (λ q.
       get-entries_in D (with_word_at m t page w) q
-      ∙ elim (same_or_not slot_order q (record { pid = p; page = page })) [
+      ∙ elim (same_or_not slot_order q (at_page p page)) [
         | inl h ↦ ap (λ x. cond (list_any (same slot_order q) user_slots) x None) (ap (entry_in D (with_word_at m t page w)) h.0 ∙ entry_own ∙ holds) ∙ nothing_there (list_any (same slot_order q) user_slots)
-            ∙ sym (ap (map.get (map.remove (entries_in D m) (record { pid = p; page = page }))) h.0 ∙ removed (entries_in D m) (record { pid = p; page = page }))
-        | inr h ↦ ap (λ x. cond (list_any (same slot_order q) user_slots) x None) (entry_other q (differ q (record { pid = p; page = page }) h))
-            ∙ sym (get-entries_in D m q) ∙ sym (kept_other (entries_in D m) (record { pid = p; page = page }) q (differ q (record { pid = p; page = page }) h))
+            ∙ sym (ap (map.get (map.remove (entries_in D m) (at_page p page))) h.0 ∙ removed (entries_in D m) (at_page p page))
+        | inr h ↦ ap (λ x. cond (list_any (same slot_order q) user_slots) x None) (entry_other q (differ q (at_page p page) h))
+            ∙ sym (get-entries_in D m q) ∙ sym (kept_other (entries_in D m) (at_page p page) q (differ q (at_page p page) h))
       ])
     where
       nothing_there : (b : Bool) → ◌≡◌ {A = Option PageEntry} (cond b None None) None

@@ -1,6 +1,6 @@
 -- What a lazy page that got a frame of its own leaves.
 use Rattle.std.proofs.Common.{◌≡◌, ◌≢◌, ℕ, ◌+◌, ◌*◌, ◌^◌, ◌<◌, ◌≤◌, true, false, List, length, replicate, refl, ap, sym, ◌∙◌, subst, arith, inr, Option, Some, None, length-set}
-use Rattle.std.specs.Prelude.{slice_get, is_some, ◌==◌}
+use Rattle.std.specs.Prelude.{slice_get, is_some}
 use Rattle.std.specs.Option.{option_and_then}
 use Rattle.std.proofs.lemmas.List.{length-replicate}
 use Rattle.page_words.specs.Addresses.{slot_number}
@@ -16,12 +16,11 @@ use Rattle.alloc_table.proofs.RoleLemmas.{weight-taken}
 use Rattle.page_map.specs.declared.PageEntry.{PageEntry}
 use Rattle.page_map.specs.Entries.{Frames, dir_word, table_of, entry_at, with_entry, entry_word, is_lazy_entry, IsKernelEntry}
 use Rattle.page_map.proofs.WordLaws.{entry_word-names, entry_word-lt, entry_word-present, word_entry-entry_word}
-use Rattle.address_space.specs.Spaces.{Slot}
+use Rattle.address_space.specs.Spaces.{Slot, at_page}
 use Rattle.address_space.specs.Cells.{Entries, names, lazy_count, spaces_of, holders_of}
-use Rattle.address_space.specs.Sound.{Directories, Roles, directory_of, table_in, entry_in, entries_in, spaces_in, Tables, Pages, IsSound, IsSpaces, InUseAt, PageFilled, total_cost}
-use Rattle.address_space.proofs.CostSteps.{total-kept}
+use Rattle.address_space.specs.Sound.{Directories, Roles, directory_of, entry_in, entries_in, spaces_in, Tables, Pages, IsSpaces, InUseAt, PageFilled, total_cost}
 use Rattle.address_space.proofs.Costed.{free_where_light}
-use Rattle.address_space.proofs.EntrySteps.{Loose, entries-insert, entry_own, tables-entry, use_kept}
+use Rattle.address_space.proofs.EntrySteps.{entries-insert, entry_own, tables-entry, use_kept}
 use Rattle.address_space.proofs.FrameSteps.{tables-role}
 use Rattle.address_space.proofs.PageSteps.{same_bytes, pages-more, unused, unused_count, no_free, no_table, not_same, lazy-filled, holders-less}
 use Rattle.address_space.proofs.Refinement.{fill_refines}
@@ -35,7 +34,7 @@ room_to_fill directories bytes roles p d page e s live low high is lazy =
     let E : Entries = entries_in (directory_of directories) (frame_bytes bytes) in
     let there = get_user (directory_of directories) (frame_bytes bytes) p d page e live (live_small directories p d s.sound.pids live) low high is in
     let zero = (entry_rules directories bytes roles p d page e s.sound live is).zero lazy in
-    let less = (holders-less E (record { pid = p; page = page }) e there).0 in
+    let less = (holders-less E (at_page p page) e there).0 in
     let x : set.len (holders_of E e.frame) ≡ lazy_count E = ap (λ g. set.len (holders_of E g)) zero in
     let w = s.weighs in
     let i = s.within in
@@ -56,7 +55,7 @@ page_filled directories bytes one two roles roles' p d page f e s live low high 
     let m : Frames = frame_bytes bytes in
     let m1 : Frames = frame_bytes one in
     let e' : PageEntry = record e { frame = f; lazy = false } in
-    let slot : Slot = record { pid = p; page = page } in
+    let slot : Slot = at_page p page in
     let R : Roles = slice_get roles in
     let R' : Roles = slice_get roles' in
     let E : Entries = entries_in D m in

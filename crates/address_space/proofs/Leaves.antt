@@ -17,7 +17,7 @@ use Rattle.page_map.specs.Entries.{Frames, dir_word, table_of, entry_at, IsClear
 use Rattle.page_words.specs.FiniteMap as map
 use Rattle.page_words.specs.FiniteMap.{change_each}
 use Rattle.page_words.specs.FiniteSet as set
-use Rattle.address_space.specs.Spaces.{Slot, need, is_slot}
+use Rattle.address_space.specs.Spaces.{Slot, need, is_slot, at_page}
 use Rattle.page_words.specs.FiniteMap.{collect, put_some}
 use Rattle.page_words.specs.FiniteMap.{same}
 use Rattle.address_space.specs.Cells.{Entries, lazy_count, cell_of, spaces_of, holders_of}
@@ -128,7 +128,7 @@ slot_removed directories bytes two roles one last p d page e freed spaces live l
     T = sound.tables
 
     slot : Slot
-    slot = record { pid = p; page = page }
+    slot = at_page p page
 
     f : Found D m p d page e
     f = found D m p d page e is_entry
@@ -354,7 +354,7 @@ freed_table directories bytes two roles one p d page e freed sound live low high
     by_lazy role true lazy = ap (λ l. slice_get l t) (went.lazy lazy) ∙ role
     by_lazy role false real =
         let n = named_entry directories bytes roles p d page e sound live low high is_entry in
-        let r = page_of_name directories bytes roles (record { pid = p; page = page }) e.frame sound n ((entry_rules directories bytes roles p d page e sound live is_entry).frame real) in
+        let r = page_of_name directories bytes roles (at_page p page) e.frame sound n ((entry_rules directories bytes roles p d page e sound live is_entry).frame real) in
         let rel = went.real real in
         let apart : t ≢ e.frame = λ same. (let k : slice_get roles t ≡ slice_get roles e.frame = ap (slice_get roles) same in let q = r.page in cc) in
         role_other roles one e.frame (released rel.role) rel.now t apart ∙ role

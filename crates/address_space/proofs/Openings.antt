@@ -21,7 +21,7 @@ use Rattle.alloc_table.specs.Roles.{frames_weight, weight, IsTaken, opening_role
 use Rattle.alloc_table.proofs.RoleLemmas.{weight-taken, get-set_same, get-set_other}
 use Rattle.page_map.specs.declared.PageEntry.{PageEntry}
 use Rattle.page_map.specs.Entries.{Frames, dir_word, word_table, word_entry, table_of, entry_at}
-use Rattle.address_space.specs.Spaces.{Slot, slot_order, Spaces, cost, cost_of, pages_of}
+use Rattle.address_space.specs.Spaces.{Slot, slot_order, Spaces, cost, cost_of, pages_of, at_page}
 use Rattle.address_space.specs.Slots.{user_slots}
 use Rattle.address_space.specs.Cells.{Entries, lazy_count, spaces_of, cell_of}
 use Rattle.address_space.specs.Sound.{Directories, Roles, directory_of, table_in, entry_in, entries_in, spaces_in, live_cost, total_cost, Tables, Pages, IsSpaces, SpaceAdded}
@@ -114,17 +114,17 @@ module _ (D D' : Directories) (m : Frames) (R R' : Roles) (T : Tables D m R) (p 
 
 -- ---- A process with a blank directory costs one
 
-no_pages : (D : Directories) (m : Frames) (p page : ℕ) → D p ≡ None → map.get (entries_in D m) (record { pid = p; page = page }) ≡ None
-no_pages D m p page none = get-entries_in D m (record { pid = p; page = page }) ∙ ap (λ x. cond (list_any (same slot_order (record { pid = p; page = page })) user_slots) x None) (ap (option_and_then (λ d. entry_at m d page)) none) ∙ either (list_any (same slot_order (record { pid = p; page = page })) user_slots)
+no_pages : (D : Directories) (m : Frames) (p page : ℕ) → D p ≡ None → map.get (entries_in D m) (at_page p page) ≡ None
+no_pages D m p page none = get-entries_in D m (at_page p page) ∙ ap (λ x. cond (list_any (same slot_order (at_page p page)) user_slots) x None) (ap (option_and_then (λ d. entry_at m d page)) none) ∙ either (list_any (same slot_order (at_page p page)) user_slots)
   where
     either : (b : Bool) → ◌≡◌ {A = Option PageEntry} (cond b None None) None
     either true = refl
     either false = refl
 
-pub empty_cost : (S : Spaces) (p : ℕ) → ((page : ℕ) → map.get S (record { pid = p; page = page }) ≡ None) → cost S p ≡ 1
+pub empty_cost : (S : Spaces) (p : ℕ) → ((page : ℕ) → map.get S (at_page p page) ≡ None) → cost S p ≡ 1
 empty_cost S p none = ap cost_of (same_set (pages_of S p) set.empty (λ page. contains-pages_of S p page ∙ ap is_some (none page)))
 
-total-directory : (directories : List (Option ℕ)) (S : Spaces) (p f : ℕ) → p < 64 → p < length directories → directory_of directories p ≡ None → ((page : ℕ) → map.get S (record { pid = p; page = page }) ≡ None)
+total-directory : (directories : List (Option ℕ)) (S : Spaces) (p f : ℕ) → p < 64 → p < length directories → directory_of directories p ≡ None → ((page : ℕ) → map.get S (at_page p page) ≡ None)
     → total_cost (slice_set directories p (Some f)) S ≡ total_cost directories S + 1
 unfolding total_cost
 total-directory directories S p f few l none pages =
@@ -163,7 +163,7 @@ space_added directories bytes one roles roles' p f s few none room taken is long
     let spaces : spaces_of (entries_in D' (frame_bytes one)) (frame_bytes one) ≡ spaces_of E m = (λ i. spaces_of (E2 i) (is i)) ∙ same_bytes E m m1 page_kept in
     let same_length : length roles' ≡ length roles = ap length taken.now ∙ length-set roles f (Directory p) in
     let weight : frames_weight roles' ≡ frames_weight roles + 1 = weight-taken roles roles' f (Directory p) taken in
-    let pages : (page : ℕ) → map.get (spaces_of E m) (record { pid = p; page = page }) ≡ None = λ page. get-spaces_of E m (record { pid = p; page = page }) ∙ ap (option_map (cell_of E m (record { pid = p; page = page }))) (no_pages D m p page none) in
+    let pages : (page : ℕ) → map.get (spaces_of E m) (at_page p page) ≡ None = λ page. get-spaces_of E m (at_page p page) ∙ ap (option_map (cell_of E m (at_page p page))) (no_pages D m p page none) in
     let total : total_cost directories' (spaces_of (entries_in D' (frame_bytes one)) (frame_bytes one)) ≡ total_cost directories (spaces_of E m) + 1 = ap (total_cost directories') spaces ∙ total-directory directories (spaces_of E m) p f few l none pages in
     let w = s.weighs in
     record {
@@ -300,11 +300,11 @@ opening_is_sound n low high =
     }
 
 -- a process without a directory has nothing mapped
-pub no_cell : (directories : List (Option ℕ)) (bytes : List ℕ) (p page : ℕ) → directory_of directories p ≡ None → map.get (spaces_in directories bytes) (record { pid = p; page = page }) ≡ None
+pub no_cell : (directories : List (Option ℕ)) (bytes : List ℕ) (p page : ℕ) → directory_of directories p ≡ None → map.get (spaces_in directories bytes) (at_page p page) ≡ None
 unfolding spaces_in
 no_cell directories bytes p page none =
-    get-spaces_of (entries_in (directory_of directories) (frame_bytes bytes)) (frame_bytes bytes) (record { pid = p; page = page })
-    ∙ ap (option_map (cell_of (entries_in (directory_of directories) (frame_bytes bytes)) (frame_bytes bytes) (record { pid = p; page = page }))) (no_pages (directory_of directories) (frame_bytes bytes) p page none)
+    get-spaces_of (entries_in (directory_of directories) (frame_bytes bytes)) (frame_bytes bytes) (at_page p page)
+    ∙ ap (option_map (cell_of (entries_in (directory_of directories) (frame_bytes bytes)) (frame_bytes bytes) (at_page p page))) (no_pages (directory_of directories) (frame_bytes bytes) p page none)
 
 -- one process costs no more than all together
 pub cost_within : (directories : List (Option ℕ)) (S : Spaces) (p : ℕ) → length directories ≡ 64 → is_some (directory_of directories p) ≡ true → cost S p ≤ total_cost directories S

@@ -1,6 +1,6 @@
 -- What a slot, its bytes and its needs are read as.
 use Rattle.std.proofs.Common.{◌≡◌, ℕ, ◌+◌, ◌*◌, ◌/◌, ◌%◌, ◌<◌, ◌≤◌, Bool, true, false, cond, List, [], ◌∷◌, length, take, drop, refl, ap, sym, ◌∙◌, arith, Option, Some, None, length-drop}
-use Rattle.std.specs.Prelude.{slice_index, slice_get, is_some, ◌==◌}
+use Rattle.std.specs.Prelude.{slice_index, slice_get, is_some}
 use Rattle.std.specs.Option.{option_and_then, option_map}
 use Rattle.std.proofs.lemmas.List.{get_or-drop}
 use Rattle.page_words.specs.Addresses.{slot_number}
@@ -14,7 +14,7 @@ use Rattle.alloc_table.specs.declared.Role.TheVariants.{Page}
 use Rattle.page_map.specs.Entries.{Frames, entry_at, IsKernelEntry}
 use Rattle.page_map.specs.declared.PageEntry.{PageEntry}
 use Rattle.std.proofs.lemmas.Bool.Decides.{nat_tests}
-use Rattle.address_space.specs.Spaces.{Slot, need, value_of, bytes_at}
+use Rattle.address_space.specs.Spaces.{Slot, need, value_of, bytes_at, at_page}
 use Rattle.address_space.specs.Cells.{Entries, group_of, cell_of, spaces_of, holders_of}
 use Rattle.address_space.specs.Sound.{Directories, directory_of, entry_in, entries_in, spaces_in, table_in, IsSound, InUse, Inside}
 use Rattle.address_space.proofs.UserSlots.{in_user_slots}
@@ -24,13 +24,13 @@ use Rattle.address_space.proofs.Refinement.{get-spaces_of, group-real}
 
 -- the cell of a user page is that of its entry
 pub get-spaces_in : (directories : List (Option ℕ)) (bytes : List ℕ) (p page : ℕ) → p < 64 → 0x40000 ≤ page → page < 0xf0000
-    → map.get (spaces_in directories bytes) (record { pid = p; page = page })
-    ≡ option_map (cell_of (entries_in (directory_of directories) (frame_bytes bytes)) (frame_bytes bytes) (record { pid = p; page = page })) (option_and_then (λ d. entry_at (frame_bytes bytes) d page) (directory_of directories p))
+    → map.get (spaces_in directories bytes) (at_page p page)
+    ≡ option_map (cell_of (entries_in (directory_of directories) (frame_bytes bytes)) (frame_bytes bytes) (at_page p page)) (option_and_then (λ d. entry_at (frame_bytes bytes) d page) (directory_of directories p))
 unfolding spaces_in
 get-spaces_in directories bytes p page few low high =
     let D : Directories = directory_of directories in
     let m : Frames = frame_bytes bytes in
-    let slot : Slot = record { pid = p; page = page } in
+    let slot : Slot = at_page p page in
     get-spaces_of (entries_in D m) m slot
     ∙ ap (option_map (cell_of (entries_in D m) m slot)) (get-entries_in D m slot ∙ ap (λ b. cond b (entry_in D m slot) None) (in_user_slots p page few low high))
 

@@ -11,7 +11,7 @@ use Rattle.page_words.proofs.MapLemmas.{same_or_not, same_itself, get-insert, ge
 use Rattle.phys_memory.specs.Bytes.{frame_bytes}
 use Rattle.page_map.specs.declared.PageEntry.{PageEntry}
 use Rattle.page_map.specs.Entries.{entry_at}
-use Rattle.address_space.specs.Spaces.{Slot, slot_order, Cell, Spaces, cost, cost_of, need, pages_of, regions_of, without, is_slot, with_holders}
+use Rattle.address_space.specs.Spaces.{Slot, slot_order, Cell, Spaces, cost, cost_of, need, pages_of, regions_of, without, is_slot, with_holders, at_page}
 use Rattle.address_space.specs.Slots.{user_slots}
 use Rattle.address_space.specs.Sound.{directory_of, entry_in, entries_in, spaces_in, IsAlone, IsShared}
 use Rattle.address_space.proofs.Costs.{contains-pages_of, same_pages, cost-insert}
@@ -21,7 +21,7 @@ use Rattle.address_space.proofs.UserSlots.{in_user_slots}
 
 module _ (S : Spaces) (p page : ℕ) where
   abbrev slot : Slot
-  slot = record { pid = p; page = page }
+  slot = at_page p page
 
   abbrev left : Spaces
   left = without S (is_slot p page)
@@ -68,7 +68,7 @@ module _ (S : Spaces) (p page : ℕ) where
       ]
 
   pub cost_left : (cell : Cell) → map.get S slot ≡ Some cell → cost S p ≡ cost left p + need left p page
-  cost_left cell found = ap cost_of (same_pages S (map.insert left slot cell) p p (λ other. sym (put_back_keys cell found (record { pid = p; page = other })))) ∙ cost-insert left slot cell is_gone
+  cost_left cell found = ap cost_of (same_pages S (map.insert left slot cell) p p (λ other. sym (put_back_keys cell found (at_page p other)))) ∙ cost-insert left slot cell is_gone
 
 abbrev counted : Bool → ℕ
 counted b = if b then 1 else 2
@@ -79,12 +79,12 @@ relief_shared directories bytes p d page few live s =
     let m = frame_bytes bytes in
     let S : Spaces = spaces_in directories bytes in
     let T : Spaces = without S (is_slot p page) in
-    let q : Slot = record { pid = p; page = s.other } in
+    let q : Slot = at_page p s.other in
     let entry : is_some (entry_in (directory_of directories) m q) ≡ true = ap (λ x. is_some (option_and_then (λ d. entry_at m d s.other) x)) live ∙ s.mapped in
     let get : is_some (map.get (entries_in (directory_of directories) m) q) ≡ true =
     ap is_some (get-entries_in (directory_of directories) m q ∙ ap (λ b. cond b (entry_in (directory_of directories) m q) None) (in_user_slots p s.other few s.low s.high)) ∙ entry in
     let there : map.contains_key S q ≡ true = keys (entries_in (directory_of directories) m) m q ∙ get in
-    let apart : is_slot p page q ≡ false = elim (same_or_not slot_order (record { pid = p; page = page }) q) [
+    let apart : is_slot p page q ≡ false = elim (same_or_not slot_order (at_page p page) q) [
       | inl e ↦ absurd (s.apart (sym (ap (λ (x : Slot). x.page) e.0)))
       | inr n ↦ n
     ] in
@@ -108,11 +108,11 @@ relief_alone directories bytes p d page live alone = by (set.contains (regions_o
     either true x h = h
     either false x h = cc
 
-    clash : (other : ℕ) → slot_number other ≡ slot_number page → map.contains_key T (record { pid = p; page = other }) ≡ true → ⊥
+    clash : (other : ℕ) → slot_number other ≡ slot_number page → map.contains_key T (at_page p other) ≡ true → ⊥
     clash other region h =
-        let q : Slot = record { pid = p; page = other } in
+        let q : Slot = at_page p other in
         let kept = split (is_slot p page q) (map.contains_key S q) (sym (key_left S p page q) ∙ h) in
-        let apart : other ≢ page = λ e. (let t : is_slot p page q ≡ true = ap (λ n. same slot_order (record { pid = p; page = page }) (record { pid = p; page = n })) e ∙ same_itself slot_order (record { pid = p; page = page }) in let f = kept.0 in cc) in
+        let apart : other ≢ page = λ e. (let t : is_slot p page q ≡ true = ap (λ n. same slot_order (at_page p page) (at_page p n)) e ∙ same_itself slot_order (at_page p page) in let f = kept.0 in cc) in
         let entry : is_some (entry_in (directory_of directories) m q) ≡ true =
         either (list_any (same slot_order q) user_slots) (entry_in (directory_of directories) m q) (sym (ap is_some (get-entries_in (directory_of directories) m q)) ∙ sym (keys (entries_in (directory_of directories) m) m q) ∙ kept.1) in
         let here : is_some (entry_at m d other) ≡ true = sym (ap (λ x. is_some (option_and_then (λ d. entry_at m d other) x)) live) ∙ entry in

@@ -18,7 +18,7 @@ use Rattle.alloc_table.specs.declared.Role.{Role}
 use Rattle.alloc_table.specs.declared.Role.TheVariants.{Directory, Table, Page}
 use Rattle.page_map.specs.declared.PageEntry.{PageEntry}
 use Rattle.page_map.specs.Entries.{Frames, dir_word, word_table, table_of, word_entry, entry_from, entry_at, is_lazy_entry}
-use Rattle.address_space.specs.Spaces.{Slot, slot_order, Cell}
+use Rattle.address_space.specs.Spaces.{Slot, slot_order, Cell, at_page}
 use Rattle.address_space.specs.Slots.{user_slots}
 use Rattle.address_space.specs.Cells.{Entries, names, group_of, cell_of, spaces_of, holders_of}
 use Rattle.address_space.specs.Image.{Image, word_of, is_user_slot, named_by, table_at, own_frame, is_lazy_at, IsOneGroup, present_word, page_word, page_frame, IsSoundImage, SlotStands, StandsFor, StandsForOne}
@@ -302,11 +302,11 @@ image_stands directories bytes roles s = record {
 
 -- whether the entry that was read is lazy
 pub lazy_read : (directories : List (Option ℕ)) (bytes : List ℕ) (roles : List Role) (p d page : ℕ) → IsSound directories bytes roles → directory_of directories p ≡ Some d
-    → is_lazy_entry (entry_at (frame_bytes bytes) d page) ≡ is_lazy_at (image_of directories bytes roles) (record { pid = p; page = page })
+    → is_lazy_entry (entry_at (frame_bytes bytes) d page) ≡ is_lazy_at (image_of directories bytes roles) (at_page p page)
 lazy_read directories bytes roles p d page sound live =
-    ap is_lazy_entry (sym (ap (option_and_then (λ d. entry_at (frame_bytes bytes) d page)) live)) ∙ sym (same_lazy directories bytes roles sound (record { pid = p; page = page }))
+    ap is_lazy_entry (sym (ap (option_and_then (λ d. entry_at (frame_bytes bytes) d page)) live)) ∙ sym (same_lazy directories bytes roles sound (at_page p page))
 
 -- a process without a directory has no lazy page
-pub lazy_none : (directories : List (Option ℕ)) (bytes : List ℕ) (roles : List Role) (p page : ℕ) → directory_of directories p ≡ None → is_lazy_at (image_of directories bytes roles) (record { pid = p; page = page }) ≡ false
+pub lazy_none : (directories : List (Option ℕ)) (bytes : List ℕ) (roles : List Role) (p page : ℕ) → directory_of directories p ≡ None → is_lazy_at (image_of directories bytes roles) (at_page p page) ≡ false
 lazy_none directories bytes roles p page none =
     ap (λ x. unwrap_or (option_map is_lazy (option_and_then (λ t. present_word (image_of directories bytes roles) t (word_of (image_of directories bytes roles) t (index_number page))) (option_and_then (λ d. named_by (slot_number page) (word_of (image_of directories bytes roles) d (slot_number page))) x))) false) none

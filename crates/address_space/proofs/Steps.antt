@@ -8,9 +8,9 @@ use Rattle.page_words.specs.Words.{is_present, frame_number}
 use Rattle.phys_memory.specs.Bytes.{frame_bytes, word_in, with_frame, with_frame_bytes}
 use Rattle.alloc_table.specs.declared.Role.{Role}
 use Rattle.alloc_table.specs.declared.Role.TheVariants.{Reserved, Free, Directory, Table, Page}
-use Rattle.alloc_table.specs.Roles.{frames_weight, IsTaken}
+use Rattle.alloc_table.specs.Roles.{IsTaken}
 use Rattle.alloc_table.proofs.RoleLemmas.{get-set_same, get-set_other, weight-taken}
-use Rattle.phys_memory.proofs.Frames.{with_frame-same, with_frame-other, frames-with_frame_bytes}
+use Rattle.phys_memory.proofs.Frames.{with_frame-other, frames-with_frame_bytes}
 use Rattle.page_map.proofs.WordLaws.{entry_word-names, entry_word-lt, entry_word-present, word_entry-entry_word}
 use Rattle.std.proofs.lemmas.List.{length-replicate}
 use Rattle.address_space.proofs.Refinement.{lazy_refines, get-spaces_of}
@@ -18,7 +18,7 @@ use Rattle.std.specs.Option.{option_map}
 use Rattle.page_map.specs.declared.PageEntry.{PageEntry}
 use Rattle.page_map.specs.Entries.{Frames, dir_word, word_table, table_of, with_table, with_entry, entry_word, IsKernelEntry, IsPageMap}
 use Rattle.page_words.specs.FiniteMap as map
-use Rattle.address_space.specs.Spaces.{Slot, fresh}
+use Rattle.address_space.specs.Spaces.{Slot, fresh, at_page}
 use Rattle.address_space.specs.Cells.{Entries, lazy_count, cell_of, spaces_of}
 use Rattle.address_space.specs.Sound.{Directories, Roles, directory_of, table_in, entry_in, entries_in, spaces_in, Tables, Pages, HoldsPage, IsSound, TableGiven, PageAdded, table_need, InUseAt, total_cost, Inside}
 use Rattle.address_space.proofs.CostSteps.{total-entry}
@@ -138,7 +138,7 @@ lazy_rules write = record { frame = λ h. cc; zero = λ h. refl; clean = λ h. r
 
 -- a lazy page was mapped
 pub page_added : (directories : List (Option ℕ)) (bytes two : List ℕ) (roles : List Role) (p d page t : ℕ) (write : Bool) → IsSound directories bytes roles → directory_of directories p ≡ Some d
-    → 0x40000 ≤ page → page < 0xf0000 → map.get (spaces_in directories bytes) (record { pid = p; page = page }) ≡ None → table_of (frame_bytes bytes) d (slot_number page) ≡ Some t
+    → 0x40000 ≤ page → page < 0xf0000 → map.get (spaces_in directories bytes) (at_page p page) ≡ None → table_of (frame_bytes bytes) d (slot_number page) ≡ Some t
     → frame_bytes two ≡ with_entry (frame_bytes bytes) (frame_number (dir_word (frame_bytes bytes) d (slot_number page))) page (lazy_entry write) → length two ≡ length bytes
     → PageAdded directories p page write bytes roles two roles
 unfolding spaces_in
@@ -148,7 +148,7 @@ page_added directories bytes two roles p d page t write sound live low high unma
     let m : Frames = frame_bytes bytes in
     let e : PageEntry = lazy_entry write in
     let m2 : Frames = with_entry m t page e in
-    let slot : Slot = record { pid = p; page = page } in
+    let slot : Slot = at_page p page in
     let R : Roles = slice_get roles in
     let T : Tables D m R = sound.tables in
     let small : 0 < 2 ^ 20 = omega arith in

@@ -10,7 +10,7 @@ use Rattle.page_words.specs.declared.addresses.Size.{Size}
 use Rattle.page_words.specs.declared.addresses.Size.TheVariants.{One, Four}
 use Rattle.page_words.specs.Words.{is_present, frame_number, IsKernelTableWord}
 use Rattle.phys_memory.specs.Bytes.{frame_bytes, word_in, with_word, with_frame}
-use Rattle.phys_memory.proofs.Frames.{with_frame-other, frames-with_word, frames-with_byte, by_frame, length-with_word_in}
+use Rattle.phys_memory.proofs.Frames.{with_frame-other, frames-with_word, frames-with_byte, length-with_word_in}
 use Rattle.alloc_table.specs.declared.Role.{Role}
 use Rattle.alloc_table.specs.declared.Role.TheVariants.{Table, Page}
 use Rattle.alloc_table.specs.Roles.{frames_weight}
@@ -24,7 +24,7 @@ use Rattle.page_words.specs.FiniteSet as set
 use Rattle.std.specs.FinMap.Entries.{where_key}
 use Rattle.std.proofs.Common.{map as map_list, length-append}
 use Rattle.std.proofs.lemmas.List.{length-map, set_split}
-use Rattle.address_space.specs.Spaces.{Slot, slot_order, Spaces, Cell, cell_or_fresh, write_at, bytes_of, stored, joined, accessed as accessed_in, protected}
+use Rattle.address_space.specs.Spaces.{Slot, slot_order, Spaces, Cell, cell_or_fresh, write_at, bytes_of, stored, joined, accessed as accessed_in, protected, at_page}
 use Rattle.page_words.specs.FiniteMap.{collect, put_some}
 use Rattle.address_space.specs.Slots.{user_slots, slots_below, at_pid}
 use Rattle.page_words.specs.FiniteMap.{same}
@@ -78,10 +78,10 @@ allowed word e k h = by (is_present word) refl h k
         let s : entry_from word ≡ e = cc in
         subst IsKernelEntry s (record { frame = n.frame; zero = n.zero; clean = n.clean; right = n.right; touched = n.touched })
 
-pub get_user : (D : Directories) (m : Frames) (p d page : ℕ) (e : PageEntry) → D p ≡ Some d → p < 64 → 0x40000 ≤ page → page < 0xf0000 → entry_at m d page ≡ Some e → map.get (entries_in D m) (record { pid = p; page = page }) ≡ Some e
+pub get_user : (D : Directories) (m : Frames) (p d page : ℕ) (e : PageEntry) → D p ≡ Some d → p < 64 → 0x40000 ≤ page → page < 0xf0000 → entry_at m d page ≡ Some e → map.get (entries_in D m) (at_page p page) ≡ Some e
 get_user D m p d page e live few low high is =
-    get-entries_in D m (record { pid = p; page = page })
-    ∙ ap (λ b. cond b (entry_in D m (record { pid = p; page = page })) None) (in_user_slots p page few low high)
+    get-entries_in D m (at_page p page)
+    ∙ ap (λ b. cond b (entry_in D m (at_page p page)) None) (in_user_slots p page few low high)
     ∙ ap (option_and_then (λ d. entry_at m d page)) live ∙ is
 
 -- the rules of an entry that is in use
@@ -107,9 +107,9 @@ page_held directories bytes roles f sound (inr h) up = record { count = h.0; pag
 -- the entry of a slot was written with another on the same frame
 pub record EntrySet (directories : List (Option ℕ)) (p page : ℕ) (e e' : PageEntry) (bytes : List ℕ) (roles : List Role) (bytes' : List ℕ) : Type 0 where
   pub sound : IsSound directories bytes' roles
-  pub named : map.get (entries_in (directory_of directories) (frame_bytes bytes)) (record { pid = p; page = page }) ≡ Some e
-  pub entries : entries_in (directory_of directories) (frame_bytes bytes') ≡ map.insert (entries_in (directory_of directories) (frame_bytes bytes)) (record { pid = p; page = page }) e'
-  pub spaces : spaces_in directories bytes' ≡ spaces_of (map.insert (entries_in (directory_of directories) (frame_bytes bytes)) (record { pid = p; page = page }) e') (frame_bytes bytes)
+  pub named : map.get (entries_in (directory_of directories) (frame_bytes bytes)) (at_page p page) ≡ Some e
+  pub entries : entries_in (directory_of directories) (frame_bytes bytes') ≡ map.insert (entries_in (directory_of directories) (frame_bytes bytes)) (at_page p page) e'
+  pub spaces : spaces_in directories bytes' ≡ spaces_of (map.insert (entries_in (directory_of directories) (frame_bytes bytes)) (at_page p page) e') (frame_bytes bytes)
   pub in_use : InUse (directory_of directories) (frame_bytes bytes) → InUse (directory_of directories) (frame_bytes bytes')
 
 pub entry_set : (directories : List (Option ℕ)) (bytes two : List ℕ) (roles : List Role) (p d page : ℕ) (e e' : PageEntry) → IsSound directories bytes roles → directory_of directories p ≡ Some d
@@ -123,7 +123,7 @@ entry_set directories bytes two roles p d page e e' sound live low high is_entry
     let m : Frames = frame_bytes bytes in
     let R : Roles = slice_get roles in
     let T : Tables D m R = sound.tables in
-    let slot : Slot = record { pid = p; page = page } in
+    let slot : Slot = at_page p page in
     let E : Entries = entries_in D m in
     let f = found D m p d page e is_entry in
     let t : ℕ = f.table in
@@ -177,7 +177,7 @@ frame_written directories bytes one roles f new sound loose long_new is long_one
       entries = E1;
       entry = λ p d page live.
           ap (λ x. entry_at x d page) is
-          ∙ sym (ap (option_and_then (λ d. entry_at (with_frame m f new) d page)) live) ∙ loose-entry D m R T f new loose (record { pid = p; page = page }) ∙ ap (option_and_then (λ d. entry_at m d page)) live;
+          ∙ sym (ap (option_and_then (λ d. entry_at (with_frame m f new) d page)) live) ∙ loose-entry D m R T f new loose (at_page p page) ∙ ap (option_and_then (λ d. entry_at m d page)) live;
       in_use = λ before q r. subst (λ x. InUseAt D x q r) (sym is) (use_loose D m R T f new loose q r (before q r));
     }
 
@@ -186,13 +186,13 @@ pub page_stored : (directories : List (Option ℕ)) (bytes one two : List ℕ) (
     → 0x40000 ≤ page → page < 0xf0000 → entry_at (frame_bytes bytes) d page ≡ Some e → e.lazy ≡ false → length (write_at (frame_bytes bytes e.frame) at written) ≡ 4096
     → frame_bytes one ≡ with_frame (frame_bytes bytes) e.frame (write_at (frame_bytes bytes e.frame) at written) → length one ≡ length bytes
     → frame_bytes two ≡ with_entry (frame_bytes one) (frame_number (dir_word (frame_bytes one) d (slot_number page))) page (record e { accessed = true; dirty = true }) → length two ≡ length one
-    → Touched directories (stored (spaces_in directories bytes) (record { pid = p; page = page }) at written) bytes roles two
+    → Touched directories (stored (spaces_in directories bytes) (at_page p page) at written) bytes roles two
 unfolding spaces_in
 page_stored directories bytes one two roles p d page at written e sound live low high is_entry real long is1 long_one is_two long_two =
     let D : Directories = directory_of directories in
     let m : Frames = frame_bytes bytes in
     let E : Entries = entries_in D m in
-    let slot : Slot = record { pid = p; page = page } in
+    let slot : Slot = at_page p page in
     let e' : PageEntry = record e { accessed = true; dirty = true } in
     let rules = entry_rules directories bytes roles p d page e sound live is_entry in
     let up : 1 ≤ e.frame = rules.frame real in
@@ -220,12 +220,12 @@ pub flags_set : (directories : List (Option ℕ)) (bytes two : List ℕ) (roles 
     → 0x40000 ≤ page → page < 0xf0000 → entry_at (frame_bytes bytes) d page ≡ Some e
     → (write ≡ true → e.may ≡ true) → (e.dirty ≡ true → accessed ≡ true)
     → frame_bytes two ≡ with_entry (frame_bytes bytes) (frame_number (dir_word (frame_bytes bytes) d (slot_number page))) page (record e { write = write; accessed = accessed }) → length two ≡ length bytes
-    → Touched directories (map.insert (spaces_in directories bytes) (record { pid = p; page = page }) (record (cell_or_fresh (spaces_in directories bytes) (record { pid = p; page = page })) { write = write; accessed = accessed })) bytes roles two
+    → Touched directories (map.insert (spaces_in directories bytes) (at_page p page) (record (cell_or_fresh (spaces_in directories bytes) (at_page p page)) { write = write; accessed = accessed })) bytes roles two
 unfolding spaces_in
 flags_set directories bytes two roles p d page e write accessed sound live low high is_entry right touched is_two long_two =
     let m : Frames = frame_bytes bytes in
     let E : Entries = entries_in (directory_of directories) m in
-    let slot : Slot = record { pid = p; page = page } in
+    let slot : Slot = at_page p page in
     let e' : PageEntry = record e { write = write; accessed = accessed } in
     let rules = entry_rules directories bytes roles p d page e sound live is_entry in
     let rules' : IsKernelEntry e' = record { frame = rules.frame; zero = rules.zero; clean = rules.clean; right = right; touched = touched } in
@@ -274,7 +274,7 @@ pub record Mapped (directories : List (Option ℕ)) (bytes : List ℕ) (p page :
   pub entry : PageEntry
   pub here : entry_at (frame_bytes bytes) directory page ≡ Some entry
 
-pub mapped_slot : (directories : List (Option ℕ)) (bytes : List ℕ) (p page : ℕ) → is_some (map.get (spaces_in directories bytes) (record { pid = p; page = page })) ≡ true → Mapped directories bytes p page
+pub mapped_slot : (directories : List (Option ℕ)) (bytes : List ℕ) (p page : ℕ) → is_some (map.get (spaces_in directories bytes) (at_page p page)) ≡ true → Mapped directories bytes p page
 unfolding spaces_in
 mapped_slot directories bytes p page h = by_directory (directory_of directories p) refl (in_user (list_any (same slot_order slot) user_slots) (entry_in D m slot) (sym (ap is_some (get-spaces_of E m slot) ∙ some_map (map.get E slot) ∙ ap is_some (get-entries_in D m slot)) ∙ h))
   where
@@ -288,7 +288,7 @@ mapped_slot directories bytes p page h = by_directory (directory_of directories 
     E = entries_in D m
 
     slot : Slot
-    slot = record { pid = p; page = page }
+    slot = at_page p page
 
     some_map : (x : Option PageEntry) → is_some (option_map (cell_of E m slot) x) ≡ is_some x
     some_map None = refl
@@ -367,8 +367,8 @@ count_few D m R f c P is =
     omega (arith, a, b, l)
 
 pub slot_joined : (directories : List (Option ℕ)) (bytes two : List ℕ) (roles roles' : List Role) (giver giver_page p d page f c : ℕ) (right : Bool) → IsSound directories bytes roles → directory_of directories p ≡ Some d
-    → 0x40000 ≤ page → page < 0xf0000 → map.get (spaces_in directories bytes) (record { pid = p; page = page }) ≡ None → is_some (table_of (frame_bytes bytes) d (slot_number page)) ≡ true
-    → Names (entries_in (directory_of directories) (frame_bytes bytes)) (record { pid = giver; page = giver_page }) f → slice_get roles f ≡ Some (Page c) → roles' ≡ slice_set roles f (Page (c + 1))
+    → 0x40000 ≤ page → page < 0xf0000 → map.get (spaces_in directories bytes) (at_page p page) ≡ None → is_some (table_of (frame_bytes bytes) d (slot_number page)) ≡ true
+    → Names (entries_in (directory_of directories) (frame_bytes bytes)) (at_page giver giver_page) f → slice_get roles f ≡ Some (Page c) → roles' ≡ slice_set roles f (Page (c + 1))
     → frame_bytes two ≡ with_entry (frame_bytes bytes) (frame_number (dir_word (frame_bytes bytes) d (slot_number page))) page (record { frame = f; write = right; may = right; accessed = false; dirty = false; lazy = false }) → length two ≡ length bytes
     → SlotJoined directories giver giver_page p page right bytes roles two roles'
 unfolding spaces_in
@@ -379,7 +379,7 @@ slot_joined directories bytes two roles roles' giver giver_page p d page f c rig
     let R : Roles = slice_get roles in
     let R' : Roles = slice_get roles' in
     let T : Tables D m R = sound.tables in
-    let slot : Slot = record { pid = p; page = page } in
+    let slot : Slot = at_page p page in
     let e : PageEntry = record { frame = f; write = right; may = right; accessed = false; dirty = false; lazy = false } in
     let E : Entries = entries_in D m in
     let at = some_is (table_of m d (slot_number page)) table in
@@ -416,7 +416,7 @@ slot_joined directories bytes two roles roles' giver giver_page p d page f c rig
         own = subst (λ x. InUseAt D x p (slot_number page)) (sym is) (use_own D m R' Tb p d page t (entry_word e) live at.1 (entry_word-lt e in_memory.small) (entry_word-present e));
         others = λ q r n use_at. subst (λ x. InUseAt D x q r) (sym is) (use_kept D m R' Tb p d page t (entry_word e) live at.1 (entry_word-lt e in_memory.small) (entry_word-present e) q r use_at);
       };
-      spaces = (λ i. spaces_of (E2 i) (is i)) ∙ (λ i. spaces_of (map.insert E slot (named i)) m2) ∙ join_refines E m2 (record { pid = giver; page = giver_page }) slot given.0 right given.1 (not_same given.0.frame 0 (λ z. let s = given.2 in omega (arith, z, s, up))) none ∙ ap (λ x. joined x (record { pid = giver; page = giver_page }) slot right) (same_bytes E m m2 page_kept);
+      spaces = (λ i. spaces_of (E2 i) (is i)) ∙ (λ i. spaces_of (map.insert E slot (named i)) m2) ∙ join_refines E m2 (at_page giver giver_page) slot given.0 right given.1 (not_same given.0.frame 0 (λ z. let s = given.2 in omega (arith, z, s, up))) none ∙ ap (λ x. joined x (at_page giver giver_page) slot right) (same_bytes E m m2 page_kept);
     }
   where
     above : Tables (directory_of directories) (frame_bytes bytes) (slice_get roles) → 1 ≤ f
@@ -428,7 +428,7 @@ page_of_name directories bytes roles slot f sound given up = page_held directori
 
 -- the entry that was read is the one that the map has
 pub named_entry : (directories : List (Option ℕ)) (bytes : List ℕ) (roles : List Role) (p d page : ℕ) (e : PageEntry) → IsSound directories bytes roles → directory_of directories p ≡ Some d → 0x40000 ≤ page → page < 0xf0000
-    → entry_at (frame_bytes bytes) d page ≡ Some e → Names (entries_in (directory_of directories) (frame_bytes bytes)) (record { pid = p; page = page }) e.frame
+    → entry_at (frame_bytes bytes) d page ≡ Some e → Names (entries_in (directory_of directories) (frame_bytes bytes)) (at_page p page) e.frame
 named_entry directories bytes roles p d page e sound live low high is =
     (e, get_user (directory_of directories) (frame_bytes bytes) p d page e live (live_small directories p d sound.pids live) low high is, refl)
 
@@ -453,7 +453,7 @@ pub stored_place : (directories : List (Option ℕ)) (bytes : List ℕ) (roles :
     → entry_at (frame_bytes bytes) d page ≡ Some e → e.lazy ≡ false → Place bytes roles d page e
 stored_place directories bytes roles p d page e sound live low high is real =
     let n = named_entry directories bytes roles p d page e sound live low high is in
-    let r = page_of_name directories bytes roles (record { pid = p; page = page }) e.frame sound n ((entry_rules directories bytes roles p d page e sound live is).frame real) in
+    let r = page_of_name directories bytes roles (at_page p page) e.frame sound n ((entry_rules directories bytes roles p d page e sound live is).frame real) in
     record {
       inside = inside directories bytes roles e.frame (Page r.count) sound r.page;
       loose = page_loose (slice_get roles) e.frame r.count r.page;
@@ -470,7 +470,7 @@ pub named_inside : (directories : List (Option ℕ)) (bytes : List ℕ) (roles :
     → entry_at (frame_bytes bytes) d page ≡ Some e → Inside bytes e.frame
 named_inside directories bytes roles p d page e sound live low high is =
     let there = get_user (directory_of directories) (frame_bytes bytes) p d page e live (live_small directories p d sound.pids live) low high is in
-    holds_inside directories bytes roles e.frame sound (sound.pages.pages (record { pid = p; page = page }) e there)
+    holds_inside directories bytes roles e.frame sound (sound.pages.pages (at_page p page) e there)
 
 -- a page keeps its length under a store
 pub written_long : (frame : List ℕ) (at : ℕ) (size : Size) (value : ℕ) → length frame ≡ 4096 → at < 4096 → at % byte_count size ≡ 0 → length (write_at frame at (bytes_of (byte_count size) value)) ≡ 4096
@@ -479,20 +479,20 @@ written_long frame at Four value long l aligned = sym (ap length (word_is_write 
 
 -- the cell of a slot whose entry was read
 pub cell_read : (directories : List (Option ℕ)) (bytes : List ℕ) (p d page : ℕ) (e : PageEntry) → directory_of directories p ≡ Some d → p < 64 → 0x40000 ≤ page → page < 0xf0000 → entry_at (frame_bytes bytes) d page ≡ Some e
-    → cell_or_fresh (spaces_in directories bytes) (record { pid = p; page = page }) ≡ cell_of (entries_in (directory_of directories) (frame_bytes bytes)) (frame_bytes bytes) (record { pid = p; page = page }) e
+    → cell_or_fresh (spaces_in directories bytes) (at_page p page) ≡ cell_of (entries_in (directory_of directories) (frame_bytes bytes)) (frame_bytes bytes) (at_page p page) e
 unfolding spaces_in
 cell_read directories bytes p d page e live few low high is =
-    cell_at (entries_in (directory_of directories) (frame_bytes bytes)) (frame_bytes bytes) (record { pid = p; page = page }) e (get_user (directory_of directories) (frame_bytes bytes) p d page e live few low high is)
+    cell_at (entries_in (directory_of directories) (frame_bytes bytes)) (frame_bytes bytes) (at_page p page) e (get_user (directory_of directories) (frame_bytes bytes) p d page e live few low high is)
 
 -- a slot that was read has accessed set, and nothing else changed
 pub touched : (directories : List (Option ℕ)) (bytes two : List ℕ) (roles : List Role) (p d page : ℕ) (e : PageEntry) → IsSound directories bytes roles → directory_of directories p ≡ Some d
     → 0x40000 ≤ page → page < 0xf0000 → entry_at (frame_bytes bytes) d page ≡ Some e
     → frame_bytes two ≡ with_entry (frame_bytes bytes) (frame_number (dir_word (frame_bytes bytes) d (slot_number page))) page (record e { accessed = true }) → length two ≡ length bytes
-    → Touched directories (accessed_in (spaces_in directories bytes) (record { pid = p; page = page })) bytes roles two
+    → Touched directories (accessed_in (spaces_in directories bytes) (at_page p page)) bytes roles two
 touched directories bytes two roles p d page e sound live low high is_entry is_two long_two =
     let rules = entry_rules directories bytes roles p d page e sound live is_entry in
     let h = flags_set directories bytes two roles p d page e e.write true sound live low high is_entry rules.right (λ _. refl) is_two long_two in
-    let slot : Slot = record { pid = p; page = page } in
+    let slot : Slot = at_page p page in
     let cell = cell_read directories bytes p d page e live (live_small directories p d sound.pids live) low high is_entry in
     record {
       sound = h.sound;
@@ -505,12 +505,12 @@ touched directories bytes two roles p d page e sound live low high is_entry is_t
 
 -- the right to write was set or cleared in a slot, and nothing else changed
 pub page_protected : (directories : List (Option ℕ)) (bytes two : List ℕ) (roles : List Role) (p d page : ℕ) (e : PageEntry) (write : Bool) → IsSound directories bytes roles → directory_of directories p ≡ Some d
-    → 0x40000 ≤ page → page < 0xf0000 → entry_at (frame_bytes bytes) d page ≡ Some e → (write ≡ true → (cell_or_fresh (spaces_in directories bytes) (record { pid = p; page = page })).may ≡ true)
+    → 0x40000 ≤ page → page < 0xf0000 → entry_at (frame_bytes bytes) d page ≡ Some e → (write ≡ true → (cell_or_fresh (spaces_in directories bytes) (at_page p page)).may ≡ true)
     → frame_bytes two ≡ with_entry (frame_bytes bytes) (frame_number (dir_word (frame_bytes bytes) d (slot_number page))) page (record e { write = write }) → length two ≡ length bytes
-    → Touched directories (protected (spaces_in directories bytes) (record { pid = p; page = page }) write) bytes roles two
+    → Touched directories (protected (spaces_in directories bytes) (at_page p page) write) bytes roles two
 page_protected directories bytes two roles p d page e write sound live low high is_entry right is_two long_two =
     let rules = entry_rules directories bytes roles p d page e sound live is_entry in
-    let slot : Slot = record { pid = p; page = page } in
+    let slot : Slot = at_page p page in
     let cell = cell_read directories bytes p d page e live (live_small directories p d sound.pids live) low high is_entry in
     let h = flags_set directories bytes two roles p d page e write e.accessed sound live low high is_entry (λ w. sym (ap (λ (c : Cell). c.may) cell) ∙ right w) rules.touched is_two long_two in
     record {

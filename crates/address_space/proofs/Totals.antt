@@ -7,7 +7,7 @@ use Rattle.page_words.specs.FiniteMap.{same}
 use Rattle.page_words.specs.FiniteSet as set
 use Rattle.page_words.specs.FiniteSet.{Set}
 use Rattle.page_words.proofs.MapLemmas.{get-map_values}
-use Rattle.address_space.specs.Spaces.{Slot, slot_order, Cell, Spaces, cost, cost_of, need, accessed, stored, protected, joined, set_holders, with_holders, cell_or_fresh, without}
+use Rattle.address_space.specs.Spaces.{Slot, slot_order, Cell, Spaces, cost, cost_of, need, accessed, stored, protected, joined, set_holders, with_holders, cell_or_fresh, without, at_page}
 use Rattle.address_space.specs.Sound.{directory_of, total_cost}
 use Rattle.address_space.proofs.AccessCosts.{cost-same, key-insert, key-stored, kept}
 use Rattle.address_space.proofs.Costs.{cost-insert, same_pages}
@@ -23,7 +23,7 @@ key-each f S q = ap is_some (get-map_values slot_order f S q) ∙ by (map.get S 
     by (Some c) = refl
 
 -- spaces with the same pages of a process cost it the same
-cost-by-pages : (S T : Spaces) (p : ℕ) → ((page : ℕ) → map.contains_key S (record { pid = p; page = page }) ≡ map.contains_key T (record { pid = p; page = page })) → cost S p ≡ cost T p
+cost-by-pages : (S T : Spaces) (p : ℕ) → ((page : ℕ) → map.contains_key S (at_page p page) ≡ map.contains_key T (at_page p page)) → cost S p ≡ cost T p
 cost-by-pages S T p is = ap cost_of (same_pages S T p p is)
 
 -- ---- Changes of a mapped slot
@@ -68,8 +68,8 @@ key-without S gone q stays = ap is_some (get-without S gone q ∙ ap (λ b. cond
     by (Some c) = refl
 
 -- where slots go, processes that hold none of them cost the same
-pub cost-without_other : (S : Spaces) (gone : Slot → Bool) (p : ℕ) → ((page : ℕ) → gone (record { pid = p; page = page }) ≡ false) → cost (without S gone) p ≡ cost S p
-cost-without_other S gone p stays = cost-by-pages (without S gone) S p (λ page. key-without S gone (record { pid = p; page = page }) (stays page))
+pub cost-without_other : (S : Spaces) (gone : Slot → Bool) (p : ℕ) → ((page : ℕ) → gone (at_page p page) ≡ false) → cost (without S gone) p ≡ cost S p
+cost-without_other S gone p stays = cost-by-pages (without S gone) S p (λ page. key-without S gone (at_page p page) (stays page))
 
 -- a new page costs at most two more
 pub total_mapped_most : (directories : List (Option ℕ)) (S : Spaces) (slot : Slot) (cell : Cell) → slot.pid < 64 → is_some (directory_of directories slot.pid) ≡ true → map.get S slot ≡ None

@@ -6,7 +6,7 @@ use Rattle.std.specs.declared.cmp.Ordering.TheVariants.{Less, Equal, Greater}
 use Rattle.std.specs.List.{list_any, range_with_len}
 use Rattle.page_words.specs.FiniteMap.{same, nat_order}
 use Rattle.page_words.proofs.MapLemmas.{same_or_not, same_itself, list_any-map}
-use Rattle.address_space.specs.Spaces.{slot_order}
+use Rattle.address_space.specs.Spaces.{slot_order, at_page}
 use Rattle.address_space.specs.Slots.{user_slots, slots_below, at_pid}
 
 or_true : (a : Bool) → (a || true) ≡ true
@@ -35,7 +35,7 @@ range_any x a (suc n) low high =
     above : (x a : ℕ) → a ≤ x → ((x ≡ a) → ⊥) → a + 1 ≤ x
     above x a low n = omega arith
 
-slot_same_parts : (p page : ℕ) (q n : ℕ) → same slot_order (record { pid = p; page = page }) (record { pid = q; page = n }) ≡ (same nat_order p q && same nat_order page n)
+slot_same_parts : (p page : ℕ) (q n : ℕ) → same slot_order (at_page p page) (at_page q n) ≡ (same nat_order p q && same nat_order page n)
 slot_same_parts p page q n = both_tied (nat_cmp p q) (nat_cmp page n)
   where
     both_tied : (a b : Ordering) → is_eq (ordering_then a b) ≡ (is_eq a && is_eq b)
@@ -47,17 +47,17 @@ any_ext : {A : Type 0} (s t : A → Bool) (xs : List A) → ((x : A) → s x ≡
 any_ext s t [] is = refl
 any_ext s t (x ∷ xs) is = λ i. is x i || any_ext s t xs is i
 
-slots_any : (p page n : ℕ) (pages : List ℕ) → p < n → list_any (λ y. same nat_order page y) pages ≡ true → list_any (same slot_order (record { pid = p; page = page })) (slots_below n pages) ≡ true
+slots_any : (p page n : ℕ) (pages : List ℕ) → p < n → list_any (λ y. same nat_order page y) pages ≡ true → list_any (same slot_order (at_page p page)) (slots_below n pages) ≡ true
 slots_any p page zero pages low user = absurd (omega arith)
 slots_any p page (suc n) pages low user =
-    any-append (same slot_order (record { pid = p; page = page })) (map (at_pid n) pages) (slots_below n pages)
+    any-append (same slot_order (at_page p page)) (map (at_pid n) pages) (slots_below n pages)
     ∙ elim (same_or_not nat_order p n) [
-      | inl h ↦ ap (λ b. b || list_any (same slot_order (record { pid = p; page = page })) (slots_below n pages))
-          (list_any-map (at_pid n) (same slot_order (record { pid = p; page = page })) pages
-          ∙ any_ext (λ y. same slot_order (record { pid = p; page = page }) (at_pid n y)) (λ y. same nat_order page y) pages (λ y. slot_same_parts p page n y ∙ ap (λ b. b && same nat_order page y) h.1)
+      | inl h ↦ ap (λ b. b || list_any (same slot_order (at_page p page)) (slots_below n pages))
+          (list_any-map (at_pid n) (same slot_order (at_page p page)) pages
+          ∙ any_ext (λ y. same slot_order (at_page p page) (at_pid n y)) (λ y. same nat_order page y) pages (λ y. slot_same_parts p page n y ∙ ap (λ b. b && same nat_order page y) h.1)
           ∙ user)
-      | inr h ↦ ap (λ b. list_any (same slot_order (record { pid = p; page = page })) (map (at_pid n) pages) || b) (slots_any p page n pages (below p n low (apart p n h)) user)
-          ∙ or_true (list_any (same slot_order (record { pid = p; page = page })) (map (at_pid n) pages))
+      | inr h ↦ ap (λ b. list_any (same slot_order (at_page p page)) (map (at_pid n) pages) || b) (slots_any p page n pages (below p n low (apart p n h)) user)
+          ∙ or_true (list_any (same slot_order (at_page p page)) (map (at_pid n) pages))
     ]
   where
     apart : (p n : ℕ) → same nat_order p n ≡ false → (p ≡ n) → ⊥
@@ -66,6 +66,6 @@ slots_any p page (suc n) pages low user =
     below : (p n : ℕ) → p < suc n → ((p ≡ n) → ⊥) → p < n
     below p n low d = omega arith
 
-pub in_user_slots : (p page : ℕ) → p < 64 → 0x40000 ≤ page → page < 0xf0000 → list_any (same slot_order (record { pid = p; page = page })) user_slots ≡ true
+pub in_user_slots : (p page : ℕ) → p < 64 → 0x40000 ≤ page → page < 0xf0000 → list_any (same slot_order (at_page p page)) user_slots ≡ true
 unfolding user_slots
 in_user_slots p page small low high = slots_any p page 64 (range_with_len 0x40000 0xb0000) small (range_any page 0x40000 0xb0000 low (omega arith))

@@ -14,7 +14,7 @@ use Rattle.page_map.specs.declared.PageEntry.{PageEntry}
 use Rattle.page_map.specs.Entries.{Frames, dir_word, table_of, entry_at}
 use Rattle.page_words.specs.FiniteMap as map
 use Rattle.page_words.specs.FiniteSet as set
-use Rattle.address_space.specs.Spaces.{Slot, Spaces, cost, need, fresh, joined, without, is_slot, is_of}
+use Rattle.address_space.specs.Spaces.{Slot, Spaces, cost, need, fresh, joined, without, is_slot, is_of, at_page}
 use Rattle.page_words.specs.FiniteMap.{collect}
 use Rattle.address_space.specs.Slots.{user_slots}
 use Rattle.address_space.specs.Cells.{Entries, holders_of, lazy_count, spaces_of}
@@ -135,8 +135,8 @@ pub record SlotAdded (directories : List (Option ℕ)) (p page : ℕ) (bytes : L
 -- a page of zeros was mapped
 pub record PageAdded (directories : List (Option ℕ)) (p page : ℕ) (write : Bool) (bytes : List ℕ) (roles : List Role) (bytes' : List ℕ) (roles' : List Role) : Type 0 where
   pub slot : SlotAdded directories p page bytes roles bytes' roles'
-  pub spaces : spaces_in directories bytes' ≡ map.insert (spaces_in directories bytes) (record { pid = p; page = page }) (fresh (record { pid = p; page = page }) write)
-  pub lazy : (e : PageEntry) × (entry_in (directory_of directories) (frame_bytes bytes') (record { pid = p; page = page }) ≡ Some e) × (e.lazy ≡ true)
+  pub spaces : spaces_in directories bytes' ≡ map.insert (spaces_in directories bytes) (at_page p page) (fresh (at_page p page) write)
+  pub lazy : (e : PageEntry) × (entry_in (directory_of directories) (frame_bytes bytes') (at_page p page) ≡ Some e) × (e.lazy ≡ true)
 
 -- a frame lies in memory
 pub record Inside (bytes : List ℕ) (f : ℕ) : Type 0 where
@@ -150,7 +150,7 @@ Names E slot f = (e : PageEntry) × (map.get E slot ≡ Some e) × (e.frame ≡ 
 -- a slot joined the group of another
 pub record SlotJoined (directories : List (Option ℕ)) (giver giver_page p page : ℕ) (right : Bool) (bytes : List ℕ) (roles : List Role) (bytes' : List ℕ) (roles' : List Role) : Type 0 where
   pub slot : SlotAdded directories p page bytes roles bytes' roles'
-  pub spaces : spaces_in directories bytes' ≡ joined (spaces_in directories bytes) (record { pid = giver; page = giver_page }) (record { pid = p; page = page }) right
+  pub spaces : spaces_in directories bytes' ≡ joined (spaces_in directories bytes) (at_page giver giver_page) (at_page p page) right
 
 -- the entry or the bytes of a mapped slot changed, which left these spaces
 pub record Touched (directories : List (Option ℕ)) (spaces' : Spaces) (bytes : List ℕ) (roles : List Role) (bytes' : List ℕ) : Type 0 where
@@ -164,7 +164,7 @@ pub record Touched (directories : List (Option ℕ)) (spaces' : Spaces) (bytes :
 pub record PageFilled (directories : List (Option ℕ)) (p page : ℕ) (bytes : List ℕ) (roles : List Role) (bytes' : List ℕ) (roles' : List Role) : Type 0 where
   pub after : IsSpaces directories bytes' roles'
   pub spaces : spaces_in directories bytes' ≡ spaces_in directories bytes
-  pub real : (e : PageEntry) × (entry_in (directory_of directories) (frame_bytes bytes') (record { pid = p; page = page }) ≡ Some e) × (e.lazy ≡ false)
+  pub real : (e : PageEntry) × (entry_in (directory_of directories) (frame_bytes bytes') (at_page p page) ≡ Some e) × (e.lazy ≡ false)
   pub length : length roles' ≡ length roles
 
 -- a process got a blank directory
@@ -207,13 +207,13 @@ pub record SlotRemoved (directories : List (Option ℕ)) (p page : ℕ) (bytes :
 
 -- no page of a process is mapped
 abbrev pub IsEmptySpace : Spaces → ℕ → Type 0
-IsEmptySpace spaces p = (page : ℕ) → map.get spaces (record { pid = p; page = page }) ≡ None
+IsEmptySpace spaces p = (page : ℕ) → map.get spaces (at_page p page) ≡ None
 
 -- the pages of a process below one have left their groups
 pub record ClearedBelow (directories : List (Option ℕ)) (p from : ℕ) (bytes : List ℕ) (roles : List Role) (bytes' : List ℕ) (roles' : List Role) : Type 0 where
   pub after : IsSpaces directories bytes' roles'
   pub spaces : without (spaces_in directories bytes') (is_of p) ≡ without (spaces_in directories bytes) (is_of p)
-  pub below : (page : ℕ) → page < from → map.get (spaces_in directories bytes') (record { pid = p; page = page }) ≡ None
+  pub below : (page : ℕ) → page < from → map.get (spaces_in directories bytes') (at_page p page) ≡ None
   pub length : length roles' ≡ length roles
   pub low : 0x40000 ≤ from
   pub high : from ≤ 0xf0000

@@ -7,7 +7,7 @@ ghost use Rattle.page_words.specs.FiniteSet as set;
 ghost use Rattle.phys_memory.specs.Bytes.{frame_bytes};
 ghost use Rattle.page_map.specs.Entries.{table_of, IsPageMap};
 ghost use Rattle.page_map.specs.Pages.{counted};
-ghost use Rattle.address_space.specs.Spaces.{cost, pages_of, regions_of, without, is_slot};
+ghost use Rattle.address_space.specs.Spaces.{cost, pages_of, regions_of, without, is_slot, at_page};
 ghost use Rattle.address_space.specs.Sound.{directory_of, spaces_in, IsSound, IsSpaces, IsAlone, IsShared};
 
 use crate::home;
@@ -100,7 +100,7 @@ pub fn relief_in(
 ) -> u32
     requires sound { IsSound directories.now memory.now frames.now }
     requires live { is_some (directory_of directories.now pid) ≡ true }
-    requires mapped { is_some (map.get (spaces_in directories.now memory.now) (record { pid = pid; page = page })) ≡ true }
+    requires mapped { is_some (map.get (spaces_in directories.now memory.now) (at_page pid page)) ≡ true }
     requires user { IsUserPage page }
     ensures { cost (without (spaces_in directories.now memory.now) (is_slot pid page)) pid + result ≡ cost (spaces_in directories.now memory.now) pid }
 {

@@ -6,6 +6,7 @@ ghost use Rattle.phys_memory.specs.Bytes.{frame_bytes};
 ghost use Rattle.page_map.specs.Entries.{entry_at, is_lazy_entry, IsPageMap};
 ghost use Rattle.address_space.specs.Image.{is_lazy_at};
 ghost use Rattle.address_space.specs.Sound.{directory_of, IsSound, IsSpaces, PageFilled};
+ghost use Rattle.address_space.specs.Spaces.{at_page};
 
 use crate::entries::filled;
 use crate::{space_of, take};
@@ -35,7 +36,7 @@ pub fn is_lazy_in(
 ) -> bool
     requires sound { IsSound directories.now memory.now frames.now }
     requires user { IsUserPage page }
-    ensures { result ≡ is_lazy_at (record { directories = directories.now; bytes = memory.now; roles = frames.now }) (record { pid = pid; page = page }) }
+    ensures { result ≡ is_lazy_at (record { directories = directories.now; bytes = memory.now; roles = frames.now }) (at_page pid page) }
 {
     match space_of(directories, pid) {
         Some(directory) => has_lazy(memory, directory, page),

@@ -12,7 +12,7 @@ ghost use Rattle.phys_memory.specs.Bytes.{blank_bytes, frame_bytes, with_frame};
 ghost use Rattle.alloc_table.specs.Roles.{free_frames, frames_in_use, CanBeTaken, IsTaken, IsPageBelow, IsInUse, opening_roles};
 ghost use Rattle.page_map.specs.Entries.{table_of, entry_at, is_lazy_entry, IsPageMap};
 ghost use Rattle.page_words.specs.FiniteMap as map;
-ghost use Rattle.address_space.specs.Spaces.{need, fresh, joined, stored, write_at, bytes_of, without, slot_at, value_of, bytes_at, cell_or_fresh, accessed, protected, cost, is_slot, is_of};
+ghost use Rattle.address_space.specs.Spaces.{need, fresh, joined, stored, write_at, bytes_of, without, slot_at, value_of, bytes_at, cell_or_fresh, accessed, protected, cost, is_slot, is_of, at_page};
 ghost use Rattle.address_space.specs.Image.{StandsFor, StandsForOne, LeavesRoom, image_of, is_lazy_at};
 ghost use Rattle.address_space.specs.Walks.{WalksAgree};
 ghost use Rattle.address_space.specs.Shown.{shown};
@@ -111,7 +111,7 @@ fn add_page(
     requires sound { IsSound directories.now memory.old frames.now }
     requires live { directory_of directories.now pid ≡ Some directory }
     requires user { IsUserPage page }
-    requires unmapped { map.get (spaces_in directories.now memory.old) (record { pid = pid; page = page }) ≡ None }
+    requires unmapped { map.get (spaces_in directories.now memory.old) (at_page pid page) ≡ None }
     requires table { is_some (table_of (frame_bytes memory.old) directory (slot_number page)) ≡ true }
     ensures { PageAdded directories.now pid page write memory.old frames.now memory.new frames.now }
 {
@@ -146,9 +146,9 @@ fn add_holder(
     requires sound { IsSound directories.now memory.old frames.old }
     requires live { directory_of directories.now pid ≡ Some directory }
     requires user { IsUserPage page }
-    requires unmapped { map.get (spaces_in directories.now memory.old) (record { pid = pid; page = page }) ≡ None }
+    requires unmapped { map.get (spaces_in directories.now memory.old) (at_page pid page) ≡ None }
     requires table { is_some (table_of (frame_bytes memory.old) directory (slot_number page)) ≡ true }
-    requires given { Names (entries_in (directory_of directories.now) (frame_bytes memory.old)) (record { pid = giver; page = giver_page }) frame }
+    requires given { Names (entries_in (directory_of directories.now) (frame_bytes memory.old)) (at_page giver giver_page) frame }
     requires real { 1 ≤ frame }
     ensures { SlotJoined directories.now giver giver_page pid page right memory.old frames.old memory.new frames.new }
 {
@@ -252,7 +252,7 @@ fn store(
     requires real { is_lazy_entry (entry_at (frame_bytes memory.old) directory page) ≡ false }
     requires inside { at < 4096 }
     requires aligned { at % byte_count size ≡ 0 }
-    ensures { Touched directories.now (stored (spaces_in directories.now memory.old) (record { pid = pid; page = page }) at (bytes_of (byte_count size) value)) memory.old frames.now memory.new }
+    ensures { Touched directories.now (stored (spaces_in directories.now memory.old) (at_page pid page) at (bytes_of (byte_count size) value)) memory.old frames.now memory.new }
 {
     let entry = page_map::entry(memory, directory, page).unwrap();
     put_bytes(memory, entry.frame, at, size, value);
@@ -340,7 +340,7 @@ fn cell_in(
 ) -> Option<Cell>
     requires sound { IsSound directories.now memory.now frames.now }
     requires user { IsUserPage page }
-    ensures { result ≡ option_map shown (map.get (spaces_in directories.now memory.now) (record { pid = pid; page = page })) }
+    ensures { result ≡ option_map shown (map.get (spaces_in directories.now memory.now) (at_page pid page)) }
 {
     let directory = space_of(directories, pid)?;
     let entry = page_map::entry(memory, directory, page)?;
@@ -384,7 +384,7 @@ fn fetch(
     requires mapped { is_some (entry_at (frame_bytes memory.now) directory page) ≡ true }
     requires inside { at < 4096 }
     requires aligned { at % byte_count size ≡ 0 }
-    ensures { result ≡ value_of (bytes_at (cell_or_fresh (spaces_in directories.now memory.now) (record { pid = pid; page = page })).bytes at (byte_count size)) }
+    ensures { result ≡ value_of (bytes_at (cell_or_fresh (spaces_in directories.now memory.now) (at_page pid page)).bytes at (byte_count size)) }
 {
     let entry = page_map::entry(memory, directory, page).unwrap();
     number_at(memory, entry.frame, at, size)
@@ -403,7 +403,7 @@ fn touch(
     requires live { directory_of directories.now pid ≡ Some directory }
     requires user { IsUserPage page }
     requires mapped { is_some (entry_at (frame_bytes memory.old) directory page) ≡ true }
-    ensures { Touched directories.now (accessed (spaces_in directories.now memory.old) (record { pid = pid; page = page })) memory.old frames.now memory.new }
+    ensures { Touched directories.now (accessed (spaces_in directories.now memory.old) (at_page pid page)) memory.old frames.now memory.new }
 {
     let entry = page_map::entry(memory, directory, page).unwrap();
     page_map::set_entry(memory, directory, page, entries::loaded(entry));
@@ -484,10 +484,10 @@ impl Spaces {
     pub fn map_zero(&mut self, pid: Pid, page: Page, write: bool)
         requires live { is_some (directory_of self.old.directories pid) ≡ true }
         requires user { IsUserPage page }
-        requires unmapped { map.get self.old.spaces (record { pid = pid; page = page }) ≡ None }
+        requires unmapped { map.get self.old.spaces (at_page pid page) ≡ None }
         requires room { 1 + total_cost self.old.directories self.old.spaces + need self.old.spaces pid page ≤ length self.old.roles }
-        ensures spaces { self.new.spaces ≡ map.insert self.old.spaces (record { pid = pid; page = page }) (fresh (record { pid = pid; page = page }) write) }
-        ensures lazy { is_lazy_at (image_of self.new) (record { pid = pid; page = page }) ≡ true }
+        ensures spaces { self.new.spaces ≡ map.insert self.old.spaces (at_page pid page) (fresh (at_page pid page) write) }
+        ensures lazy { is_lazy_at (image_of self.new) (at_page pid page) ≡ true }
         ensures directories { self.new.directories ≡ self.old.directories }
         ensures frames { length self.new.roles ≡ length self.old.roles }
     {
@@ -514,14 +514,14 @@ impl Spaces {
 
     /// Lets a slot join the group of another.
     pub fn join(&mut self, giver: Pid, giver_page: Page, pid: Pid, page: Page, right: bool)
-        requires given { is_some (map.get self.old.spaces (record { pid = giver; page = giver_page })) ≡ true }
+        requires given { is_some (map.get self.old.spaces (at_page giver giver_page)) ≡ true }
         requires from { IsUserPage giver_page }
         requires live { is_some (directory_of self.old.directories pid) ≡ true }
         requires user { IsUserPage page }
-        requires unmapped { map.get self.old.spaces (record { pid = pid; page = page }) ≡ None }
-        requires real { is_lazy_at (image_of self.old) (record { pid = giver; page = giver_page }) ≡ false }
+        requires unmapped { map.get self.old.spaces (at_page pid page) ≡ None }
+        requires real { is_lazy_at (image_of self.old) (at_page giver giver_page) ≡ false }
         requires room { 1 + total_cost self.old.directories self.old.spaces + need self.old.spaces pid page ≤ length self.old.roles }
-        ensures spaces { self.new.spaces ≡ joined self.old.spaces (record { pid = giver; page = giver_page }) (record { pid = pid; page = page }) right }
+        ensures spaces { self.new.spaces ≡ joined self.old.spaces (at_page giver giver_page) (at_page pid page) right }
         ensures directories { self.new.directories ≡ self.old.directories }
         ensures frames { length self.new.roles ≡ length self.old.roles }
     {
@@ -554,18 +554,18 @@ impl Spaces {
     /// Whether a slot has a lazy page, which has no frame of its own yet.
     pub fn is_lazy(&self, pid: Pid, page: Page) -> bool
         requires user { IsUserPage page }
-        ensures { result ≡ is_lazy_at (image_of self.now) (record { pid = pid; page = page }) }
+        ensures { result ≡ is_lazy_at (image_of self.now) (at_page pid page) }
     {
         fills::is_lazy_in(&self.memory, &self.frames, &self.directories, pid, page)
     }
 
     /// Gives a lazy page a frame of its own; any other stays as it is. What is mapped stays the same.
     pub fn fill(&mut self, pid: Pid, page: Page)
-        requires mapped { is_some (map.get self.old.spaces (record { pid = pid; page = page })) ≡ true }
+        requires mapped { is_some (map.get self.old.spaces (at_page pid page)) ≡ true }
         requires user { IsUserPage page }
         ensures spaces { self.new.spaces ≡ self.old.spaces }
         ensures directories { self.new.directories ≡ self.old.directories }
-        ensures real { is_lazy_at (image_of self.new) (record { pid = pid; page = page }) ≡ false }
+        ensures real { is_lazy_at (image_of self.new) (at_page pid page) ≡ false }
         ensures frames { length self.new.roles ≡ length self.old.roles }
     {
         if fills::is_lazy_in(&self.memory, &self.frames, &self.directories, pid, page) {
@@ -610,7 +610,7 @@ impl Spaces {
     /// The flags of a slot and the size of its group; None where the page is not mapped.
     pub fn cell(&self, pid: Pid, page: Page) -> Option<Cell>
         requires user { IsUserPage page }
-        ensures { result ≡ option_map shown (map.get self.now.spaces (record { pid = pid; page = page })) }
+        ensures { result ≡ option_map shown (map.get self.now.spaces (at_page pid page)) }
     {
         cell_in(&self.memory, &self.frames, &self.directories, pid, page)
     }
@@ -637,7 +637,7 @@ impl Spaces {
     /// What a process's cost falls by when a mapped page goes: 2 where it is the last of its region of
     /// 1,024 pages, whose table goes too, else 1.
     pub fn relief(&self, pid: Pid, page: Page) -> u32
-        requires mapped { is_some (map.get self.now.spaces (record { pid = pid; page = page })) ≡ true }
+        requires mapped { is_some (map.get self.now.spaces (at_page pid page)) ≡ true }
         requires user { IsUserPage page }
         ensures { cost (without self.now.spaces (is_slot pid page)) pid + result ≡ cost self.now.spaces pid }
     {
@@ -700,10 +700,10 @@ impl Spaces {
 
     /// Sets whether a process may write to a mapped page; to set it, the process must be allowed to.
     pub fn protect(&mut self, pid: Pid, page: Page, write: bool)
-        requires mapped { is_some (map.get self.old.spaces (record { pid = pid; page = page })) ≡ true }
+        requires mapped { is_some (map.get self.old.spaces (at_page pid page)) ≡ true }
         requires user { IsUserPage page }
-        requires right { write ≡ true → (cell_or_fresh self.old.spaces (record { pid = pid; page = page })).may ≡ true }
-        ensures spaces { self.new.spaces ≡ protected self.old.spaces (record { pid = pid; page = page }) write }
+        requires right { write ≡ true → (cell_or_fresh self.old.spaces (at_page pid page)).may ≡ true }
+        ensures spaces { self.new.spaces ≡ protected self.old.spaces (at_page pid page) write }
         ensures directories { self.new.directories ≡ self.old.directories }
         ensures roles { self.new.roles ≡ self.old.roles }
     {
@@ -721,7 +721,7 @@ impl Spaces {
 
     /// Takes a slot out of its group.
     pub fn unmap(&mut self, pid: Pid, page: Page)
-        requires mapped { is_some (map.get self.old.spaces (record { pid = pid; page = page })) ≡ true }
+        requires mapped { is_some (map.get self.old.spaces (at_page pid page)) ≡ true }
         requires user { IsUserPage page }
         ensures spaces { self.new.spaces ≡ without self.old.spaces (is_slot pid page) }
         ensures directories { self.new.directories ≡ self.old.directories }

@@ -1,4 +1,3 @@
-use Rattle.std.proofs.Common.{◌^◌, ◌<◌, arith}
 use Rattle.address_space.proofs.Steps.{page_map_of, page_added, some_is}
 use Rattle.address_space.proofs.add_page.Goals as goal
 

@@ -1,6 +1,5 @@
 use Rattle.std.proofs.Common.{◌≡◌, ℕ, ◌+◌, ◌≤◌, subst, arith, refl, true}
 use Rattle.std.specs.Prelude.{length, is_some}
-use Rattle.alloc_table.specs.Roles.{frames_in_use}
 use Rattle.alloc_table.proofs.RoleLemmas.{in-use-and-reserved}
 use Rattle.address_space.specs.Image.{StandsFor, LeavesRoom}
 use Rattle.address_space.specs.Sound.{View, total_cost, directory_of, entries_in, spaces_in}

@@ -1,4 +1,4 @@
-use Rattle.std.proofs.Common.{◌≡◌, ◌^◌, ◌<◌, ℕ, ap, sym, ◌∙◌, subst, true}
+use Rattle.std.proofs.Common.{◌^◌, ◌<◌, ℕ, ap, sym, ◌∙◌, subst}
 use Rattle.std.specs.Prelude.{replicate, slice_get, is_some}
 use Rattle.std.proofs.lemmas.List.{length-replicate}
 use Rattle.page_words.specs.Addresses.{slot_number}
