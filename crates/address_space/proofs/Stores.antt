@@ -31,7 +31,7 @@ use Rattle.page_words.specs.FiniteMap.{same}
 use Rattle.page_words.proofs.MapLemmas.{len-insert}
 use Rattle.address_space.proofs.UserSlots.{in_user_slots}
 use Rattle.address_space.specs.Cells.{Entries, names, lazy_count, cell_of, spaces_of, holders_of, nothing}
-use Rattle.address_space.specs.Sound.{Directories, Roles, directory_of, table_in, entry_in, entries_in, spaces_in, Tables, Pages, HoldsPage, IsSound, InUseAt, total_cost, SlotJoined, Touched, Names, Inside, InUse}
+use Rattle.address_space.specs.Sound.{Directories, Roles, directory_of, table_in, entry_in, entries_in, spaces_in, Tables, Pages, HoldsPage, IsSound, InUseAt, total_cost, SlotJoined, Touched, Names, Inside, InUse, flagged}
 use Rattle.address_space.proofs.CostSteps.{total-entry, total-kept}
 use Rattle.address_space.proofs.EntrySteps.{Loose, get-entries_in, entries-insert, tables-entry, use_own, use_kept}
 use Rattle.address_space.proofs.FrameSteps.{loose-entry, loose-entries, tables-loose, tables-role, use_loose}
@@ -220,7 +220,7 @@ pub flags_set : (directories : List (Option ℕ)) (bytes two : List ℕ) (roles 
     → 0x40000 ≤ page → page < 0xf0000 → entry_at (frame_bytes bytes) d page ≡ Some e
     → (write ≡ true → e.may ≡ true) → (e.dirty ≡ true → accessed ≡ true)
     → frame_bytes two ≡ with_entry (frame_bytes bytes) (frame_number (dir_word (frame_bytes bytes) d (slot_number page))) page (record e { write = write; accessed = accessed }) → length two ≡ length bytes
-    → Touched directories (map.insert (spaces_in directories bytes) (at_page p page) (record (cell_or_fresh (spaces_in directories bytes) (at_page p page)) { write = write; accessed = accessed })) bytes roles two
+    → Touched directories (flagged (spaces_in directories bytes) (at_page p page) write accessed) bytes roles two
 unfolding spaces_in
 flags_set directories bytes two roles p d page e write accessed sound live low high is_entry right touched is_two long_two =
     let m : Frames = frame_bytes bytes in
@@ -484,40 +484,18 @@ unfolding spaces_in
 cell_read directories bytes p d page e live few low high is =
     cell_at (entries_in (directory_of directories) (frame_bytes bytes)) (frame_bytes bytes) (at_page p page) e (get_user (directory_of directories) (frame_bytes bytes) p d page e live few low high is)
 
--- a slot that was read has accessed set, and nothing else changed
-pub touched : (directories : List (Option ℕ)) (bytes two : List ℕ) (roles : List Role) (p d page : ℕ) (e : PageEntry) → IsSound directories bytes roles → directory_of directories p ≡ Some d
-    → 0x40000 ≤ page → page < 0xf0000 → entry_at (frame_bytes bytes) d page ≡ Some e
-    → frame_bytes two ≡ with_entry (frame_bytes bytes) (frame_number (dir_word (frame_bytes bytes) d (slot_number page))) page (record e { accessed = true }) → length two ≡ length bytes
-    → Touched directories (accessed_in (spaces_in directories bytes) (at_page p page)) bytes roles two
-touched directories bytes two roles p d page e sound live low high is_entry is_two long_two =
-    let rules = entry_rules directories bytes roles p d page e sound live is_entry in
-    let h = flags_set directories bytes two roles p d page e e.write true sound live low high is_entry rules.right (λ _. refl) is_two long_two in
-    let slot : Slot = at_page p page in
-    let cell = cell_read directories bytes p d page e live (live_small directories p d sound.pids live) low high is_entry in
-    record {
-      sound = h.sound;
-      spaces = h.spaces ∙ ap (map.insert (spaces_in directories bytes) slot)
-          (ap (λ (c : Cell). record c { write = e.write; accessed = true }) cell ∙ sym (ap (λ (c : Cell). record c { accessed = true }) cell));
-      cost = h.cost;
-      in_use = h.in_use;
-      lazy = h.lazy;
-    }
+-- where an entry keeps its right, setting accessed is what a load leaves
+pub flagged_load : (directories : List (Option ℕ)) (bytes : List ℕ) (p d page : ℕ) (e : PageEntry) → directory_of directories p ≡ Some d → p < 64 → 0x40000 ≤ page → page < 0xf0000 → entry_at (frame_bytes bytes) d page ≡ Some e
+    → flagged (spaces_in directories bytes) (at_page p page) e.write true ≡ accessed_in (spaces_in directories bytes) (at_page p page)
+flagged_load directories bytes p d page e live few low high is =
+    let cell = cell_read directories bytes p d page e live few low high is in
+    ap (map.insert (spaces_in directories bytes) (at_page p page))
+    (ap (λ (c : Cell). record c { write = e.write; accessed = true }) cell ∙ sym (ap (λ (c : Cell). record c { accessed = true }) cell))
 
--- the right to write was set or cleared in a slot, and nothing else changed
-pub page_protected : (directories : List (Option ℕ)) (bytes two : List ℕ) (roles : List Role) (p d page : ℕ) (e : PageEntry) (write : Bool) → IsSound directories bytes roles → directory_of directories p ≡ Some d
-    → 0x40000 ≤ page → page < 0xf0000 → entry_at (frame_bytes bytes) d page ≡ Some e → (write ≡ true → (cell_or_fresh (spaces_in directories bytes) (at_page p page)).may ≡ true)
-    → frame_bytes two ≡ with_entry (frame_bytes bytes) (frame_number (dir_word (frame_bytes bytes) d (slot_number page))) page (record e { write = write }) → length two ≡ length bytes
-    → Touched directories (protected (spaces_in directories bytes) (at_page p page) write) bytes roles two
-page_protected directories bytes two roles p d page e write sound live low high is_entry right is_two long_two =
-    let rules = entry_rules directories bytes roles p d page e sound live is_entry in
-    let slot : Slot = at_page p page in
-    let cell = cell_read directories bytes p d page e live (live_small directories p d sound.pids live) low high is_entry in
-    let h = flags_set directories bytes two roles p d page e write e.accessed sound live low high is_entry (λ w. sym (ap (λ (c : Cell). c.may) cell) ∙ right w) rules.touched is_two long_two in
-    record {
-      sound = h.sound;
-      spaces = h.spaces ∙ ap (map.insert (spaces_in directories bytes) slot)
-          (ap (λ (c : Cell). record c { write = write; accessed = e.accessed }) cell ∙ sym (ap (λ (c : Cell). record c { write = write }) cell));
-      cost = h.cost;
-      in_use = h.in_use;
-      lazy = h.lazy;
-    }
+-- where an entry keeps its accessed flag, setting the right is what a change of rights leaves
+pub flagged_right : (directories : List (Option ℕ)) (bytes : List ℕ) (p d page : ℕ) (e : PageEntry) (write : Bool) → directory_of directories p ≡ Some d → p < 64 → 0x40000 ≤ page → page < 0xf0000 → entry_at (frame_bytes bytes) d page ≡ Some e
+    → flagged (spaces_in directories bytes) (at_page p page) write e.accessed ≡ protected (spaces_in directories bytes) (at_page p page) write
+flagged_right directories bytes p d page e write live few low high is =
+    let cell = cell_read directories bytes p d page e live few low high is in
+    ap (map.insert (spaces_in directories bytes) (at_page p page))
+    (ap (λ (c : Cell). record c { write = write; accessed = e.accessed }) cell ∙ sym (ap (λ (c : Cell). record c { write = write }) cell))

@@ -14,7 +14,7 @@ use Rattle.page_map.specs.declared.PageEntry.{PageEntry}
 use Rattle.page_map.specs.Entries.{Frames, dir_word, table_of, entry_at}
 use Rattle.page_words.specs.FiniteMap as map
 use Rattle.page_words.specs.FiniteSet as set
-use Rattle.address_space.specs.Spaces.{Slot, Spaces, cost, need, fresh, joined, without, is_slot, is_of, at_page}
+use Rattle.address_space.specs.Spaces.{cell_or_fresh, Slot, Spaces, cost, need, fresh, joined, without, is_slot, is_of, at_page}
 use Rattle.page_words.specs.FiniteMap.{collect}
 use Rattle.address_space.specs.Slots.{user_slots}
 use Rattle.address_space.specs.Cells.{Entries, holders_of, lazy_count, spaces_of}
@@ -151,6 +151,10 @@ Names E slot f = (e : PageEntry) × (map.get E slot ≡ Some e) × (e.frame ≡ 
 pub record SlotJoined (directories : List (Option ℕ)) (giver giver_page p page : ℕ) (right : Bool) (bytes : List ℕ) (roles : List Role) (bytes' : List ℕ) (roles' : List Role) : Type 0 where
   pub slot : SlotAdded directories p page bytes roles bytes' roles'
   pub spaces : spaces_in directories bytes' ≡ joined (spaces_in directories bytes) (at_page giver giver_page) (at_page p page) right
+
+-- a slot's own cell has these two flags
+abbrev pub flagged : Spaces → Slot → Bool → Bool → Spaces
+flagged spaces slot write accessed = map.insert spaces slot (record (cell_or_fresh spaces slot) { write = write; accessed = accessed })
 
 -- the entry or the bytes of a mapped slot changed, which left these spaces
 pub record Touched (directories : List (Option ℕ)) (spaces' : Spaces) (bytes : List ℕ) (roles : List Role) (bytes' : List ℕ) : Type 0 where

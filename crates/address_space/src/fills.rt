@@ -1,6 +1,6 @@
 //! A lazy page gets a frame of its own.
 
-ghost use Rattle.std.specs.Prelude.{◌≡◌, true, Some, None};
+ghost use Rattle.std.specs.Prelude.{◌≡◌, true, false, Some, None};
 ghost use Rattle.page_words.specs.Addresses.{IsUserPage};
 ghost use Rattle.phys_memory.specs.Bytes.{frame_bytes};
 ghost use Rattle.page_map.specs.Entries.{entry_at, is_lazy_entry, IsPageMap};
@@ -8,9 +8,9 @@ ghost use Rattle.address_space.specs.Image.{is_lazy_at};
 ghost use Rattle.address_space.specs.Sound.{directory_of, IsSound, IsSpaces, PageFilled};
 ghost use Rattle.address_space.specs.Spaces.{at_page};
 
-use crate::entries::filled;
 use crate::{space_of, take};
 use alloc_table::{FrameTable, Role};
+use page_map::PageEntry;
 use page_words::{Frame, Page, Pid};
 use phys_memory::Memory;
 
@@ -41,6 +41,17 @@ pub fn is_lazy_in(
     match space_of(directories, pid) {
         Some(directory) => has_lazy(memory, directory, page),
         None => false,
+    }
+}
+
+/// An entry whose page has this frame of its own.
+fn filled(entry: PageEntry, frame: Frame) -> PageEntry
+    ensures { result ≡ record entry { frame = frame; lazy = false } }
+{
+    PageEntry {
+        frame,
+        lazy: false,
+        ..entry
     }
 }
 

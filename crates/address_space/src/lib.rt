@@ -19,11 +19,10 @@ ghost use Rattle.address_space.specs.Shown.{shown};
 ghost use Rattle.std.specs.Option.{option_map};
 ghost use Rattle.address_space.specs.Sound.{IsSound, directory_of, table_in, entries_in, spaces_in, total_cost, table_need, TableGiven, PageAdded, SlotJoined, Touched, Names, Inside, IsSpaces, TableFreed, EntryLeft, SlotRemoved, SpaceAdded, PageFilled};
 
+mod accesses;
 mod charges;
 mod drops;
-mod entries;
 mod fills;
-mod rights;
 
 use alloc_table::{FrameTable, Role};
 use page_map::PageEntry;
@@ -209,56 +208,6 @@ fn remove_entry(
     free_table(frames, freed);
 }
 
-/// Writes the lowest byte of a number.
-fn put_byte(memory: &mut Memory, place: usize, value: u32)
-    requires { place < length memory.old }
-    ensures bytes { memory.new ≡ slice_set memory.old place (value % 256) }
-    ensures length { length memory.new ≡ length memory.old }
-{
-    memory.write_byte(place, (value % 256) as u8);
-}
-
-/// The frame, the place in it and the bytes of a store: one byte, or a word at a multiple of four.
-fn put_bytes(memory: &mut Memory, frame: Frame, at: u32, size: Size, value: u32)
-    requires frame { Inside memory.old frame }
-    requires inside { at < 4096 }
-    requires aligned { at % byte_count size ≡ 0 }
-    ensures frames { frame_bytes memory.new ≡ with_frame (frame_bytes memory.old) frame (write_at (frame_bytes memory.old frame) at (bytes_of (byte_count size) value)) }
-    ensures length { length memory.new ≡ length memory.old }
-{
-    let place = frame.0 as usize * 4096 + at as usize;
-    match size {
-        Size::One => put_byte(memory, place, value),
-        Size::Four => memory.write_word(place, value),
-    }
-}
-
-/// Stores through a slot.
-fn store(
-    memory: &mut Memory,
-    frames: &FrameTable,
-    directories: &[Option<Frame>; 64],
-    pid: Pid,
-    directory: Frame,
-    page: Page,
-    at: u32,
-    size: Size,
-    value: u32,
-)
-    requires sound { IsSound directories.now memory.old frames.now }
-    requires live { directory_of directories.now pid ≡ Some directory }
-    requires user { IsUserPage page }
-    requires mapped { is_some (entry_at (frame_bytes memory.old) directory page) ≡ true }
-    requires real { is_lazy_entry (entry_at (frame_bytes memory.old) directory page) ≡ false }
-    requires inside { at < 4096 }
-    requires aligned { at % byte_count size ≡ 0 }
-    ensures { Touched directories.now (stored (spaces_in directories.now memory.old) (at_page pid page) at (bytes_of (byte_count size) value)) memory.old frames.now memory.new }
-{
-    let entry = page_map::entry(memory, directory, page).unwrap();
-    put_bytes(memory, entry.frame, at, size, value);
-    page_map::set_entry(memory, directory, page, entries::written(entry));
-}
-
 /// Gives a process a blank directory.
 fn add_directory(
     memory: &mut Memory,
@@ -351,62 +300,6 @@ fn cell_in(
         dirty: entry.dirty,
         holders: group_size(frames, entry.lazy, entry.frame),
     })
-}
-
-/// The number in some bytes of a page: one byte, or a word at a multiple of four.
-fn number_at(memory: &Memory, frame: Frame, at: u32, size: Size) -> u32
-    requires frame { Inside memory.now frame }
-    requires inside { at < 4096 }
-    requires aligned { at % byte_count size ≡ 0 }
-    ensures { result ≡ value_of (bytes_at (frame_bytes memory.now frame) at (byte_count size)) }
-{
-    let place = frame.0 as usize * 4096 + at as usize;
-    match size {
-        Size::One => u32::from(memory.read_byte(place)),
-        Size::Four => memory.read_word(place),
-    }
-}
-
-/// The number that a mapped slot has at a place.
-fn fetch(
-    memory: &Memory,
-    frames: &FrameTable,
-    directories: &[Option<Frame>; 64],
-    pid: Pid,
-    directory: Frame,
-    page: Page,
-    at: u32,
-    size: Size,
-) -> u32
-    requires sound { IsSound directories.now memory.now frames.now }
-    requires live { directory_of directories.now pid ≡ Some directory }
-    requires user { IsUserPage page }
-    requires mapped { is_some (entry_at (frame_bytes memory.now) directory page) ≡ true }
-    requires inside { at < 4096 }
-    requires aligned { at % byte_count size ≡ 0 }
-    ensures { result ≡ value_of (bytes_at (cell_or_fresh (spaces_in directories.now memory.now) (at_page pid page)).bytes at (byte_count size)) }
-{
-    let entry = page_map::entry(memory, directory, page).unwrap();
-    number_at(memory, entry.frame, at, size)
-}
-
-/// Sets accessed in a mapped slot.
-fn touch(
-    memory: &mut Memory,
-    frames: &FrameTable,
-    directories: &[Option<Frame>; 64],
-    pid: Pid,
-    directory: Frame,
-    page: Page,
-)
-    requires sound { IsSound directories.now memory.old frames.now }
-    requires live { directory_of directories.now pid ≡ Some directory }
-    requires user { IsUserPage page }
-    requires mapped { is_some (entry_at (frame_bytes memory.old) directory page) ≡ true }
-    ensures { Touched directories.now (accessed (spaces_in directories.now memory.old) (at_page pid page)) memory.old frames.now memory.new }
-{
-    let entry = page_map::entry(memory, directory, page).unwrap();
-    page_map::set_entry(memory, directory, page, entries::loaded(entry));
 }
 
 /// What one more page costs a process.
@@ -594,7 +487,7 @@ impl Spaces {
         let directory = home(&self.directories, pid);
         let page = page_of(address);
         let at = offset_of(address);
-        store(
+        accesses::store(
             &mut self.memory,
             &self.frames,
             &self.directories,
@@ -653,7 +546,7 @@ impl Spaces {
     {
         let directory = home(&self.directories, pid);
         let page = page_of(address);
-        fetch(
+        accesses::look(
             &self.memory,
             &self.frames,
             &self.directories,
@@ -677,8 +570,8 @@ impl Spaces {
     {
         let directory = home(&self.directories, pid);
         let page = page_of(address);
-        let value = fetch(
-            &self.memory,
+        accesses::load(
+            &mut self.memory,
             &self.frames,
             &self.directories,
             pid,
@@ -686,16 +579,7 @@ impl Spaces {
             page,
             offset_of(address),
             size,
-        );
-        touch(
-            &mut self.memory,
-            &self.frames,
-            &self.directories,
-            pid,
-            directory,
-            page,
-        );
-        value
+        )
     }
 
     /// Sets whether a process may write to a mapped page; to set it, the process must be allowed to.
@@ -708,7 +592,7 @@ impl Spaces {
         ensures roles { self.new.roles ≡ self.old.roles }
     {
         let directory = home(&self.directories, pid);
-        rights::set_right(
+        accesses::set_right(
             &mut self.memory,
             &self.frames,
             &self.directories,

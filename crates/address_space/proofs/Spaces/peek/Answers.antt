@@ -12,8 +12,8 @@ home-directory-requires c =
     let U : View → Type 0 = λ v. is_some (map.get v.spaces (slot_at c.args.pid c.args.address)) ≡ true in
     mapped_live c.self.inside.directories c.self.inside.memory c.args.pid (page_number c.args.address) (mapped_slot c.self.inside.directories c.self.inside.memory c.args.pid (page_number c.args.address) (subst U (sym c.self.view_is) c.requires.mapped))
 
-pub fetch-requires-clause-mapped : goal.fetch-requires-clause-mapped
-fetch-requires-clause-mapped c =
+pub look-requires-clause-mapped : goal.look-requires-clause-mapped
+look-requires-clause-mapped c =
     let U : View → Type 0 = λ v. is_some (map.get v.spaces (slot_at c.args.pid c.args.address)) ≡ true in
     rw c.page_of-page.ensures.value
     (ap is_some (mapped_entry c.self.inside.directories c.self.inside.memory c.args.pid c.home-directory.result (page_number c.args.address) (mapped_slot c.self.inside.directories c.self.inside.memory c.args.pid (page_number c.args.address) (subst U (sym c.self.view_is) c.requires.mapped)) c.home-directory.ensures))

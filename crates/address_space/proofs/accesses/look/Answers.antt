@@ -3,7 +3,7 @@ use Rattle.page_words.specs.Addresses.{byte_count}
 use Rattle.address_space.specs.Spaces.{Cell, value_of, bytes_at}
 use Rattle.address_space.proofs.Steps.{page_map_of, live_small}
 use Rattle.address_space.proofs.Stores.{named_inside, cell_read}
-use Rattle.address_space.proofs.fetch.Goals as goal
+use Rattle.address_space.proofs.accesses.look.Goals as goal
 
 pub entry-requires-clause-map : goal.entry-requires-clause-map
 entry-requires-clause-map c = page_map_of c.args.directories.now c.args.memory.now c.args.frames.now c.args.pid c.args.directory c.requires.sound c.requires.live
