@@ -7,6 +7,7 @@ ghost use Rattle.page_map.specs.Entries.{entry_at, is_lazy_entry};
 ghost use Rattle.address_space.specs.Spaces.{stored, write_at, bytes_of, value_of, bytes_at, cell_or_fresh, accessed, protected, at_page};
 ghost use Rattle.address_space.specs.Sound.{directory_of, spaces_in, IsSound, Touched, Inside, flagged};
 
+use crate::Directories;
 use alloc_table::FrameTable;
 use page_map::PageEntry;
 use page_words::{Frame, Page, Pid, Size};
@@ -30,7 +31,7 @@ fn number_at(memory: &Memory, frame: Frame, at: u32, size: Size) -> u32
 pub fn look(
     memory: &Memory,
     frames: &FrameTable,
-    directories: &[Option<Frame>; 64],
+    directories: &Directories,
     pid: Pid,
     directory: Frame,
     page: Page,
@@ -53,7 +54,7 @@ pub fn look(
 fn put_flags(
     memory: &mut Memory,
     frames: &FrameTable,
-    directories: &[Option<Frame>; 64],
+    directories: &Directories,
     pid: Pid,
     directory: Frame,
     page: Page,
@@ -81,7 +82,7 @@ fn put_flags(
 pub fn load(
     memory: &mut Memory,
     frames: &FrameTable,
-    directories: &[Option<Frame>; 64],
+    directories: &Directories,
     pid: Pid,
     directory: Frame,
     page: Page,
@@ -141,7 +142,7 @@ fn put_bytes(memory: &mut Memory, frame: Frame, at: u32, size: Size, value: u32)
 pub fn store(
     memory: &mut Memory,
     frames: &FrameTable,
-    directories: &[Option<Frame>; 64],
+    directories: &Directories,
     pid: Pid,
     directory: Frame,
     page: Page,
@@ -172,7 +173,7 @@ pub fn store(
 pub fn set_right(
     memory: &mut Memory,
     frames: &FrameTable,
-    directories: &[Option<Frame>; 64],
+    directories: &Directories,
     pid: Pid,
     directory: Frame,
     page: Page,

@@ -3,7 +3,7 @@
 ghost use Rattle.std.specs.Prelude.{◌≡◌, true, Some, None, is_some, slice_set};
 ghost use Rattle.address_space.specs.Sound.{directory_of, spaces_in, IsSpaces, IsEmptySpace, SpaceCleared, DirectoryRemoved, SpaceDropped};
 
-use crate::{home, remove_entry};
+use crate::{Directories, home, remove_entry};
 use alloc_table::FrameTable;
 use page_words::{Frame, Page, Pid};
 use phys_memory::Memory;
@@ -12,7 +12,7 @@ use phys_memory::Memory;
 fn clear_space(
     memory: &mut Memory,
     frames: &mut FrameTable,
-    directories: &[Option<Frame>; 64],
+    directories: &Directories,
     pid: Pid,
     directory: Frame,
 )
@@ -28,7 +28,7 @@ fn clear_space(
 }
 
 /// Takes a process's directory off the list.
-fn forget(directories: &mut [Option<Frame>; 64], pid: Pid)
+fn forget(directories: &mut Directories, pid: Pid)
     ensures { directories.new ≡ slice_set directories.old pid None }
 {
     directories[pid.number() as usize] = None;
@@ -38,7 +38,7 @@ fn forget(directories: &mut [Option<Frame>; 64], pid: Pid)
 fn remove_directory(
     memory: &Memory,
     frames: &mut FrameTable,
-    directories: &mut [Option<Frame>; 64],
+    directories: &mut Directories,
     pid: Pid,
     directory: Frame,
 )
@@ -55,7 +55,7 @@ fn remove_directory(
 pub fn remove_space(
     memory: &mut Memory,
     frames: &mut FrameTable,
-    directories: &mut [Option<Frame>; 64],
+    directories: &mut Directories,
     pid: Pid,
 )
     requires spaces { IsSpaces directories.old memory.old frames.old }

@@ -8,7 +8,7 @@ ghost use Rattle.address_space.specs.Image.{is_lazy_at};
 ghost use Rattle.address_space.specs.Sound.{directory_of, IsSound, IsSpaces, PageFilled};
 ghost use Rattle.address_space.specs.Spaces.{at_page};
 
-use crate::{space_of, take};
+use crate::{Directories, space_of, take};
 use alloc_table::{FrameTable, Role};
 use page_map::PageEntry;
 use page_words::{Frame, Page, Pid};
@@ -30,7 +30,7 @@ fn has_lazy(memory: &Memory, directory: Frame, page: Page) -> bool
 pub fn is_lazy_in(
     memory: &Memory,
     frames: &FrameTable,
-    directories: &[Option<Frame>; 64],
+    directories: &Directories,
     pid: Pid,
     page: Page,
 ) -> bool
@@ -59,7 +59,7 @@ fn filled(entry: PageEntry, frame: Frame) -> PageEntry
 pub fn fill_page(
     memory: &mut Memory,
     frames: &mut FrameTable,
-    directories: &[Option<Frame>; 64],
+    directories: &Directories,
     pid: Pid,
     directory: Frame,
     page: Page,

@@ -31,12 +31,15 @@ use phys_memory::Memory;
 use std::alloc::Global;
 use std::marker::Model;
 
+/// The directory of each process, where it has one.
+type Directories = [Option<Frame>; 64];
+
 /// The address spaces, by directories, memory and roles.
 #[derive(Drop)]
 pub struct Spaces {
     memory: Memory,
     frames: FrameTable,
-    directories: [Option<Frame>; 64],
+    directories: Directories,
 }
 
 impl Model for Spaces {
@@ -61,14 +64,14 @@ fn take(frames: &mut FrameTable, role: Role) -> Frame
 }
 
 /// The directory of a process, where it has one.
-fn space_of(directories: &[Option<Frame>; 64], pid: Pid) -> Option<Frame>
+fn space_of(directories: &Directories, pid: Pid) -> Option<Frame>
     ensures { result ≡ directory_of directories.now pid }
 {
     directories[pid.number() as usize]
 }
 
 /// The directory of a process that has one.
-fn home(directories: &[Option<Frame>; 64], pid: Pid) -> Frame
+fn home(directories: &Directories, pid: Pid) -> Frame
     requires { is_some (directory_of directories.now pid) ≡ true }
     ensures { directory_of directories.now pid ≡ Some result }
 {
@@ -79,7 +82,7 @@ fn home(directories: &[Option<Frame>; 64], pid: Pid) -> Frame
 fn give_table(
     memory: &mut Memory,
     frames: &mut FrameTable,
-    directories: &[Option<Frame>; 64],
+    directories: &Directories,
     pid: Pid,
     directory: Frame,
     slot: u32,
@@ -101,7 +104,7 @@ fn give_table(
 fn add_page(
     memory: &mut Memory,
     frames: &FrameTable,
-    directories: &[Option<Frame>; 64],
+    directories: &Directories,
     pid: Pid,
     directory: Frame,
     page: Page,
@@ -133,7 +136,7 @@ fn add_page(
 fn add_holder(
     memory: &mut Memory,
     frames: &mut FrameTable,
-    directories: &[Option<Frame>; 64],
+    directories: &Directories,
     giver: Pid,
     giver_page: Page,
     pid: Pid,
@@ -191,7 +194,7 @@ fn leave(frames: &mut FrameTable, entry: PageEntry)
 fn remove_entry(
     memory: &mut Memory,
     frames: &mut FrameTable,
-    directories: &[Option<Frame>; 64],
+    directories: &Directories,
     pid: Pid,
     directory: Frame,
     page: Page,
@@ -212,7 +215,7 @@ fn remove_entry(
 fn add_directory(
     memory: &mut Memory,
     frames: &mut FrameTable,
-    directories: &mut [Option<Frame>; 64],
+    directories: &mut Directories,
     pid: Pid,
 )
     requires spaces { IsSpaces directories.old memory.old frames.old }
@@ -283,7 +286,7 @@ fn group_size(frames: &FrameTable, lazy: bool, frame: Frame) -> u32
 fn cell_in(
     memory: &Memory,
     frames: &FrameTable,
-    directories: &[Option<Frame>; 64],
+    directories: &Directories,
     pid: Pid,
     page: Page,
 ) -> Option<Cell>
@@ -306,7 +309,7 @@ fn cell_in(
 fn need_in(
     memory: &Memory,
     frames: &FrameTable,
-    directories: &[Option<Frame>; 64],
+    directories: &Directories,
     pid: Pid,
     page: Page,
 ) -> u32
