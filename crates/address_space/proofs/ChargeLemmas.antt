@@ -18,7 +18,8 @@ use Rattle.page_map.specs.Pages.{entries_of, counted}
 use Rattle.page_map.proofs.PageLemmas.{get-entries_user, get-entries_other, user_cases}
 use Rattle.address_space.specs.Spaces.{Cell, Spaces, cost, pages_of, regions_of, at_page}
 use Rattle.address_space.specs.Cells.{cell_of}
-use Rattle.address_space.specs.Sound.{directory_of, table_in, entries_in, spaces_in, IsSpaces}
+use Rattle.address_space.specs.View.{directory_of, table_in, entries_in, spaces_in}
+use Rattle.address_space.specs.Sound.{IsSpaces}
 use Rattle.address_space.proofs.Costs.{contains-pages_of}
 use Rattle.address_space.proofs.CostSteps.{region_member}
 use Rattle.address_space.proofs.Departures.{no_cell_outside}

@@ -22,7 +22,8 @@ use Rattle.page_words.specs.FiniteMap.{same}
 use Rattle.page_words.proofs.MapLemmas.{same_itself, same-true, same_or_not, get-insert, contains-from_list, list_any-map}
 use Rattle.address_space.proofs.Costs.{contains-pages_of, same_pages, cost-insert}
 use Rattle.address_space.specs.Cells.{Entries, cell_of, spaces_of}
-use Rattle.address_space.specs.Sound.{Directories, directory_of, table_in, entry_in, entries_in, live_cost, total_cost, InUseAt}
+use Rattle.address_space.specs.View.{Directories, directory_of, table_in, entry_in, entries_in, live_cost, total_cost}
+use Rattle.address_space.specs.Sound.{InUseAt}
 use Rattle.address_space.proofs.EntrySteps.{get-entries_in, entry_by_table}
 use Rattle.address_space.proofs.Refinement.{get-spaces_of}
 

@@ -7,7 +7,9 @@ use Rattle.alloc_table.specs.Roles.{free_frames, frames_weight}
 use Rattle.alloc_table.proofs.RoleLemmas.{free-by-weight}
 use Rattle.address_space.specs.Spaces.{Spaces, need}
 use Rattle.address_space.specs.Cells.{spaces_of}
-use Rattle.address_space.specs.Sound.{directory_of, table_in, entries_in, spaces_in, total_cost, table_need, IsSound, IsSpaces, TableGiven, SlotAdded}
+use Rattle.address_space.specs.View.{directory_of, table_in, entries_in, spaces_in, total_cost}
+use Rattle.address_space.specs.Sound.{IsSound, IsSpaces}
+use Rattle.address_space.specs.Changes.{table_need, TableGiven, SlotAdded}
 use Rattle.address_space.proofs.CostSteps.{need-two, need-least}
 use Rattle.address_space.proofs.FrameSteps.{here_or_not}
 

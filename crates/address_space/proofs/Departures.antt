@@ -22,7 +22,9 @@ use Rattle.page_map.proofs.PageLemmas.{get-entries_user}
 use Rattle.address_space.specs.Spaces.{Slot, slot_order, Cell, Spaces, cost, need, pages_of, regions_of, without, with_holders, is_slot, is_of, at_page}
 use Rattle.address_space.specs.Slots.{user_slots}
 use Rattle.address_space.specs.Cells.{Entries, lazy_count, cell_of, spaces_of}
-use Rattle.address_space.specs.Sound.{Directories, Roles, directory_of, table_in, entry_in, entries_in, spaces_in, live_cost, total_cost, Tables, Pages, IsSound, IsSpaces, SlotRemoved, IsEmptySpace, ClearedBelow, SpaceCleared, DirectoryRemoved}
+use Rattle.address_space.specs.View.{Directories, Roles, directory_of, table_in, entry_in, entries_in, spaces_in, live_cost, total_cost}
+use Rattle.address_space.specs.Sound.{Tables, Pages, IsSound, IsSpaces}
+use Rattle.address_space.specs.Changes.{SlotRemoved, IsEmptySpace, ClearedBelow, SpaceCleared, DirectoryRemoved}
 use Rattle.address_space.proofs.Costs.{contains-pages_of}
 use Rattle.address_space.proofs.CostSteps.{sum_one}
 use Rattle.address_space.proofs.EntrySteps.{get-entries_in, entry_by_table}

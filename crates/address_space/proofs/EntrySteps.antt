@@ -19,7 +19,8 @@ use Rattle.page_words.proofs.MapLemmas.{same_or_not, same_itself, get-insert, sa
 use Rattle.page_words.proofs.MapLemmas.{get-collect}
 use Rattle.address_space.proofs.UserSlots.{in_user_slots}
 use Rattle.address_space.proofs.Removal.{removed, kept_other}
-use Rattle.address_space.specs.Sound.{Directories, Roles, table_in, entry_in, entries_in, Tables, InUseAt}
+use Rattle.address_space.specs.View.{Directories, Roles, table_in, entry_in, entries_in}
+use Rattle.address_space.specs.Sound.{Tables, InUseAt}
 
 -- memory with another word at a page, in this table
 abbrev pub with_word_at : Frames → ℕ → ℕ → ℕ → Frames

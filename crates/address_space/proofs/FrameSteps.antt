@@ -13,7 +13,8 @@ use Rattle.alloc_table.specs.declared.Role.TheVariants.{Reserved, Free, Director
 use Rattle.page_map.specs.Entries.{Frames, word_table, table_of, word_entry, entry_from, link_word, with_table, without_table}
 use Rattle.page_map.proofs.WordLaws.{link_word-lt, word_table-link_word, link_word-names}
 use Rattle.address_space.specs.Spaces.{Slot}
-use Rattle.address_space.specs.Sound.{Directories, Roles, table_in, entry_in, entries_in, Tables, InUseAt}
+use Rattle.address_space.specs.View.{Directories, Roles, table_in, entry_in, entries_in}
+use Rattle.address_space.specs.Sound.{Tables, InUseAt}
 use Rattle.address_space.proofs.EntrySteps.{Loose, same_entries, entry_by_table}
 
 -- ---- A frame's bytes

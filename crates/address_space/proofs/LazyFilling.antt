@@ -18,7 +18,9 @@ use Rattle.page_map.specs.Entries.{Frames, dir_word, table_of, entry_at, with_en
 use Rattle.page_map.proofs.WordLaws.{entry_word-names, entry_word-lt, entry_word-present, word_entry-entry_word}
 use Rattle.address_space.specs.Spaces.{Slot, at_page}
 use Rattle.address_space.specs.Cells.{Entries, names, lazy_count, spaces_of, holders_of}
-use Rattle.address_space.specs.Sound.{Directories, Roles, directory_of, entry_in, entries_in, spaces_in, Tables, Pages, IsSpaces, InUseAt, PageFilled, total_cost}
+use Rattle.address_space.specs.View.{Directories, Roles, directory_of, entry_in, entries_in, spaces_in, total_cost}
+use Rattle.address_space.specs.Sound.{Tables, Pages, IsSpaces, InUseAt}
+use Rattle.address_space.specs.Changes.{PageFilled}
 use Rattle.address_space.proofs.Costed.{free_where_light}
 use Rattle.address_space.proofs.EntrySteps.{entries-insert, entry_own, tables-entry, use_kept}
 use Rattle.address_space.proofs.FrameSteps.{tables-role}

@@ -21,7 +21,9 @@ use Rattle.address_space.specs.Spaces.{Slot, need, is_slot, at_page}
 use Rattle.page_words.specs.FiniteMap.{collect, put_some}
 use Rattle.page_words.specs.FiniteMap.{same}
 use Rattle.address_space.specs.Cells.{Entries, lazy_count, cell_of, spaces_of, holders_of}
-use Rattle.address_space.specs.Sound.{Directories, Roles, directory_of, table_in, entries_in, spaces_in, Tables, Pages, HoldsPage, IsSound, InUseAt, total_cost, IsSpaces, TableFreed, EntryLeft, SlotRemoved}
+use Rattle.address_space.specs.View.{Directories, Roles, directory_of, table_in, entries_in, spaces_in, total_cost}
+use Rattle.address_space.specs.Sound.{Tables, Pages, HoldsPage, IsSound, InUseAt, IsSpaces}
+use Rattle.address_space.specs.Changes.{TableFreed, EntryLeft, SlotRemoved}
 use Rattle.address_space.proofs.CostSteps.{total-entry, need-one, need-most}
 use Rattle.address_space.proofs.EntrySteps.{Loose, with_word_at, entries-remove, tables-entry, tables_kept}
 use Rattle.address_space.proofs.FrameSteps.{here_or_not, tables-role, unlinked-own, unlinked-others, unlinked-table, unlinked-entry, tables-unlinked}

@@ -24,7 +24,9 @@ use Rattle.page_map.specs.Entries.{Frames, dir_word, word_table, word_entry, tab
 use Rattle.address_space.specs.Spaces.{Slot, slot_order, Spaces, cost, cost_of, pages_of, at_page}
 use Rattle.address_space.specs.Slots.{user_slots}
 use Rattle.address_space.specs.Cells.{Entries, lazy_count, spaces_of, cell_of}
-use Rattle.address_space.specs.Sound.{Directories, Roles, directory_of, table_in, entry_in, entries_in, spaces_in, live_cost, total_cost, Tables, Pages, IsSpaces, SpaceAdded}
+use Rattle.address_space.specs.View.{Directories, Roles, directory_of, table_in, entry_in, entries_in, spaces_in, live_cost, total_cost}
+use Rattle.address_space.specs.Sound.{Tables, Pages, IsSpaces}
+use Rattle.address_space.specs.Changes.{SpaceAdded}
 use Rattle.address_space.proofs.Costs.{contains-pages_of}
 use Rattle.address_space.proofs.CostSteps.{sum_one}
 use Rattle.address_space.proofs.Costed.{free_where_light}

@@ -13,7 +13,8 @@ use Rattle.address_space.specs.Spaces.{Slot, slot_order}
 use Rattle.page_words.specs.FiniteMap.{same}
 use Rattle.page_words.proofs.MapLemmas.{same_or_not, same_itself, get-insert, same_map, same_set, len-insert}
 use Rattle.address_space.specs.Cells.{Entries, names, holders_of, group_of, lazy_count, cell_of, spaces_of}
-use Rattle.address_space.specs.Sound.{Roles, Pages, HoldsPage}
+use Rattle.address_space.specs.View.{Roles}
+use Rattle.address_space.specs.Sound.{Pages, HoldsPage}
 use Rattle.address_space.proofs.Removal.{put_back, removed, kept_other}
 use Rattle.address_space.proofs.Refinement.{contains-holders_of, same_holders, names-insert_same, holders-insert, holders-other, get-spaces_of, Unused}
 

@@ -16,7 +16,8 @@ use Rattle.page_map.specs.declared.PageEntry.{PageEntry}
 use Rattle.std.proofs.lemmas.Bool.Decides.{nat_tests}
 use Rattle.address_space.specs.Spaces.{Slot, need, value_of, bytes_at, at_page}
 use Rattle.address_space.specs.Cells.{Entries, group_of, cell_of, spaces_of, holders_of}
-use Rattle.address_space.specs.Sound.{Directories, directory_of, entry_in, entries_in, spaces_in, table_in, IsSound, InUse, Inside}
+use Rattle.address_space.specs.View.{Directories, directory_of, entry_in, entries_in, spaces_in, table_in}
+use Rattle.address_space.specs.Sound.{IsSound, InUse, Inside}
 use Rattle.address_space.proofs.UserSlots.{in_user_slots}
 use Rattle.address_space.proofs.EntrySteps.{get-entries_in}
 use Rattle.address_space.proofs.CostSteps.{need-one, need-two}

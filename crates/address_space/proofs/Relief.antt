@@ -13,7 +13,8 @@ use Rattle.page_map.specs.declared.PageEntry.{PageEntry}
 use Rattle.page_map.specs.Entries.{entry_at}
 use Rattle.address_space.specs.Spaces.{Slot, slot_order, Cell, Spaces, cost, cost_of, need, pages_of, regions_of, without, is_slot, with_holders, at_page}
 use Rattle.address_space.specs.Slots.{user_slots}
-use Rattle.address_space.specs.Sound.{directory_of, entry_in, entries_in, spaces_in, IsAlone, IsShared}
+use Rattle.address_space.specs.View.{directory_of, entry_in, entries_in, spaces_in}
+use Rattle.address_space.specs.Sound.{IsAlone, IsShared}
 use Rattle.address_space.proofs.Costs.{contains-pages_of, same_pages, cost-insert}
 use Rattle.address_space.proofs.CostSteps.{region_there, region_member, keys}
 use Rattle.address_space.proofs.EntrySteps.{get-entries_in}

@@ -22,7 +22,8 @@ use Rattle.address_space.specs.Spaces.{Slot, slot_order, Cell, at_page}
 use Rattle.address_space.specs.Slots.{user_slots}
 use Rattle.address_space.specs.Cells.{Entries, names, group_of, cell_of, spaces_of, holders_of}
 use Rattle.address_space.specs.Image.{Image, word_of, is_user_slot, named_by, table_at, own_frame, is_lazy_at, IsOneGroup, present_word, page_word, page_frame, IsSoundImage, SlotStands, StandsFor, StandsForOne}
-use Rattle.address_space.specs.Sound.{Directories, directory_of, table_in, entry_in, entries_in, spaces_in, IsSound, IsSpaces}
+use Rattle.address_space.specs.View.{Directories, directory_of, table_in, entry_in, entries_in, spaces_in}
+use Rattle.address_space.specs.Sound.{IsSound, IsSpaces}
 use Rattle.address_space.proofs.UserSlots.{in_user_slots}
 use Rattle.address_space.proofs.EntrySteps.{get-entries_in, entry_by_table}
 use Rattle.address_space.proofs.Refinement.{get-spaces_of, contains-holders_of, group-real}

@@ -20,7 +20,9 @@ use Rattle.page_map.specs.Entries.{Frames, dir_word, word_table, table_of, with_
 use Rattle.page_words.specs.FiniteMap as map
 use Rattle.address_space.specs.Spaces.{Slot, fresh, at_page}
 use Rattle.address_space.specs.Cells.{Entries, lazy_count, cell_of, spaces_of}
-use Rattle.address_space.specs.Sound.{Directories, Roles, directory_of, table_in, entry_in, entries_in, spaces_in, Tables, Pages, HoldsPage, IsSound, TableGiven, PageAdded, table_need, InUseAt, total_cost, Inside}
+use Rattle.address_space.specs.View.{Directories, Roles, directory_of, table_in, entry_in, entries_in, spaces_in, total_cost}
+use Rattle.address_space.specs.Sound.{Tables, Pages, HoldsPage, IsSound, InUseAt, Inside}
+use Rattle.address_space.specs.Changes.{TableGiven, PageAdded, table_need}
 use Rattle.address_space.proofs.CostSteps.{total-entry}
 use Rattle.address_space.proofs.EntrySteps.{Loose, entries-insert, entry_own, tables-entry, use_own, use_kept}
 use Rattle.address_space.proofs.FrameSteps.{tables-linked, linked-entries, linked-own, linked-others, linked-other, kept_table, loose-directory, tables-loose}

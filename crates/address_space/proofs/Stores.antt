@@ -31,7 +31,9 @@ use Rattle.page_words.specs.FiniteMap.{same}
 use Rattle.page_words.proofs.MapLemmas.{len-insert}
 use Rattle.address_space.proofs.UserSlots.{in_user_slots}
 use Rattle.address_space.specs.Cells.{Entries, names, lazy_count, cell_of, spaces_of, holders_of, nothing}
-use Rattle.address_space.specs.Sound.{Directories, Roles, directory_of, table_in, entry_in, entries_in, spaces_in, Tables, Pages, HoldsPage, IsSound, InUseAt, total_cost, SlotJoined, Touched, Names, Inside, InUse, flagged}
+use Rattle.address_space.specs.View.{Directories, Roles, directory_of, table_in, entry_in, entries_in, spaces_in, total_cost}
+use Rattle.address_space.specs.Sound.{Tables, Pages, HoldsPage, IsSound, InUseAt, Names, Inside, InUse}
+use Rattle.address_space.specs.Changes.{SlotJoined, Touched, flagged}
 use Rattle.address_space.proofs.CostSteps.{total-entry, total-kept}
 use Rattle.address_space.proofs.EntrySteps.{Loose, get-entries_in, entries-insert, tables-entry, use_own, use_kept}
 use Rattle.address_space.proofs.FrameSteps.{loose-entry, loose-entries, tables-loose, tables-role, use_loose}

@@ -8,7 +8,7 @@ use Rattle.page_words.specs.FiniteSet as set
 use Rattle.page_words.specs.FiniteSet.{Set}
 use Rattle.page_words.proofs.MapLemmas.{get-map_values}
 use Rattle.address_space.specs.Spaces.{Slot, slot_order, Cell, Spaces, cost, cost_of, need, accessed, stored, protected, joined, set_holders, with_holders, cell_or_fresh, without, at_page}
-use Rattle.address_space.specs.Sound.{directory_of, total_cost}
+use Rattle.address_space.specs.View.{directory_of, total_cost}
 use Rattle.address_space.proofs.AccessCosts.{cost-same, key-insert, key-stored, kept}
 use Rattle.address_space.proofs.Costs.{cost-insert, same_pages}
 use Rattle.address_space.proofs.CostSteps.{total-insert, other_slot, need-most}

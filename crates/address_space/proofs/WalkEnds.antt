@@ -17,7 +17,8 @@ use Rattle.page_map.proofs.LawProofs.{walks_read_entries}
 use Rattle.address_space.specs.Spaces.{slot_at}
 use Rattle.address_space.specs.Cells.{cell_of}
 use Rattle.address_space.specs.Walks.{FindsBytes, WalkEndsBy, WalksAgree}
-use Rattle.address_space.specs.Sound.{directory_of, entries_in, spaces_in, IsSound, IsSpaces}
+use Rattle.address_space.specs.View.{directory_of, entries_in, spaces_in}
+use Rattle.address_space.specs.Sound.{IsSound, IsSpaces}
 use Rattle.address_space.proofs.Refinement.{get-spaces_of}
 use Rattle.address_space.proofs.Standing.{image_of, same_entry, read_entry, same_lazy}
 use Rattle.address_space.proofs.Steps.{page_map_of, holds_inside}

@@ -5,7 +5,9 @@ ghost use Rattle.page_words.specs.Addresses.{byte_count, IsUserPage};
 ghost use Rattle.phys_memory.specs.Bytes.{frame_bytes, with_frame};
 ghost use Rattle.page_map.specs.Entries.{entry_at, is_lazy_entry};
 ghost use Rattle.address_space.specs.Spaces.{stored, write_at, bytes_of, value_of, bytes_at, cell_or_fresh, accessed, protected, at_page};
-ghost use Rattle.address_space.specs.Sound.{directory_of, spaces_in, IsSound, Touched, Inside, flagged};
+ghost use Rattle.address_space.specs.View.{directory_of, spaces_in};
+ghost use Rattle.address_space.specs.Sound.{IsSound, Inside};
+ghost use Rattle.address_space.specs.Changes.{Touched, flagged};
 
 use crate::Directories;
 use alloc_table::FrameTable;

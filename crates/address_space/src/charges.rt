@@ -8,7 +8,8 @@ ghost use Rattle.phys_memory.specs.Bytes.{frame_bytes};
 ghost use Rattle.page_map.specs.Entries.{table_of, IsPageMap};
 ghost use Rattle.page_map.specs.Pages.{counted};
 ghost use Rattle.address_space.specs.Spaces.{cost, pages_of, regions_of, without, is_slot, at_page};
-ghost use Rattle.address_space.specs.Sound.{directory_of, spaces_in, IsSound, IsSpaces, IsAlone, IsShared};
+ghost use Rattle.address_space.specs.View.{directory_of, spaces_in};
+ghost use Rattle.address_space.specs.Sound.{IsSound, IsSpaces, IsAlone, IsShared};
 
 use crate::{Directories, home};
 use alloc_table::FrameTable;

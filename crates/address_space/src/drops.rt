@@ -1,7 +1,9 @@
 //! A process's space goes: its pages leave their groups, and its directory comes free.
 
 ghost use Rattle.std.specs.Prelude.{◌≡◌, true, Some, None, is_some, slice_set};
-ghost use Rattle.address_space.specs.Sound.{directory_of, spaces_in, IsSpaces, IsEmptySpace, SpaceCleared, DirectoryRemoved, SpaceDropped};
+ghost use Rattle.address_space.specs.View.{directory_of, spaces_in};
+ghost use Rattle.address_space.specs.Sound.{IsSpaces};
+ghost use Rattle.address_space.specs.Changes.{IsEmptySpace, SpaceCleared, DirectoryRemoved, SpaceDropped};
 
 use crate::{Directories, home, remove_entry};
 use alloc_table::FrameTable;

@@ -5,7 +5,9 @@ ghost use Rattle.page_words.specs.Addresses.{IsUserPage};
 ghost use Rattle.phys_memory.specs.Bytes.{frame_bytes};
 ghost use Rattle.page_map.specs.Entries.{entry_at, is_lazy_entry, IsPageMap};
 ghost use Rattle.address_space.specs.Image.{is_lazy_at};
-ghost use Rattle.address_space.specs.Sound.{directory_of, IsSound, IsSpaces, PageFilled};
+ghost use Rattle.address_space.specs.View.{directory_of};
+ghost use Rattle.address_space.specs.Sound.{IsSound, IsSpaces};
+ghost use Rattle.address_space.specs.Changes.{PageFilled};
 ghost use Rattle.address_space.specs.Spaces.{at_page};
 
 use crate::{Directories, space_of, take};

@@ -17,7 +17,9 @@ ghost use Rattle.address_space.specs.Image.{StandsFor, StandsForOne, LeavesRoom,
 ghost use Rattle.address_space.specs.Walks.{WalksAgree};
 ghost use Rattle.address_space.specs.Shown.{shown};
 ghost use Rattle.std.specs.Option.{option_map};
-ghost use Rattle.address_space.specs.Sound.{IsSound, directory_of, table_in, entries_in, spaces_in, total_cost, table_need, TableGiven, PageAdded, SlotJoined, Touched, Names, Inside, IsSpaces, TableFreed, EntryLeft, SlotRemoved, SpaceAdded, PageFilled};
+ghost use Rattle.address_space.specs.View.{directory_of, table_in, entries_in, spaces_in, total_cost};
+ghost use Rattle.address_space.specs.Sound.{IsSound, Names, Inside, IsSpaces};
+ghost use Rattle.address_space.specs.Changes.{table_need, TableGiven, PageAdded, SlotJoined, Touched, TableFreed, EntryLeft, SlotRemoved, SpaceAdded, PageFilled};
 
 mod accesses;
 mod charges;
@@ -43,7 +45,8 @@ pub struct Spaces {
 }
 
 impl Model for Spaces {
-    ghost use Rattle.address_space.specs.Sound.{View, view_code, spaces_in, IsSpaces};
+    ghost use Rattle.address_space.specs.View.{View, view_code, spaces_in};
+    ghost use Rattle.address_space.specs.Sound.{IsSpaces};
 
     ghost Value = { View };
 

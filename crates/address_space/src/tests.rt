@@ -1,6 +1,6 @@
 ghost use Rattle.std.specs.Prelude.{◌≡◌, ◌+◌, ◌≤◌, length};
 ghost use Rattle.page_words.specs.Addresses.{IsUserPage};
-ghost use Rattle.address_space.specs.Sound.{total_cost};
+ghost use Rattle.address_space.specs.View.{total_cost};
 
 use super::*;
 use std::process::Abort;

@@ -16,7 +16,7 @@ use Rattle.alloc_table.specs.declared.Role.TheVariants.{Table}
 use Rattle.address_space.specs.Spaces.{Slot, Cell, Spaces, pages_of, regions_of, cost, at_page}
 use Rattle.address_space.specs.Image as memory
 use Rattle.address_space.specs.Image.{directory_at, table_at, page_word, present_word, word_of}
-use Rattle.address_space.specs.Sound.{directory_of}
+use Rattle.address_space.specs.View.{directory_of}
 use Rattle.address_space.proofs.Costs.{contains-pages_of}
 use Rattle.address_space.proofs.CostSteps.{region_member, region_there}
 use Rattle.address_space.proofs.Standing.{stands_for_one}

@@ -11,8 +11,8 @@ use Rattle.page_words.specs.FiniteSet.{Set}
 use Rattle.page_words.proofs.MapLemmas.{same_or_not, same_itself, same_set, get-insert}
 use Rattle.address_space.specs.Spaces.{Slot, Cell, Spaces, cost, cost_of, pages_of, at_page}
 use Rattle.address_space.specs.Image.{Image, StandsFor, SlotStands, directory_at, page_word}
-use Rattle.address_space.specs.Sound as frames
-use Rattle.address_space.specs.Sound.{directory_of, live_cost, total_cost}
+use Rattle.address_space.specs.View as frames
+use Rattle.address_space.specs.View.{directory_of, live_cost, total_cost}
 use Rattle.address_space.proofs.Costs.{contains-pages_of}
 use Rattle.quota_tree.specs.declared.QuotaFault.{QuotaFault}
 use Rattle.quota_tree.specs.declared.QuotaFault.TheVariants as quota

@@ -7,7 +7,7 @@ ghost use Rattle.alloc_table.specs.Roles.{opening_roles};
 ghost use Rattle.address_space.specs.Spaces.{cost, need, slot_at, fresh, without, is_slot, is_of, cell_or_fresh, protected, joined, at_page};
 ghost use Rattle.page_sharing.specs.Offers.{offer_of};
 ghost use Rattle.std.specs.Option.{unwrap_or};
-ghost use Rattle.address_space.specs.Sound.{directory_of, total_cost};
+ghost use Rattle.address_space.specs.View.{directory_of, total_cost};
 ghost use Rattle.quota_tree.specs.Containers.{IsLive, used_of, room_of, with_used, split_answer, after_split, opening};
 ghost use Rattle.process_table.specs.State.{is_live, is_mapped, has_no_room, container_of, open_with};
 ghost use Rattle.process_table.specs.Calls.{map_refusal, unmap_refusal, exit_refusal, after_map, after_unmap, after_protect, after_offer, after_withdraw, after_accept, after_spawn, after_exit, after_load, after_store, after_access, access_value, is_misaligned};

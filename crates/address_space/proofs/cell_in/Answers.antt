@@ -5,7 +5,7 @@ use Rattle.phys_memory.specs.Bytes.{frame_bytes}
 use Rattle.page_map.specs.Entries.{entry_at}
 use Rattle.address_space.specs.Shown.{shown}
 use Rattle.address_space.specs.Cells.{cell_of}
-use Rattle.address_space.specs.Sound.{directory_of, entries_in}
+use Rattle.address_space.specs.View.{directory_of, entries_in}
 use Rattle.address_space.proofs.Openings.{no_cell}
 use Rattle.address_space.proofs.Steps.{page_map_of, live_small}
 use Rattle.address_space.proofs.Stores.{named_entry, page_of_name, entry_rules, count_few}

@@ -1,7 +1,9 @@
 use Rattle.std.proofs.Common.{◌≡◌, sym, ◌∙◌, subst, true, false, refl}
 use Rattle.std.specs.Prelude.{is_some}
 use Rattle.page_words.specs.FiniteMap as map
-use Rattle.address_space.specs.Sound.{View, TableGiven, Names}
+use Rattle.address_space.specs.View.{View}
+use Rattle.address_space.specs.Sound.{Names}
+use Rattle.address_space.specs.Changes.{TableGiven}
 use Rattle.address_space.specs.Image.{is_lazy_at}
 use Rattle.address_space.proofs.Standing.{lazy_read}
 use Rattle.address_space.proofs.Costed.{Room, room_for_table, mapped}

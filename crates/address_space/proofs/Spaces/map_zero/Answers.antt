@@ -1,5 +1,6 @@
 use Rattle.std.proofs.Common.{ap, subst, sym, ◌∙◌}
-use Rattle.address_space.specs.Sound.{View, TableGiven}
+use Rattle.address_space.specs.View.{View}
+use Rattle.address_space.specs.Changes.{TableGiven}
 use Rattle.page_map.specs.Entries.{is_lazy_entry}
 use Rattle.address_space.proofs.Standing.{same_lazy}
 use Rattle.address_space.proofs.Costed.{Room, room_for_table, mapped}

@@ -2,7 +2,7 @@ use Rattle.std.proofs.Common.{◌≡◌, ℕ, ◌+◌, ◌≤◌, subst, arith, 
 use Rattle.std.specs.Prelude.{length, is_some}
 use Rattle.alloc_table.proofs.RoleLemmas.{in-use-and-reserved}
 use Rattle.address_space.specs.Image.{StandsFor, LeavesRoom}
-use Rattle.address_space.specs.Sound.{View, total_cost, directory_of, entries_in, spaces_in}
+use Rattle.address_space.specs.View.{View, total_cost, directory_of, entries_in, spaces_in}
 use Rattle.address_space.specs.Cells.{lazy_count, holders_of}
 use Rattle.phys_memory.specs.Bytes.{frame_bytes}
 use Rattle.address_space.specs.Spaces.{cost}

@@ -1,7 +1,7 @@
 use Rattle.std.proofs.Common.{◌+◌, ap, sym, ◌∙◌}
 use Rattle.page_words.specs.FiniteMap as map
 use Rattle.address_space.specs.Spaces.{cost, without, is_slot, at_page}
-use Rattle.address_space.specs.Sound.{spaces_in}
+use Rattle.address_space.specs.View.{spaces_in}
 use Rattle.address_space.proofs.Steps.{page_map_of, live_small, some_is}
 use Rattle.address_space.proofs.Relief.{cost_left, relief_alone, relief_shared}
 use Rattle.address_space.proofs.charges.relief_in.Goals as goal

@@ -1,6 +1,6 @@
 use Rattle.std.proofs.Common.{◌+◌, sym, subst}
 use Rattle.phys_memory.specs.Bytes.{frame_bytes}
-use Rattle.address_space.specs.Sound.{ClearedBelow}
+use Rattle.address_space.specs.Changes.{ClearedBelow}
 use Rattle.address_space.proofs.Steps.{page_map_of}
 use Rattle.address_space.proofs.Departures.{cleared_at_first, cleared_next, cleared_at_last, entry_mapped}
 use Rattle.address_space.proofs.drops.clear_space.Goals as goal

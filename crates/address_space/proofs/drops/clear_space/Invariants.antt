@@ -1,5 +1,5 @@
 use Rattle.std.specs.Prelude.{◌-◌}
-use Rattle.address_space.specs.Sound.{ClearedBelow}
+use Rattle.address_space.specs.Changes.{ClearedBelow}
 use Rattle.address_space.proofs.drops.clear_space.Given as goal
 
 abbrev pub invariant-loop-page : goal.invariant-loop-page

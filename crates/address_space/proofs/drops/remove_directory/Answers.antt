@@ -1,6 +1,6 @@
 use Rattle.std.proofs.Common.{sym, subst, refl}
 use Rattle.alloc_table.specs.declared.Role.TheVariants.{Directory}
-use Rattle.address_space.specs.Sound.{DirectoryRemoved}
+use Rattle.address_space.specs.Changes.{DirectoryRemoved}
 use Rattle.address_space.proofs.Departures.{directory_removed}
 use Rattle.address_space.proofs.drops.remove_directory.Goals as goal
 
