@@ -24,7 +24,7 @@ use Rattle.address_space.specs.Slots.{user_slots}
 use Rattle.address_space.specs.Cells.{Entries, lazy_count, cell_of, spaces_of}
 use Rattle.address_space.specs.View.{Directories, Roles, directory_of, table_in, entry_in, entries_in, spaces_in, live_cost, total_cost}
 use Rattle.address_space.specs.Sound.{Tables, Pages, IsSound, IsSpaces}
-use Rattle.address_space.specs.Changes.{SlotRemoved, IsEmptySpace, ClearedBelow, SpaceCleared, DirectoryRemoved}
+use Rattle.address_space.specs.Changes.{SlotRemoved, IsEmptySpace, DroppedBelow, PagesDropped, DirectoryDropped}
 use Rattle.address_space.proofs.Costs.{contains-pages_of}
 use Rattle.address_space.proofs.CostSteps.{sum_one}
 use Rattle.address_space.proofs.EntrySteps.{get-entries_in, entry_by_table}
@@ -162,8 +162,8 @@ entry_mapped m d page user mapped = ap is_some (sym (get-entries_user m d page u
 
 -- ---- The pages of a process leave, from the lowest on
 
-pub cleared_at_first : (directories : List (Option ℕ)) (bytes : List ℕ) (roles : List Role) (p : ℕ) → IsSpaces directories bytes roles → ClearedBelow directories p 0x40000 bytes roles bytes roles
-cleared_at_first directories bytes roles p s = record {
+pub dropped_at_first : (directories : List (Option ℕ)) (bytes : List ℕ) (roles : List Role) (p : ℕ) → IsSpaces directories bytes roles → DroppedBelow directories p 0x40000 bytes roles bytes roles
+dropped_at_first directories bytes roles p s = record {
   after = s;
   spaces = refl;
   below = λ page l. no_cell_outside directories bytes roles p page s.sound (inl l);
@@ -172,10 +172,10 @@ cleared_at_first directories bytes roles p s = record {
   high = omega arith;
 }
 
-pub cleared_next : (directories : List (Option ℕ)) (bytes one two : List ℕ) (roles roles1 roles2 : List Role) (p d from page : ℕ) → ClearedBelow directories p from bytes roles one roles1 → directory_of directories p ≡ Some d
+pub dropped_next : (directories : List (Option ℕ)) (bytes one two : List ℕ) (roles roles1 roles2 : List Role) (p d from page : ℕ) → DroppedBelow directories p from bytes roles one roles1 → directory_of directories p ≡ Some d
     → from ≤ page → page < 0xf0000 → ((other : ℕ) → from ≤ other → other < page → is_mapped (frame_bytes one) d other ≡ false) → SlotRemoved directories p page one roles1 two roles2
-    → ClearedBelow directories p (page + 1) bytes roles two roles2
-cleared_next directories bytes one two roles roles1 roles2 p d from page so_far live up high least gone =
+    → DroppedBelow directories p (page + 1) bytes roles two roles2
+dropped_next directories bytes one two roles roles1 roles2 p d from page so_far live up high least gone =
     let S : Spaces = spaces_in directories one in
     let low = so_far.low in
     record {
@@ -193,9 +193,9 @@ cleared_next directories bytes one two roles roles1 roles2 p d from page so_far 
       high = omega arith;
     }
 
-pub cleared_at_last : (directories : List (Option ℕ)) (bytes one : List ℕ) (roles roles1 : List Role) (p d from : ℕ) → ClearedBelow directories p from bytes roles one roles1 → directory_of directories p ≡ Some d
-    → ((other : ℕ) → from ≤ other → is_mapped (frame_bytes one) d other ≡ false) → SpaceCleared directories p bytes roles one roles1
-cleared_at_last directories bytes one roles roles1 p d from so_far live none =
+pub dropped_at_last : (directories : List (Option ℕ)) (bytes one : List ℕ) (roles roles1 : List Role) (p d from : ℕ) → DroppedBelow directories p from bytes roles one roles1 → directory_of directories p ≡ Some d
+    → ((other : ℕ) → from ≤ other → is_mapped (frame_bytes one) d other ≡ false) → PagesDropped directories p bytes roles one roles1
+dropped_at_last directories bytes one roles roles1 p d from so_far live none =
     let low = so_far.low in
     let empty : IsEmptySpace (spaces_in directories one) p = λ page. elim (cases_lt page from) [
       | inl below ↦ so_far.below page below
@@ -305,7 +305,7 @@ total-without directories S p d few l live empty =
     (λ q n. sym (ap (λ x. if is_some x then cost S q else 0) (remembered directories p q n)))
 
 pub directory_removed : (directories : List (Option ℕ)) (bytes : List ℕ) (roles roles' : List Role) (p d : ℕ) → IsSpaces directories bytes roles → directory_of directories p ≡ Some d
-    → IsEmptySpace (spaces_in directories bytes) p → IsReleased roles d roles' → DirectoryRemoved directories p bytes roles (slice_set directories p None) roles'
+    → IsEmptySpace (spaces_in directories bytes) p → IsReleased roles d roles' → DirectoryDropped directories p bytes roles (slice_set directories p None) roles'
 directory_removed directories bytes roles roles' p d s live empty rel =
     let D : Directories = directory_of directories in
     let directories' : List (Option ℕ) = slice_set directories p None in

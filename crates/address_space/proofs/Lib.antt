@@ -7,6 +7,8 @@ pub mod CostSteps
 pub mod Steps
 pub mod Costed
 pub mod Stores
+pub mod FewHolders
+pub mod Joins
 pub mod Removal
 pub mod Leaves
 pub mod Costs

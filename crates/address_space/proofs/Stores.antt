@@ -1,9 +1,8 @@
--- What a store through a slot and a joining slot leave.
-use Rattle.std.proofs.Common.{◌≡◌, ◌≢◌, ℕ, zero, suc, ◌+◌, ◌*◌, ◌/◌, ◌%◌, ◌^◌, ◌<◌, ◌≤◌, Bool, true, false, cond, List, [], ◌∷◌, ◌++◌, length, take, drop, refl, ap, sym, ◌∙◌, subst, arith, inl, inr, Option, Some, None, length-set, append_assoc}
+-- What goes through a mapped slot leaves: a store, a load and a change of the right.
+use Rattle.std.proofs.Common.{◌≡◌, ℕ, suc, ◌+◌, ◌*◌, ◌/◌, ◌%◌, ◌^◌, ◌<◌, ◌≤◌, Bool, true, false, cond, List, [], ◌∷◌, ◌++◌, length, take, drop, refl, ap, sym, ◌∙◌, subst, arith, inl, inr, Option, Some, None, length-set, append_assoc}
 use Rattle.std.specs.Prelude.{is_some, slice_get, slice_set, if◌then◌else◌}
 use Rattle.std.specs.Option.{option_and_then, option_map}
-use Rattle.std.specs.List.{list_any, range_with_len}
-use Rattle.std.proofs.Math.Nat.{add-mul}
+use Rattle.std.specs.List.{list_any}
 use Rattle.byteorder.specs.Endian.{little_bytes}
 use Rattle.page_words.specs.Addresses.{slot_number, index_number, byte_count}
 use Rattle.page_words.specs.declared.addresses.Size.{Size}
@@ -13,33 +12,27 @@ use Rattle.phys_memory.specs.Bytes.{frame_bytes, word_in, with_word, with_frame}
 use Rattle.phys_memory.proofs.Frames.{with_frame-other, frames-with_word, frames-with_byte, length-with_word_in}
 use Rattle.alloc_table.specs.declared.Role.{Role}
 use Rattle.alloc_table.specs.declared.Role.TheVariants.{Table, Page}
-use Rattle.alloc_table.specs.Roles.{frames_weight}
-use Rattle.alloc_table.proofs.RoleLemmas.{weight-set}
 use Rattle.page_map.specs.declared.PageEntry.{PageEntry}
 use Rattle.page_map.specs.Entries.{Frames, dir_word, table_of, word_entry, entry_from, entry_at, with_entry, entry_word, is_lazy_entry, IsKernelEntry}
 use Rattle.page_map.proofs.WordLaws.{entry_word-names, entry_word-lt, entry_word-present, word_entry-entry_word}
 use Rattle.page_words.specs.FiniteMap as map
 use Rattle.page_words.specs.FiniteMap.{change_each}
-use Rattle.page_words.specs.FiniteSet as set
-use Rattle.std.specs.FinMap.Entries.{where_key}
-use Rattle.std.proofs.Common.{map as map_list, length-append}
-use Rattle.std.proofs.lemmas.List.{length-map, set_split}
-use Rattle.address_space.specs.Spaces.{Slot, slot_order, Spaces, Cell, cell_or_fresh, write_at, bytes_of, stored, joined, accessed as accessed_in, protected, at_page}
+use Rattle.std.proofs.lemmas.List.{set_split}
+use Rattle.address_space.specs.Spaces.{Slot, slot_order, Spaces, Cell, cell_or_fresh, write_at, bytes_of, stored, accessed as accessed_in, protected, at_page}
 use Rattle.page_words.specs.FiniteMap.{collect, put_some}
-use Rattle.address_space.specs.Slots.{user_slots, slots_below, at_pid}
+use Rattle.address_space.specs.Slots.{user_slots}
 use Rattle.page_words.specs.FiniteMap.{same}
-use Rattle.page_words.proofs.MapLemmas.{len-insert}
 use Rattle.address_space.proofs.UserSlots.{in_user_slots}
-use Rattle.address_space.specs.Cells.{Entries, names, lazy_count, cell_of, spaces_of, holders_of, nothing}
+use Rattle.address_space.specs.Cells.{Entries, lazy_count, cell_of, spaces_of}
 use Rattle.address_space.specs.View.{Directories, Roles, directory_of, table_in, entry_in, entries_in, spaces_in, total_cost}
 use Rattle.address_space.specs.Sound.{Tables, Pages, HoldsPage, IsSound, InUseAt, Names, Inside, InUse}
-use Rattle.address_space.specs.Changes.{SlotJoined, Touched, flagged}
-use Rattle.address_space.proofs.CostSteps.{total-entry, total-kept}
-use Rattle.address_space.proofs.EntrySteps.{Loose, get-entries_in, entries-insert, tables-entry, use_own, use_kept}
-use Rattle.address_space.proofs.FrameSteps.{loose-entry, loose-entries, tables-loose, tables-role, use_loose}
-use Rattle.address_space.proofs.PageSteps.{same_bytes, pages-same, pages-join, no_table, not_same, lazy-same, lazy-real}
-use Rattle.address_space.proofs.Refinement.{get-spaces_of, store_refines, join_refines, flags_refine, cell_at}
-use Rattle.address_space.proofs.Steps.{inside, holds_inside, live_small, page_loose, none_before, table_by_word, role_own, role_other, some_is}
+use Rattle.address_space.specs.Changes.{Touched, flagged}
+use Rattle.address_space.proofs.CostSteps.{total-kept}
+use Rattle.address_space.proofs.EntrySteps.{Loose, get-entries_in, entries-insert, tables-entry, use_kept}
+use Rattle.address_space.proofs.FrameSteps.{loose-entry, loose-entries, tables-loose, use_loose}
+use Rattle.address_space.proofs.PageSteps.{same_bytes, pages-same, no_table, not_same, lazy-same}
+use Rattle.address_space.proofs.Refinement.{get-spaces_of, store_refines, flags_refine, cell_at}
+use Rattle.address_space.proofs.Steps.{inside, holds_inside, live_small, page_loose, table_by_word, some_is}
 
 -- ---- Bytes
 
@@ -304,125 +297,7 @@ mapped_slot directories bytes p page h = by_directory (directory_of directories 
     by_directory None is h = cc
     by_directory (Some d) is h = let e = some_is (entry_at m d page) h in record { directory = d; live = is; entry = e.0; here = e.1 }
 
--- ---- A slot that joins
-
--- a page has fewer holders than a count can say
-few_holders : (E : Entries) (f n : ℕ) → map.len E ≤ n → set.len (holders_of E f) ≤ n
-few_holders E f n h = let a = kept (map.map_values nothing E).entries in let b = changed E.entries in omega arith
-  where
-    kept : (es : List (Slot × Unit {0})) → length (where_key slot_order.cmp (λ slot. names f (map.get E slot)) es) ≤ length es
-    kept [] = omega arith
-    kept (e ∷ es) = step (names f (map.get E e.0)) (kept es)
-      where
-        step : (b : Bool) → length (where_key slot_order.cmp (λ slot. names f (map.get E slot)) es) ≤ length es
-            → length (cond b (e ∷ where_key slot_order.cmp (λ slot. names f (map.get E slot)) es) (where_key slot_order.cmp (λ slot. names f (map.get E slot)) es)) ≤ length (e ∷ es)
-        step true h = omega arith
-        step false h = omega arith
-
-    changed : (es : List (Slot × PageEntry)) → length (change_each nothing es) ≡ length es
-    changed [] = refl
-    changed (e ∷ es) = ap suc (changed es)
-
-collected : (g : Slot → Option PageEntry) (ks : List Slot) → map.len (collect {o = slot_order} g ks) ≤ length ks
-collected g [] = omega arith
-collected g (k ∷ ks) = by (g k) (collected g ks)
-  where
-    by : (x : Option PageEntry) → map.len (collect {o = slot_order} g ks) ≤ length ks → map.len (put_some k x (collect {o = slot_order} g ks)) ≤ length (k ∷ ks)
-    by None h = omega arith
-    by (Some e) h = let l = len-insert (collect {o = slot_order} g ks) k e in let c = at_most (map.contains_key (collect {o = slot_order} g ks) k) (map.len (collect {o = slot_order} g ks)) in omega (arith, l, c, h)
-      where
-        at_most : (b : Bool) (n : ℕ) → cond b n (n + 1) ≤ n + 1
-        at_most true n = omega arith
-        at_most false n = omega arith
-
-suc_times : (n k : ℕ) → suc n * k ≡ k + n * k
-suc_times n k = omega (arith, add-mul n 1 k)
-
-length-range : (a n : ℕ) → length (range_with_len a n) ≡ n
-length-range a zero = refl
-length-range a (suc n) = ap suc (length-range (a + 1) n)
-
-length-slots : (n a k : ℕ) → length (slots_below n (range_with_len a k)) ≡ n * k
-length-slots zero a k = omega arith
-length-slots (suc n) a k =
-    let pages : List ℕ = range_with_len a k in
-    let x = length-append (map_list (at_pid n) pages) (slots_below n pages) in
-    let b = length-slots n a k in
-    let c : length (map_list (at_pid n) pages) ≡ length pages = length-map pages (at_pid n) in
-    let r = length-range a k in
-    let d = suc_times n k in
-    omega (arith, x, b, c, d, r)
-
-user_slots-count : length user_slots ≡ 64 * 0xb0000
-unfolding user_slots
-user_slots-count = length-slots 64 0x40000 0xb0000
-
-user_slots-few : length user_slots < 4294967295
-user_slots-few = let a = user_slots-count in omega (arith, a)
-
-pub count_few : (D : Directories) (m : Frames) (R : Roles) (f c : ℕ) → Pages (entries_in D m) R → R f ≡ Some (Page c) → c < 4294967295
-unfolding entries_in
-count_few D m R f c P is =
-    let a = (P.counts f c is).1 in
-    let b = few_holders (entries_in D m) f (length user_slots) (collected (entry_in D m) user_slots) in
-    let l = user_slots-few in
-    omega (arith, a, b, l)
-
-pub slot_joined : (directories : List (Option ℕ)) (bytes two : List ℕ) (roles roles' : List Role) (giver giver_page p d page f c : ℕ) (right : Bool) → IsSound directories bytes roles → directory_of directories p ≡ Some d
-    → 0x40000 ≤ page → page < 0xf0000 → map.get (spaces_in directories bytes) (at_page p page) ≡ None → is_some (table_of (frame_bytes bytes) d (slot_number page)) ≡ true
-    → Names (entries_in (directory_of directories) (frame_bytes bytes)) (at_page giver giver_page) f → slice_get roles f ≡ Some (Page c) → roles' ≡ slice_set roles f (Page (c + 1))
-    → frame_bytes two ≡ with_entry (frame_bytes bytes) (frame_number (dir_word (frame_bytes bytes) d (slot_number page))) page (record { frame = f; write = right; may = right; accessed = false; dirty = false; lazy = false }) → length two ≡ length bytes
-    → SlotJoined directories giver giver_page p page right bytes roles two roles'
-unfolding spaces_in
-slot_joined directories bytes two roles roles' giver giver_page p d page f c right sound live low high unmapped table given role now is_two long_two =
-    let few : p < 64 = live_small directories p d sound.pids live in
-    let D : Directories = directory_of directories in
-    let m : Frames = frame_bytes bytes in
-    let R : Roles = slice_get roles in
-    let R' : Roles = slice_get roles' in
-    let T : Tables D m R = sound.tables in
-    let slot : Slot = at_page p page in
-    let e : PageEntry = record { frame = f; write = right; may = right; accessed = false; dirty = false; lazy = false } in
-    let E : Entries = entries_in D m in
-    let at = some_is (table_of m d (slot_number page)) table in
-    let t : ℕ = at.0 in
-    let m2 : Frames = with_entry m t page e in
-    let own : R' f ≡ Some (Page (c + 1)) = role_own roles roles' f (Page c) (Page (c + 1)) role now in
-    let others : (g : ℕ) → g ≢ f → R' g ≡ R g = role_other roles roles' f (Page (c + 1)) now in
-    let in_memory = inside directories bytes roles f (Page c) sound role in
-    let Tb : Tables D m R' = tables-role D m R R' f (Page c) T role (page_loose R f c role) (page_loose R' f (c + 1) own) others in
-    let up_table : table_in D m p (slot_number page) ≡ Some t = ap (option_and_then (λ x. table_of m x (slot_number page))) live ∙ at.1 in
-    let role_t : R t ≡ Some (Table p (slot_number page)) = T.table p (slot_number page) t up_table in
-    let is : frame_bytes two ≡ m2 = is_two ∙ ap (λ g. with_entry m g page e) (table_by_word (dir_word m d (slot_number page)) t at.1) in
-    let E2 : entries_in D (frame_bytes two) ≡ map.insert E slot e = ap (entries_in D) is ∙ entries-insert D m R' Tb p d page t (entry_word e) live at.1 (entry_word-lt e in_memory.small) e (word_entry-entry_word e in_memory.small) few low high in
-    let none : map.get E slot ≡ None = none_before E m slot (map.get E slot) (sym (get-spaces_of E m slot) ∙ unmapped) in
-    let same_length : length roles' ≡ length roles = ap length now ∙ length-set roles f (Page (c + 1)) in
-    let page_kept : (q : Slot) (x : PageEntry) → map.get E q ≡ Some x → m2 x.frame ≡ m x.frame = λ q x was.
-    with_frame-other m t x.frame _ (no_table R x.frame t p (slot_number page) (sound.pages.pages q x was) role_t) in
-    let named : e ≡ record { frame = given.0.frame; write = right; may = right; accessed = false; dirty = false; lazy = false } = (λ i. record { frame = sym given.2 i; write = right; may = right; accessed = false; dirty = false; lazy = false }) in
-    let up : 1 ≤ f = above T in
-    let rules : IsKernelEntry e = record { frame = λ _. up; zero = λ h. cc; clean = λ h. cc; right = λ h. h; touched = λ h. h } in
-    record {
-      slot = record {
-        sound = record {
-          size = long_two ∙ sound.size ∙ ap (λ n. 4096 * n) (sym same_length);
-          few = subst (λ n. n ≤ 4096) (sym same_length) sound.few;
-          pids = sound.pids;
-          tables = subst (λ x. Tables D x R') (sym is) (tables-entry D m R' Tb p d page t (entry_word e) live at.1 (entry_word-lt e in_memory.small) (inr (entry_word-names e in_memory.small rules)));
-          pages = subst (λ x. Pages x R') (sym E2) (pages-join E R R' slot e c sound.pages none role own others);
-        };
-        cost = (λ i. total_cost directories (spaces_of (E2 i) (frame_bytes two))) ∙ total-entry directories E m (frame_bytes two) slot e (cell_of E m slot e) d few live none;
-        weight = let k = weight-set roles f (Page c) (Page (c + 1)) role in let n : frames_weight roles' ≡ frames_weight (slice_set roles f (Page (c + 1))) = ap frames_weight now in
-            let l : lazy_count (entries_in D (frame_bytes two)) ≡ lazy_count E = ap lazy_count E2 ∙ lazy-real E slot e none (λ z. omega (arith, z, up)) in omega (arith, k, n, l);
-        length = same_length;
-        own = subst (λ x. InUseAt D x p (slot_number page)) (sym is) (use_own D m R' Tb p d page t (entry_word e) live at.1 (entry_word-lt e in_memory.small) (entry_word-present e));
-        others = λ q r n use_at. subst (λ x. InUseAt D x q r) (sym is) (use_kept D m R' Tb p d page t (entry_word e) live at.1 (entry_word-lt e in_memory.small) (entry_word-present e) q r use_at);
-      };
-      spaces = (λ i. spaces_of (E2 i) (is i)) ∙ (λ i. spaces_of (map.insert E slot (named i)) m2) ∙ join_refines E m2 (at_page giver giver_page) slot given.0 right given.1 (not_same given.0.frame 0 (λ z. let s = given.2 in omega (arith, z, s, up))) none ∙ ap (λ x. joined x (at_page giver giver_page) slot right) (same_bytes E m m2 page_kept);
-    }
-  where
-    above : Tables (directory_of directories) (frame_bytes bytes) (slice_get roles) → 1 ≤ f
-    above T = let n : f ≢ 0 = (λ z. let a = T.zero_role in let r = role in let k : slice_get roles 0 ≡ slice_get roles f = ap (slice_get roles) (sym z) in cc) in omega arith
+-- ---- Entries that were read
 
 -- a frame other than frame 0 that a slot's entry names is a page
 pub page_of_name : (directories : List (Option ℕ)) (bytes : List ℕ) (roles : List Role) (slot : Slot) (f : ℕ) → IsSound directories bytes roles → Names (entries_in (directory_of directories) (frame_bytes bytes)) slot f → 1 ≤ f → HasPage roles f

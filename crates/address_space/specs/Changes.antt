@@ -95,7 +95,7 @@ abbrev pub IsEmptySpace : Spaces → ℕ → Type 0
 IsEmptySpace spaces p = (page : ℕ) → map.get spaces (at_page p page) ≡ None
 
 -- the pages of a process below one have left their groups
-pub record ClearedBelow (directories : List (Option ℕ)) (p from : ℕ) (bytes : List ℕ) (roles : List Role) (bytes' : List ℕ) (roles' : List Role) : Type 0 where
+pub record DroppedBelow (directories : List (Option ℕ)) (p from : ℕ) (bytes : List ℕ) (roles : List Role) (bytes' : List ℕ) (roles' : List Role) : Type 0 where
   pub after : IsSpaces directories bytes' roles'
   pub spaces : without (spaces_in directories bytes') (is_of p) ≡ without (spaces_in directories bytes) (is_of p)
   pub below : (page : ℕ) → page < from → map.get (spaces_in directories bytes') (at_page p page) ≡ None
@@ -104,14 +104,14 @@ pub record ClearedBelow (directories : List (Option ℕ)) (p from : ℕ) (bytes 
   pub high : from ≤ 0xf0000
 
 -- all pages of a process have left their groups
-pub record SpaceCleared (directories : List (Option ℕ)) (p : ℕ) (bytes : List ℕ) (roles : List Role) (bytes' : List ℕ) (roles' : List Role) : Type 0 where
+pub record PagesDropped (directories : List (Option ℕ)) (p : ℕ) (bytes : List ℕ) (roles : List Role) (bytes' : List ℕ) (roles' : List Role) : Type 0 where
   pub after : IsSpaces directories bytes' roles'
   pub spaces : spaces_in directories bytes' ≡ without (spaces_in directories bytes) (is_of p)
   pub empty : IsEmptySpace (spaces_in directories bytes') p
   pub length : length roles' ≡ length roles
 
 -- a process's directory, without any page, went
-pub record DirectoryRemoved (directories : List (Option ℕ)) (p : ℕ) (bytes : List ℕ) (roles : List Role) (directories' : List (Option ℕ)) (roles' : List Role) : Type 0 where
+pub record DirectoryDropped (directories : List (Option ℕ)) (p : ℕ) (bytes : List ℕ) (roles : List Role) (directories' : List (Option ℕ)) (roles' : List Role) : Type 0 where
   pub after : IsSpaces directories' bytes roles'
   pub spaces : spaces_in directories' bytes ≡ spaces_in directories bytes
   pub none : directory_of directories' p ≡ None

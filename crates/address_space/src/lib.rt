@@ -637,7 +637,7 @@ impl Spaces {
         ensures others { (other : ℕ) → other ≢ pid → directory_of self.new.directories other ≡ directory_of self.old.directories other }
         ensures frames { length self.new.roles ≡ length self.old.roles }
     {
-        drops::remove_space(
+        drops::drop_space(
             &mut self.memory,
             &mut self.frames,
             &mut self.directories,

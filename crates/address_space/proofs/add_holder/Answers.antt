@@ -3,7 +3,9 @@ use Rattle.alloc_table.specs.declared.Role.TheVariants.{Page}
 use Rattle.phys_memory.specs.Bytes.{frame_bytes}
 use Rattle.address_space.specs.View.{directory_of}
 use Rattle.address_space.proofs.Steps.{page_map_of, inside}
-use Rattle.address_space.proofs.Stores.{count_few, slot_joined, page_of_name}
+use Rattle.address_space.proofs.FewHolders.{count_few}
+use Rattle.address_space.proofs.Joins.{slot_joined}
+use Rattle.address_space.proofs.Stores.{page_of_name}
 use Rattle.address_space.proofs.add_holder.Goals as goal
 
 pub hold-requires : goal.hold-requires
