@@ -7,7 +7,7 @@ use std::process::Abort;
 use std::test::Fail;
 
 /// Maps a page of zeros of a process that has a space.
-#[tactic(auto, using(crate::proofs::Totals::total_mapped_most))]
+#[tactic(auto, using(crate::proofs::costs::Totals::total_mapped_most))]
 fn map_page(rt: &impl Abort, spaces: &mut Spaces, pid: Pid, page: Page)
     requires user { IsUserPage page }
     requires room { 3 + total_cost spaces.old.directories spaces.old.spaces ≤ length spaces.old.roles }

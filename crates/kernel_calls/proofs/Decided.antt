@@ -8,7 +8,7 @@ use Rattle.quota_tree.specs.declared.Container.{Container}
 use Rattle.quota_tree.specs.Book.{Member}
 use Rattle.process_table.specs.State.{State, is_live, child_of, container_of, shown}
 use Rattle.process_table.specs.Calls.{map_refusal, protect_refusal, offer_refusal, spawn_refusal, after_map, after_protect}
-use Rattle.address_space.proofs.Totals.{cost-protected_of}
+use Rattle.address_space.proofs.costs.Totals.{cost-protected_of}
 use Rattle.process_table.proofs.Refusals.{may_protect}
 use Rattle.process_table.specs.TestAnswers.{first_cause, number_unless, child_unless, map_answer, protect_answer, offer_answer, spawn_answer}
 use Rattle.process_table.specs.declared.causes.Cause.{Cause}

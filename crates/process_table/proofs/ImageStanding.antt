@@ -17,9 +17,9 @@ use Rattle.address_space.specs.Spaces.{Slot, Cell, Spaces, pages_of, regions_of,
 use Rattle.address_space.specs.Image as memory
 use Rattle.address_space.specs.Image.{directory_at, table_at, page_word, present_word, word_of}
 use Rattle.address_space.specs.View.{directory_of}
-use Rattle.address_space.proofs.Costs.{contains-pages_of}
-use Rattle.address_space.proofs.CostSteps.{region_member, region_there}
-use Rattle.address_space.proofs.Standing.{stands_for_one}
+use Rattle.address_space.proofs.costs.Costs.{contains-pages_of}
+use Rattle.address_space.proofs.costs.CostSteps.{region_member, region_there}
+use Rattle.address_space.proofs.standing.Standing.{stands_for_one}
 use Rattle.quota_tree.specs.declared.Container.{Container}
 use Rattle.quota_tree.specs.Book.{Member, is_child, given, quota_of}
 use Rattle.process_table.specs.State.{State, is_live, shown, container_of}

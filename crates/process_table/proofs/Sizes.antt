@@ -8,8 +8,8 @@ use Rattle.page_words.specs.FiniteSet as set
 use Rattle.page_words.specs.FiniteSet.{Set}
 use Rattle.page_words.proofs.MapLemmas.{same_set, contains-retain}
 use Rattle.address_space.specs.Spaces.{Slot, Spaces, cost, pages_of, regions_of, at_page}
-use Rattle.address_space.proofs.Costs.{contains-pages_of}
-use Rattle.address_space.proofs.CostSteps.{region_member, region_there}
+use Rattle.address_space.proofs.costs.Costs.{contains-pages_of}
+use Rattle.address_space.proofs.costs.CostSteps.{region_member, region_there}
 
 module _ {K X : Type 0} (R : K → K → Ordering) where
   length-where_key : (t : K → Bool) (es : List (K × X)) → length (where_key R t es) ≤ length es

@@ -17,9 +17,9 @@ use Rattle.page_words.specs.FiniteSet.{Set}
 use Rattle.page_words.proofs.MapLemmas.{get-map_values}
 use Rattle.page_words.proofs.SetLemmas.{same_cases}
 use Rattle.address_space.specs.Spaces.{Slot, slot_order, Cell, Spaces, cost, cost_of, need, fresh, accessed, store_in, set_bytes, with_bytes, write_at, bytes_of, slot_at, at_page}
-use Rattle.address_space.proofs.Costs.{same_pages, cost-insert}
-use Rattle.address_space.proofs.MapFirst.{accessed-fresh, stored-fresh}
-use Rattle.address_space.proofs.Stores.{written_long}
+use Rattle.address_space.proofs.costs.Costs.{same_pages, cost-insert}
+use Rattle.address_space.proofs.costs.MapFirst.{accessed-fresh, stored-fresh}
+use Rattle.address_space.proofs.steps.Stores.{written_long}
 use Rattle.quota_tree.specs.Book.{given, quota_of}
 use Rattle.page_sharing.specs.Offers.{OfferKey}
 use Rattle.process_table.specs.State.{State, is_live, is_mapped, has_no_room, room}

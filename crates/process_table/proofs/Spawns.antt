@@ -13,7 +13,7 @@ use Rattle.address_space.specs.Spaces.{Slot, Cell, Spaces, cost, cost_of, pages_
 use Rattle.address_space.specs.Image.{Image, StandsFor, SlotStands, directory_at, page_word}
 use Rattle.address_space.specs.View as frames
 use Rattle.address_space.specs.View.{directory_of, live_cost, total_cost}
-use Rattle.address_space.proofs.Costs.{contains-pages_of}
+use Rattle.address_space.proofs.costs.Costs.{contains-pages_of}
 use Rattle.quota_tree.specs.declared.QuotaFault.{QuotaFault}
 use Rattle.quota_tree.specs.declared.QuotaFault.TheVariants as quota
 use Rattle.quota_tree.specs.Book.{Book, Member, given, quota_of, next_number}

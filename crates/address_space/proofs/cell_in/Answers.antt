@@ -6,11 +6,11 @@ use Rattle.page_map.specs.Entries.{entry_at}
 use Rattle.address_space.specs.Shown.{shown}
 use Rattle.address_space.specs.Cells.{cell_of}
 use Rattle.address_space.specs.View.{directory_of, entries_in}
-use Rattle.address_space.proofs.Openings.{no_cell}
-use Rattle.address_space.proofs.Steps.{page_map_of, live_small}
-use Rattle.address_space.proofs.FewHolders.{count_few}
-use Rattle.address_space.proofs.Stores.{named_entry, page_of_name, entry_rules}
-use Rattle.address_space.proofs.Readings.{get-spaces_in, group_counted}
+use Rattle.address_space.proofs.steps.Openings.{no_cell}
+use Rattle.address_space.proofs.steps.Steps.{page_map_of, live_small}
+use Rattle.address_space.proofs.frames.FewHolders.{count_few}
+use Rattle.address_space.proofs.steps.Stores.{named_entry, page_of_name, entry_rules}
+use Rattle.address_space.proofs.entries.Readings.{get-spaces_in, group_counted}
 use Rattle.address_space.specs.Spaces.{at_page}
 use Rattle.address_space.proofs.cell_in.Goals as goal
 

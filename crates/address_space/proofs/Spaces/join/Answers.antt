@@ -5,10 +5,10 @@ use Rattle.address_space.specs.View.{View}
 use Rattle.address_space.specs.Sound.{Names}
 use Rattle.address_space.specs.Changes.{TableGiven}
 use Rattle.address_space.specs.Image.{is_lazy_at}
-use Rattle.address_space.proofs.Standing.{lazy_read}
-use Rattle.address_space.proofs.Costed.{Room, room_for_table, mapped}
-use Rattle.address_space.proofs.Steps.{page_map_of}
-use Rattle.address_space.proofs.Stores.{mapped_slot, mapped_live, mapped_entry, named_entry, entry_rules, real_entry}
+use Rattle.address_space.proofs.standing.Standing.{lazy_read}
+use Rattle.address_space.proofs.costs.Costed.{Room, room_for_table, mapped}
+use Rattle.address_space.proofs.steps.Steps.{page_map_of}
+use Rattle.address_space.proofs.steps.Stores.{mapped_slot, mapped_live, mapped_entry, named_entry, entry_rules, real_entry}
 use Rattle.address_space.specs.Spaces.{at_page}
 use Rattle.address_space.proofs.Spaces.join.Goals as goal
 

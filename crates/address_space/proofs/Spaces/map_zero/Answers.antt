@@ -2,8 +2,8 @@ use Rattle.std.proofs.Common.{ap, subst, sym, ◌∙◌}
 use Rattle.address_space.specs.View.{View}
 use Rattle.address_space.specs.Changes.{TableGiven}
 use Rattle.page_map.specs.Entries.{is_lazy_entry}
-use Rattle.address_space.proofs.Standing.{same_lazy}
-use Rattle.address_space.proofs.Costed.{Room, room_for_table, mapped}
+use Rattle.address_space.proofs.standing.Standing.{same_lazy}
+use Rattle.address_space.proofs.costs.Costed.{Room, room_for_table, mapped}
 use Rattle.address_space.specs.Spaces.{at_page}
 use Rattle.address_space.proofs.Spaces.map_zero.Goals as goal
 

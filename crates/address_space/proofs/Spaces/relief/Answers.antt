@@ -2,7 +2,7 @@ use Rattle.std.proofs.Common.{◌≡◌, sym, subst, true}
 use Rattle.std.specs.Prelude.{is_some}
 use Rattle.page_words.specs.FiniteMap as map
 use Rattle.address_space.specs.View.{View}
-use Rattle.address_space.proofs.Stores.{mapped_slot, mapped_live}
+use Rattle.address_space.proofs.steps.Stores.{mapped_slot, mapped_live}
 use Rattle.address_space.specs.Spaces.{at_page}
 use Rattle.address_space.proofs.Spaces.relief.Goals as goal
 

@@ -2,8 +2,8 @@ use Rattle.std.proofs.Common.{ap, sym, ◌∙◌, subst}
 use Rattle.page_words.specs.Addresses.{byte_count}
 use Rattle.address_space.specs.Spaces.{Cell, Spaces, value_of, bytes_at}
 use Rattle.address_space.specs.Changes.{Touched}
-use Rattle.address_space.proofs.Steps.{page_map_of, live_small}
-use Rattle.address_space.proofs.Stores.{named_inside, entry_rules, cell_read, flagged_load}
+use Rattle.address_space.proofs.steps.Steps.{page_map_of, live_small}
+use Rattle.address_space.proofs.steps.Stores.{named_inside, entry_rules, cell_read, flagged_load}
 use Rattle.address_space.proofs.accesses.load.Goals as goal
 
 pub number_at-value-requires-clause-frame : goal.number_at-value-requires-clause-frame

@@ -1,8 +1,8 @@
 use Rattle.std.proofs.Common.{ap, sym, ◌∙◌}
 use Rattle.page_words.specs.Addresses.{byte_count}
 use Rattle.address_space.specs.Spaces.{Cell, value_of, bytes_at}
-use Rattle.address_space.proofs.Steps.{page_map_of, live_small}
-use Rattle.address_space.proofs.Stores.{named_inside, cell_read}
+use Rattle.address_space.proofs.steps.Steps.{page_map_of, live_small}
+use Rattle.address_space.proofs.steps.Stores.{named_inside, cell_read}
 use Rattle.address_space.proofs.accesses.look.Goals as goal
 
 pub entry-requires-clause-map : goal.entry-requires-clause-map

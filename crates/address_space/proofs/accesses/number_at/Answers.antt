@@ -1,7 +1,7 @@
 use Rattle.std.proofs.Common.{◌≡◌, ◌+◌, ◌*◌, ◌%◌, ap, ◌∙◌}
 use Rattle.std.specs.Prelude.{slice_index}
 use Rattle.phys_memory.specs.Bytes.{word_at}
-use Rattle.address_space.proofs.Readings.{word_read_in, byte_read_in}
+use Rattle.address_space.proofs.entries.Readings.{word_read_in, byte_read_in}
 use Rattle.address_space.proofs.accesses.number_at.Goals as goal
 
 pub returns-in-One : goal.returns-in-One

@@ -2,7 +2,7 @@ use Rattle.std.proofs.Common.{◌≡◌, ◌+◌, ◌*◌, ◌%◌, ap, ◌∙�
 use Rattle.std.specs.Prelude.{slice_set}
 use Rattle.phys_memory.specs.Bytes.{with_word, with_frame, frame_bytes}
 use Rattle.phys_memory.proofs.Frames.{length-frame}
-use Rattle.address_space.proofs.Stores.{word_placed, word_is_write, byte_placed, byte_is_write}
+use Rattle.address_space.proofs.steps.Stores.{word_placed, word_is_write, byte_placed, byte_is_write}
 use Rattle.address_space.proofs.accesses.put_bytes.Goals as goal
 
 pub returns-in-One-clause-frames : goal.returns-in-One-clause-frames

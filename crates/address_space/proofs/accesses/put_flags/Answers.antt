@@ -1,5 +1,5 @@
-use Rattle.address_space.proofs.Steps.{page_map_of}
-use Rattle.address_space.proofs.Stores.{flags_set, named_inside}
+use Rattle.address_space.proofs.steps.Steps.{page_map_of}
+use Rattle.address_space.proofs.steps.Stores.{flags_set, named_inside}
 use Rattle.address_space.proofs.accesses.put_flags.Goals as goal
 
 pub set_entry-requires-clause-frame : goal.set_entry-requires-clause-frame

@@ -1,8 +1,8 @@
 use Rattle.std.proofs.Common.{ap, sym, ◌∙◌, subst}
 use Rattle.address_space.specs.Spaces.{Cell, Spaces}
 use Rattle.address_space.specs.Changes.{Touched}
-use Rattle.address_space.proofs.Steps.{page_map_of, live_small}
-use Rattle.address_space.proofs.Stores.{entry_rules, cell_read, flagged_right}
+use Rattle.address_space.proofs.steps.Steps.{page_map_of, live_small}
+use Rattle.address_space.proofs.steps.Stores.{entry_rules, cell_read, flagged_right}
 use Rattle.address_space.proofs.accesses.set_right.Goals as goal
 
 pub entry-requires-clause-map : goal.entry-requires-clause-map

@@ -3,8 +3,8 @@ use Rattle.std.specs.Prelude.{is_some}
 use Rattle.phys_memory.specs.Bytes.{frame_bytes}
 use Rattle.page_words.specs.Addresses.{slot_number, byte_count}
 use Rattle.address_space.specs.Spaces.{bytes_of}
-use Rattle.address_space.proofs.Steps.{page_map_of, map_kept, present_by_table}
-use Rattle.address_space.proofs.Stores.{page_stored, stored_place, real_entry, written_long}
+use Rattle.address_space.proofs.steps.Steps.{page_map_of, map_kept, present_by_table}
+use Rattle.address_space.proofs.steps.Stores.{page_stored, stored_place, real_entry, written_long}
 use Rattle.address_space.proofs.accesses.store.Goals as goal
 
 pub entry-requires-clause-map : goal.entry-requires-clause-map

@@ -2,8 +2,8 @@ use Rattle.std.proofs.Common.{◌+◌, ap, sym, ◌∙◌}
 use Rattle.page_words.specs.FiniteMap as map
 use Rattle.address_space.specs.Spaces.{cost, without, is_slot, at_page}
 use Rattle.address_space.specs.View.{spaces_in}
-use Rattle.address_space.proofs.Steps.{page_map_of, live_small, some_is}
-use Rattle.address_space.proofs.Relief.{cost_left, relief_alone, relief_shared}
+use Rattle.address_space.proofs.steps.Steps.{page_map_of, live_small, some_is}
+use Rattle.address_space.proofs.costs.Relief.{cost_left, relief_alone, relief_shared}
 use Rattle.address_space.proofs.charges.relief_in.Goals as goal
 
 pub is_alone-requires-clause-map : goal.is_alone-requires-clause-map

@@ -1,7 +1,7 @@
 use Rattle.std.proofs.Common.{sym, subst, refl}
 use Rattle.alloc_table.specs.declared.Role.TheVariants.{Directory}
 use Rattle.address_space.specs.Changes.{DirectoryDropped}
-use Rattle.address_space.proofs.Departures.{directory_removed}
+use Rattle.address_space.proofs.steps.Departures.{directory_removed}
 use Rattle.address_space.proofs.drops.drop_directory.Goals as goal
 
 pub release-requires : goal.release-requires

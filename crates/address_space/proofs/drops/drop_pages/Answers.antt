@@ -1,8 +1,8 @@
 use Rattle.std.proofs.Common.{◌+◌, sym, subst}
 use Rattle.phys_memory.specs.Bytes.{frame_bytes}
 use Rattle.address_space.specs.Changes.{DroppedBelow}
-use Rattle.address_space.proofs.Steps.{page_map_of}
-use Rattle.address_space.proofs.Departures.{dropped_at_first, dropped_next, dropped_at_last, entry_mapped}
+use Rattle.address_space.proofs.steps.Steps.{page_map_of}
+use Rattle.address_space.proofs.steps.Departures.{dropped_at_first, dropped_next, dropped_at_last, entry_mapped}
 use Rattle.address_space.proofs.drops.drop_pages.Goals as goal
 
 pub loop-page-init : goal.loop-page-init

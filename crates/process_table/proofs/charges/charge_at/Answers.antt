@@ -2,7 +2,7 @@ use Rattle.std.proofs.Common.{◌≡◌, ◌+◌, ap, sym, ◌∙◌, true, fals
 use Rattle.page_words.specs.FiniteMap as map
 use Rattle.address_space.specs.Spaces.{Spaces, slot_at, cost, need, at_page}
 use Rattle.address_space.specs.Shown.{shown}
-use Rattle.address_space.proofs.AccessCosts.{cost-accessed_mapped, cost-accessed_new}
+use Rattle.address_space.proofs.costs.AccessCosts.{cost-accessed_mapped, cost-accessed_new}
 use Rattle.std.specs.Option.{option_map}
 use Rattle.process_table.proofs.Charged.{is_some-map}
 use Rattle.process_table.proofs.Refusals.{no_cell}

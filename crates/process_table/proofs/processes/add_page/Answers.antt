@@ -1,9 +1,9 @@
 use Rattle.std.proofs.Common.{◌+◌, ap, sym, subst, ◌∙◌}
 use Rattle.address_space.specs.Spaces.{Slot, cost, fresh, at_page}
-use Rattle.address_space.proofs.Costs.{cost-insert}
+use Rattle.address_space.proofs.costs.Costs.{cost-insert}
 use Rattle.quota_tree.specs.Containers.{used_of}
 use Rattle.process_table.specs.View.{IsProcesses}
-use Rattle.address_space.proofs.Totals.{cost-insert_other}
+use Rattle.address_space.proofs.costs.Totals.{cost-insert_other}
 use Rattle.process_table.proofs.Charged.{charged-one}
 use Rattle.process_table.proofs.processes.add_page.Goals as goal
 

@@ -1,6 +1,6 @@
 use Rattle.std.proofs.Common.{◌+◌, ap, sym, subst, ◌∙◌}
 use Rattle.address_space.specs.Spaces.{Slot, cost, joined, at_page}
-use Rattle.address_space.proofs.Totals.{cost-joined, cost-joined_other}
+use Rattle.address_space.proofs.costs.Totals.{cost-joined, cost-joined_other}
 use Rattle.quota_tree.specs.Containers.{used_of}
 use Rattle.process_table.specs.View.{IsProcesses}
 use Rattle.process_table.proofs.Charged.{charged-one}

@@ -2,9 +2,9 @@ use Rattle.std.proofs.Common.{◌≡◌, ℕ, ◌+◌, ◌-◌, ap, sym, subst, 
 use Rattle.address_space.specs.Spaces.{cost, without, is_slot, at_page}
 use Rattle.quota_tree.specs.Containers.{used_of}
 use Rattle.process_table.specs.View.{IsProcesses}
-use Rattle.address_space.proofs.Departures.{slot_of_process}
-use Rattle.address_space.proofs.PageSteps.{not_same}
-use Rattle.address_space.proofs.Totals.{cost-without_other}
+use Rattle.address_space.proofs.steps.Departures.{slot_of_process}
+use Rattle.address_space.proofs.frames.PageSteps.{not_same}
+use Rattle.address_space.proofs.costs.Totals.{cost-without_other}
 use Rattle.process_table.proofs.Charged.{charged-one}
 use Rattle.process_table.proofs.processes.remove_page.Goals as goal
 

@@ -1,6 +1,6 @@
 use Rattle.std.proofs.Common.{ap, ◌∙◌, length}
 use Rattle.address_space.specs.Spaces.{cost, at_page}
-use Rattle.address_space.proofs.Totals.{cost-protected_of}
+use Rattle.address_space.proofs.costs.Totals.{cost-protected_of}
 use Rattle.process_table.proofs.Charged.{charged-same}
 use Rattle.process_table.proofs.processes.set_right.Goals as goal
 

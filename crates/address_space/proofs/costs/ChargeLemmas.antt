@@ -20,12 +20,12 @@ use Rattle.address_space.specs.Spaces.{Cell, Spaces, cost, pages_of, regions_of,
 use Rattle.address_space.specs.Cells.{cell_of}
 use Rattle.address_space.specs.View.{directory_of, table_in, entries_in, spaces_in}
 use Rattle.address_space.specs.Sound.{IsSpaces}
-use Rattle.address_space.proofs.Costs.{contains-pages_of}
-use Rattle.address_space.proofs.CostSteps.{region_member}
-use Rattle.address_space.proofs.Departures.{no_cell_outside}
-use Rattle.address_space.proofs.Openings.{cost_within}
-use Rattle.address_space.proofs.Readings.{need_read, get-spaces_in}
-use Rattle.address_space.proofs.Steps.{live_small}
+use Rattle.address_space.proofs.costs.Costs.{contains-pages_of}
+use Rattle.address_space.proofs.costs.CostSteps.{region_member}
+use Rattle.address_space.proofs.steps.Departures.{no_cell_outside}
+use Rattle.address_space.proofs.steps.Openings.{cost_within}
+use Rattle.address_space.proofs.entries.Readings.{need_read, get-spaces_in}
+use Rattle.address_space.proofs.steps.Steps.{live_small}
 
 -- what a page costs where its region has a table, and where it has none
 abbrev priced : Bool → ℕ

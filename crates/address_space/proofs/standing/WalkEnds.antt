@@ -19,9 +19,9 @@ use Rattle.address_space.specs.Cells.{cell_of}
 use Rattle.address_space.specs.Walks.{FindsBytes, WalkEndsBy, WalksAgree}
 use Rattle.address_space.specs.View.{directory_of, entries_in, spaces_in}
 use Rattle.address_space.specs.Sound.{IsSound, IsSpaces}
-use Rattle.address_space.proofs.Refinement.{get-spaces_of}
-use Rattle.address_space.proofs.Standing.{image_of, same_entry, read_entry, same_lazy}
-use Rattle.address_space.proofs.Steps.{page_map_of, holds_inside}
+use Rattle.address_space.proofs.entries.Refinement.{get-spaces_of}
+use Rattle.address_space.proofs.standing.Standing.{image_of, same_entry, read_entry, same_lazy}
+use Rattle.address_space.proofs.steps.Steps.{page_map_of, holds_inside}
 
 module _ (directories : List (Option ℕ)) (bytes : List ℕ) (roles : List Role) (sound : IsSound directories bytes roles) where
   -- what is mapped at an address is what its entry says

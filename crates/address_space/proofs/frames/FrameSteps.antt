@@ -15,7 +15,7 @@ use Rattle.page_map.proofs.WordLaws.{link_word-lt, word_table-link_word, link_wo
 use Rattle.address_space.specs.Spaces.{Slot}
 use Rattle.address_space.specs.View.{Directories, Roles, table_in, entry_in, entries_in}
 use Rattle.address_space.specs.Sound.{Tables, InUseAt}
-use Rattle.address_space.proofs.EntrySteps.{Loose, same_entries, entry_by_table}
+use Rattle.address_space.proofs.entries.EntrySteps.{Loose, same_entries, entry_by_table}
 
 -- ---- A frame's bytes
 

@@ -15,10 +15,10 @@ use Rattle.address_space.specs.Spaces.{Slot, slot_order, Cell, Spaces, cost, cos
 use Rattle.address_space.specs.Slots.{user_slots}
 use Rattle.address_space.specs.View.{directory_of, entry_in, entries_in, spaces_in}
 use Rattle.address_space.specs.Sound.{IsAlone, IsShared}
-use Rattle.address_space.proofs.Costs.{contains-pages_of, same_pages, cost-insert}
-use Rattle.address_space.proofs.CostSteps.{region_there, region_member, keys}
-use Rattle.address_space.proofs.EntrySteps.{get-entries_in}
-use Rattle.address_space.proofs.UserSlots.{in_user_slots}
+use Rattle.address_space.proofs.costs.Costs.{contains-pages_of, same_pages, cost-insert}
+use Rattle.address_space.proofs.costs.CostSteps.{region_there, region_member, keys}
+use Rattle.address_space.proofs.entries.EntrySteps.{get-entries_in}
+use Rattle.address_space.proofs.entries.UserSlots.{in_user_slots}
 
 module _ (S : Spaces) (p page : ℕ) where
   abbrev slot : Slot

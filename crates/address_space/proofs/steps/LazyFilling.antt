@@ -21,13 +21,13 @@ use Rattle.address_space.specs.Cells.{Entries, names, lazy_count, spaces_of, hol
 use Rattle.address_space.specs.View.{Directories, Roles, directory_of, entry_in, entries_in, spaces_in, total_cost}
 use Rattle.address_space.specs.Sound.{Tables, Pages, IsSpaces, InUseAt}
 use Rattle.address_space.specs.Changes.{PageFilled}
-use Rattle.address_space.proofs.Costed.{free_where_light}
-use Rattle.address_space.proofs.EntrySteps.{entries-insert, entry_own, tables-entry, use_kept}
-use Rattle.address_space.proofs.FrameSteps.{tables-role}
-use Rattle.address_space.proofs.PageSteps.{same_bytes, pages-more, unused, unused_count, no_free, no_table, not_same, lazy-filled, holders-less}
-use Rattle.address_space.proofs.Refinement.{fill_refines}
-use Rattle.address_space.proofs.Steps.{inside, live_small, table_by_word, role_own, role_other, free_loose, page_loose}
-use Rattle.address_space.proofs.Stores.{found, get_user, entry_rules, frame_written}
+use Rattle.address_space.proofs.costs.Costed.{free_where_light}
+use Rattle.address_space.proofs.entries.EntrySteps.{entries-insert, entry_own, tables-entry, use_kept}
+use Rattle.address_space.proofs.frames.FrameSteps.{tables-role}
+use Rattle.address_space.proofs.frames.PageSteps.{same_bytes, pages-more, unused, unused_count, no_free, no_table, not_same, lazy-filled, holders-less}
+use Rattle.address_space.proofs.entries.Refinement.{fill_refines}
+use Rattle.address_space.proofs.steps.Steps.{inside, live_small, table_by_word, role_own, role_other, free_loose, page_loose}
+use Rattle.address_space.proofs.steps.Stores.{found, get_user, entry_rules, frame_written}
 
 -- a lazy page leaves room for its frame
 pub room_to_fill : (directories : List (Option ℕ)) (bytes : List ℕ) (roles : List Role) (p d page : ℕ) (e : PageEntry) → IsSpaces directories bytes roles → directory_of directories p ≡ Some d

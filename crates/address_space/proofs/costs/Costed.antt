@@ -10,8 +10,8 @@ use Rattle.address_space.specs.Cells.{spaces_of}
 use Rattle.address_space.specs.View.{directory_of, table_in, entries_in, spaces_in, total_cost}
 use Rattle.address_space.specs.Sound.{IsSound, IsSpaces}
 use Rattle.address_space.specs.Changes.{table_need, TableGiven, SlotAdded}
-use Rattle.address_space.proofs.CostSteps.{need-two, need-least}
-use Rattle.address_space.proofs.FrameSteps.{here_or_not}
+use Rattle.address_space.proofs.costs.CostSteps.{need-two, need-least}
+use Rattle.address_space.proofs.frames.FrameSteps.{here_or_not}
 
 -- a new page needs a table's frame too where the slot has none
 need_table : (directories : List (Option ℕ)) (bytes : List ℕ) (p page : ℕ) → table_need (table_in (directory_of directories) (frame_bytes bytes) p (slot_number page)) + 1 ≤ need (spaces_in directories bytes) p page

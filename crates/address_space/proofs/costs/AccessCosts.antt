@@ -8,7 +8,7 @@ use Rattle.page_words.specs.FiniteSet as set
 use Rattle.page_words.specs.FiniteSet.{Set}
 use Rattle.page_words.proofs.MapLemmas.{same_or_not, get-insert, get-map_values}
 use Rattle.address_space.specs.Spaces.{Slot, slot_order, Cell, Spaces, cost, cost_of, need, accessed, stored, set_bytes, with_bytes, cell_or_fresh, at_page}
-use Rattle.address_space.proofs.Costs.{same_pages, cost-insert}
+use Rattle.address_space.proofs.costs.Costs.{same_pages, cost-insert}
 
 -- spaces that map the same slots cost the same
 pub cost-same : (S T : Spaces) (p : ℕ) → ((q : Slot) → map.contains_key S q ≡ map.contains_key T q) → cost S p ≡ cost T p

@@ -24,10 +24,10 @@ use Rattle.address_space.specs.Cells.{Entries, names, group_of, cell_of, spaces_
 use Rattle.address_space.specs.Image.{Image, word_of, is_user_slot, named_by, table_at, own_frame, is_lazy_at, IsOneGroup, present_word, page_word, page_frame, IsSoundImage, SlotStands, StandsFor, StandsForOne}
 use Rattle.address_space.specs.View.{Directories, directory_of, table_in, entry_in, entries_in, spaces_in}
 use Rattle.address_space.specs.Sound.{IsSound, IsSpaces}
-use Rattle.address_space.proofs.UserSlots.{in_user_slots}
-use Rattle.address_space.proofs.EntrySteps.{get-entries_in, entry_by_table}
-use Rattle.address_space.proofs.Refinement.{get-spaces_of, contains-holders_of, group-real}
-use Rattle.address_space.proofs.Steps.{live_small}
+use Rattle.address_space.proofs.entries.UserSlots.{in_user_slots}
+use Rattle.address_space.proofs.entries.EntrySteps.{get-entries_in, entry_by_table}
+use Rattle.address_space.proofs.entries.Refinement.{get-spaces_of, contains-holders_of, group-real}
+use Rattle.address_space.proofs.steps.Steps.{live_small}
 use borrow.Author.Tests.{eqb-true, eq-eqb}
 
 -- ---- One set of spaces at most

@@ -17,8 +17,8 @@ use Rattle.address_space.specs.Slots.{user_slots}
 use Rattle.page_words.specs.FiniteMap.{same}
 use Rattle.page_words.proofs.MapLemmas.{same_or_not, same_itself, get-insert, same_map}
 use Rattle.page_words.proofs.MapLemmas.{get-collect}
-use Rattle.address_space.proofs.UserSlots.{in_user_slots}
-use Rattle.address_space.proofs.Removal.{removed, kept_other}
+use Rattle.address_space.proofs.entries.UserSlots.{in_user_slots}
+use Rattle.address_space.proofs.entries.Removal.{removed, kept_other}
 use Rattle.address_space.specs.View.{Directories, Roles, table_in, entry_in, entries_in}
 use Rattle.address_space.specs.Sound.{Tables, InUseAt}
 

@@ -22,12 +22,12 @@ use Rattle.address_space.specs.Cells.{Entries, lazy_count, cell_of, spaces_of}
 use Rattle.address_space.specs.View.{Directories, Roles, directory_of, table_in, entries_in, spaces_in, total_cost}
 use Rattle.address_space.specs.Sound.{Tables, Pages, IsSound, InUseAt, Names}
 use Rattle.address_space.specs.Changes.{SlotJoined}
-use Rattle.address_space.proofs.CostSteps.{total-entry}
-use Rattle.address_space.proofs.EntrySteps.{entries-insert, tables-entry, use_own, use_kept}
-use Rattle.address_space.proofs.FrameSteps.{tables-role}
-use Rattle.address_space.proofs.PageSteps.{same_bytes, pages-join, no_table, not_same, lazy-real}
-use Rattle.address_space.proofs.Refinement.{get-spaces_of, join_refines}
-use Rattle.address_space.proofs.Steps.{inside, live_small, page_loose, none_before, table_by_word, role_own, role_other, some_is}
+use Rattle.address_space.proofs.costs.CostSteps.{total-entry}
+use Rattle.address_space.proofs.entries.EntrySteps.{entries-insert, tables-entry, use_own, use_kept}
+use Rattle.address_space.proofs.frames.FrameSteps.{tables-role}
+use Rattle.address_space.proofs.frames.PageSteps.{same_bytes, pages-join, no_table, not_same, lazy-real}
+use Rattle.address_space.proofs.entries.Refinement.{get-spaces_of, join_refines}
+use Rattle.address_space.proofs.steps.Steps.{inside, live_small, page_loose, none_before, table_by_word, role_own, role_other, some_is}
 
 pub slot_joined : (directories : List (Option ℕ)) (bytes two : List ℕ) (roles roles' : List Role) (giver giver_page p d page f c : ℕ) (right : Bool) → IsSound directories bytes roles → directory_of directories p ≡ Some d
     → 0x40000 ≤ page → page < 0xf0000 → map.get (spaces_in directories bytes) (at_page p page) ≡ None → is_some (table_of (frame_bytes bytes) d (slot_number page)) ≡ true

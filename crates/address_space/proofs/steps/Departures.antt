@@ -25,15 +25,15 @@ use Rattle.address_space.specs.Cells.{Entries, lazy_count, cell_of, spaces_of}
 use Rattle.address_space.specs.View.{Directories, Roles, directory_of, table_in, entry_in, entries_in, spaces_in, live_cost, total_cost}
 use Rattle.address_space.specs.Sound.{Tables, Pages, IsSound, IsSpaces}
 use Rattle.address_space.specs.Changes.{SlotRemoved, IsEmptySpace, DroppedBelow, PagesDropped, DirectoryDropped}
-use Rattle.address_space.proofs.Costs.{contains-pages_of}
-use Rattle.address_space.proofs.CostSteps.{sum_one}
-use Rattle.address_space.proofs.EntrySteps.{get-entries_in, entry_by_table}
-use Rattle.address_space.proofs.Openings.{empty_cost}
-use Rattle.address_space.proofs.PageSteps.{pages-role}
-use Rattle.address_space.proofs.Readings.{need_read}
-use Rattle.address_space.proofs.Refinement.{get-spaces_of, leave_refines}
-use Rattle.address_space.proofs.Standing.{past_end}
-use Rattle.address_space.proofs.Steps.{live_small, none_before, none_is, role_own, role_other}
+use Rattle.address_space.proofs.costs.Costs.{contains-pages_of}
+use Rattle.address_space.proofs.costs.CostSteps.{sum_one}
+use Rattle.address_space.proofs.entries.EntrySteps.{get-entries_in, entry_by_table}
+use Rattle.address_space.proofs.steps.Openings.{empty_cost}
+use Rattle.address_space.proofs.frames.PageSteps.{pages-role}
+use Rattle.address_space.proofs.entries.Readings.{need_read}
+use Rattle.address_space.proofs.entries.Refinement.{get-spaces_of, leave_refines}
+use Rattle.address_space.proofs.standing.Standing.{past_end}
+use Rattle.address_space.proofs.steps.Steps.{live_small, none_before, none_is, role_own, role_other}
 use borrow.Author.Tests.{eqb-true, eq-eqb}
 
 -- ---- Slots that leave

@@ -13,7 +13,7 @@ use Rattle.alloc_table.proofs.RoleLemmas.{get-set_same, get-set_other, weight-ta
 use Rattle.phys_memory.proofs.Frames.{with_frame-other, frames-with_frame_bytes}
 use Rattle.page_map.proofs.WordLaws.{entry_word-names, entry_word-lt, entry_word-present, word_entry-entry_word}
 use Rattle.std.proofs.lemmas.List.{length-replicate}
-use Rattle.address_space.proofs.Refinement.{lazy_refines, get-spaces_of}
+use Rattle.address_space.proofs.entries.Refinement.{lazy_refines, get-spaces_of}
 use Rattle.std.specs.Option.{option_map}
 use Rattle.page_map.specs.declared.PageEntry.{PageEntry}
 use Rattle.page_map.specs.Entries.{Frames, dir_word, word_table, table_of, with_table, with_entry, entry_word, IsKernelEntry, IsPageMap}
@@ -23,10 +23,10 @@ use Rattle.address_space.specs.Cells.{Entries, lazy_count, cell_of, spaces_of}
 use Rattle.address_space.specs.View.{Directories, Roles, directory_of, table_in, entry_in, entries_in, spaces_in, total_cost}
 use Rattle.address_space.specs.Sound.{Tables, Pages, HoldsPage, IsSound, InUseAt, Inside}
 use Rattle.address_space.specs.Changes.{TableGiven, PageAdded, table_need}
-use Rattle.address_space.proofs.CostSteps.{total-entry}
-use Rattle.address_space.proofs.EntrySteps.{Loose, entries-insert, entry_own, tables-entry, use_own, use_kept}
-use Rattle.address_space.proofs.FrameSteps.{tables-linked, linked-entries, linked-own, linked-others, linked-other, kept_table, loose-directory, tables-loose}
-use Rattle.address_space.proofs.PageSteps.{same_bytes, pages-role, pages-lazy, lazy-more, no_free, no_table, no_directory}
+use Rattle.address_space.proofs.costs.CostSteps.{total-entry}
+use Rattle.address_space.proofs.entries.EntrySteps.{Loose, entries-insert, entry_own, tables-entry, use_own, use_kept}
+use Rattle.address_space.proofs.frames.FrameSteps.{tables-linked, linked-entries, linked-own, linked-others, linked-other, kept_table, loose-directory, tables-loose}
+use Rattle.address_space.proofs.frames.PageSteps.{same_bytes, pages-role, pages-lazy, lazy-more, no_free, no_table, no_directory}
 
 -- a frame with a role lies in memory
 inside_by : (bytes : List ℕ) (roles : List Role) (f : ℕ) (r : Role) → length bytes ≡ 4096 * length roles → length roles ≤ 4096 → slice_get roles f ≡ Some r → Inside bytes f

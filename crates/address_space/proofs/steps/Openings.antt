@@ -27,14 +27,14 @@ use Rattle.address_space.specs.Cells.{Entries, lazy_count, spaces_of, cell_of}
 use Rattle.address_space.specs.View.{Directories, Roles, directory_of, table_in, entry_in, entries_in, spaces_in, live_cost, total_cost}
 use Rattle.address_space.specs.Sound.{Tables, Pages, IsSpaces}
 use Rattle.address_space.specs.Changes.{SpaceAdded}
-use Rattle.address_space.proofs.Costs.{contains-pages_of}
-use Rattle.address_space.proofs.CostSteps.{sum_one}
-use Rattle.address_space.proofs.Costed.{free_where_light}
-use Rattle.address_space.proofs.EntrySteps.{Loose, get-entries_in, entry_by_table}
-use Rattle.address_space.proofs.FrameSteps.{loose-tables, loose-table, loose-entries, tables-loose}
-use Rattle.address_space.proofs.PageSteps.{pages-role, same_bytes, no_free}
-use Rattle.address_space.proofs.Refinement.{get-spaces_of}
-use Rattle.address_space.proofs.Steps.{free_loose, live_small, role_own, role_other}
+use Rattle.address_space.proofs.costs.Costs.{contains-pages_of}
+use Rattle.address_space.proofs.costs.CostSteps.{sum_one}
+use Rattle.address_space.proofs.costs.Costed.{free_where_light}
+use Rattle.address_space.proofs.entries.EntrySteps.{Loose, get-entries_in, entry_by_table}
+use Rattle.address_space.proofs.frames.FrameSteps.{loose-tables, loose-table, loose-entries, tables-loose}
+use Rattle.address_space.proofs.frames.PageSteps.{pages-role, same_bytes, no_free}
+use Rattle.address_space.proofs.entries.Refinement.{get-spaces_of}
+use Rattle.address_space.proofs.steps.Steps.{free_loose, live_small, role_own, role_other}
 
 zero_byte : (n k : ℕ) → ◌≡◌ {A = ℕ} (get_or (replicate n 0) k 0) 0
 zero_byte zero k = refl

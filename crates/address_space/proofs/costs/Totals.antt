@@ -9,11 +9,11 @@ use Rattle.page_words.specs.FiniteSet.{Set}
 use Rattle.page_words.proofs.MapLemmas.{get-map_values}
 use Rattle.address_space.specs.Spaces.{Slot, slot_order, Cell, Spaces, cost, cost_of, need, accessed, stored, protected, joined, set_holders, with_holders, cell_or_fresh, without, at_page}
 use Rattle.address_space.specs.View.{directory_of, total_cost}
-use Rattle.address_space.proofs.AccessCosts.{cost-same, key-insert, key-stored, kept}
-use Rattle.address_space.proofs.Costs.{cost-insert, same_pages}
-use Rattle.address_space.proofs.CostSteps.{total-insert, other_slot, need-most}
-use Rattle.address_space.proofs.Departures.{get-without}
-use Rattle.address_space.proofs.Steps.{some_is}
+use Rattle.address_space.proofs.costs.AccessCosts.{cost-same, key-insert, key-stored, kept}
+use Rattle.address_space.proofs.costs.Costs.{cost-insert, same_pages}
+use Rattle.address_space.proofs.costs.CostSteps.{total-insert, other_slot, need-most}
+use Rattle.address_space.proofs.steps.Departures.{get-without}
+use Rattle.address_space.proofs.steps.Steps.{some_is}
 
 key-each : (f : Slot → Cell → Cell) (S : Spaces) (q : Slot) → map.contains_key (map.map_values f S) q ≡ map.contains_key S q
 key-each f S q = ap is_some (get-map_values slot_order f S q) ∙ by (map.get S q)

@@ -18,10 +18,10 @@ use Rattle.address_space.specs.Spaces.{Slot, need, value_of, bytes_at, at_page}
 use Rattle.address_space.specs.Cells.{Entries, group_of, cell_of, spaces_of, holders_of}
 use Rattle.address_space.specs.View.{Directories, directory_of, entry_in, entries_in, spaces_in, table_in}
 use Rattle.address_space.specs.Sound.{IsSound, InUse, Inside}
-use Rattle.address_space.proofs.UserSlots.{in_user_slots}
-use Rattle.address_space.proofs.EntrySteps.{get-entries_in}
-use Rattle.address_space.proofs.CostSteps.{need-one, need-two}
-use Rattle.address_space.proofs.Refinement.{get-spaces_of, group-real}
+use Rattle.address_space.proofs.entries.UserSlots.{in_user_slots}
+use Rattle.address_space.proofs.entries.EntrySteps.{get-entries_in}
+use Rattle.address_space.proofs.costs.CostSteps.{need-one, need-two}
+use Rattle.address_space.proofs.entries.Refinement.{get-spaces_of, group-real}
 
 -- the cell of a user page is that of its entry
 pub get-spaces_in : (directories : List (Option ℕ)) (bytes : List ℕ) (p page : ℕ) → p < 64 → 0x40000 ≤ page → page < 0xf0000

@@ -10,7 +10,7 @@ use Rattle.page_words.specs.Addresses.{slot_number, index_number}
 use Rattle.page_map.specs.Entries.{Frames, word_entry, entry_from}
 use Rattle.page_map.specs.declared.PageEntry.{PageEntry}
 use Rattle.page_words.specs.FiniteMap as map_of
-use Rattle.address_space.proofs.UserSlots.{in_user_slots}
+use Rattle.address_space.proofs.entries.UserSlots.{in_user_slots}
 use Rattle.phys_memory.specs.Bytes.{word_in}
 use Rattle.page_words.specs.FiniteSet as set
 use Rattle.page_words.specs.FiniteSet.{Set}
@@ -20,12 +20,12 @@ use Rattle.address_space.specs.Spaces.{Slot, slot_order, Cell, Spaces, cost, cos
 use Rattle.address_space.specs.Slots.{user_slots}
 use Rattle.page_words.specs.FiniteMap.{same}
 use Rattle.page_words.proofs.MapLemmas.{same_itself, same-true, same_or_not, get-insert, contains-from_list, list_any-map}
-use Rattle.address_space.proofs.Costs.{contains-pages_of, same_pages, cost-insert}
+use Rattle.address_space.proofs.costs.Costs.{contains-pages_of, same_pages, cost-insert}
 use Rattle.address_space.specs.Cells.{Entries, cell_of, spaces_of}
 use Rattle.address_space.specs.View.{Directories, directory_of, table_in, entry_in, entries_in, live_cost, total_cost}
 use Rattle.address_space.specs.Sound.{InUseAt}
-use Rattle.address_space.proofs.EntrySteps.{get-entries_in, entry_by_table}
-use Rattle.address_space.proofs.Refinement.{get-spaces_of}
+use Rattle.address_space.proofs.entries.EntrySteps.{get-entries_in, entry_by_table}
+use Rattle.address_space.proofs.entries.Refinement.{get-spaces_of}
 
 -- ---- A sum over a range, with one term changed
 

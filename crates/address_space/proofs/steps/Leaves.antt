@@ -24,15 +24,15 @@ use Rattle.address_space.specs.Cells.{Entries, lazy_count, cell_of, spaces_of, h
 use Rattle.address_space.specs.View.{Directories, Roles, directory_of, table_in, entries_in, spaces_in, total_cost}
 use Rattle.address_space.specs.Sound.{Tables, Pages, HoldsPage, IsSound, InUseAt, IsSpaces}
 use Rattle.address_space.specs.Changes.{TableFreed, EntryLeft, SlotRemoved}
-use Rattle.address_space.proofs.CostSteps.{total-entry, need-one, need-most}
-use Rattle.address_space.proofs.EntrySteps.{Loose, with_word_at, entries-remove, tables-entry, tables_kept}
-use Rattle.address_space.proofs.FrameSteps.{here_or_not, tables-role, unlinked-own, unlinked-others, unlinked-table, unlinked-entry, tables-unlinked}
-use Rattle.address_space.proofs.PageSteps.{same_bytes, pages-role, holders-less, no_table, no_directory}
-use Rattle.address_space.proofs.Refinement.{leave_refines}
-use Rattle.address_space.proofs.Steps.{live_small, page_loose, free_loose, table_by_word, role_own, role_other}
-use Rattle.address_space.proofs.Stores.{Found, found, get_user, named_entry, page_of_name, page_held, entry_rules}
-use Rattle.address_space.proofs.Removal.{put_back, removed, kept_other}
-use Rattle.address_space.proofs.EntrySteps.{same_entries}
+use Rattle.address_space.proofs.costs.CostSteps.{total-entry, need-one, need-most}
+use Rattle.address_space.proofs.entries.EntrySteps.{Loose, with_word_at, entries-remove, tables-entry, tables_kept}
+use Rattle.address_space.proofs.frames.FrameSteps.{here_or_not, tables-role, unlinked-own, unlinked-others, unlinked-table, unlinked-entry, tables-unlinked}
+use Rattle.address_space.proofs.frames.PageSteps.{same_bytes, pages-role, holders-less, no_table, no_directory}
+use Rattle.address_space.proofs.entries.Refinement.{leave_refines}
+use Rattle.address_space.proofs.steps.Steps.{live_small, page_loose, free_loose, table_by_word, role_own, role_other}
+use Rattle.address_space.proofs.steps.Stores.{Found, found, get_user, named_entry, page_of_name, page_held, entry_rules}
+use Rattle.address_space.proofs.entries.Removal.{put_back, removed, kept_other}
+use Rattle.address_space.proofs.entries.EntrySteps.{same_entries}
 
 -- the role after one holder less
 after_page : (c : ℕ) → (nat_lt 1 c ≡ true) ⊎ (nat_lt 1 c ≡ false)

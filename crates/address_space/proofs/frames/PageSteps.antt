@@ -15,8 +15,8 @@ use Rattle.page_words.proofs.MapLemmas.{same_or_not, same_itself, get-insert, sa
 use Rattle.address_space.specs.Cells.{Entries, names, holders_of, group_of, lazy_count, cell_of, spaces_of}
 use Rattle.address_space.specs.View.{Roles}
 use Rattle.address_space.specs.Sound.{Pages, HoldsPage}
-use Rattle.address_space.proofs.Removal.{put_back, removed, kept_other}
-use Rattle.address_space.proofs.Refinement.{contains-holders_of, same_holders, names-insert_same, holders-insert, holders-other, get-spaces_of, Unused}
+use Rattle.address_space.proofs.entries.Removal.{put_back, removed, kept_other}
+use Rattle.address_space.proofs.entries.Refinement.{contains-holders_of, same_holders, names-insert_same, holders-insert, holders-other, get-spaces_of, Unused}
 
 -- the entry at a slot after one was put in: the new one, or one from before
 inserted : (E : Entries) (slot : Slot) (e : PageEntry) (q : Slot) (d : PageEntry) → map.get (map.insert E slot e) q ≡ Some d → (d ≡ e) ⊎ (map.get E q ≡ Some d)

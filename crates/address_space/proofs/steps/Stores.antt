@@ -22,17 +22,17 @@ use Rattle.address_space.specs.Spaces.{Slot, slot_order, Spaces, Cell, cell_or_f
 use Rattle.page_words.specs.FiniteMap.{collect, put_some}
 use Rattle.address_space.specs.Slots.{user_slots}
 use Rattle.page_words.specs.FiniteMap.{same}
-use Rattle.address_space.proofs.UserSlots.{in_user_slots}
+use Rattle.address_space.proofs.entries.UserSlots.{in_user_slots}
 use Rattle.address_space.specs.Cells.{Entries, lazy_count, cell_of, spaces_of}
 use Rattle.address_space.specs.View.{Directories, Roles, directory_of, table_in, entry_in, entries_in, spaces_in, total_cost}
 use Rattle.address_space.specs.Sound.{Tables, Pages, HoldsPage, IsSound, InUseAt, Names, Inside, InUse}
 use Rattle.address_space.specs.Changes.{Touched, flagged}
-use Rattle.address_space.proofs.CostSteps.{total-kept}
-use Rattle.address_space.proofs.EntrySteps.{Loose, get-entries_in, entries-insert, tables-entry, use_kept}
-use Rattle.address_space.proofs.FrameSteps.{loose-entry, loose-entries, tables-loose, use_loose}
-use Rattle.address_space.proofs.PageSteps.{same_bytes, pages-same, no_table, not_same, lazy-same}
-use Rattle.address_space.proofs.Refinement.{get-spaces_of, store_refines, flags_refine, cell_at}
-use Rattle.address_space.proofs.Steps.{inside, holds_inside, live_small, page_loose, table_by_word, some_is}
+use Rattle.address_space.proofs.costs.CostSteps.{total-kept}
+use Rattle.address_space.proofs.entries.EntrySteps.{Loose, get-entries_in, entries-insert, tables-entry, use_kept}
+use Rattle.address_space.proofs.frames.FrameSteps.{loose-entry, loose-entries, tables-loose, use_loose}
+use Rattle.address_space.proofs.frames.PageSteps.{same_bytes, pages-same, no_table, not_same, lazy-same}
+use Rattle.address_space.proofs.entries.Refinement.{get-spaces_of, store_refines, flags_refine, cell_at}
+use Rattle.address_space.proofs.steps.Steps.{inside, holds_inside, live_small, page_loose, table_by_word, some_is}
 
 -- ---- Bytes
 
