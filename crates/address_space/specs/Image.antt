@@ -13,7 +13,7 @@ use Rattle.phys_memory.specs.Bytes.{frame_bytes, word_in}
 use Rattle.alloc_table.specs.declared.Role.{Role}
 use Rattle.alloc_table.specs.declared.Role.TheVariants.{Reserved, Directory, Table, Page}
 use Rattle.address_space.specs.Spaces.{Slot, slot_order, Cell, Spaces, zeros}
-use Rattle.address_space.specs.Sound.{View}
+use Rattle.address_space.specs.View.{View}
 
 -- what there is of address spaces outside the abstract machine
 pub record Image : Type 0 where

@@ -1,8 +1,10 @@
 pub mod Cells
+pub mod Changes
 pub mod Codes
 pub mod Image
 pub mod Shown
 pub mod Slots
 pub mod Sound
 pub mod Spaces
+pub mod View
 pub mod Walks

@@ -16,9 +16,13 @@ pub record Slot : Type 0 where
   pub pid : ℕ
   pub page : ℕ
 
+-- the slot of a page of a process
+abbrev pub at_page : ℕ → ℕ → Slot
+at_page p page = record { pid = p; page = page }
+
 -- the slot that an address of a process lies in
 abbrev pub slot_at : ℕ → ℕ → Slot
-slot_at p address = record { pid = p; page = page_number address }
+slot_at p address = at_page p (page_number address)
 
 -- by process, then by page
 abbrev pub slot_cmp : Slot → Slot → Ordering
@@ -44,7 +48,7 @@ slot_order = record { cmp = slot_cmp; total = slot_total; same = slot_same }
 
 -- whether a slot is this page of this process
 abbrev pub is_slot : ℕ → ℕ → Slot → Bool
-is_slot p page slot = same slot_order (record { pid = p; page = page }) slot
+is_slot p page slot = same slot_order (at_page p page) slot
 
 -- whether a slot is of this process
 abbrev pub is_of : ℕ → Slot → Bool

@@ -7,10 +7,11 @@ ghost use Rattle.page_words.specs.FiniteSet as set;
 ghost use Rattle.phys_memory.specs.Bytes.{frame_bytes};
 ghost use Rattle.page_map.specs.Entries.{table_of, IsPageMap};
 ghost use Rattle.page_map.specs.Pages.{counted};
-ghost use Rattle.address_space.specs.Spaces.{cost, pages_of, regions_of, without, is_slot};
-ghost use Rattle.address_space.specs.Sound.{directory_of, spaces_in, IsSound, IsSpaces, IsAlone, IsShared};
+ghost use Rattle.address_space.specs.Spaces.{cost, pages_of, regions_of, without, is_slot, at_page};
+ghost use Rattle.address_space.specs.View.{directory_of, spaces_in};
+ghost use Rattle.address_space.specs.Sound.{IsSound, IsSpaces, IsAlone, IsShared};
 
-use crate::home;
+use crate::{Directories, home};
 use alloc_table::FrameTable;
 use page_words::{Frame, Page, Pid, slot_of};
 use phys_memory::Memory;
@@ -33,7 +34,7 @@ fn table_count(memory: &Memory, directory: Frame, slot: u32) -> u32
 fn tables_in(
     memory: &Memory,
     frames: &FrameTable,
-    directories: &[Option<Frame>; 64],
+    directories: &Directories,
     pid: Pid,
     directory: Frame,
 ) -> u32
@@ -57,12 +58,7 @@ fn sum(tables: u32, pages: u32) -> u32
 }
 
 /// What a process is charged for.
-pub fn cost_in(
-    memory: &Memory,
-    frames: &FrameTable,
-    directories: &[Option<Frame>; 64],
-    pid: Pid,
-) -> u32
+pub fn cost_in(memory: &Memory, frames: &FrameTable, directories: &Directories, pid: Pid) -> u32
     requires spaces { IsSpaces directories.now memory.now frames.now }
     requires live { is_some (directory_of directories.now pid) ≡ true }
     ensures { result ≡ cost (spaces_in directories.now memory.now) pid }
@@ -94,13 +90,13 @@ fn is_alone(memory: &Memory, directory: Frame, page: Page) -> bool
 pub fn relief_in(
     memory: &Memory,
     frames: &FrameTable,
-    directories: &[Option<Frame>; 64],
+    directories: &Directories,
     pid: Pid,
     page: Page,
 ) -> u32
     requires sound { IsSound directories.now memory.now frames.now }
     requires live { is_some (directory_of directories.now pid) ≡ true }
-    requires mapped { is_some (map.get (spaces_in directories.now memory.now) (record { pid = pid; page = page })) ≡ true }
+    requires mapped { is_some (map.get (spaces_in directories.now memory.now) (at_page pid page)) ≡ true }
     requires user { IsUserPage page }
     ensures { cost (without (spaces_in directories.now memory.now) (is_slot pid page)) pid + result ≡ cost (spaces_in directories.now memory.now) pid }
 {

@@ -1,24 +1,26 @@
 //! A process's space goes: its pages leave their groups, and its directory comes free.
 
 ghost use Rattle.std.specs.Prelude.{◌≡◌, true, Some, None, is_some, slice_set};
-ghost use Rattle.address_space.specs.Sound.{directory_of, spaces_in, IsSpaces, IsEmptySpace, SpaceCleared, DirectoryRemoved, SpaceDropped};
+ghost use Rattle.address_space.specs.View.{directory_of, spaces_in};
+ghost use Rattle.address_space.specs.Sound.{IsSpaces};
+ghost use Rattle.address_space.specs.Changes.{IsEmptySpace, PagesDropped, DirectoryDropped, SpaceDropped};
 
-use crate::{home, remove_entry};
+use crate::{Directories, home, remove_entry};
 use alloc_table::FrameTable;
 use page_words::{Frame, Page, Pid};
 use phys_memory::Memory;
 
 /// Takes each page of a process out of its group.
-fn clear_space(
+fn drop_pages(
     memory: &mut Memory,
     frames: &mut FrameTable,
-    directories: &[Option<Frame>; 64],
+    directories: &Directories,
     pid: Pid,
     directory: Frame,
 )
     requires spaces { IsSpaces directories.now memory.old frames.old }
     requires live { directory_of directories.now pid ≡ Some directory }
-    ensures { SpaceCleared directories.now pid memory.old frames.old memory.new frames.new }
+    ensures { PagesDropped directories.now pid memory.old frames.old memory.new frames.new }
 {
     let mut from = 0x40000;
     while let Some(page) = page_map::next_page(memory, directory, Page(from)) {
@@ -28,34 +30,34 @@ fn clear_space(
 }
 
 /// Takes a process's directory off the list.
-fn forget(directories: &mut [Option<Frame>; 64], pid: Pid)
+fn forget(directories: &mut Directories, pid: Pid)
     ensures { directories.new ≡ slice_set directories.old pid None }
 {
     directories[pid.number() as usize] = None;
 }
 
 /// Takes away a directory that maps no page.
-fn remove_directory(
+fn drop_directory(
     memory: &Memory,
     frames: &mut FrameTable,
-    directories: &mut [Option<Frame>; 64],
+    directories: &mut Directories,
     pid: Pid,
     directory: Frame,
 )
     requires spaces { IsSpaces directories.old memory.now frames.old }
     requires live { directory_of directories.old pid ≡ Some directory }
     requires empty { IsEmptySpace (spaces_in directories.old memory.now) pid }
-    ensures { DirectoryRemoved directories.old pid memory.now frames.old directories.new frames.new }
+    ensures { DirectoryDropped directories.old pid memory.now frames.old directories.new frames.new }
 {
     frames.release(directory);
     forget(directories, pid);
 }
 
 /// Takes away a process's space.
-pub fn remove_space(
+pub fn drop_space(
     memory: &mut Memory,
     frames: &mut FrameTable,
-    directories: &mut [Option<Frame>; 64],
+    directories: &mut Directories,
     pid: Pid,
 )
     requires spaces { IsSpaces directories.old memory.old frames.old }
@@ -63,6 +65,6 @@ pub fn remove_space(
     ensures { SpaceDropped directories.old pid memory.old frames.old directories.new memory.new frames.new }
 {
     let directory = home(directories, pid);
-    clear_space(memory, frames, directories, pid, directory);
-    remove_directory(memory, frames, directories, pid, directory);
+    drop_pages(memory, frames, directories, pid, directory);
+    drop_directory(memory, frames, directories, pid, directory);
 }

@@ -1,15 +1,18 @@
 //! A lazy page gets a frame of its own.
 
-ghost use Rattle.std.specs.Prelude.{◌≡◌, true, Some, None};
+ghost use Rattle.std.specs.Prelude.{◌≡◌, true, false, Some, None};
 ghost use Rattle.page_words.specs.Addresses.{IsUserPage};
 ghost use Rattle.phys_memory.specs.Bytes.{frame_bytes};
 ghost use Rattle.page_map.specs.Entries.{entry_at, is_lazy_entry, IsPageMap};
 ghost use Rattle.address_space.specs.Image.{is_lazy_at};
-ghost use Rattle.address_space.specs.Sound.{directory_of, IsSound, IsSpaces, PageFilled};
+ghost use Rattle.address_space.specs.View.{directory_of};
+ghost use Rattle.address_space.specs.Sound.{IsSound, IsSpaces};
+ghost use Rattle.address_space.specs.Changes.{PageFilled};
+ghost use Rattle.address_space.specs.Spaces.{at_page};
 
-use crate::entries::filled;
-use crate::{space_of, take};
+use crate::{Directories, space_of, take};
 use alloc_table::{FrameTable, Role};
+use page_map::PageEntry;
 use page_words::{Frame, Page, Pid};
 use phys_memory::Memory;
 
@@ -29,13 +32,13 @@ fn has_lazy(memory: &Memory, directory: Frame, page: Page) -> bool
 pub fn is_lazy_in(
     memory: &Memory,
     frames: &FrameTable,
-    directories: &[Option<Frame>; 64],
+    directories: &Directories,
     pid: Pid,
     page: Page,
 ) -> bool
     requires sound { IsSound directories.now memory.now frames.now }
     requires user { IsUserPage page }
-    ensures { result ≡ is_lazy_at (record { directories = directories.now; bytes = memory.now; roles = frames.now }) (record { pid = pid; page = page }) }
+    ensures { result ≡ is_lazy_at (record { directories = directories.now; bytes = memory.now; roles = frames.now }) (at_page pid page) }
 {
     match space_of(directories, pid) {
         Some(directory) => has_lazy(memory, directory, page),
@@ -43,11 +46,22 @@ pub fn is_lazy_in(
     }
 }
 
+/// An entry whose page has this frame of its own.
+fn filled(entry: PageEntry, frame: Frame) -> PageEntry
+    ensures { result ≡ record entry { frame = frame; lazy = false } }
+{
+    PageEntry {
+        frame,
+        lazy: false,
+        ..entry
+    }
+}
+
 /// Gives a lazy page a frame of zeros of its own.
 pub fn fill_page(
     memory: &mut Memory,
     frames: &mut FrameTable,
-    directories: &[Option<Frame>; 64],
+    directories: &Directories,
     pid: Pid,
     directory: Frame,
     page: Page,

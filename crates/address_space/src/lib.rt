@@ -12,18 +12,19 @@ ghost use Rattle.phys_memory.specs.Bytes.{blank_bytes, frame_bytes, with_frame};
 ghost use Rattle.alloc_table.specs.Roles.{free_frames, frames_in_use, CanBeTaken, IsTaken, IsPageBelow, IsInUse, opening_roles};
 ghost use Rattle.page_map.specs.Entries.{table_of, entry_at, is_lazy_entry, IsPageMap};
 ghost use Rattle.page_words.specs.FiniteMap as map;
-ghost use Rattle.address_space.specs.Spaces.{need, fresh, joined, stored, write_at, bytes_of, without, slot_at, value_of, bytes_at, cell_or_fresh, accessed, protected, cost, is_slot, is_of};
+ghost use Rattle.address_space.specs.Spaces.{need, fresh, joined, stored, write_at, bytes_of, without, slot_at, value_of, bytes_at, cell_or_fresh, accessed, protected, cost, is_slot, is_of, at_page};
 ghost use Rattle.address_space.specs.Image.{StandsFor, StandsForOne, LeavesRoom, image_of, is_lazy_at};
 ghost use Rattle.address_space.specs.Walks.{WalksAgree};
 ghost use Rattle.address_space.specs.Shown.{shown};
 ghost use Rattle.std.specs.Option.{option_map};
-ghost use Rattle.address_space.specs.Sound.{IsSound, directory_of, table_in, entries_in, spaces_in, total_cost, table_need, TableGiven, PageAdded, SlotJoined, Touched, Names, Inside, IsSpaces, TableFreed, EntryLeft, SlotRemoved, SpaceAdded, PageFilled};
+ghost use Rattle.address_space.specs.View.{directory_of, table_in, entries_in, spaces_in, total_cost};
+ghost use Rattle.address_space.specs.Sound.{IsSound, Names, Inside, IsSpaces};
+ghost use Rattle.address_space.specs.Changes.{table_need, TableGiven, PageAdded, SlotJoined, Touched, TableFreed, EntryLeft, SlotRemoved, SpaceAdded, PageFilled};
 
+mod accesses;
 mod charges;
 mod drops;
-mod entries;
 mod fills;
-mod rights;
 
 use alloc_table::{FrameTable, Role};
 use page_map::PageEntry;
@@ -32,16 +33,20 @@ use phys_memory::Memory;
 use std::alloc::Global;
 use std::marker::Model;
 
+/// The directory of each process, where it has one.
+type Directories = [Option<Frame>; 64];
+
 /// The address spaces, by directories, memory and roles.
 #[derive(Drop)]
 pub struct Spaces {
     memory: Memory,
     frames: FrameTable,
-    directories: [Option<Frame>; 64],
+    directories: Directories,
 }
 
 impl Model for Spaces {
-    ghost use Rattle.address_space.specs.Sound.{View, view_code, spaces_in, IsSpaces};
+    ghost use Rattle.address_space.specs.View.{View, view_code, spaces_in};
+    ghost use Rattle.address_space.specs.Sound.{IsSpaces};
 
     ghost Value = { View };
 
@@ -62,14 +67,14 @@ fn take(frames: &mut FrameTable, role: Role) -> Frame
 }
 
 /// The directory of a process, where it has one.
-fn space_of(directories: &[Option<Frame>; 64], pid: Pid) -> Option<Frame>
+fn space_of(directories: &Directories, pid: Pid) -> Option<Frame>
     ensures { result ≡ directory_of directories.now pid }
 {
     directories[pid.number() as usize]
 }
 
 /// The directory of a process that has one.
-fn home(directories: &[Option<Frame>; 64], pid: Pid) -> Frame
+fn home(directories: &Directories, pid: Pid) -> Frame
     requires { is_some (directory_of directories.now pid) ≡ true }
     ensures { directory_of directories.now pid ≡ Some result }
 {
@@ -80,7 +85,7 @@ fn home(directories: &[Option<Frame>; 64], pid: Pid) -> Frame
 fn give_table(
     memory: &mut Memory,
     frames: &mut FrameTable,
-    directories: &[Option<Frame>; 64],
+    directories: &Directories,
     pid: Pid,
     directory: Frame,
     slot: u32,
@@ -102,7 +107,7 @@ fn give_table(
 fn add_page(
     memory: &mut Memory,
     frames: &FrameTable,
-    directories: &[Option<Frame>; 64],
+    directories: &Directories,
     pid: Pid,
     directory: Frame,
     page: Page,
@@ -111,7 +116,7 @@ fn add_page(
     requires sound { IsSound directories.now memory.old frames.now }
     requires live { directory_of directories.now pid ≡ Some directory }
     requires user { IsUserPage page }
-    requires unmapped { map.get (spaces_in directories.now memory.old) (record { pid = pid; page = page }) ≡ None }
+    requires unmapped { map.get (spaces_in directories.now memory.old) (at_page pid page) ≡ None }
     requires table { is_some (table_of (frame_bytes memory.old) directory (slot_number page)) ≡ true }
     ensures { PageAdded directories.now pid page write memory.old frames.now memory.new frames.now }
 {
@@ -134,7 +139,7 @@ fn add_page(
 fn add_holder(
     memory: &mut Memory,
     frames: &mut FrameTable,
-    directories: &[Option<Frame>; 64],
+    directories: &Directories,
     giver: Pid,
     giver_page: Page,
     pid: Pid,
@@ -146,9 +151,9 @@ fn add_holder(
     requires sound { IsSound directories.now memory.old frames.old }
     requires live { directory_of directories.now pid ≡ Some directory }
     requires user { IsUserPage page }
-    requires unmapped { map.get (spaces_in directories.now memory.old) (record { pid = pid; page = page }) ≡ None }
+    requires unmapped { map.get (spaces_in directories.now memory.old) (at_page pid page) ≡ None }
     requires table { is_some (table_of (frame_bytes memory.old) directory (slot_number page)) ≡ true }
-    requires given { Names (entries_in (directory_of directories.now) (frame_bytes memory.old)) (record { pid = giver; page = giver_page }) frame }
+    requires given { Names (entries_in (directory_of directories.now) (frame_bytes memory.old)) (at_page giver giver_page) frame }
     requires real { 1 ≤ frame }
     ensures { SlotJoined directories.now giver giver_page pid page right memory.old frames.old memory.new frames.new }
 {
@@ -192,7 +197,7 @@ fn leave(frames: &mut FrameTable, entry: PageEntry)
 fn remove_entry(
     memory: &mut Memory,
     frames: &mut FrameTable,
-    directories: &[Option<Frame>; 64],
+    directories: &Directories,
     pid: Pid,
     directory: Frame,
     page: Page,
@@ -209,61 +214,11 @@ fn remove_entry(
     free_table(frames, freed);
 }
 
-/// Writes the lowest byte of a number.
-fn put_byte(memory: &mut Memory, place: usize, value: u32)
-    requires { place < length memory.old }
-    ensures bytes { memory.new ≡ slice_set memory.old place (value % 256) }
-    ensures length { length memory.new ≡ length memory.old }
-{
-    memory.write_byte(place, (value % 256) as u8);
-}
-
-/// The frame, the place in it and the bytes of a store: one byte, or a word at a multiple of four.
-fn put_bytes(memory: &mut Memory, frame: Frame, at: u32, size: Size, value: u32)
-    requires frame { Inside memory.old frame }
-    requires inside { at < 4096 }
-    requires aligned { at % byte_count size ≡ 0 }
-    ensures frames { frame_bytes memory.new ≡ with_frame (frame_bytes memory.old) frame (write_at (frame_bytes memory.old frame) at (bytes_of (byte_count size) value)) }
-    ensures length { length memory.new ≡ length memory.old }
-{
-    let place = frame.0 as usize * 4096 + at as usize;
-    match size {
-        Size::One => put_byte(memory, place, value),
-        Size::Four => memory.write_word(place, value),
-    }
-}
-
-/// Stores through a slot.
-fn store(
-    memory: &mut Memory,
-    frames: &FrameTable,
-    directories: &[Option<Frame>; 64],
-    pid: Pid,
-    directory: Frame,
-    page: Page,
-    at: u32,
-    size: Size,
-    value: u32,
-)
-    requires sound { IsSound directories.now memory.old frames.now }
-    requires live { directory_of directories.now pid ≡ Some directory }
-    requires user { IsUserPage page }
-    requires mapped { is_some (entry_at (frame_bytes memory.old) directory page) ≡ true }
-    requires real { is_lazy_entry (entry_at (frame_bytes memory.old) directory page) ≡ false }
-    requires inside { at < 4096 }
-    requires aligned { at % byte_count size ≡ 0 }
-    ensures { Touched directories.now (stored (spaces_in directories.now memory.old) (record { pid = pid; page = page }) at (bytes_of (byte_count size) value)) memory.old frames.now memory.new }
-{
-    let entry = page_map::entry(memory, directory, page).unwrap();
-    put_bytes(memory, entry.frame, at, size, value);
-    page_map::set_entry(memory, directory, page, entries::written(entry));
-}
-
 /// Gives a process a blank directory.
 fn add_directory(
     memory: &mut Memory,
     frames: &mut FrameTable,
-    directories: &mut [Option<Frame>; 64],
+    directories: &mut Directories,
     pid: Pid,
 )
     requires spaces { IsSpaces directories.old memory.old frames.old }
@@ -334,13 +289,13 @@ fn group_size(frames: &FrameTable, lazy: bool, frame: Frame) -> u32
 fn cell_in(
     memory: &Memory,
     frames: &FrameTable,
-    directories: &[Option<Frame>; 64],
+    directories: &Directories,
     pid: Pid,
     page: Page,
 ) -> Option<Cell>
     requires sound { IsSound directories.now memory.now frames.now }
     requires user { IsUserPage page }
-    ensures { result ≡ option_map shown (map.get (spaces_in directories.now memory.now) (record { pid = pid; page = page })) }
+    ensures { result ≡ option_map shown (map.get (spaces_in directories.now memory.now) (at_page pid page)) }
 {
     let directory = space_of(directories, pid)?;
     let entry = page_map::entry(memory, directory, page)?;
@@ -353,67 +308,11 @@ fn cell_in(
     })
 }
 
-/// The number in some bytes of a page: one byte, or a word at a multiple of four.
-fn number_at(memory: &Memory, frame: Frame, at: u32, size: Size) -> u32
-    requires frame { Inside memory.now frame }
-    requires inside { at < 4096 }
-    requires aligned { at % byte_count size ≡ 0 }
-    ensures { result ≡ value_of (bytes_at (frame_bytes memory.now frame) at (byte_count size)) }
-{
-    let place = frame.0 as usize * 4096 + at as usize;
-    match size {
-        Size::One => u32::from(memory.read_byte(place)),
-        Size::Four => memory.read_word(place),
-    }
-}
-
-/// The number that a mapped slot has at a place.
-fn fetch(
-    memory: &Memory,
-    frames: &FrameTable,
-    directories: &[Option<Frame>; 64],
-    pid: Pid,
-    directory: Frame,
-    page: Page,
-    at: u32,
-    size: Size,
-) -> u32
-    requires sound { IsSound directories.now memory.now frames.now }
-    requires live { directory_of directories.now pid ≡ Some directory }
-    requires user { IsUserPage page }
-    requires mapped { is_some (entry_at (frame_bytes memory.now) directory page) ≡ true }
-    requires inside { at < 4096 }
-    requires aligned { at % byte_count size ≡ 0 }
-    ensures { result ≡ value_of (bytes_at (cell_or_fresh (spaces_in directories.now memory.now) (record { pid = pid; page = page })).bytes at (byte_count size)) }
-{
-    let entry = page_map::entry(memory, directory, page).unwrap();
-    number_at(memory, entry.frame, at, size)
-}
-
-/// Sets accessed in a mapped slot.
-fn touch(
-    memory: &mut Memory,
-    frames: &FrameTable,
-    directories: &[Option<Frame>; 64],
-    pid: Pid,
-    directory: Frame,
-    page: Page,
-)
-    requires sound { IsSound directories.now memory.old frames.now }
-    requires live { directory_of directories.now pid ≡ Some directory }
-    requires user { IsUserPage page }
-    requires mapped { is_some (entry_at (frame_bytes memory.old) directory page) ≡ true }
-    ensures { Touched directories.now (accessed (spaces_in directories.now memory.old) (record { pid = pid; page = page })) memory.old frames.now memory.new }
-{
-    let entry = page_map::entry(memory, directory, page).unwrap();
-    page_map::set_entry(memory, directory, page, entries::loaded(entry));
-}
-
 /// What one more page costs a process.
 fn need_in(
     memory: &Memory,
     frames: &FrameTable,
-    directories: &[Option<Frame>; 64],
+    directories: &Directories,
     pid: Pid,
     page: Page,
 ) -> u32
@@ -484,10 +383,10 @@ impl Spaces {
     pub fn map_zero(&mut self, pid: Pid, page: Page, write: bool)
         requires live { is_some (directory_of self.old.directories pid) ≡ true }
         requires user { IsUserPage page }
-        requires unmapped { map.get self.old.spaces (record { pid = pid; page = page }) ≡ None }
+        requires unmapped { map.get self.old.spaces (at_page pid page) ≡ None }
         requires room { 1 + total_cost self.old.directories self.old.spaces + need self.old.spaces pid page ≤ length self.old.roles }
-        ensures spaces { self.new.spaces ≡ map.insert self.old.spaces (record { pid = pid; page = page }) (fresh (record { pid = pid; page = page }) write) }
-        ensures lazy { is_lazy_at (image_of self.new) (record { pid = pid; page = page }) ≡ true }
+        ensures spaces { self.new.spaces ≡ map.insert self.old.spaces (at_page pid page) (fresh (at_page pid page) write) }
+        ensures lazy { is_lazy_at (image_of self.new) (at_page pid page) ≡ true }
         ensures directories { self.new.directories ≡ self.old.directories }
         ensures frames { length self.new.roles ≡ length self.old.roles }
     {
@@ -514,14 +413,14 @@ impl Spaces {
 
     /// Lets a slot join the group of another.
     pub fn join(&mut self, giver: Pid, giver_page: Page, pid: Pid, page: Page, right: bool)
-        requires given { is_some (map.get self.old.spaces (record { pid = giver; page = giver_page })) ≡ true }
+        requires given { is_some (map.get self.old.spaces (at_page giver giver_page)) ≡ true }
         requires from { IsUserPage giver_page }
         requires live { is_some (directory_of self.old.directories pid) ≡ true }
         requires user { IsUserPage page }
-        requires unmapped { map.get self.old.spaces (record { pid = pid; page = page }) ≡ None }
-        requires real { is_lazy_at (image_of self.old) (record { pid = giver; page = giver_page }) ≡ false }
+        requires unmapped { map.get self.old.spaces (at_page pid page) ≡ None }
+        requires real { is_lazy_at (image_of self.old) (at_page giver giver_page) ≡ false }
         requires room { 1 + total_cost self.old.directories self.old.spaces + need self.old.spaces pid page ≤ length self.old.roles }
-        ensures spaces { self.new.spaces ≡ joined self.old.spaces (record { pid = giver; page = giver_page }) (record { pid = pid; page = page }) right }
+        ensures spaces { self.new.spaces ≡ joined self.old.spaces (at_page giver giver_page) (at_page pid page) right }
         ensures directories { self.new.directories ≡ self.old.directories }
         ensures frames { length self.new.roles ≡ length self.old.roles }
     {
@@ -554,18 +453,18 @@ impl Spaces {
     /// Whether a slot has a lazy page, which has no frame of its own yet.
     pub fn is_lazy(&self, pid: Pid, page: Page) -> bool
         requires user { IsUserPage page }
-        ensures { result ≡ is_lazy_at (image_of self.now) (record { pid = pid; page = page }) }
+        ensures { result ≡ is_lazy_at (image_of self.now) (at_page pid page) }
     {
         fills::is_lazy_in(&self.memory, &self.frames, &self.directories, pid, page)
     }
 
     /// Gives a lazy page a frame of its own; any other stays as it is. What is mapped stays the same.
     pub fn fill(&mut self, pid: Pid, page: Page)
-        requires mapped { is_some (map.get self.old.spaces (record { pid = pid; page = page })) ≡ true }
+        requires mapped { is_some (map.get self.old.spaces (at_page pid page)) ≡ true }
         requires user { IsUserPage page }
         ensures spaces { self.new.spaces ≡ self.old.spaces }
         ensures directories { self.new.directories ≡ self.old.directories }
-        ensures real { is_lazy_at (image_of self.new) (record { pid = pid; page = page }) ≡ false }
+        ensures real { is_lazy_at (image_of self.new) (at_page pid page) ≡ false }
         ensures frames { length self.new.roles ≡ length self.old.roles }
     {
         if fills::is_lazy_in(&self.memory, &self.frames, &self.directories, pid, page) {
@@ -594,7 +493,7 @@ impl Spaces {
         let directory = home(&self.directories, pid);
         let page = page_of(address);
         let at = offset_of(address);
-        store(
+        accesses::store(
             &mut self.memory,
             &self.frames,
             &self.directories,
@@ -610,7 +509,7 @@ impl Spaces {
     /// The flags of a slot and the size of its group; None where the page is not mapped.
     pub fn cell(&self, pid: Pid, page: Page) -> Option<Cell>
         requires user { IsUserPage page }
-        ensures { result ≡ option_map shown (map.get self.now.spaces (record { pid = pid; page = page })) }
+        ensures { result ≡ option_map shown (map.get self.now.spaces (at_page pid page)) }
     {
         cell_in(&self.memory, &self.frames, &self.directories, pid, page)
     }
@@ -637,7 +536,7 @@ impl Spaces {
     /// What a process's cost falls by when a mapped page goes: 2 where it is the last of its region of
     /// 1,024 pages, whose table goes too, else 1.
     pub fn relief(&self, pid: Pid, page: Page) -> u32
-        requires mapped { is_some (map.get self.now.spaces (record { pid = pid; page = page })) ≡ true }
+        requires mapped { is_some (map.get self.now.spaces (at_page pid page)) ≡ true }
         requires user { IsUserPage page }
         ensures { cost (without self.now.spaces (is_slot pid page)) pid + result ≡ cost self.now.spaces pid }
     {
@@ -653,7 +552,7 @@ impl Spaces {
     {
         let directory = home(&self.directories, pid);
         let page = page_of(address);
-        fetch(
+        accesses::look(
             &self.memory,
             &self.frames,
             &self.directories,
@@ -677,8 +576,8 @@ impl Spaces {
     {
         let directory = home(&self.directories, pid);
         let page = page_of(address);
-        let value = fetch(
-            &self.memory,
+        accesses::load(
+            &mut self.memory,
             &self.frames,
             &self.directories,
             pid,
@@ -686,29 +585,20 @@ impl Spaces {
             page,
             offset_of(address),
             size,
-        );
-        touch(
-            &mut self.memory,
-            &self.frames,
-            &self.directories,
-            pid,
-            directory,
-            page,
-        );
-        value
+        )
     }
 
     /// Sets whether a process may write to a mapped page; to set it, the process must be allowed to.
     pub fn protect(&mut self, pid: Pid, page: Page, write: bool)
-        requires mapped { is_some (map.get self.old.spaces (record { pid = pid; page = page })) ≡ true }
+        requires mapped { is_some (map.get self.old.spaces (at_page pid page)) ≡ true }
         requires user { IsUserPage page }
-        requires right { write ≡ true → (cell_or_fresh self.old.spaces (record { pid = pid; page = page })).may ≡ true }
-        ensures spaces { self.new.spaces ≡ protected self.old.spaces (record { pid = pid; page = page }) write }
+        requires right { write ≡ true → (cell_or_fresh self.old.spaces (at_page pid page)).may ≡ true }
+        ensures spaces { self.new.spaces ≡ protected self.old.spaces (at_page pid page) write }
         ensures directories { self.new.directories ≡ self.old.directories }
         ensures roles { self.new.roles ≡ self.old.roles }
     {
         let directory = home(&self.directories, pid);
-        rights::set_right(
+        accesses::set_right(
             &mut self.memory,
             &self.frames,
             &self.directories,
@@ -721,7 +611,7 @@ impl Spaces {
 
     /// Takes a slot out of its group.
     pub fn unmap(&mut self, pid: Pid, page: Page)
-        requires mapped { is_some (map.get self.old.spaces (record { pid = pid; page = page })) ≡ true }
+        requires mapped { is_some (map.get self.old.spaces (at_page pid page)) ≡ true }
         requires user { IsUserPage page }
         ensures spaces { self.new.spaces ≡ without self.old.spaces (is_slot pid page) }
         ensures directories { self.new.directories ≡ self.old.directories }
@@ -747,7 +637,7 @@ impl Spaces {
         ensures others { (other : ℕ) → other ≢ pid → directory_of self.new.directories other ≡ directory_of self.old.directories other }
         ensures frames { length self.new.roles ≡ length self.old.roles }
     {
-        drops::remove_space(
+        drops::drop_space(
             &mut self.memory,
             &mut self.frames,
             &mut self.directories,

@@ -1,13 +1,13 @@
 ghost use Rattle.std.specs.Prelude.{◌≡◌, ◌+◌, ◌≤◌, length};
 ghost use Rattle.page_words.specs.Addresses.{IsUserPage};
-ghost use Rattle.address_space.specs.Sound.{total_cost};
+ghost use Rattle.address_space.specs.View.{total_cost};
 
 use super::*;
 use std::process::Abort;
 use std::test::Fail;
 
 /// Maps a page of zeros of a process that has a space.
-#[tactic(auto, using(crate::proofs::Totals::total_mapped_most))]
+#[tactic(auto, using(crate::proofs::costs::Totals::total_mapped_most))]
 fn map_page(rt: &impl Abort, spaces: &mut Spaces, pid: Pid, page: Page)
     requires user { IsUserPage page }
     requires room { 3 + total_cost spaces.old.directories spaces.old.spaces ≤ length spaces.old.roles }

@@ -6,7 +6,7 @@ use Rattle.page_words.specs.declared.addresses.Size.{Size}
 use Rattle.page_words.specs.FiniteMap as map
 use Rattle.page_words.proofs.MapLemmas.{get-insert, same_itself}
 use Rattle.address_space.specs.Spaces.{Slot, Cell, slot_order, slot_at, cell_or_fresh, fresh, bytes_of, bytes_at, value_of}
-use Rattle.address_space.proofs.MapFirst.{accessed-fresh, stored-fresh}
+use Rattle.address_space.proofs.costs.MapFirst.{accessed-fresh, stored-fresh}
 use Rattle.table_walk.specs.declared.Access.{Access}
 use Rattle.table_walk.specs.declared.Access.TheVariants.{Read, Write}
 use Rattle.table_walk.specs.Walk.{is_write, page_fault}

@@ -3,12 +3,12 @@ use Rattle.std.proofs.Common.{◌≡◌, ℕ, Bool, true, false, refl, ap, sym, 
 use Rattle.std.specs.Prelude.{if◌then◌else◌, IsOk}
 use Rattle.std.specs.Option.{option_map}
 use Rattle.page_words.specs.FiniteMap as map
-use Rattle.address_space.specs.Spaces.{cost}
+use Rattle.address_space.specs.Spaces.{cost, at_page}
 use Rattle.quota_tree.specs.declared.Container.{Container}
 use Rattle.quota_tree.specs.Book.{Member}
 use Rattle.process_table.specs.State.{State, is_live, child_of, container_of, shown}
-use Rattle.process_table.specs.Calls.{at_page, map_refusal, protect_refusal, offer_refusal, spawn_refusal, after_map, after_protect}
-use Rattle.address_space.proofs.Totals.{cost-protected_of}
+use Rattle.process_table.specs.Calls.{map_refusal, protect_refusal, offer_refusal, spawn_refusal, after_map, after_protect}
+use Rattle.address_space.proofs.costs.Totals.{cost-protected_of}
 use Rattle.process_table.proofs.Refusals.{may_protect}
 use Rattle.process_table.specs.TestAnswers.{first_cause, number_unless, child_unless, map_answer, protect_answer, offer_answer, spawn_answer}
 use Rattle.process_table.specs.declared.causes.Cause.{Cause}

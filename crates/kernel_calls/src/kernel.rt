@@ -1,7 +1,7 @@
 //! The kernel's core: one machine's memory and its processes.
 
 ghost use Rattle.std.specs.Prelude.{◌≡◌, ◌↔◌, ◌*◌, ◌<◌, ◌≤◌, true, false, Some, IfOk, IsErrOf, length, slice_get};
-ghost use Rattle.address_space.specs.Sound.{directory_of};
+ghost use Rattle.address_space.specs.View.{directory_of};
 ghost use Rattle.address_space.specs.Walks.{WalksAgree};
 ghost use Rattle.process_table.specs.State.{open_with, container_of};
 ghost use Rattle.process_table.specs.Image.{StandsFor, image_of, memory_of};

@@ -8,7 +8,7 @@ use Rattle.page_words.specs.FiniteMap as map
 use Rattle.page_words.specs.FiniteMap.{nat_order}
 use Rattle.page_words.proofs.MapLemmas.{same_itself, get-insert, get-retain_keys}
 use Rattle.page_words.proofs.SetLemmas.{get-remove, same_cases}
-use Rattle.address_space.specs.Spaces.{Slot, slot_order, Cell, Spaces, cost, without, is_slot, is_of}
+use Rattle.address_space.specs.Spaces.{Slot, slot_order, Cell, Spaces, cost, without, is_slot, is_of, at_page}
 use Rattle.quota_tree.specs.Book.{Book, Member, is_child, given, number_of_children, quota_of, next_number}
 use Rattle.quota_tree.proofs.Sums.{Parents, costs_within, given-insert, given-none, given-remove, number-remove}
 use Rattle.quota_tree.proofs.BookFacts.{child_yes, child_no, contains_key-insert, get-insert_other, get-remove_other}
@@ -36,7 +36,7 @@ retained offers stay key right h = by (stay key) refl (sym (get-retain_keys offe
     by false is k = cc
 
 abbrev offered_at : OfferKey → Slot
-offered_at key = record { pid = key.offerer; page = key.page }
+offered_at key = at_page key.offerer key.page
 
 module _ (s : State) (w : IsWellFormed s) (gone : Slot → Bool) (stay : OfferKey → Bool) (book : Book)
     (slots : (key : OfferKey) → stay key ≡ true → gone (offered_at key) ≡ false)
@@ -62,7 +62,7 @@ module _ (s : State) (w : IsWellFormed s) (gone : Slot → Bool) (stay : OfferKe
 
 module _ (s : State) (p page : ℕ) (w : IsWellFormed s) where
   other_slot : (key : OfferKey) → not ((key.offerer == p) && (key.page == page)) ≡ true → is_slot p page (offered_at key) ≡ false
-  other_slot key h = elim (same_cases slot_order (record { pid = p; page = page }) (offered_at key)) [
+  other_slot key h = elim (same_cases slot_order (at_page p page) (offered_at key)) [
     | inl is ↦ absurd (
         let a : (key.offerer == p) ≡ true = eq-eqb key.offerer p (sym (ap (λ (x : Slot). x.pid) is.0)) in
         let b : (key.page == page) ≡ true = eq-eqb key.page page (sym (ap (λ (x : Slot). x.page) is.0)) in
@@ -141,12 +141,12 @@ module _ (s : State) (p quota k : ℕ) (w : IsWellFormed s) (live : is_live s p 
   given-other : (q : ℕ) → q ≢ p → given book_more q ≡ 0 + given s.book q
   given-other q n = given-insert s.book k child none q ∙ ap (λ b. cond b quota 0 + given s.book q) (child_no p q k quota (λ e. n (sym e)))
 
-  no_slots : (page : ℕ) → map.contains_key s.spaces (record { pid = k; page = page }) ≡ false
-  no_slots page = by (map.get s.spaces (record { pid = k; page = page })) refl
+  no_slots : (page : ℕ) → map.contains_key s.spaces (at_page k page) ≡ false
+  no_slots page = by (map.get s.spaces (at_page k page)) refl
     where
-      by : (x : Option Cell) → map.get s.spaces (record { pid = k; page = page }) ≡ x → is_some x ≡ false
+      by : (x : Option Cell) → map.get s.spaces (at_page k page) ≡ x → is_some x ≡ false
       by None is = refl
-      by (Some c) is = absurd (live_apart k (w.owners (record { pid = k; page = page }) c is) refl)
+      by (Some c) is = absurd (live_apart k (w.owners (at_page k page) c is) refl)
 
   room_child : cost s.spaces k + given book_more k ≤ quota_of book_more k
   room_child =

@@ -5,11 +5,11 @@ use Rattle.page_words.specs.FiniteMap as map
 use Rattle.page_words.specs.FiniteMap.{same, nat_order}
 use Rattle.page_words.proofs.MapLemmas.{same_or_not, same_itself, get-insert, get-retain_keys}
 use Rattle.address_space.specs.Spaces.{cost, without, is_of}
-use Rattle.address_space.specs.Sound as frames
-use Rattle.address_space.specs.Sound.{directory_of, live_cost, total_cost}
-use Rattle.address_space.proofs.CostSteps.{sum_one}
-use Rattle.address_space.proofs.PageSteps.{not_same}
-use Rattle.address_space.proofs.Totals.{cost-without_other}
+use Rattle.address_space.specs.View as frames
+use Rattle.address_space.specs.View.{directory_of, live_cost, total_cost}
+use Rattle.address_space.proofs.costs.CostSteps.{sum_one}
+use Rattle.address_space.proofs.frames.PageSteps.{not_same}
+use Rattle.address_space.proofs.costs.Totals.{cost-without_other}
 use Rattle.quota_tree.specs.Book.{Member, quota_of}
 use Rattle.quota_tree.specs.Containers.{Containers, IsLive, used_of, with_used, after_close, total_used}
 use Rattle.process_table.specs.View.{IsProcesses}

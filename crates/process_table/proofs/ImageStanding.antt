@@ -13,13 +13,13 @@ use Rattle.page_words.specs.FiniteSet as set
 use Rattle.page_words.specs.FiniteSet.{Set}
 use Rattle.page_words.proofs.MapLemmas.{same_map}
 use Rattle.alloc_table.specs.declared.Role.TheVariants.{Table}
-use Rattle.address_space.specs.Spaces.{Slot, Cell, Spaces, pages_of, regions_of, cost}
+use Rattle.address_space.specs.Spaces.{Slot, Cell, Spaces, pages_of, regions_of, cost, at_page}
 use Rattle.address_space.specs.Image as memory
 use Rattle.address_space.specs.Image.{directory_at, table_at, page_word, present_word, word_of}
-use Rattle.address_space.specs.Sound.{directory_of}
-use Rattle.address_space.proofs.Costs.{contains-pages_of}
-use Rattle.address_space.proofs.CostSteps.{region_member, region_there}
-use Rattle.address_space.proofs.Standing.{stands_for_one}
+use Rattle.address_space.specs.View.{directory_of}
+use Rattle.address_space.proofs.costs.Costs.{contains-pages_of}
+use Rattle.address_space.proofs.costs.CostSteps.{region_member, region_there}
+use Rattle.address_space.proofs.standing.Standing.{stands_for_one}
 use Rattle.quota_tree.specs.declared.Container.{Container}
 use Rattle.quota_tree.specs.Book.{Member, is_child, given, quota_of}
 use Rattle.process_table.specs.State.{State, is_live, shown, container_of}
@@ -31,7 +31,7 @@ use Rattle.process_table.proofs.Ranges.{found, sum-same, sum-range}
 
 module _ (M : memory.Image) (S : Spaces) (stands : memory.StandsFor M S) (p : ℕ) where
   abbrev page_at : ℕ → Slot
-  page_at page = record { pid = p; page = page }
+  page_at page = at_page p page
 
   both_or_none : (slot : Slot) (w : Option ℕ) (c : Option Cell) → memory.SlotStands M slot w c → is_some c ≡ is_some w
   both_or_none slot None None h = refl

@@ -6,7 +6,7 @@ use Rattle.page_words.specs.Addresses.{IsUserPage, is_user_page, page_number, by
 use Rattle.page_words.specs.declared.addresses.Size.{Size}
 use Rattle.page_words.specs.FiniteMap as map
 use Rattle.address_space.specs.Spaces.{slot_at}
-use Rattle.address_space.specs.Sound as frames
+use Rattle.address_space.specs.View as frames
 use Rattle.quota_tree.specs.Containers.{Containers}
 use Rattle.page_sharing.specs.Offers.{Offers}
 use Rattle.table_walk.specs.declared.Access.{Access}

@@ -11,8 +11,8 @@ use Rattle.std.proofs.lemmas.List.Sums.{sum_by-cons}
 use Rattle.page_words.specs.FiniteMap as map
 use Rattle.page_words.specs.FiniteMap.{Map, nat_order}
 use Rattle.address_space.specs.Spaces.{cost}
-use Rattle.address_space.specs.Sound.{directory_of, live_cost, total_cost}
-use Rattle.address_space.proofs.CostSteps.{sum_one}
+use Rattle.address_space.specs.View.{directory_of, live_cost, total_cost}
+use Rattle.address_space.proofs.costs.CostSteps.{sum_one}
 use Rattle.quota_tree.specs.Book.{Member}
 use Rattle.process_table.specs.State.{State, is_live}
 use Rattle.process_table.specs.WellFormed.{total}

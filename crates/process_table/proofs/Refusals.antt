@@ -4,12 +4,12 @@ use Rattle.std.specs.Prelude.{if◌then◌else◌, is_some, IsOk, nat_le}
 use Rattle.std.proofs.lemmas.Bool.Decides.{nat_tests}
 use Rattle.page_words.specs.Addresses.{is_user_page}
 use Rattle.page_words.specs.FiniteMap as map
-use Rattle.address_space.specs.Spaces.{Cell, fresh, cell_or_fresh, joined, cost, need}
-use Rattle.address_space.proofs.Costs.{cost-insert}
-use Rattle.address_space.proofs.Totals.{cost-joined}
+use Rattle.address_space.specs.Spaces.{Cell, fresh, cell_or_fresh, joined, cost, need, at_page}
+use Rattle.address_space.proofs.costs.Costs.{cost-insert}
+use Rattle.address_space.proofs.costs.Totals.{cost-joined}
 use Rattle.page_sharing.specs.Offers.{offer_of, pending}
 use Rattle.process_table.specs.State.{State, is_live, is_mapped, has_no_room}
-use Rattle.process_table.specs.Calls.{at_page, map_refusal, protect_refusal, offer_refusal, accept_refusal, offered}
+use Rattle.process_table.specs.Calls.{map_refusal, protect_refusal, offer_refusal, accept_refusal, offered}
 use Rattle.process_table.specs.TestAnswers.{first_cause, number_unless, map_answer, accept_answer}
 use Rattle.process_table.specs.declared.causes.Cause.{Cause}
 use Rattle.process_table.specs.declared.causes.Cause.TheVariants.{NoProcess}

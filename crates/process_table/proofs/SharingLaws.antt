@@ -10,12 +10,12 @@ use Rattle.page_words.specs.FiniteSet as set
 use Rattle.page_words.specs.FiniteSet.{Set}
 use Rattle.page_words.proofs.MapLemmas.{same_itself, same-true, get-insert, get-map_values, contains-insert, len-insert, retain-insert, retain-insert_other}
 use Rattle.page_words.proofs.SetLemmas.{same_cases}
-use Rattle.address_space.specs.Spaces.{Slot, slot_order, Cell, Spaces, cost, need, fresh, cell_or_fresh, with_holders, set_holders, joined, join_in}
-use Rattle.address_space.proofs.Totals.{cost-joined, cost-joined_other}
+use Rattle.address_space.specs.Spaces.{Slot, slot_order, Cell, Spaces, cost, need, fresh, cell_or_fresh, with_holders, set_holders, joined, join_in, at_page}
+use Rattle.address_space.proofs.costs.Totals.{cost-joined, cost-joined_other}
 use Rattle.quota_tree.specs.Book.{given, quota_of}
 use Rattle.page_sharing.specs.Offers.{OfferKey, Offers, offer_order, offer_of, pending}
 use Rattle.process_table.specs.State.{State, is_live, has_no_room, room}
-use Rattle.process_table.specs.Calls.{at_page, protect_refusal, offer_refusal, accept_refusal, offered, after_protect, after_offer, after_withdraw, after_accept}
+use Rattle.process_table.specs.Calls.{protect_refusal, offer_refusal, accept_refusal, offered, after_protect, after_offer, after_withdraw, after_accept}
 use Rattle.process_table.specs.WellFormed.{IsCellAt, IsOfferIn, IsWellFormed}
 use Rattle.process_table.proofs.CellLaws.{AreCells, same_Some, some_value, get-inserted, get-inserted_other}
 use Rattle.process_table.proofs.BookLaws.{retained}

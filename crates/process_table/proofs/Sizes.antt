@@ -7,9 +7,9 @@ use Rattle.page_words.specs.FiniteMap.{Order, Map, nat_order}
 use Rattle.page_words.specs.FiniteSet as set
 use Rattle.page_words.specs.FiniteSet.{Set}
 use Rattle.page_words.proofs.MapLemmas.{same_set, contains-retain}
-use Rattle.address_space.specs.Spaces.{Slot, Spaces, cost, pages_of, regions_of}
-use Rattle.address_space.proofs.Costs.{contains-pages_of}
-use Rattle.address_space.proofs.CostSteps.{region_member, region_there}
+use Rattle.address_space.specs.Spaces.{Slot, Spaces, cost, pages_of, regions_of, at_page}
+use Rattle.address_space.proofs.costs.Costs.{contains-pages_of}
+use Rattle.address_space.proofs.costs.CostSteps.{region_member, region_there}
 
 module _ {K X : Type 0} (R : K → K → Ordering) where
   length-where_key : (t : K → Bool) (es : List (K × X)) → length (where_key R t es) ≤ length es
@@ -59,15 +59,15 @@ cost-fewer S T p inside =
     omega (arith, pages, regions)
   where
     page : (n : ℕ) → set.contains (pages_of T p) n ≡ true → set.contains (pages_of S p) n ≡ true
-    page n h = contains-pages_of S p n ∙ inside (record { pid = p; page = n }) (sym (contains-pages_of T p n) ∙ h)
+    page n h = contains-pages_of S p n ∙ inside (at_page p n) (sym (contains-pages_of T p n) ∙ h)
 
     region : (r : ℕ) → set.contains (regions_of (pages_of T p)) r ≡ true → set.contains (regions_of (pages_of S p)) r ≡ true
     region r h =
         let m = region_member (pages_of T p) r h in
-        let there : set.contains (pages_of S p) m.0 ≡ true = contains-pages_of S p m.0 ∙ inside (record { pid = p; page = m.0 }) (sym (contains-pages_of T p m.0) ∙ m.2) in
+        let there : set.contains (pages_of S p) m.0 ≡ true = contains-pages_of S p m.0 ∙ inside (at_page p m.0) (sym (contains-pages_of T p m.0) ∙ m.2) in
         subst (λ n. set.contains (regions_of (pages_of S p)) n ≡ true) m.1 (region_there (pages_of S p) m.0 there)
 
 -- a process without pages costs its directory
-pub cost-no_pages : (S : Spaces) (p : ℕ) → ((page : ℕ) → map.contains_key S (record { pid = p; page = page }) ≡ false) → cost S p ≡ 1
+pub cost-no_pages : (S : Spaces) (p : ℕ) → ((page : ℕ) → map.contains_key S (at_page p page) ≡ false) → cost S p ≡ 1
 cost-no_pages S p none =
     ap (λ (pages : Set nat_order). 1 + set.len (regions_of pages) + set.len pages) (same_set (pages_of S p) set.empty (λ page. contains-pages_of S p page ∙ none page))

@@ -16,14 +16,14 @@ use Rattle.page_words.specs.FiniteSet as set
 use Rattle.page_words.specs.FiniteSet.{Set}
 use Rattle.page_words.proofs.MapLemmas.{get-map_values}
 use Rattle.page_words.proofs.SetLemmas.{same_cases}
-use Rattle.address_space.specs.Spaces.{Slot, slot_order, Cell, Spaces, cost, cost_of, need, fresh, accessed, store_in, set_bytes, with_bytes, write_at, bytes_of, slot_at}
-use Rattle.address_space.proofs.Costs.{same_pages, cost-insert}
-use Rattle.address_space.proofs.MapFirst.{accessed-fresh, stored-fresh}
-use Rattle.address_space.proofs.Stores.{written_long}
+use Rattle.address_space.specs.Spaces.{Slot, slot_order, Cell, Spaces, cost, cost_of, need, fresh, accessed, store_in, set_bytes, with_bytes, write_at, bytes_of, slot_at, at_page}
+use Rattle.address_space.proofs.costs.Costs.{same_pages, cost-insert}
+use Rattle.address_space.proofs.costs.MapFirst.{accessed-fresh, stored-fresh}
+use Rattle.address_space.proofs.steps.Stores.{written_long}
 use Rattle.quota_tree.specs.Book.{given, quota_of}
 use Rattle.page_sharing.specs.Offers.{OfferKey}
 use Rattle.process_table.specs.State.{State, is_live, is_mapped, has_no_room, room}
-use Rattle.process_table.specs.Calls.{at_page, map_refusal, after_map, after_load, after_store}
+use Rattle.process_table.specs.Calls.{map_refusal, after_map, after_load, after_store}
 use Rattle.process_table.specs.declared.causes.Cause.TheVariants.{BadPage, Mapped, Quota}
 use Rattle.process_table.specs.Laws.{IsReachable}
 use Rattle.process_table.specs.WellFormed.{IsCellAt, IsOfferIn, IsWellFormed}
@@ -69,7 +69,7 @@ with-spaces s T w rooms owners cells keeps = record {
     offers : (key : OfferKey) (right : Bool) → map.get s.offers key ≡ Some right → IsOfferIn (record s { spaces = T }) key right
     offers key right h =
         let old = w.offers key right h in
-        let k = keeps (record { pid = key.offerer; page = key.page }) old.offered.0 old.offered.1 in
+        let k = keeps (at_page key.offerer key.page) old.offered.0 old.offered.1 in
         record { target = old.target; another = old.another; offered = (k.0, k.1, λ r. k.2 ∙ old.offered.2 r) }
 
 -- ---- A page of zeros more
@@ -82,7 +82,7 @@ module _ (s : State) (slot : Slot) (write : Bool) (w : IsWellFormed s) (live : i
   room_more p h = elim (cases_eq p slot.pid) [
     | inl own ↦ subst (λ n. cost more n + given s.book n ≤ quota_of s.book n) (sym own) owner
     | inr differ ↦
-        let e : cost more p ≡ cost s.spaces p = ap cost_of (same_pages more s.spaces p p (λ page. ap is_some (get-inserted_other s.spaces slot (fresh slot write) (record { pid = p; page = page }) (λ is. differ (ap (λ (q : Slot). q.pid) is))))) in
+        let e : cost more p ≡ cost s.spaces p = ap cost_of (same_pages more s.spaces p p (λ page. ap is_some (get-inserted_other s.spaces slot (fresh slot write) (at_page p page) (λ is. differ (ap (λ (q : Slot). q.pid) is))))) in
         let old = w.rooms p h in
         omega (arith, e, old)
   ]

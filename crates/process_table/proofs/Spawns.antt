@@ -9,11 +9,11 @@ use Rattle.page_words.specs.FiniteMap.{same, nat_order}
 use Rattle.page_words.specs.FiniteSet as set
 use Rattle.page_words.specs.FiniteSet.{Set}
 use Rattle.page_words.proofs.MapLemmas.{same_or_not, same_itself, same_set, get-insert}
-use Rattle.address_space.specs.Spaces.{Slot, Cell, Spaces, cost, cost_of, pages_of}
+use Rattle.address_space.specs.Spaces.{Slot, Cell, Spaces, cost, cost_of, pages_of, at_page}
 use Rattle.address_space.specs.Image.{Image, StandsFor, SlotStands, directory_at, page_word}
-use Rattle.address_space.specs.Sound as frames
-use Rattle.address_space.specs.Sound.{directory_of, live_cost, total_cost}
-use Rattle.address_space.proofs.Costs.{contains-pages_of}
+use Rattle.address_space.specs.View as frames
+use Rattle.address_space.specs.View.{directory_of, live_cost, total_cost}
+use Rattle.address_space.proofs.costs.Costs.{contains-pages_of}
 use Rattle.quota_tree.specs.declared.QuotaFault.{QuotaFault}
 use Rattle.quota_tree.specs.declared.QuotaFault.TheVariants as quota
 use Rattle.quota_tree.specs.Book.{Book, Member, given, quota_of, next_number}
@@ -107,11 +107,11 @@ child-has_none v c p asked child kept is = no_directory (directory_of v.director
 -- ---- The child's charge
 
 -- a process without a directory has nothing mapped
-nothing-mapped : (image : Image) (S : Spaces) (p page : ℕ) → StandsFor image S → directory_at image p ≡ None → map.contains_key S (record { pid = p; page = page }) ≡ false
+nothing-mapped : (image : Image) (S : Spaces) (p page : ℕ) → StandsFor image S → directory_at image p ≡ None → map.contains_key S (at_page p page) ≡ false
 nothing-mapped image S p page stands none = by (map.get S slot) (subst (λ x. SlotStands image slot x (map.get S slot)) absent (stands.cells slot))
   where
     slot : Slot
-    slot = record { pid = p; page = page }
+    slot = at_page p page
 
     absent : page_word image slot ≡ None
     absent = rw none refl
@@ -121,7 +121,7 @@ nothing-mapped image S p page stands none = by (map.get S slot) (subst (λ x. Sl
     by (Some cell) h = absurd h
 
 -- a process with nothing mapped is charged for its directory
-cost-nothing : (S : Spaces) (p : ℕ) → ((page : ℕ) → map.contains_key S (record { pid = p; page = page }) ≡ false) → cost S p ≡ 1
+cost-nothing : (S : Spaces) (p : ℕ) → ((page : ℕ) → map.contains_key S (at_page p page) ≡ false) → cost S p ≡ 1
 cost-nothing S p none = ap cost_of (same_set (pages_of S p) set.empty (λ page. contains-pages_of S p page ∙ none page))
 
 pub cost-child : (v : frames.View) (p : ℕ) → StandsFor (record { directories = v.directories; bytes = v.bytes; roles = v.roles }) v.spaces → directory_of v.directories p ≡ None → cost v.spaces p ≡ 1

@@ -3,7 +3,7 @@ use Rattle.std.proofs.Common.{ℕ, Bool, false, not, ◌&&◌, if◌then◌else�
 use Rattle.page_words.specs.Addresses.{offset_number, byte_count, is_user_page}
 use Rattle.page_words.specs.declared.addresses.Size.{Size}
 use Rattle.page_words.specs.FiniteMap as map
-use Rattle.address_space.specs.Spaces.{Slot, cell_or_fresh, fresh, without, is_slot, is_of, slot_at, accessed, stored, protected, joined, bytes_at, value_of, bytes_of}
+use Rattle.address_space.specs.Spaces.{cell_or_fresh, fresh, without, is_slot, is_of, slot_at, accessed, stored, protected, joined, bytes_at, value_of, bytes_of, at_page}
 use Rattle.quota_tree.specs.Book.{next_number, number_of_children}
 use Rattle.page_sharing.specs.Offers.{offer_of, pending, without_page, without_process}
 use Rattle.table_walk.specs.declared.Access.{Access}
@@ -11,9 +11,6 @@ use Rattle.table_walk.specs.declared.Access.TheVariants.{Read, Write}
 use Rattle.process_table.specs.State.{State, is_live, is_mapped, has_no_room, room, child_of}
 use Rattle.process_table.specs.declared.causes.Cause.{Cause}
 use Rattle.process_table.specs.declared.causes.Cause.TheVariants.{BadPage, NotMapped, Mapped, Quota, Rights, SelfOffer, NoTarget, OfferPending, TooManyOffers, NoOffer, TableFull, BadQuota, HasChildren, RootExit}
-
-abbrev pub at_page : ℕ → ℕ → Slot
-at_page p page = record { pid = p; page = page }
 
 -- ---- Why a call is refused: the first cause that applies
 

@@ -9,6 +9,7 @@ use Rattle.address_space.specs.Image.{directory_at, table_at, page_word}
 use Rattle.quota_tree.specs.declared.Container.{Container}
 use Rattle.process_table.specs.State.{State, container_of}
 use Rattle.process_table.specs.View.{View}
+use Rattle.address_space.specs.Spaces.{at_page}
 
 pub record Image : Type 0 where
   -- directories, bytes and roles
@@ -35,7 +36,7 @@ pub record IsCharge (image : memory.Image) (p used : ℕ) : Type 0 where
   pub tables : ℕ
   pub pages : ℕ
   pub named : IsCount tables (λ s. IsTrue (is_some (table_at image p s)))
-  pub mapped : IsCount pages (λ page. IsTrue (is_some (page_word image (record { pid = p; page = page }))))
+  pub mapped : IsCount pages (λ page. IsTrue (is_some (page_word image (at_page p page))))
   pub sum : used ≡ 1 + tables + pages
 
 -- what a process has of p's quota: its own where it is a child of p

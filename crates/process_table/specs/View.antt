@@ -6,8 +6,8 @@ use Rattle.page_words.specs.FiniteMap as map
 use Rattle.alloc_table.specs.declared.Role.{Role}
 use Rattle.address_space.specs.Spaces.{Spaces, cost}
 use Rattle.address_space.specs.Codes.{spaces_code}
-use Rattle.address_space.specs.Sound as frames
-use Rattle.address_space.specs.Sound.{role_code, directory_of}
+use Rattle.address_space.specs.View as frames
+use Rattle.address_space.specs.View.{role_code, directory_of}
 use Rattle.quota_tree.specs.Book.{Book, book_code, quota_of}
 use Rattle.quota_tree.specs.Containers.{Containers, IsLive, used_of}
 use Rattle.page_sharing.specs.Offers.{Offers, offers_code}

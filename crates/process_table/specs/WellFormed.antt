@@ -4,7 +4,7 @@ use Rattle.std.specs.List.{All}
 use Rattle.page_words.specs.FiniteMap as map
 use Rattle.page_words.specs.FiniteSet as set
 use Rattle.page_words.specs.Addresses.{IsUserPage}
-use Rattle.address_space.specs.Spaces.{Slot, Cell, Spaces, cost}
+use Rattle.address_space.specs.Spaces.{Slot, Cell, Spaces, cost, at_page}
 use Rattle.quota_tree.specs.Book.{Member, given, quota_of}
 use Rattle.page_sharing.specs.Offers.{OfferKey, pending}
 use Rattle.process_table.specs.State.{State, is_live}
@@ -23,7 +23,7 @@ pub record IsCellAt (spaces : Spaces) (slot : Slot) (cell : Cell) : Type 0 where
 pub record IsOfferIn (s : State) (key : OfferKey) (right : Bool) : Type 0 where
   pub target : IsTrue (is_live s key.target)
   pub another : key.target ≢ key.offerer
-  pub offered : (c : Cell) × (map.get s.spaces (record { pid = key.offerer; page = key.page }) ≡ Some c) × (IsTrue right → IsTrue c.may)
+  pub offered : (c : Cell) × (map.get s.spaces (at_page key.offerer key.page) ≡ Some c) × (IsTrue right → IsTrue c.may)
 
 pub record IsWellFormed (s : State) : Type 0 where
   pub root : IsTrue (is_live s 0)

@@ -2,9 +2,9 @@
 
 ghost use Rattle.std.specs.Prelude.{◌≡◌, ◌+◌, ◌≤◌, ◌<◌, true};
 ghost use Rattle.page_words.specs.Addresses.{page_number, IsUserPage};
-ghost use Rattle.address_space.specs.Spaces.{cost, need, without, is_slot};
+ghost use Rattle.address_space.specs.Spaces.{cost, need, without, is_slot, at_page};
 ghost use Rattle.process_table.specs.State.{is_live, is_mapped, has_no_room, room};
-ghost use Rattle.process_table.specs.Calls.{at_page, after_load};
+ghost use Rattle.process_table.specs.Calls.{after_load};
 
 use crate::processes::Processes;
 use page_words::{Page, Pid, Vaddr, page_of};

@@ -3,10 +3,10 @@
 ghost use Rattle.std.specs.Prelude.{◌≡◌, ◌&&◌, not, if◌then◌else◌, nat_le, Some, None, true};
 ghost use Rattle.page_words.specs.Addresses.{IsUserPage};
 ghost use Rattle.page_words.specs.FiniteMap as map;
-ghost use Rattle.address_space.specs.Spaces.{cell_or_fresh};
+ghost use Rattle.address_space.specs.Spaces.{cell_or_fresh, at_page};
 ghost use Rattle.page_sharing.specs.Offers.{offer_of, pending};
 ghost use Rattle.process_table.specs.State.{is_mapped};
-ghost use Rattle.process_table.specs.Calls.{at_page, map_refusal, unmap_refusal, protect_refusal, offer_refusal, withdraw_refusal, accept_refusal, exit_refusal};
+ghost use Rattle.process_table.specs.Calls.{map_refusal, unmap_refusal, protect_refusal, offer_refusal, withdraw_refusal, accept_refusal, exit_refusal};
 ghost use Rattle.process_table.specs.TestAnswers.{first_cause};
 ghost use Rattle.process_table.specs.declared.causes.Cause.TheVariants as cause;
 

@@ -4,13 +4,13 @@ ghost use Rattle.std.specs.Prelude.{◌≡◌, ◌≢◌, ◌↔◌, ℕ, ◌+�
 ghost use Rattle.page_words.specs.Addresses.{page_number, byte_count, IsUserPage, is_user_page};
 ghost use Rattle.page_words.specs.FiniteMap as map;
 ghost use Rattle.alloc_table.specs.Roles.{opening_roles};
-ghost use Rattle.address_space.specs.Spaces.{cost, need, slot_at, fresh, without, is_slot, is_of, cell_or_fresh, protected, joined};
+ghost use Rattle.address_space.specs.Spaces.{cost, need, slot_at, fresh, without, is_slot, is_of, cell_or_fresh, protected, joined, at_page};
 ghost use Rattle.page_sharing.specs.Offers.{offer_of};
 ghost use Rattle.std.specs.Option.{unwrap_or};
-ghost use Rattle.address_space.specs.Sound.{directory_of, total_cost};
+ghost use Rattle.address_space.specs.View.{directory_of, total_cost};
 ghost use Rattle.quota_tree.specs.Containers.{IsLive, used_of, room_of, with_used, split_answer, after_split, opening};
 ghost use Rattle.process_table.specs.State.{is_live, is_mapped, has_no_room, container_of, open_with};
-ghost use Rattle.process_table.specs.Calls.{at_page, map_refusal, unmap_refusal, exit_refusal, after_map, after_unmap, after_protect, after_offer, after_withdraw, after_accept, after_spawn, after_exit, after_load, after_store, after_access, access_value, is_misaligned};
+ghost use Rattle.process_table.specs.Calls.{map_refusal, unmap_refusal, exit_refusal, after_map, after_unmap, after_protect, after_offer, after_withdraw, after_accept, after_spawn, after_exit, after_load, after_store, after_access, access_value, is_misaligned};
 ghost use Rattle.process_table.specs.TestAnswers.{translated, map_answer, unmap_answer, protect_answer, offer_answer, withdraw_answer, accept_answer, spawn_answer, exit_answer};
 ghost use Rattle.process_table.specs.View.{state_of, IsProcesses};
 ghost use Rattle.process_table.specs.Image.{StandsFor, image_of, memory_of};
@@ -92,10 +92,10 @@ fn add_page(spaces: &mut Spaces, quotas: &mut Quotas, pid: Pid, page: Page, writ
     requires kept { IsProcesses spaces.old quotas.old }
     requires live { IsLive quotas.old pid }
     requires user { IsUserPage page }
-    requires unmapped { map.get spaces.old.spaces (record { pid = pid; page = page }) ≡ None }
+    requires unmapped { map.get spaces.old.spaces (at_page pid page) ≡ None }
     requires room { need spaces.old.spaces pid page ≤ room_of quotas.old pid }
     ensures kept { IsProcesses spaces.new quotas.new }
-    ensures spaces { spaces.new.spaces ≡ map.insert spaces.old.spaces (record { pid = pid; page = page }) (fresh (record { pid = pid; page = page }) write) }
+    ensures spaces { spaces.new.spaces ≡ map.insert spaces.old.spaces (at_page pid page) (fresh (at_page pid page) write) }
     ensures book { quotas.new.book ≡ quotas.old.book }
 {
     let need = spaces.need(pid, page);
@@ -108,7 +108,7 @@ fn remove_page(spaces: &mut Spaces, quotas: &mut Quotas, pid: Pid, page: Page)
     requires kept { IsProcesses spaces.old quotas.old }
     requires live { IsLive quotas.old pid }
     requires user { IsUserPage page }
-    requires mapped { is_some (map.get spaces.old.spaces (record { pid = pid; page = page })) ≡ true }
+    requires mapped { is_some (map.get spaces.old.spaces (at_page pid page)) ≡ true }
     ensures kept { IsProcesses spaces.new quotas.new }
     ensures spaces { spaces.new.spaces ≡ without spaces.old.spaces (is_slot pid page) }
     ensures book { quotas.new.book ≡ quotas.old.book }
@@ -122,10 +122,10 @@ fn remove_page(spaces: &mut Spaces, quotas: &mut Quotas, pid: Pid, page: Page)
 fn set_right(spaces: &mut Spaces, quotas: &Quotas, pid: Pid, page: Page, write: bool)
     requires kept { IsProcesses spaces.old quotas.now }
     requires user { IsUserPage page }
-    requires mapped { is_some (map.get spaces.old.spaces (record { pid = pid; page = page })) ≡ true }
-    requires right { write ≡ true → (cell_or_fresh spaces.old.spaces (record { pid = pid; page = page })).may ≡ true }
+    requires mapped { is_some (map.get spaces.old.spaces (at_page pid page)) ≡ true }
+    requires right { write ≡ true → (cell_or_fresh spaces.old.spaces (at_page pid page)).may ≡ true }
     ensures kept { IsProcesses spaces.new quotas.now }
-    ensures spaces { spaces.new.spaces ≡ protected spaces.old.spaces (record { pid = pid; page = page }) write }
+    ensures spaces { spaces.new.spaces ≡ protected spaces.old.spaces (at_page pid page) write }
 {
     // No charge changes: only the contract reads the quotas.
     let _ = quotas;
@@ -153,13 +153,13 @@ fn join_page(
 )
     requires kept { IsProcesses spaces.old quotas.old }
     requires live { IsLive quotas.old pid }
-    requires given { is_some (map.get spaces.old.spaces (record { pid = giver; page = giver_page })) ≡ true }
+    requires given { is_some (map.get spaces.old.spaces (at_page giver giver_page)) ≡ true }
     requires from { IsUserPage giver_page }
     requires user { IsUserPage page }
-    requires unmapped { map.get spaces.old.spaces (record { pid = pid; page = page }) ≡ None }
+    requires unmapped { map.get spaces.old.spaces (at_page pid page) ≡ None }
     requires room { need spaces.old.spaces pid page ≤ room_of quotas.old pid }
     ensures kept { IsProcesses spaces.new quotas.new }
-    ensures spaces { spaces.new.spaces ≡ joined spaces.old.spaces (record { pid = giver; page = giver_page }) (record { pid = pid; page = page }) right }
+    ensures spaces { spaces.new.spaces ≡ joined spaces.old.spaces (at_page giver giver_page) (at_page pid page) right }
     ensures book { quotas.new.book ≡ quotas.old.book }
 {
     let need = spaces.need(pid, page);
@@ -247,10 +247,10 @@ fn complete_access(
 fn fill_page(spaces: &mut Spaces, quotas: &Quotas, pid: Pid, page: Page)
     requires kept { IsProcesses spaces.old quotas.now }
     requires user { IsUserPage page }
-    requires mapped { is_some (map.get spaces.old.spaces (record { pid = pid; page = page })) ≡ true }
+    requires mapped { is_some (map.get spaces.old.spaces (at_page pid page)) ≡ true }
     ensures kept { IsProcesses spaces.new quotas.now }
     ensures spaces { spaces.new.spaces ≡ spaces.old.spaces }
-    ensures real { is_lazy_at (memory.image_of spaces.new) (record { pid = pid; page = page }) ≡ false }
+    ensures real { is_lazy_at (memory.image_of spaces.new) (at_page pid page) ≡ false }
 {
     spaces.fill(pid, page);
 }
@@ -538,16 +538,16 @@ impl Processes {
     /// Whether a process's page is lazy: it has no frame of its own yet.
     pub fn is_lazy(&self, pid: Pid, page: Page) -> bool
         requires user { IsUserPage page }
-        ensures { result ≡ is_lazy_at (memory_of self.now) (record { pid = pid; page = page }) }
+        ensures { result ≡ is_lazy_at (memory_of self.now) (at_page pid page) }
     {
         self.spaces.is_lazy(pid, page)
     }
 
     /// Gives a mapped page a frame of its own, where it is lazy. The state stays.
     pub fn fill(&mut self, pid: Pid, page: Page)
-        requires mapped { is_mapped self.old.state (record { pid = pid; page = page }) ≡ true }
+        requires mapped { is_mapped self.old.state (at_page pid page) ≡ true }
         ensures state { self.new.state ≡ self.old.state }
-        ensures real { is_lazy_at (memory_of self.new) (record { pid = pid; page = page }) ≡ false }
+        ensures real { is_lazy_at (memory_of self.new) (at_page pid page) ≡ false }
     {
         fill_page(&mut self.spaces, &self.quotas, pid, page);
     }

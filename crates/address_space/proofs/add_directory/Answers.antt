@@ -1,9 +1,9 @@
 use Rattle.std.proofs.Common.{◌<◌, sym, subst, Some, arith}
 use Rattle.std.specs.Prelude.{slice_set}
 use Rattle.alloc_table.specs.declared.Role.TheVariants.{Free}
-use Rattle.address_space.specs.Sound.{SpaceAdded}
-use Rattle.address_space.proofs.Openings.{space_added, room_for_directory}
-use Rattle.address_space.proofs.Steps.{inside, zeroed}
+use Rattle.address_space.specs.Changes.{SpaceAdded}
+use Rattle.address_space.proofs.steps.Openings.{space_added, room_for_directory}
+use Rattle.address_space.proofs.steps.Steps.{inside, zeroed}
 use Rattle.address_space.proofs.add_directory.Goals as goal
 
 pub take-directory-requires-clause-free : goal.take-directory-requires-clause-free

@@ -1,9 +1,11 @@
 use Rattle.std.specs.Prelude.{slice_get}
 use Rattle.alloc_table.specs.declared.Role.TheVariants.{Page}
 use Rattle.phys_memory.specs.Bytes.{frame_bytes}
-use Rattle.address_space.specs.Sound.{directory_of}
-use Rattle.address_space.proofs.Steps.{page_map_of, inside}
-use Rattle.address_space.proofs.Stores.{count_few, slot_joined, page_of_name}
+use Rattle.address_space.specs.View.{directory_of}
+use Rattle.address_space.proofs.steps.Steps.{page_map_of, inside}
+use Rattle.address_space.proofs.frames.FewHolders.{count_few}
+use Rattle.address_space.proofs.steps.Joins.{slot_joined}
+use Rattle.address_space.proofs.steps.Stores.{page_of_name}
 use Rattle.address_space.proofs.add_holder.Goals as goal
 
 pub hold-requires : goal.hold-requires

@@ -1,5 +1,4 @@
-use Rattle.std.proofs.Common.{◌^◌, ◌<◌, arith}
-use Rattle.address_space.proofs.Steps.{page_map_of, page_added, some_is}
+use Rattle.address_space.proofs.steps.Steps.{page_map_of, page_added, some_is}
 use Rattle.address_space.proofs.add_page.Goals as goal
 
 pub set_entry-requires-clause-map : goal.set_entry-requires-clause-map

@@ -5,11 +5,13 @@ use Rattle.phys_memory.specs.Bytes.{frame_bytes}
 use Rattle.page_map.specs.Entries.{entry_at}
 use Rattle.address_space.specs.Shown.{shown}
 use Rattle.address_space.specs.Cells.{cell_of}
-use Rattle.address_space.specs.Sound.{directory_of, entries_in}
-use Rattle.address_space.proofs.Openings.{no_cell}
-use Rattle.address_space.proofs.Steps.{page_map_of, live_small}
-use Rattle.address_space.proofs.Stores.{named_entry, page_of_name, entry_rules, count_few}
-use Rattle.address_space.proofs.Readings.{get-spaces_in, group_counted}
+use Rattle.address_space.specs.View.{directory_of, entries_in}
+use Rattle.address_space.proofs.steps.Openings.{no_cell}
+use Rattle.address_space.proofs.steps.Steps.{page_map_of, live_small}
+use Rattle.address_space.proofs.frames.FewHolders.{count_few}
+use Rattle.address_space.proofs.steps.Stores.{named_entry, page_of_name, entry_rules}
+use Rattle.address_space.proofs.entries.Readings.{get-spaces_in, group_counted}
+use Rattle.address_space.specs.Spaces.{at_page}
 use Rattle.address_space.proofs.cell_in.Goals as goal
 
 pub returns-in_err-directory : goal.returns-in_err-directory
@@ -29,8 +31,8 @@ returns-in_err-entry c =
     let none : entry_at m d c.args.page ≡ None = sym c.entry.ensures.words ∙ c.in_err-entry.was in
     c.from_residual-in_err-entry.ensures
     ∙ sym (ap (option_map shown) (get-spaces_in c.args.directories.now c.args.memory.now c.args.pid c.args.page few c.requires.user.0 c.requires.user.1
-    ∙ ap (λ x. option_map (cell_of (entries_in (directory_of c.args.directories.now) m) m (record { pid = c.args.pid; page = c.args.page })) (option_and_then (λ d. entry_at m d c.args.page) x)) live
-    ∙ ap (option_map (cell_of (entries_in (directory_of c.args.directories.now) m) m (record { pid = c.args.pid; page = c.args.page }))) none))
+    ∙ ap (λ x. option_map (cell_of (entries_in (directory_of c.args.directories.now) m) m (at_page c.args.pid c.args.page)) (option_and_then (λ d. entry_at m d c.args.page) x)) live
+    ∙ ap (option_map (cell_of (entries_in (directory_of c.args.directories.now) m) m (at_page c.args.pid c.args.page))) none))
 
 pub group_size-requires : goal.group_size-requires
 group_size-requires c = λ real.
@@ -53,8 +55,8 @@ returns c =
     let few = live_small c.args.directories.now c.args.pid d c.requires.sound.pids live in
     let is : entry_at m d c.args.page ≡ Some e = sym c.entry.ensures.words ∙ c.in_ok-entry.was in
     let rules = entry_rules c.args.directories.now c.args.memory.now c.args.frames.now c.args.pid d c.args.page e c.requires.sound live is in
-    let count = group_counted c.args.directories.now c.args.memory.now c.args.frames.now (record { pid = c.args.pid; page = c.args.page }) e c.group_size.result c.requires.sound rules c.group_size.ensures.lazy c.group_size.ensures.real in
+    let count = group_counted c.args.directories.now c.args.memory.now c.args.frames.now (at_page c.args.pid c.args.page) e c.group_size.result c.requires.sound rules c.group_size.ensures.lazy c.group_size.ensures.real in
     (λ i. Some (record { write = e.write; may = e.may; accessed = e.accessed; dirty = e.dirty; holders = count i }))
     ∙ sym (ap (option_map shown) (get-spaces_in c.args.directories.now c.args.memory.now c.args.pid c.args.page few c.requires.user.0 c.requires.user.1
-    ∙ ap (λ x. option_map (cell_of (entries_in (directory_of c.args.directories.now) m) m (record { pid = c.args.pid; page = c.args.page })) (option_and_then (λ d. entry_at m d c.args.page) x)) live
-    ∙ ap (option_map (cell_of (entries_in (directory_of c.args.directories.now) m) m (record { pid = c.args.pid; page = c.args.page }))) is))
+    ∙ ap (λ x. option_map (cell_of (entries_in (directory_of c.args.directories.now) m) m (at_page c.args.pid c.args.page)) (option_and_then (λ d. entry_at m d c.args.page) x)) live
+    ∙ ap (option_map (cell_of (entries_in (directory_of c.args.directories.now) m) m (at_page c.args.pid c.args.page))) is))

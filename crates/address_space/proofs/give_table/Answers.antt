@@ -2,7 +2,7 @@ use Rattle.std.proofs.Common.{◌≡◌, ◌∙◌, sym, None}
 use Rattle.phys_memory.specs.Bytes.{frame_bytes}
 use Rattle.page_map.specs.Entries.{table_of}
 use Rattle.alloc_table.specs.declared.Role.TheVariants.{Free}
-use Rattle.address_space.proofs.Steps.{page_map_of, inside, table_given, none_is}
+use Rattle.address_space.proofs.steps.Steps.{page_map_of, inside, table_given, none_is}
 use Rattle.address_space.proofs.give_table.Goals as goal
 
 pub has_table-requires-clause-map : goal.has_table-requires-clause-map

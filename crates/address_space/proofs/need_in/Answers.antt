@@ -4,8 +4,8 @@ use Rattle.std.specs.Option.{option_and_then}
 use Rattle.page_words.specs.Addresses.{slot_number}
 use Rattle.phys_memory.specs.Bytes.{frame_bytes}
 use Rattle.page_map.specs.Entries.{table_of}
-use Rattle.address_space.proofs.Steps.{page_map_of, live_small}
-use Rattle.address_space.proofs.Readings.{need_read}
+use Rattle.address_space.proofs.steps.Steps.{page_map_of, live_small}
+use Rattle.address_space.proofs.entries.Readings.{need_read}
 use Rattle.address_space.proofs.need_in.Goals as goal
 
 pub has_table-requires-clause-map : goal.has_table-requires-clause-map

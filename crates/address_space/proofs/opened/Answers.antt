@@ -1,7 +1,8 @@
 use Rattle.std.proofs.Common.{ap, sym, ◌∙◌, subst, replicate, length, None}
 use Rattle.phys_memory.specs.Bytes.{blank_bytes}
-use Rattle.address_space.specs.Sound.{IsSpaces, spaces_in}
-use Rattle.address_space.proofs.Openings.{opening_is_sound, opening_spaces, opening_length, opening_cost}
+use Rattle.address_space.specs.View.{spaces_in}
+use Rattle.address_space.specs.Sound.{IsSpaces}
+use Rattle.address_space.proofs.steps.Openings.{opening_is_sound, opening_spaces, opening_length, opening_cost}
 use Rattle.address_space.proofs.opened.Goals as goal
 
 pub invariant_of-result : goal.invariant_of-result

@@ -1,8 +1,8 @@
 use Rattle.std.proofs.Common.{sym, ◌∙◌, refl}
 use Rattle.alloc_table.specs.declared.Role.TheVariants.{Page}
-use Rattle.address_space.proofs.Steps.{page_map_of}
-use Rattle.address_space.proofs.Stores.{named_entry, page_of_name, entry_rules}
-use Rattle.address_space.proofs.Leaves.{slot_removed, freed_table}
+use Rattle.address_space.proofs.steps.Steps.{page_map_of}
+use Rattle.address_space.proofs.steps.Stores.{named_entry, page_of_name, entry_rules}
+use Rattle.address_space.proofs.steps.Leaves.{slot_removed, freed_table}
 use Rattle.address_space.proofs.remove_entry.Goals as goal
 
 pub entry-requires-clause-map : goal.entry-requires-clause-map

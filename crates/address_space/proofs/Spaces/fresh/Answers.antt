@@ -1,6 +1,6 @@
 use Rattle.std.proofs.Common.{◌+◌, ap, ◌∙◌}
 use Rattle.std.specs.Prelude.{length}
-use Rattle.address_space.specs.Sound.{View, directory_of, total_cost}
+use Rattle.address_space.specs.View.{View, directory_of, total_cost}
 use Rattle.address_space.proofs.Spaces.fresh.Goals as goal
 
 pub returns-clause-live : goal.returns-clause-live

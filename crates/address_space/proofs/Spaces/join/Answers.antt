@@ -1,17 +1,20 @@
 use Rattle.std.proofs.Common.{◌≡◌, sym, ◌∙◌, subst, true, false, refl}
 use Rattle.std.specs.Prelude.{is_some}
 use Rattle.page_words.specs.FiniteMap as map
-use Rattle.address_space.specs.Sound.{View, TableGiven, Names}
+use Rattle.address_space.specs.View.{View}
+use Rattle.address_space.specs.Sound.{Names}
+use Rattle.address_space.specs.Changes.{TableGiven}
 use Rattle.address_space.specs.Image.{is_lazy_at}
-use Rattle.address_space.proofs.Standing.{lazy_read}
-use Rattle.address_space.proofs.Costed.{Room, room_for_table, mapped}
-use Rattle.address_space.proofs.Steps.{page_map_of}
-use Rattle.address_space.proofs.Stores.{mapped_slot, mapped_live, mapped_entry, named_entry, entry_rules, real_entry}
+use Rattle.address_space.proofs.standing.Standing.{lazy_read}
+use Rattle.address_space.proofs.costs.Costed.{Room, room_for_table, mapped}
+use Rattle.address_space.proofs.steps.Steps.{page_map_of}
+use Rattle.address_space.proofs.steps.Stores.{mapped_slot, mapped_live, mapped_entry, named_entry, entry_rules, real_entry}
+use Rattle.address_space.specs.Spaces.{at_page}
 use Rattle.address_space.proofs.Spaces.join.Goals as goal
 
 pub home-from-requires : goal.home-from-requires
 home-from-requires c =
-    let U : View → Type 0 = λ v. is_some (map.get v.spaces (record { pid = c.args.giver; page = c.args.giver_page })) ≡ true in
+    let U : View → Type 0 = λ v. is_some (map.get v.spaces (at_page c.args.giver c.args.giver_page)) ≡ true in
     mapped_live c.self.inside.directories c.self.inside.memory c.args.giver c.args.giver_page (mapped_slot c.self.inside.directories c.self.inside.memory c.args.giver c.args.giver_page (subst U (sym c.self.view_is) c.requires.given))
 
 pub entry-requires-clause-map : goal.entry-requires-clause-map
@@ -19,7 +22,7 @@ entry-requires-clause-map c = page_map_of c.self.inside.directories c.self.insid
 
 pub unwrap-entry-requires : goal.unwrap-entry-requires
 unwrap-entry-requires c =
-    let U : View → Type 0 = λ v. is_some (map.get v.spaces (record { pid = c.args.giver; page = c.args.giver_page })) ≡ true in
+    let U : View → Type 0 = λ v. is_some (map.get v.spaces (at_page c.args.giver c.args.giver_page)) ≡ true in
     let e = c.entry.ensures.words ∙ mapped_entry c.self.inside.directories c.self.inside.memory c.args.giver c.home-from.result c.args.giver_page (mapped_slot c.self.inside.directories c.self.inside.memory c.args.giver c.args.giver_page (subst U (sym c.self.view_is) c.requires.given)) c.home-from.ensures in
     rw e refl
 
@@ -32,7 +35,7 @@ give_table-requires-clause-room c =
 pub add_holder-requires-clause-given : goal.add_holder-requires-clause-given
 add_holder-requires-clause-given c =
     let n = named_entry c.self.inside.directories c.self.inside.memory c.self.inside.frames c.args.giver c.home-from.result c.args.giver_page c.unwrap-entry.result c.self.invariant.sound c.home-from.ensures c.requires.from.0 c.requires.from.1 (sym c.entry.ensures.words ∙ c.unwrap-entry.ensures) in
-    subst (λ E. Names E (record { pid = c.args.giver; page = c.args.giver_page }) c.unwrap-entry.result.frame) (sym c.give_table.ensures.entries) n
+    subst (λ E. Names E (at_page c.args.giver c.args.giver_page) c.unwrap-entry.result.frame) (sym c.give_table.ensures.entries) n
 
 pub invariant_of-self : goal.invariant_of-self
 invariant_of-self c =
@@ -44,7 +47,7 @@ invariant_of-self c =
 
 pub add_holder-requires-clause-real : goal.add_holder-requires-clause-real
 add_holder-requires-clause-real c =
-    let U : View → Type 0 = λ v. is_lazy_at (record { directories = v.directories; bytes = v.bytes; roles = v.roles }) (record { pid = c.args.giver; page = c.args.giver_page }) ≡ false in
+    let U : View → Type 0 = λ v. is_lazy_at (record { directories = v.directories; bytes = v.bytes; roles = v.roles }) (at_page c.args.giver c.args.giver_page) ≡ false in
     let is = sym c.entry.ensures.words ∙ c.unwrap-entry.ensures in
     let real = lazy_read c.self.inside.directories c.self.inside.memory c.self.inside.frames c.args.giver c.home-from.result c.args.giver_page c.self.invariant.sound c.home-from.ensures ∙ subst U (sym c.self.view_is) c.requires.real in
     (entry_rules c.self.inside.directories c.self.inside.memory c.self.inside.frames c.args.giver c.home-from.result c.args.giver_page c.unwrap-entry.result c.self.invariant.sound c.home-from.ensures is).frame

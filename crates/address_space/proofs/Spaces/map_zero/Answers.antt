@@ -1,8 +1,10 @@
 use Rattle.std.proofs.Common.{ap, subst, sym, ◌∙◌}
-use Rattle.address_space.specs.Sound.{View, TableGiven}
+use Rattle.address_space.specs.View.{View}
+use Rattle.address_space.specs.Changes.{TableGiven}
 use Rattle.page_map.specs.Entries.{is_lazy_entry}
-use Rattle.address_space.proofs.Standing.{same_lazy}
-use Rattle.address_space.proofs.Costed.{Room, room_for_table, mapped}
+use Rattle.address_space.proofs.standing.Standing.{same_lazy}
+use Rattle.address_space.proofs.costs.Costed.{Room, room_for_table, mapped}
+use Rattle.address_space.specs.Spaces.{at_page}
 use Rattle.address_space.proofs.Spaces.map_zero.Goals as goal
 
 pub give_table-requires-clause-room : goal.give_table-requires-clause-room
@@ -22,5 +24,5 @@ invariant_of-self c =
 pub returns-clause-lazy : goal.returns-clause-lazy
 returns-clause-lazy c =
     let added = c.add_page.ensures in
-    same_lazy c.self.inside.directories c.add_page.new.memory c.give_table.new.frames added.slot.sound (record { pid = c.args.pid; page = c.args.page })
+    same_lazy c.self.inside.directories c.add_page.new.memory c.give_table.new.frames added.slot.sound (at_page c.args.pid c.args.page)
     ∙ ap is_lazy_entry added.lazy.1 ∙ added.lazy.2

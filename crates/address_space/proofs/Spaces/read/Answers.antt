@@ -3,8 +3,8 @@ use Rattle.std.specs.Prelude.{is_some}
 use Rattle.page_words.specs.Addresses.{page_number}
 use Rattle.page_words.specs.FiniteMap as map
 use Rattle.address_space.specs.Spaces.{slot_at}
-use Rattle.address_space.specs.Sound.{View}
-use Rattle.address_space.proofs.Stores.{mapped_slot, mapped_live, mapped_entry}
+use Rattle.address_space.specs.View.{View}
+use Rattle.address_space.proofs.steps.Stores.{mapped_slot, mapped_live, mapped_entry}
 use Rattle.address_space.proofs.Spaces.read.Goals as goal
 
 pub home-directory-requires : goal.home-directory-requires
@@ -12,22 +12,16 @@ home-directory-requires c =
     let U : View → Type 0 = λ v. is_some (map.get v.spaces (slot_at c.args.pid c.args.address)) ≡ true in
     mapped_live c.self.inside.directories c.self.inside.memory c.args.pid (page_number c.args.address) (mapped_slot c.self.inside.directories c.self.inside.memory c.args.pid (page_number c.args.address) (subst U (sym c.self.view_is) c.requires.mapped))
 
-pub fetch-value-requires-clause-mapped : goal.fetch-value-requires-clause-mapped
-fetch-value-requires-clause-mapped c =
-    let U : View → Type 0 = λ v. is_some (map.get v.spaces (slot_at c.args.pid c.args.address)) ≡ true in
-    rw c.page_of-page.ensures.value
-    (ap is_some (mapped_entry c.self.inside.directories c.self.inside.memory c.args.pid c.home-directory.result (page_number c.args.address) (mapped_slot c.self.inside.directories c.self.inside.memory c.args.pid (page_number c.args.address) (subst U (sym c.self.view_is) c.requires.mapped)) c.home-directory.ensures))
-
-pub touch-requires-clause-mapped : goal.touch-requires-clause-mapped
-touch-requires-clause-mapped c =
+pub load-requires-clause-mapped : goal.load-requires-clause-mapped
+load-requires-clause-mapped c =
     let U : View → Type 0 = λ v. is_some (map.get v.spaces (slot_at c.args.pid c.args.address)) ≡ true in
     rw c.page_of-page.ensures.value
     (ap is_some (mapped_entry c.self.inside.directories c.self.inside.memory c.args.pid c.home-directory.result (page_number c.args.address) (mapped_slot c.self.inside.directories c.self.inside.memory c.args.pid (page_number c.args.address) (subst U (sym c.self.view_is) c.requires.mapped)) c.home-directory.ensures))
 
 pub invariant_of-self : goal.invariant_of-self
 invariant_of-self c =
-    let cost = c.touch.ensures.cost in
+    let cost = c.load.ensures.touched.cost in
     let weighs = c.self.invariant.weighs in
     let within = c.self.invariant.within in
-    let lazy = c.touch.ensures.lazy in
-    record { sound = c.touch.ensures.sound; in_use = c.touch.ensures.in_use c.self.invariant.in_use; weighs = omega (arith, cost, weighs, lazy); within = omega (arith, cost, within) }
+    let lazy = c.load.ensures.touched.lazy in
+    record { sound = c.load.ensures.touched.sound; in_use = c.load.ensures.touched.in_use c.self.invariant.in_use; weighs = omega (arith, cost, weighs, lazy); within = omega (arith, cost, within) }

@@ -1,16 +1,15 @@
 use Rattle.std.proofs.Common.{◌≡◌, ℕ, ◌+◌, ◌≤◌, subst, arith, refl, true}
 use Rattle.std.specs.Prelude.{length, is_some}
-use Rattle.alloc_table.specs.Roles.{frames_in_use}
 use Rattle.alloc_table.proofs.RoleLemmas.{in-use-and-reserved}
 use Rattle.address_space.specs.Image.{StandsFor, LeavesRoom}
-use Rattle.address_space.specs.Sound.{View, total_cost, directory_of, entries_in, spaces_in}
+use Rattle.address_space.specs.View.{View, total_cost, directory_of, entries_in, spaces_in}
 use Rattle.address_space.specs.Cells.{lazy_count, holders_of}
 use Rattle.phys_memory.specs.Bytes.{frame_bytes}
 use Rattle.address_space.specs.Spaces.{cost}
-use Rattle.address_space.proofs.Openings.{cost_within}
+use Rattle.address_space.proofs.steps.Openings.{cost_within}
 use Rattle.address_space.specs.Walks.{WalksAgree}
-use Rattle.address_space.proofs.WalkEnds.{walks_agree}
-use Rattle.address_space.proofs.Standing.{image_stands, lazy_slots}
+use Rattle.address_space.proofs.standing.WalkEnds.{walks_agree}
+use Rattle.address_space.proofs.standing.Standing.{image_stands, lazy_slots}
 use Rattle.address_space.proofs.Spaces.stands.Goals as goal
 
 pub returns-clause-image : goal.returns-clause-image

@@ -3,10 +3,10 @@ use Rattle.std.specs.Prelude.{is_some}
 use Rattle.page_words.specs.Addresses.{page_number}
 use Rattle.page_words.specs.FiniteMap as map
 use Rattle.address_space.specs.Spaces.{slot_at}
-use Rattle.address_space.specs.Sound.{View}
+use Rattle.address_space.specs.View.{View}
 use Rattle.address_space.specs.Image.{is_lazy_at}
-use Rattle.address_space.proofs.Standing.{lazy_read}
-use Rattle.address_space.proofs.Stores.{mapped_slot, mapped_live, mapped_entry}
+use Rattle.address_space.proofs.standing.Standing.{lazy_read}
+use Rattle.address_space.proofs.steps.Stores.{mapped_slot, mapped_live, mapped_entry}
 use Rattle.address_space.proofs.Spaces.write.Goals as goal
 
 pub home-directory-requires : goal.home-directory-requires

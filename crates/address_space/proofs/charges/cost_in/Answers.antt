@@ -1,6 +1,6 @@
 use Rattle.std.proofs.Common.{◌∙◌}
-use Rattle.address_space.proofs.Steps.{page_map_of}
-use Rattle.address_space.proofs.ChargeLemmas.{charged, charge_fits}
+use Rattle.address_space.proofs.steps.Steps.{page_map_of}
+use Rattle.address_space.proofs.costs.ChargeLemmas.{charged, charge_fits}
 use Rattle.address_space.proofs.charges.cost_in.Goals as goal
 
 pub pages-pages-requires : goal.pages-pages-requires

@@ -1,8 +1,8 @@
 use Rattle.std.proofs.Common.{◌≡◌, ap, ◌∙◌, arith}
 use Rattle.address_space.specs.Spaces.{pages_of, regions_of}
-use Rattle.address_space.specs.Sound.{spaces_in}
-use Rattle.address_space.proofs.Steps.{page_map_of}
-use Rattle.address_space.proofs.ChargeLemmas.{regions_below, regions_at_first, regions_next, regions_at_last}
+use Rattle.address_space.specs.View.{spaces_in}
+use Rattle.address_space.proofs.steps.Steps.{page_map_of}
+use Rattle.address_space.proofs.costs.ChargeLemmas.{regions_below, regions_at_first, regions_next, regions_at_last}
 use Rattle.address_space.proofs.charges.tables_in.Goals as goal
 
 pub loop-slot-init : goal.loop-slot-init

@@ -1,7 +1,7 @@
 use Rattle.std.proofs.Common.{◌≡◌, ◌+◌, ◌≤◌}
 use Rattle.address_space.specs.Spaces.{pages_of, regions_of}
-use Rattle.address_space.specs.Sound.{spaces_in}
-use Rattle.address_space.proofs.ChargeLemmas.{regions_below}
+use Rattle.address_space.specs.View.{spaces_in}
+use Rattle.address_space.proofs.costs.ChargeLemmas.{regions_below}
 use Rattle.address_space.proofs.charges.tables_in.Given as goal
 
 -- the tables so far are those of the regions below the slot

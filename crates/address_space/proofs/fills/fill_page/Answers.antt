@@ -1,4 +1,4 @@
-use Rattle.std.proofs.Common.{◌≡◌, ◌^◌, ◌<◌, ℕ, ap, sym, ◌∙◌, subst, true}
+use Rattle.std.proofs.Common.{◌^◌, ◌<◌, ℕ, ap, sym, ◌∙◌, subst}
 use Rattle.std.specs.Prelude.{replicate, slice_get, is_some}
 use Rattle.std.proofs.lemmas.List.{length-replicate}
 use Rattle.page_words.specs.Addresses.{slot_number}
@@ -7,10 +7,10 @@ use Rattle.phys_memory.specs.Bytes.{frame_bytes}
 use Rattle.alloc_table.specs.declared.Role.TheVariants.{Free}
 use Rattle.page_map.specs.declared.PageEntry.{PageEntry}
 use Rattle.page_map.specs.Entries.{entry_at, dir_word, with_entry, is_lazy_entry}
-use Rattle.address_space.proofs.Steps.{page_map_of, inside, zeroed, map_kept, free_loose, present_by_table}
-use Rattle.address_space.proofs.Stores.{found}
-use Rattle.address_space.specs.Sound.{directory_of}
-use Rattle.address_space.proofs.LazyFilling.{room_to_fill, page_filled, lazy_there}
+use Rattle.address_space.proofs.steps.Steps.{page_map_of, inside, zeroed, map_kept, free_loose, present_by_table}
+use Rattle.address_space.proofs.steps.Stores.{found}
+use Rattle.address_space.specs.View.{directory_of}
+use Rattle.address_space.proofs.steps.LazyFilling.{room_to_fill, page_filled, lazy_there}
 use Rattle.address_space.proofs.fills.fill_page.Goals as goal
 
 pub entry-requires-clause-map : goal.entry-requires-clause-map

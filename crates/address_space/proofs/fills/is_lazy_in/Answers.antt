@@ -1,6 +1,6 @@
 use Rattle.std.proofs.Common.{sym, ◌∙◌}
-use Rattle.address_space.proofs.Standing.{lazy_read, lazy_none}
-use Rattle.address_space.proofs.Steps.{page_map_of}
+use Rattle.address_space.proofs.standing.Standing.{lazy_read, lazy_none}
+use Rattle.address_space.proofs.steps.Steps.{page_map_of}
 use Rattle.address_space.proofs.fills.is_lazy_in.Goals as goal
 
 pub has_lazy-requires-clause-map : goal.has_lazy-requires-clause-map

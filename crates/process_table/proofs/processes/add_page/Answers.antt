@@ -1,9 +1,9 @@
 use Rattle.std.proofs.Common.{◌+◌, ap, sym, subst, ◌∙◌}
-use Rattle.address_space.specs.Spaces.{Slot, cost, fresh}
-use Rattle.address_space.proofs.Costs.{cost-insert}
+use Rattle.address_space.specs.Spaces.{Slot, cost, fresh, at_page}
+use Rattle.address_space.proofs.costs.Costs.{cost-insert}
 use Rattle.quota_tree.specs.Containers.{used_of}
 use Rattle.process_table.specs.View.{IsProcesses}
-use Rattle.address_space.proofs.Totals.{cost-insert_other}
+use Rattle.address_space.proofs.costs.Totals.{cost-insert_other}
 use Rattle.process_table.proofs.Charged.{charged-one}
 use Rattle.process_table.proofs.processes.add_page.Goals as goal
 
@@ -12,7 +12,7 @@ returns-clause-kept c =
     let v = c.args.spaces.now in
     let q = c.args.quotas.now in
     let p = c.args.pid in
-    let slot : Slot = record { pid = p; page = c.args.page } in
+    let slot : Slot = at_page p c.args.page in
     let cell = fresh slot c.args.write in
     let used = used_of q p + c.need-need.result in
     subst (IsProcesses c.map_zero.new.self) (sym c.take_room.ensures.quotas)

@@ -1,7 +1,7 @@
 use Rattle.std.proofs.Common.{ap, ◌∙◌, length}
 use Rattle.page_words.specs.Addresses.{offset_number, byte_count}
 use Rattle.address_space.specs.Spaces.{cost, slot_at, bytes_of}
-use Rattle.address_space.proofs.Totals.{cost-accessed_of, cost-stored_of}
+use Rattle.address_space.proofs.costs.Totals.{cost-accessed_of, cost-stored_of}
 use Rattle.process_table.proofs.Charged.{charged-same}
 use Rattle.process_table.proofs.processes.complete_access.Goals as goal
 

@@ -1,6 +1,6 @@
 use Rattle.std.proofs.Common.{◌+◌, ap, sym, subst, ◌∙◌}
-use Rattle.address_space.specs.Spaces.{Slot, cost, joined}
-use Rattle.address_space.proofs.Totals.{cost-joined, cost-joined_other}
+use Rattle.address_space.specs.Spaces.{Slot, cost, joined, at_page}
+use Rattle.address_space.proofs.costs.Totals.{cost-joined, cost-joined_other}
 use Rattle.quota_tree.specs.Containers.{used_of}
 use Rattle.process_table.specs.View.{IsProcesses}
 use Rattle.process_table.proofs.Charged.{charged-one}
@@ -11,8 +11,8 @@ returns-clause-kept c =
     let v = c.args.spaces.now in
     let q = c.args.quotas.now in
     let p = c.args.pid in
-    let giver : Slot = record { pid = c.args.giver; page = c.args.giver_page } in
-    let slot : Slot = record { pid = p; page = c.args.page } in
+    let giver : Slot = at_page c.args.giver c.args.giver_page in
+    let slot : Slot = at_page p c.args.page in
     let used = used_of q p + c.need-need.result in
     let spaces = c.join.ensures.spaces ∙ ap (λ S. joined S giver slot c.args.right) c.fill.ensures.spaces in
     subst (IsProcesses c.join.new.self) (sym c.take_room.ensures.quotas)

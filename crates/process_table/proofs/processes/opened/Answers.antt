@@ -1,7 +1,7 @@
 use Rattle.std.proofs.Common.{◌≡◌, ℕ, ◌+◌, ◌-◌, ◌≤◌, ap, sym, ◌∙◌, length, arith}
 use Rattle.std.specs.Prelude.{is_some}
-use Rattle.address_space.specs.Sound.{directory_of}
-use Rattle.address_space.proofs.Openings.{no_directory}
+use Rattle.address_space.specs.View.{directory_of}
+use Rattle.address_space.proofs.steps.Openings.{no_directory}
 use Rattle.quota_tree.specs.Containers.{Containers}
 use Rattle.process_table.specs.State.{open_with}
 use Rattle.process_table.proofs.BookLaws.{well_formed-open}

@@ -1,10 +1,10 @@
 use Rattle.std.proofs.Common.{ap, ◌∙◌, length}
-use Rattle.address_space.specs.Spaces.{cost}
-use Rattle.address_space.proofs.Totals.{cost-protected_of}
+use Rattle.address_space.specs.Spaces.{cost, at_page}
+use Rattle.address_space.proofs.costs.Totals.{cost-protected_of}
 use Rattle.process_table.proofs.Charged.{charged-same}
 use Rattle.process_table.proofs.processes.set_right.Goals as goal
 
 pub returns-clause-kept : goal.returns-clause-kept
 returns-clause-kept c =
     charged-same c.args.spaces.now c.protect.new.self c.args.quotas.now c.requires.kept c.protect.ensures.directories (ap length c.protect.ensures.roles)
-    (λ q. ap (λ S. cost S q) c.protect.ensures.spaces ∙ cost-protected_of c.args.spaces.now.spaces (record { pid = c.args.pid; page = c.args.page }) c.args.write q c.requires.mapped)
+    (λ q. ap (λ S. cost S q) c.protect.ensures.spaces ∙ cost-protected_of c.args.spaces.now.spaces (at_page c.args.pid c.args.page) c.args.write q c.requires.mapped)

@@ -1,9 +1,9 @@
 use Rattle.std.proofs.Common.{sym, ap, subst, ◌∙◌}
 use Rattle.std.specs.Prelude.{IsOk}
-use Rattle.address_space.specs.Spaces.{joined}
+use Rattle.address_space.specs.Spaces.{joined, at_page}
 use Rattle.process_table.specs.State.{State}
 use Rattle.process_table.specs.TestAnswers.{accept_answer}
-use Rattle.process_table.specs.Calls.{at_page, accept_refusal, after_accept}
+use Rattle.process_table.specs.Calls.{accept_refusal, after_accept}
 use Rattle.process_table.specs.View.{View, state_of}
 use Rattle.process_table.proofs.Keeping.{whole, keeps-accept}
 use Rattle.process_table.proofs.Refusals.{no_cause, may_accept}

@@ -1,5 +1,4 @@
 use Rattle.std.proofs.Common.{◌≡◌, true, ap, sym, ◌∙◌, subst}
-use Rattle.quota_tree.specs.Containers.{IsLive}
 use Rattle.process_table.specs.State.{is_live}
 use Rattle.process_table.specs.TestAnswers.{spawn_answer}
 use Rattle.process_table.specs.View.{View}

@@ -1,8 +1,8 @@
 use Rattle.std.proofs.Common.{◌≡◌, true, sym, subst}
 use Rattle.process_table.specs.State.{State, is_mapped}
-use Rattle.process_table.specs.Calls.{at_page}
 use Rattle.process_table.specs.View.{View, state_of}
 use Rattle.process_table.proofs.SharingLaws.{mapped_user}
+use Rattle.address_space.specs.Spaces.{at_page}
 use Rattle.process_table.proofs.processes.Processes.fill.Goals as goal
 
 pub fill_page-requires-clause-user : goal.fill_page-requires-clause-user

@@ -1,0 +1,52 @@
+-- What accesses cost: nothing where the page is mapped, and what its page needs where it is not.
+use Rattle.std.proofs.Common.{◌≡◌, ℕ, ◌+◌, Bool, true, false, cond, List, refl, ap, sym, ◌∙◌, inl, inr, Option, Some, None}
+use Rattle.std.specs.Prelude.{is_some, if◌then◌else◌}
+use Rattle.std.specs.Option.{option_map}
+use Rattle.page_words.specs.FiniteMap as map
+use Rattle.page_words.specs.FiniteMap.{same}
+use Rattle.page_words.specs.FiniteSet as set
+use Rattle.page_words.specs.FiniteSet.{Set}
+use Rattle.page_words.proofs.MapLemmas.{same_or_not, get-insert, get-map_values}
+use Rattle.address_space.specs.Spaces.{Slot, slot_order, Cell, Spaces, cost, cost_of, need, accessed, stored, set_bytes, with_bytes, cell_or_fresh, at_page}
+use Rattle.address_space.proofs.costs.Costs.{same_pages, cost-insert}
+
+-- spaces that map the same slots cost the same
+pub cost-same : (S T : Spaces) (p : ℕ) → ((q : Slot) → map.contains_key S q ≡ map.contains_key T q) → cost S p ≡ cost T p
+cost-same S T p is = ap cost_of (same_pages S T p p (λ page. is (at_page p page)))
+
+pub key-insert : (S : Spaces) (slot : Slot) (c : Cell) (q : Slot) → map.contains_key (map.insert S slot c) q ≡ cond (same slot_order q slot) true (map.contains_key S q)
+key-insert S slot c q = ap is_some (get-insert S slot c q) ∙ by (same slot_order q slot)
+  where
+    by : (b : Bool) → is_some (cond b (Some c) (map.get S q)) ≡ cond b true (is_some (map.get S q))
+    by true = refl
+    by false = refl
+
+key-set_bytes : (S : Spaces) (group : Set slot_order) (bytes : List ℕ) (q : Slot) → map.contains_key (set_bytes S group bytes) q ≡ map.contains_key S q
+key-set_bytes S group bytes q = ap is_some (get-map_values slot_order (λ slot cell. if set.contains group slot then with_bytes cell bytes else cell) S q) ∙ by (map.get S q)
+  where
+    by : (x : Option Cell) → is_some (option_map (λ cell. if set.contains group q then with_bytes cell bytes else cell) x) ≡ is_some x
+    by None = refl
+    by (Some c) = refl
+
+-- a store maps the slots that an insertion maps
+pub key-stored : (S : Spaces) (slot : Slot) (at : ℕ) (new : List ℕ) (c : Cell) (q : Slot) → map.contains_key (stored S slot at new) q ≡ map.contains_key (map.insert S slot c) q
+key-stored S slot at new c q = key-insert (set_bytes S (cell_or_fresh S slot).holders _) slot _ q ∙ ap (cond (same slot_order q slot) true) (key-set_bytes S (cell_or_fresh S slot).holders _ q) ∙ sym (key-insert S slot c q)
+
+pub kept : (S : Spaces) (slot : Slot) (c : Cell) → is_some (map.get S slot) ≡ true → (q : Slot) → map.contains_key (map.insert S slot c) q ≡ map.contains_key S q
+kept S slot c found q = key-insert S slot c q ∙ elim (same_or_not slot_order q slot) [
+  | inl h ↦ ap (λ b. cond b true (map.contains_key S q)) h.1 ∙ sym (ap (map.contains_key S) h.0 ∙ found)
+  | inr h ↦ ap (λ b. cond b true (map.contains_key S q)) h
+]
+
+pub cost-accessed_mapped : (S : Spaces) (slot : Slot) → is_some (map.get S slot) ≡ true → cost (accessed S slot) slot.pid ≡ cost S slot.pid
+cost-accessed_mapped S slot found = cost-same (accessed S slot) S slot.pid (kept S slot _ found)
+
+pub cost-accessed_new : (S : Spaces) (slot : Slot) → map.get S slot ≡ None → cost (accessed S slot) slot.pid ≡ cost S slot.pid + need S slot.pid slot.page
+cost-accessed_new S slot none = cost-insert S slot _ none
+
+pub cost-stored_mapped : (S : Spaces) (slot : Slot) (at : ℕ) (new : List ℕ) → is_some (map.get S slot) ≡ true → cost (stored S slot at new) slot.pid ≡ cost S slot.pid
+cost-stored_mapped S slot at new found = cost-same (stored S slot at new) S slot.pid (λ q. key-stored S slot at new (cell_or_fresh S slot) q ∙ kept S slot (cell_or_fresh S slot) found q)
+
+pub cost-stored_new : (S : Spaces) (slot : Slot) (at : ℕ) (new : List ℕ) → map.get S slot ≡ None → cost (stored S slot at new) slot.pid ≡ cost S slot.pid + need S slot.pid slot.page
+cost-stored_new S slot at new none =
+    cost-same (stored S slot at new) (map.insert S slot (cell_or_fresh S slot)) slot.pid (key-stored S slot at new (cell_or_fresh S slot)) ∙ cost-insert S slot (cell_or_fresh S slot) none

@@ -1,0 +1,224 @@
+-- The costs of all processes, and what one more page adds.
+use Rattle.std.proofs.Common.{◌≡◌, ◌≢◌, ℕ, zero, suc, ◌+◌, ◌<◌, ◌≤◌, Bool, true, false, cond, ◌||◌, List, [], ◌∷◌, map, refl, ap, sym, ◌∙◌, subst, arith, inl, inr, Option, Some, None}
+use Rattle.std.specs.Prelude.{◌⊎◌, is_some, if◌then◌else◌, sum_by, ◌*◌}
+use Rattle.std.specs.Option.{option_map, option_and_then}
+use Rattle.std.specs.List.{list_any, range_with_len}
+use Rattle.std.specs.FinMap.Entries.{is_some-find}
+use Rattle.std.proofs.lemmas.Bool.{cases_eq}
+use Rattle.std.proofs.lemmas.List.Sums.{sum_by-cons}
+use Rattle.page_words.specs.Addresses.{slot_number, index_number}
+use Rattle.page_map.specs.Entries.{Frames, word_entry, entry_from}
+use Rattle.page_map.specs.declared.PageEntry.{PageEntry}
+use Rattle.page_words.specs.FiniteMap as map_of
+use Rattle.address_space.proofs.entries.UserSlots.{in_user_slots}
+use Rattle.phys_memory.specs.Bytes.{word_in}
+use Rattle.page_words.specs.FiniteSet as set
+use Rattle.page_words.specs.FiniteSet.{Set}
+use Rattle.page_words.specs.FiniteMap.{nat_order}
+use Rattle.page_words.specs.Addresses.{slot_number}
+use Rattle.address_space.specs.Spaces.{Slot, slot_order, Cell, Spaces, cost, cost_of, need, pages_of, regions_of, at_page}
+use Rattle.address_space.specs.Slots.{user_slots}
+use Rattle.page_words.specs.FiniteMap.{same}
+use Rattle.page_words.proofs.MapLemmas.{same_itself, same-true, same_or_not, get-insert, contains-from_list, list_any-map}
+use Rattle.address_space.proofs.costs.Costs.{contains-pages_of, same_pages, cost-insert}
+use Rattle.address_space.specs.Cells.{Entries, cell_of, spaces_of}
+use Rattle.address_space.specs.View.{Directories, directory_of, table_in, entry_in, entries_in, live_cost, total_cost}
+use Rattle.address_space.specs.Sound.{InUseAt}
+use Rattle.address_space.proofs.entries.EntrySteps.{get-entries_in, entry_by_table}
+use Rattle.address_space.proofs.entries.Refinement.{get-spaces_of}
+
+-- ---- A sum over a range, with one term changed
+
+sum_same : (f g : ℕ → ℕ) (a n : ℕ) → ((q : ℕ) → a ≤ q → f q ≡ g q) → sum_by f (range_with_len a n) ≡ sum_by g (range_with_len a n)
+sum_same f g a zero is = refl
+sum_same f g a (suc n) is =
+    let s = sum_by-cons f a (range_with_len (a + 1) n) in
+    let t = sum_by-cons g a (range_with_len (a + 1) n) in
+    let h : f a ≡ g a = is a (omega arith) in
+    let r = sum_same f g (a + 1) n (λ q l. is q (omega arith)) in
+    omega (arith, s, t, h, r)
+
+pub sum_one : (f g : ℕ → ℕ) (p k a n : ℕ) → a ≤ p → p < a + n → f p ≡ g p + k → ((q : ℕ) → q ≢ p → f q ≡ g q) → sum_by f (range_with_len a n) ≡ sum_by g (range_with_len a n) + k
+sum_one f g p k a zero low high own others = absurd (omega arith)
+sum_one f g p k a (suc n) low high own others = elim (cases_eq p a) [
+  | inl same ↦
+      let s = sum_by-cons f a (range_with_len (a + 1) n) in
+      let t = sum_by-cons g a (range_with_len (a + 1) n) in
+      let h : f a ≡ g a + k = subst (λ x. f x ≡ g x + k) same own in
+      let r = sum_same f g (a + 1) n (λ q l. others q (λ e. above q a p l e same)) in
+      omega (arith, s, t, h, r)
+  | inr differ ↦
+      let s = sum_by-cons f a (range_with_len (a + 1) n) in
+      let t = sum_by-cons g a (range_with_len (a + 1) n) in
+      let h : f a ≡ g a = others a (λ e. differ (sym e)) in
+      let r = sum_one f g p k (a + 1) n (omega arith) (omega arith) own others in
+      omega (arith, s, t, h, r)
+]
+  where
+    above : (q a p : ℕ) → a + 1 ≤ q → q ≡ p → p ≡ a → ⊥
+    above q a p l e s = omega arith
+
+-- ---- All costs
+
+pub total-same : (directories : List (Option ℕ)) (S S' : Spaces) → ((q : Slot) → map_of.contains_key S' q ≡ map_of.contains_key S q) → total_cost directories S' ≡ total_cost directories S
+unfolding total_cost
+total-same directories S S' is = sum_same _ _ 0 64 (λ p _. ap (λ n. if is_some (directory_of directories p) then n else 0) (ap cost_of (same_pages S' S p p (λ page. is (at_page p page)))))
+
+pub other_slot : (S : Spaces) (slot : Slot) (cell : Cell) (p page : ℕ) → p ≢ slot.pid → map_of.contains_key (map_of.insert S slot cell) (at_page p page) ≡ map_of.contains_key S (at_page p page)
+other_slot S slot cell p page n = ap is_some (get-insert S slot cell (at_page p page) ∙ elim (same_or_not slot_order (at_page p page) slot) [
+  | inl h ↦ absurd (n (ap (λ (s : Slot). s.pid) h.0))
+  | inr h ↦ ap (λ b. cond b (Some cell) (map_of.get S (at_page p page))) h
+])
+
+pub total-insert : (directories : List (Option ℕ)) (S : Spaces) (slot : Slot) (cell : Cell) (d : ℕ) → slot.pid < 64 → directory_of directories slot.pid ≡ Some d → map_of.get S slot ≡ None
+    → total_cost directories (map_of.insert S slot cell) ≡ total_cost directories S + need S slot.pid slot.page
+unfolding total_cost
+total-insert directories S slot cell d few live none =
+    sum_one (live_cost (directory_of directories) (map_of.insert S slot cell)) (live_cost (directory_of directories) S) slot.pid (need S slot.pid slot.page) 0 64 (omega arith) (omega arith)
+    (ap (λ x. if is_some x then cost (map_of.insert S slot cell) slot.pid else 0) live ∙ cost-insert S slot cell none ∙ sym (ap (λ x. (if is_some x then cost S slot.pid else 0) + need S slot.pid slot.page) live))
+    (λ q n. ap (λ c. if is_some (directory_of directories q) then c else 0) (ap cost_of (same_pages (map_of.insert S slot cell) S q q (λ page. other_slot S slot cell q page n))))
+
+pub need-least : (S : Spaces) (p page : ℕ) → 1 ≤ need S p page
+need-least S p page = by (set.contains (regions_of (pages_of S p)) (slot_number page))
+  where
+    by : (b : Bool) → 1 ≤ (if b then 1 else 2)
+    by true = omega arith
+    by false = omega arith
+
+pub need-most : (S : Spaces) (p page : ℕ) → need S p page ≤ 2
+need-most S p page = by (set.contains (regions_of (pages_of S p)) (slot_number page))
+  where
+    by : (b : Bool) → (if b then 1 else 2) ≤ 2
+    by true = omega arith
+    by false = omega arith
+
+-- ---- A page in a region has a table there
+
+-- a key of a list that passes a test
+passing : (o : Set nat_order) (t : ℕ → Bool) → list_any t (set.items o) ≡ true → (k : ℕ) × (t k ≡ true) × (set.contains o k ≡ true)
+passing o t h = let r = by (set.items o) h in (r.0, r.1, is_some-find nat_order.cmp r.0 o.entries ∙ r.2)
+  where
+    or_true : (a : Bool) → (a || true) ≡ true
+    or_true true = refl
+    or_true false = refl
+
+    step : (x : ℕ) (xs : List ℕ) (b : Bool) → t x ≡ b → (b || list_any t xs) ≡ true → (list_any t xs ≡ true → (k : ℕ) × (t k ≡ true) × (list_any (same nat_order k) xs ≡ true)) → (k : ℕ) × (t k ≡ true) × (list_any (same nat_order k) (x ∷ xs) ≡ true)
+    step x xs true is h rest = (x, is, ap (λ b. b || list_any (same nat_order x) xs) (same_itself nat_order x))
+    step x xs false is h rest = let r = rest h in (r.0, r.1, ap (λ b. same nat_order r.0 x || b) r.2 ∙ or_true (same nat_order r.0 x))
+
+    by : (ks : List ℕ) → list_any t ks ≡ true → (k : ℕ) × (t k ≡ true) × (list_any (same nat_order k) ks ≡ true)
+    by [] h = cc
+    by (x ∷ xs) h = step x xs (t x) refl h (λ r. by xs r)
+
+-- a region has a page
+pub region_member : (pages : Set nat_order) (r : ℕ) → set.contains (regions_of pages) r ≡ true → (page : ℕ) × (slot_number page ≡ r) × (set.contains pages page ≡ true)
+region_member pages r h =
+    let k = passing pages (λ n. same nat_order r (slot_number n)) (sym (contains-from_list nat_order (map slot_number (set.items pages)) r ∙ list_any-map slot_number (same nat_order r) (set.items pages)) ∙ h) in
+    (k.0, sym (same-true nat_order r (slot_number k.0) k.1), k.2)
+
+abbrev counted : Bool → ℕ
+counted b = if b then 1 else 2
+
+pub keys : (E : Entries) (m : ℕ → List ℕ) (q : Slot) → map_of.contains_key (spaces_of E m) q ≡ is_some (map_of.get E q)
+keys E m q = ap is_some (get-spaces_of E m q) ∙ by (map_of.get E q)
+  where
+    by : (x : Option PageEntry) → is_some (option_map (cell_of E m q) x) ≡ is_some x
+    by None = refl
+    by (Some d) = refl
+
+none_cell : (E : Entries) (m : ℕ → List ℕ) (q : Slot) (x : Option PageEntry) → x ≡ None → option_map (cell_of E m q) x ≡ None
+none_cell E m q None h = refl
+none_cell E m q (Some d) h = cc
+
+-- an entry more costs what its page needs
+pub total-entry : (directories : List (Option ℕ)) (E : Entries) (m m' : ℕ → List ℕ) (slot : Slot) (e : PageEntry) (cell : Cell) (d : ℕ) → slot.pid < 64 → directory_of directories slot.pid ≡ Some d → map_of.get E slot ≡ None
+    → total_cost directories (spaces_of (map_of.insert E slot e) m') ≡ total_cost directories (spaces_of E m) + need (spaces_of E m) slot.pid slot.page
+total-entry directories E m m' slot e cell d few live none =
+    total-same directories (map_of.insert (spaces_of E m) slot cell) (spaces_of (map_of.insert E slot e) m') (λ q.
+    keys (map_of.insert E slot e) m' q ∙ ap is_some (get-insert E slot e q)
+    ∙ either (same slot_order q slot) (map_of.get E q) (map_of.get (spaces_of E m) q) (sym (keys E m q))
+    ∙ sym (ap is_some (get-insert (spaces_of E m) slot cell q)))
+    ∙ total-insert directories (spaces_of E m) slot cell d few live (get-spaces_of E m slot ∙ none_cell E m slot (map_of.get E slot) none)
+  where
+    either : (b : Bool) (x : Option PageEntry) (y : Option Cell) → is_some x ≡ is_some y → is_some (cond b (Some e) x) ≡ is_some (cond b (Some cell) y)
+    either true x y h = refl
+    either false x y h = h
+
+-- an entry in place of another costs the same
+pub total-kept : (directories : List (Option ℕ)) (E : Entries) (m m' : ℕ → List ℕ) (slot : Slot) (old new : PageEntry) → map_of.get E slot ≡ Some old
+    → total_cost directories (spaces_of (map_of.insert E slot new) m') ≡ total_cost directories (spaces_of E m)
+total-kept directories E m m' slot old new found =
+    total-same directories (spaces_of E m) (spaces_of (map_of.insert E slot new) m') (λ q.
+    keys (map_of.insert E slot new) m' q ∙ ap is_some (get-insert E slot new q)
+    ∙ elim (same_or_not slot_order q slot) [
+      | inl h ↦ ap (λ b. is_some (cond b (Some new) (map_of.get E q))) h.1 ∙ sym (ap is_some (ap (map_of.get E) h.0 ∙ found))
+      | inr h ↦ ap (λ b. is_some (cond b (Some new) (map_of.get E q))) h
+    ]
+    ∙ sym (keys E m q))
+
+-- no table: so no page in the region, and a new one needs both
+pub need-two : (D : Directories) (m : Frames) (p page : ℕ) → table_in D m p (slot_number page) ≡ None → need (spaces_of (entries_in D m) m) p page ≡ 2
+need-two D m p page none = by (set.contains (regions_of (pages_of (spaces_of (entries_in D m) m) p)) (slot_number page)) refl
+  where
+    some_map : (E : Entries) (q : Slot) (x : Option PageEntry) → is_some (option_map (cell_of E m q) x) ≡ is_some x
+    some_map E q None = refl
+    some_map E q (Some d) = refl
+
+    clash : (other : ℕ) → slot_number other ≡ slot_number page → map_of.contains_key (spaces_of (entries_in D m) m) (at_page p other) ≡ true → ⊥
+    clash other same_region h =
+        let q : Slot = at_page p other in
+        let entry : is_some (cond (list_any (same slot_order q) user_slots) (entry_in D m q) None) ≡ true =
+        sym (ap is_some (get-spaces_of (entries_in D m) m q) ∙ some_map (entries_in D m) q (map_of.get (entries_in D m) q) ∙ ap is_some (get-entries_in D m q)) ∙ h in
+        let no : entry_in D m q ≡ None = entry_by_table D m q ∙ ap (option_and_then _) (ap (table_in D m p) same_region ∙ none) in
+        absurd (gone (list_any (same slot_order q) user_slots) (entry_in D m q) no entry)
+      where
+        gone : (b : Bool) (x : Option PageEntry) → x ≡ None → is_some (cond b x None) ≡ true → ⊥
+        gone true None n h = cc
+        gone true (Some d) n h = cc
+        gone false x n h = cc
+
+    by : (b : Bool) → set.contains (regions_of (pages_of (spaces_of (entries_in D m) m) p)) (slot_number page) ≡ b → ◌≡◌ {A = ℕ} (if set.contains (regions_of (pages_of (spaces_of (entries_in D m) m) p)) (slot_number page) then 1 else 2) 2
+    by false is = ap (λ b. counted b) is
+    by true is = let r = region_member (pages_of (spaces_of (entries_in D m) m) p) (slot_number page) is in absurd (clash r.0 r.1 (sym (contains-pages_of (spaces_of (entries_in D m) m) p r.0) ∙ r.2))
+
+-- ---- Removal, as an insertion read backwards
+
+mapped_any : (o : Set nat_order) (k : ℕ) → set.contains o k ≡ true → list_any (same nat_order k) (set.items o) ≡ true
+mapped_any o k h = sym (is_some-find nat_order.cmp k o.entries) ∙ h
+
+spread : (k : ℕ) (ks : List ℕ) → list_any (same nat_order k) ks ≡ true → list_any (λ n. same nat_order (slot_number k) (slot_number n)) ks ≡ true
+spread k [] h = cc
+spread k (x ∷ xs) h = step (same_or_not nat_order k x) h (spread k xs)
+  where
+    or_true : (a : Bool) → (a || true) ≡ true
+    or_true true = refl
+    or_true false = refl
+
+    step : ((k ≡ x) × (same nat_order k x ≡ true)) ⊎ (same nat_order k x ≡ false) → (same nat_order k x || list_any (same nat_order k) xs) ≡ true
+        → (list_any (same nat_order k) xs ≡ true → list_any (λ n. same nat_order (slot_number k) (slot_number n)) xs ≡ true)
+        → (same nat_order (slot_number k) (slot_number x) || list_any (λ n. same nat_order (slot_number k) (slot_number n)) xs) ≡ true
+    step (inl e) h rest = ap (λ b. b || list_any (λ n. same nat_order (slot_number k) (slot_number n)) xs) (ap (λ y. same nat_order (slot_number k) (slot_number y)) (sym e.0) ∙ same_itself nat_order (slot_number k))
+    step (inr e) h rest = ap (λ b. same nat_order (slot_number k) (slot_number x) || b) (rest (ap (λ b. b || list_any (same nat_order k) xs) (sym e) ∙ h)) ∙ or_true _
+
+-- a page's region is one of the regions
+pub region_there : (pages : Set nat_order) (k : ℕ) → set.contains pages k ≡ true → set.contains (regions_of pages) (slot_number k) ≡ true
+region_there pages k h =
+    contains-from_list nat_order (map slot_number (set.items pages)) (slot_number k) ∙ list_any-map slot_number (same nat_order (slot_number k)) (set.items pages)
+    ∙ spread k (set.items pages) (mapped_any pages k h)
+
+-- a table with an entry: so its region has a page, and one more needs no table
+pub need-one : (D : Directories) (m : Frames) (p page t : ℕ) → p < 64 → 0x40000 ≤ page → page < 0xf0000 → table_in D m p (slot_number page) ≡ Some t → InUseAt D m p (slot_number page) → need (spaces_of (entries_in D m) m) p page ≡ 1
+need-one D m p page t few low high there used =
+    let u = used t there in
+    let other : ℕ = slot_number page * 1024 + u.0 in
+    let r : slot_number other ≡ slot_number page = omega (arith, u.1) in
+    let index : index_number other ≡ u.0 = omega (arith, u.1) in
+    let q : Slot = at_page p other in
+    let entry : is_some (entry_in D m q) ≡ true =
+    ap is_some (entry_by_table D m q ∙ ap (option_and_then (λ table. word_entry (word_in (m table) (index_number other)))) (ap (table_in D m p) r ∙ there) ∙ ap (λ i. word_entry (word_in (m t) i)) index)
+    ∙ ap (λ b. is_some (if b then Some (entry_from (word_in (m t) u.0)) else None)) u.2 in
+    let low2 : 0x40000 ≤ other = omega (arith, u.1) in
+    let high2 : other < 0xf0000 = omega (arith, u.1) in
+    let get : is_some (map_of.get (entries_in D m) q) ≡ true = ap is_some (get-entries_in D m q ∙ ap (λ b. cond b (entry_in D m q) None) (in_user_slots p other few low2 high2)) ∙ entry in
+    let page_there : set.contains (pages_of (spaces_of (entries_in D m) m) p) other ≡ true = contains-pages_of (spaces_of (entries_in D m) m) p other ∙ keys (entries_in D m) m q ∙ get in
+    ap counted (sym (ap (set.contains (regions_of (pages_of (spaces_of (entries_in D m) m) p))) r) ∙ region_there (pages_of (spaces_of (entries_in D m) m) p) other page_there)

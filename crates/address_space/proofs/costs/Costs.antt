@@ -1,0 +1,86 @@
+-- The pages of a process, and what one more page adds to the costs.
+use Rattle.std.proofs.Common.{◌≡◌, ℕ, ◌+◌, Bool, true, false, cond, ◌||◌, ◌&&◌, ◌==◌, if◌then◌else◌, List, [], ◌∷◌, map, refl, sym, ap, ◌∙◌, Option, Some, None, is_some, arith}
+use Rattle.std.specs.declared.cmp.Ordering.{Ordering}
+use Rattle.std.specs.declared.cmp.Ordering.TheVariants.{Less, Equal, Greater}
+use Rattle.std.specs.Ordering.{is_eq, nat_cmp, ordering_then}
+use Rattle.std.specs.Cmp.{unsigned_tied, eq_by_cmp_equiv}
+use Rattle.std.specs.List.{list_any}
+use Rattle.std.specs.FinMap.Entries.{where_key, is_some-find}
+use Rattle.page_words.specs.FiniteMap as map
+use Rattle.page_words.specs.FiniteMap.{Order, Map}
+use Rattle.page_words.specs.FiniteSet as set
+use Rattle.page_words.specs.FiniteSet.{Set}
+use Rattle.page_words.specs.FiniteMap.{nat_order}
+use Rattle.page_words.specs.Addresses.{slot_number}
+use Rattle.address_space.specs.Spaces.{Slot, slot_order, slot_cmp, Cell, Spaces, cost, cost_of, need, pages_of, regions_of, at_page}
+use Rattle.page_words.specs.FiniteMap.{same}
+use Rattle.page_words.proofs.MapLemmas.{get-insert, same_set, contains-insert, contains-from_list, len-insert, list_any-put, list_any-map}
+
+both_tied : (a b : Ordering) → is_eq (ordering_then a b) ≡ (is_eq a && is_eq b)
+both_tied Less b = refl
+both_tied Equal b = refl
+both_tied Greater b = refl
+
+-- whether a page stands among the slots of a process
+among : (p page : ℕ) (es : List (Slot × Cell))
+    → list_any (λ e. same nat_order page e.0.page) (where_key slot_cmp (λ slot. slot.pid == p) es) ≡ list_any (λ slot. same slot_order (at_page p page) slot) (map (λ e. e.0) es)
+among p page [] = refl
+among p page (e ∷ es) =
+    elim (e.0.pid == p) as (λ b. (e.0.pid == p) ≡ b → list_any (λ e. same nat_order page e.0.page) (cond b (e ∷ where_key slot_cmp (λ slot. slot.pid == p) es) (where_key slot_cmp (λ slot. slot.pid == p) es)) ≡ (same slot_order (at_page p page) e.0 || list_any (λ slot. same slot_order (at_page p page) slot) (map (λ e. e.0) es))) [
+      | true ↦ λ is. λ i. (sym (tied ∙ ap (λ b. b && same nat_order page e.0.page) (turned ∙ is)) i || among p page es i)
+      | false ↦ λ is. among p page es ∙ ap (λ b. b || list_any (λ slot. same slot_order (at_page p page) slot) (map (λ e. e.0) es)) (sym (tied ∙ ap (λ b. b && same nat_order page e.0.page) (turned ∙ is)))
+    ] refl
+  where
+    tied : same slot_order (at_page p page) e.0 ≡ (is_eq (nat_cmp p e.0.pid) && same nat_order page e.0.page)
+    tied = both_tied (nat_cmp p e.0.pid) (nat_cmp page e.0.page)
+
+    turned : is_eq (nat_cmp p e.0.pid) ≡ (e.0.pid == p)
+    turned = (eq_by_cmp_equiv nat_order.total).symm p e.0.pid ∙ unsigned_tied e.0.pid p
+
+pub contains-pages_of : (spaces : Spaces) (p page : ℕ) → set.contains (pages_of spaces p) page ≡ map.contains_key spaces (at_page p page)
+contains-pages_of spaces p page =
+    contains-from_list nat_order (map (λ entry. entry.0.page) (map.retain_keys spaces (λ slot. slot.pid == p)).entries) page
+    ∙ list_any-map (λ entry. entry.0.page) (same nat_order page) (map.retain_keys spaces (λ slot. slot.pid == p)).entries
+    ∙ among p page spaces.entries
+    ∙ sym (is_some-find slot_cmp (at_page p page) spaces.entries)
+
+-- spaces with the same pages of a process cost it the same
+pub same_pages : (s t : Spaces) (p q : ℕ) → ((page : ℕ) → map.contains_key s (at_page p page) ≡ map.contains_key t (at_page q page)) → pages_of s p ≡ pages_of t q
+same_pages s t p q is = same_set (pages_of s p) (pages_of t q) (λ page. contains-pages_of s p page ∙ is page ∙ sym (contains-pages_of t q page))
+
+-- one more page of a process
+pages-insert : (spaces : Spaces) (slot : Slot) (cell : Cell) → pages_of (map.insert spaces slot cell) slot.pid ≡ set.insert (pages_of spaces slot.pid) slot.page
+pages-insert spaces slot cell = same_set (pages_of (map.insert spaces slot cell) slot.pid) (set.insert (pages_of spaces slot.pid) slot.page) (λ page.
+    contains-pages_of (map.insert spaces slot cell) slot.pid page
+    ∙ ap is_some (get-insert spaces slot cell (at_page slot.pid page))
+    ∙ some_or (same slot_order (at_page slot.pid page) slot) (map.get spaces (at_page slot.pid page))
+    ∙ (λ i. (both_tied (nat_cmp slot.pid slot.pid) (nat_cmp page slot.page) ∙ ap (λ b. b && same nat_order page slot.page) ((eq_by_cmp_equiv nat_order.total).refl slot.pid)) i || sym (contains-pages_of spaces slot.pid page) i)
+    ∙ sym (contains-insert (pages_of spaces slot.pid) slot.page page))
+  where
+    some_or : (b : Bool) (x : Option Cell) → is_some (cond b (Some cell) x) ≡ (b || is_some x)
+    some_or true x = refl
+    some_or false x = refl
+
+regions-insert : (pages : Set nat_order) (page : ℕ) → regions_of (set.insert pages page) ≡ set.insert (regions_of pages) (slot_number page)
+regions-insert pages page = same_set (regions_of (set.insert pages page)) (set.insert (regions_of pages) (slot_number page)) (λ r.
+    contains-regions (set.insert pages page) r
+    ∙ list_any-put nat_order (λ n. same nat_order r (slot_number n)) page tt pages.entries
+    ∙ ap (λ b. same nat_order r (slot_number page) || b) (sym (contains-regions pages r))
+    ∙ sym (contains-insert (regions_of pages) (slot_number page) r))
+  where
+    contains-regions : (pages : Set nat_order) (r : ℕ) → set.contains (regions_of pages) r ≡ list_any (λ e. same nat_order r (slot_number e.0)) pages.entries
+    contains-regions pages r = contains-from_list nat_order (map slot_number (set.items pages)) r ∙ list_any-map slot_number (same nat_order r) (set.items pages) ∙ list_any-map (λ e. e.0) (λ n. same nat_order r (slot_number n)) pages.entries
+
+counted : (b : Bool) (m n : ℕ) → 1 + cond b m (m + 1) + (n + 1) ≡ (1 + m + n) + (if b then 1 else 2)
+counted true m n = omega arith
+counted false m n = omega arith
+
+-- a new page costs its process what it needs
+pub cost-insert : (spaces : Spaces) (slot : Slot) (cell : Cell) → map.get spaces slot ≡ None → cost (map.insert spaces slot cell) slot.pid ≡ cost spaces slot.pid + need spaces slot.pid slot.page
+cost-insert spaces slot cell none =
+    let pages : Set nat_order = pages_of spaces slot.pid in
+    let new : set.contains pages slot.page ≡ false = contains-pages_of spaces slot.pid slot.page ∙ ap is_some none in
+    ap cost_of (pages-insert spaces slot cell)
+    ∙ ap (λ (s : Set nat_order). 1 + set.len s + set.len (set.insert pages slot.page)) (regions-insert pages slot.page)
+    ∙ (λ i. 1 + len-insert (regions_of pages) (slot_number slot.page) tt i + (len-insert pages slot.page tt ∙ ap (λ b. cond b (set.len pages) (set.len pages + 1)) new) i)
+    ∙ counted (set.contains (regions_of pages) (slot_number slot.page)) (set.len (regions_of pages)) (set.len pages)

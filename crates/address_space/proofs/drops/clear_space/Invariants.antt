@@ -1,9 +1,0 @@
-use Rattle.std.specs.Prelude.{◌-◌}
-use Rattle.address_space.specs.Sound.{ClearedBelow}
-use Rattle.address_space.proofs.drops.clear_space.Given as goal
-
-abbrev pub invariant-loop-page : goal.invariant-loop-page
-invariant-loop-page l = ClearedBelow l.directories l.fn.pid l.from l.fn.memory l.fn.frames l.memory l.frames
-
-abbrev pub decreases-loop-page : goal.decreases-loop-page
-decreases-loop-page l = 0xf0000 - l.from

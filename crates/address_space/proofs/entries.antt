@@ -1,0 +1,6 @@
+-- Lemmas on entries, and on the spaces that they stand for.
+pub mod EntrySteps
+pub mod Readings
+pub mod Refinement
+pub mod Removal
+pub mod UserSlots

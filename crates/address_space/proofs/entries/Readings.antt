@@ -1,0 +1,98 @@
+-- What a slot, its bytes and its needs are read as.
+use Rattle.std.proofs.Common.{◌≡◌, ℕ, ◌+◌, ◌*◌, ◌/◌, ◌%◌, ◌<◌, ◌≤◌, Bool, true, false, cond, List, [], ◌∷◌, length, take, drop, refl, ap, sym, ◌∙◌, arith, Option, Some, None, length-drop}
+use Rattle.std.specs.Prelude.{slice_index, slice_get, is_some}
+use Rattle.std.specs.Option.{option_and_then, option_map}
+use Rattle.std.proofs.lemmas.List.{get_or-drop}
+use Rattle.page_words.specs.Addresses.{slot_number}
+use Rattle.page_words.specs.FiniteMap as map
+use Rattle.page_words.specs.FiniteMap.{same}
+use Rattle.page_words.specs.FiniteSet as set
+use Rattle.phys_memory.specs.Bytes.{frame_bytes, word_at}
+use Rattle.phys_memory.proofs.Frames.{byte-frame, length-frame, word_in-frame}
+use Rattle.alloc_table.specs.declared.Role.{Role}
+use Rattle.alloc_table.specs.declared.Role.TheVariants.{Page}
+use Rattle.page_map.specs.Entries.{Frames, entry_at, IsKernelEntry}
+use Rattle.page_map.specs.declared.PageEntry.{PageEntry}
+use Rattle.std.proofs.lemmas.Bool.Decides.{nat_tests}
+use Rattle.address_space.specs.Spaces.{Slot, need, value_of, bytes_at, at_page}
+use Rattle.address_space.specs.Cells.{Entries, group_of, cell_of, spaces_of, holders_of}
+use Rattle.address_space.specs.View.{Directories, directory_of, entry_in, entries_in, spaces_in, table_in}
+use Rattle.address_space.specs.Sound.{IsSound, InUse, Inside}
+use Rattle.address_space.proofs.entries.UserSlots.{in_user_slots}
+use Rattle.address_space.proofs.entries.EntrySteps.{get-entries_in}
+use Rattle.address_space.proofs.costs.CostSteps.{need-one, need-two}
+use Rattle.address_space.proofs.entries.Refinement.{get-spaces_of, group-real}
+
+-- the cell of a user page is that of its entry
+pub get-spaces_in : (directories : List (Option ℕ)) (bytes : List ℕ) (p page : ℕ) → p < 64 → 0x40000 ≤ page → page < 0xf0000
+    → map.get (spaces_in directories bytes) (at_page p page)
+    ≡ option_map (cell_of (entries_in (directory_of directories) (frame_bytes bytes)) (frame_bytes bytes) (at_page p page)) (option_and_then (λ d. entry_at (frame_bytes bytes) d page) (directory_of directories p))
+unfolding spaces_in
+get-spaces_in directories bytes p page few low high =
+    let D : Directories = directory_of directories in
+    let m : Frames = frame_bytes bytes in
+    let slot : Slot = at_page p page in
+    get-spaces_of (entries_in D m) m slot
+    ∙ ap (option_map (cell_of (entries_in D m) m slot)) (get-entries_in D m slot ∙ ap (λ b. cond b (entry_in D m slot) None) (in_user_slots p page few low high))
+
+-- ---- Numbers in a page
+
+four_of : (xs : List ℕ) → 4 ≤ length xs → slice_index xs 0 + 256 * (slice_index xs 1 + 256 * (slice_index xs 2 + 256 * (slice_index xs 3 + 256 * 0))) ≡ value_of (take 4 xs)
+four_of [] h = absurd (omega arith)
+four_of (a ∷ []) h = absurd (omega arith)
+four_of (a ∷ b ∷ []) h = absurd (omega arith)
+four_of (a ∷ b ∷ c ∷ []) h = absurd (omega arith)
+four_of (a ∷ b ∷ c ∷ d ∷ xs) h = refl
+
+one_of : (xs : List ℕ) → 1 ≤ length xs → slice_index xs 0 ≡ value_of (take 1 xs)
+one_of [] h = absurd (omega arith)
+one_of (a ∷ xs) h = omega arith
+
+-- a word of memory is the number in its page's bytes
+pub word_read_in : (bytes : List ℕ) (f at : ℕ) → Inside bytes f → at < 4096 → at % 4 ≡ 0 → word_at bytes (f * 4096 + at) ≡ value_of (bytes_at (frame_bytes bytes f) at 4)
+unfolding word_at
+word_read_in bytes f at i l aligned =
+    let a : f * 4096 + at ≡ 4096 * f + 4 * (at / 4) = omega arith in
+    let b : 4 * (at / 4) ≡ at = omega arith in
+    let long = length-frame bytes f i.fits in
+    let rest = length-drop at (frame_bytes bytes f) in
+    ap (word_at bytes) a ∙ word_in-frame bytes f (at / 4) (omega arith) ∙ ap (word_at (frame_bytes bytes f)) b
+    ∙ four_of (drop at (frame_bytes bytes f)) (omega (arith, long, rest))
+
+pub byte_read_in : (bytes : List ℕ) (f at : ℕ) → Inside bytes f → at < 4096 → slice_index bytes (f * 4096 + at) ≡ value_of (bytes_at (frame_bytes bytes f) at 1)
+byte_read_in bytes f at i l =
+    let a : f * 4096 + at ≡ 4096 * f + at = omega arith in
+    let z : at ≡ at + 0 = omega arith in
+    let long = length-frame bytes f i.fits in
+    let rest = length-drop at (frame_bytes bytes f) in
+    ap (slice_index bytes) a ∙ sym (byte-frame bytes f at l) ∙ ap (slice_index (frame_bytes bytes f)) z
+    ∙ sym (get_or-drop at (frame_bytes bytes f) 0 0) ∙ one_of (drop at (frame_bytes bytes f)) (omega (arith, long, rest))
+
+-- ---- What one more page costs
+
+pub need_read : (directories : List (Option ℕ)) (bytes : List ℕ) (p page : ℕ) → InUse (directory_of directories) (frame_bytes bytes) → p < 64 → 0x40000 ≤ page → page < 0xf0000
+    → need (spaces_in directories bytes) p page ≡ cond (is_some (table_in (directory_of directories) (frame_bytes bytes) p (slot_number page))) 1 2
+unfolding spaces_in
+need_read directories bytes p page used few low high = by (table_in (directory_of directories) (frame_bytes bytes) p (slot_number page)) refl
+  where
+    by : (x : Option ℕ) → table_in (directory_of directories) (frame_bytes bytes) p (slot_number page) ≡ x
+        → need (spaces_of (entries_in (directory_of directories) (frame_bytes bytes)) (frame_bytes bytes)) p page ≡ cond (is_some x) 1 2
+    by None is = need-two (directory_of directories) (frame_bytes bytes) p page is
+    by (Some t) is = need-one (directory_of directories) (frame_bytes bytes) p page t few low high is (used p (slot_number page))
+
+-- the count of a page's frame is the size of the group
+pub holders_counted : (directories : List (Option ℕ)) (bytes : List ℕ) (roles : List Role) (f c : ℕ) → IsSound directories bytes roles → slice_get roles f ≡ Some (Page c)
+    → c ≡ set.len (holders_of (entries_in (directory_of directories) (frame_bytes bytes)) f)
+holders_counted directories bytes roles f c sound is = (sound.pages.counts f c is).1
+
+-- the size of a slot's group: the count of its page's frame, and 1 where it is lazy
+pub group_counted : (directories : List (Option ℕ)) (bytes : List ℕ) (roles : List Role) (slot : Slot) (e : PageEntry) (n : ℕ) → IsSound directories bytes roles → IsKernelEntry e
+    → (e.lazy ≡ true → n ≡ 1) → (e.lazy ≡ false → slice_get roles e.frame ≡ Some (Page n)) → n ≡ set.len (group_of (entries_in (directory_of directories) (frame_bytes bytes)) slot e.frame)
+group_counted directories bytes roles slot e n sound rules lazy real = by e.lazy refl
+  where
+    E : Entries
+    E = entries_in (directory_of directories) (frame_bytes bytes)
+
+    by : (b : Bool) → e.lazy ≡ b → n ≡ set.len (group_of E slot e.frame)
+    by true is = lazy is ∙ sym (ap (λ f. set.len (group_of E slot f)) (rules.zero is))
+    by false is = let up = rules.frame is in holders_counted directories bytes roles e.frame n sound (real is) ∙ sym (ap set.len (group-real E slot e.frame (grind (arith, nat_tests))))

@@ -1,0 +1,71 @@
+-- Every slot of the user range is one of the user slots.
+use Rattle.std.proofs.Common.{◌≡◌, ℕ, zero, suc, ◌+◌, ◌<◌, ◌≤◌, Bool, true, false, ◌||◌, ◌&&◌, List, [], ◌∷◌, ◌++◌, map, refl, sym, ap, ◌∙◌, arith, inl, inr}
+use Rattle.std.specs.Ordering.{nat_cmp, is_eq, ordering_then}
+use Rattle.std.specs.declared.cmp.Ordering.{Ordering}
+use Rattle.std.specs.declared.cmp.Ordering.TheVariants.{Less, Equal, Greater}
+use Rattle.std.specs.List.{list_any, range_with_len}
+use Rattle.page_words.specs.FiniteMap.{same, nat_order}
+use Rattle.page_words.proofs.MapLemmas.{same_or_not, same_itself, list_any-map}
+use Rattle.address_space.specs.Spaces.{slot_order, at_page}
+use Rattle.address_space.specs.Slots.{user_slots, slots_below, at_pid}
+
+or_true : (a : Bool) → (a || true) ≡ true
+or_true true = refl
+or_true false = refl
+
+any-append : {A : Type 0} (t : A → Bool) (xs ys : List A) → list_any t (xs ++ ys) ≡ (list_any t xs || list_any t ys)
+any-append t [] ys = refl
+any-append t (x ∷ xs) ys = ap (λ b. t x || b) (any-append t xs ys) ∙ or_assoc (t x) (list_any t xs) (list_any t ys)
+  where
+    or_assoc : (a b c : Bool) → (a || (b || c)) ≡ ((a || b) || c)
+    or_assoc true b c = refl
+    or_assoc false b c = refl
+
+range_any : (x a n : ℕ) → a ≤ x → x < a + n → list_any (λ y. same nat_order x y) (range_with_len a n) ≡ true
+range_any x a zero low high = absurd (omega arith)
+range_any x a (suc n) low high =
+    elim (same_or_not nat_order x a) [
+      | inl h ↦ rw h.1 refl
+      | inr h ↦ rw h (range_any x (a + 1) n (above x a low (not_same x a h)) (omega arith))
+    ]
+  where
+    not_same : (x a : ℕ) → same nat_order x a ≡ false → (x ≡ a) → ⊥
+    not_same x a h e = let b : same nat_order x x ≡ true = same_itself nat_order x in let c : same nat_order x a ≡ true = ap (same nat_order x) (sym e) ∙ b in cc
+
+    above : (x a : ℕ) → a ≤ x → ((x ≡ a) → ⊥) → a + 1 ≤ x
+    above x a low n = omega arith
+
+slot_same_parts : (p page : ℕ) (q n : ℕ) → same slot_order (at_page p page) (at_page q n) ≡ (same nat_order p q && same nat_order page n)
+slot_same_parts p page q n = both_tied (nat_cmp p q) (nat_cmp page n)
+  where
+    both_tied : (a b : Ordering) → is_eq (ordering_then a b) ≡ (is_eq a && is_eq b)
+    both_tied Less b = refl
+    both_tied Equal b = refl
+    both_tied Greater b = refl
+
+any_ext : {A : Type 0} (s t : A → Bool) (xs : List A) → ((x : A) → s x ≡ t x) → list_any s xs ≡ list_any t xs
+any_ext s t [] is = refl
+any_ext s t (x ∷ xs) is = λ i. is x i || any_ext s t xs is i
+
+slots_any : (p page n : ℕ) (pages : List ℕ) → p < n → list_any (λ y. same nat_order page y) pages ≡ true → list_any (same slot_order (at_page p page)) (slots_below n pages) ≡ true
+slots_any p page zero pages low user = absurd (omega arith)
+slots_any p page (suc n) pages low user =
+    any-append (same slot_order (at_page p page)) (map (at_pid n) pages) (slots_below n pages)
+    ∙ elim (same_or_not nat_order p n) [
+      | inl h ↦ ap (λ b. b || list_any (same slot_order (at_page p page)) (slots_below n pages))
+          (list_any-map (at_pid n) (same slot_order (at_page p page)) pages
+          ∙ any_ext (λ y. same slot_order (at_page p page) (at_pid n y)) (λ y. same nat_order page y) pages (λ y. slot_same_parts p page n y ∙ ap (λ b. b && same nat_order page y) h.1)
+          ∙ user)
+      | inr h ↦ ap (λ b. list_any (same slot_order (at_page p page)) (map (at_pid n) pages) || b) (slots_any p page n pages (below p n low (apart p n h)) user)
+          ∙ or_true (list_any (same slot_order (at_page p page)) (map (at_pid n) pages))
+    ]
+  where
+    apart : (p n : ℕ) → same nat_order p n ≡ false → (p ≡ n) → ⊥
+    apart p n h e = let b : same nat_order p p ≡ true = same_itself nat_order p in let c : same nat_order p n ≡ true = ap (same nat_order p) (sym e) ∙ b in cc
+
+    below : (p n : ℕ) → p < suc n → ((p ≡ n) → ⊥) → p < n
+    below p n low d = omega arith
+
+pub in_user_slots : (p page : ℕ) → p < 64 → 0x40000 ≤ page → page < 0xf0000 → list_any (same slot_order (at_page p page)) user_slots ≡ true
+unfolding user_slots
+in_user_slots p page small low high = slots_any p page 64 (range_with_len 0x40000 0xb0000) small (range_any page 0x40000 0xb0000 low (omega arith))

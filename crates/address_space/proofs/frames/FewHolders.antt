@@ -1,0 +1,83 @@
+-- A page has fewer holders than a count can say.
+use Rattle.std.proofs.Common.{◌≡◌, ℕ, zero, suc, ◌+◌, ◌*◌, ◌<◌, ◌≤◌, Bool, true, false, cond, List, [], ◌∷◌, length, refl, ap, arith, Option, Some, None}
+use Rattle.std.specs.List.{range_with_len}
+use Rattle.std.proofs.Math.Nat.{add-mul}
+use Rattle.alloc_table.specs.declared.Role.TheVariants.{Page}
+use Rattle.page_map.specs.declared.PageEntry.{PageEntry}
+use Rattle.page_map.specs.Entries.{Frames}
+use Rattle.page_words.specs.FiniteMap as map
+use Rattle.page_words.specs.FiniteMap.{change_each}
+use Rattle.page_words.specs.FiniteSet as set
+use Rattle.std.specs.FinMap.Entries.{where_key}
+use Rattle.std.proofs.Common.{map as map_list, length-append}
+use Rattle.std.proofs.lemmas.List.{length-map}
+use Rattle.address_space.specs.Spaces.{Slot, slot_order}
+use Rattle.page_words.specs.FiniteMap.{collect, put_some}
+use Rattle.address_space.specs.Slots.{user_slots, slots_below, at_pid}
+use Rattle.page_words.specs.FiniteMap.{same}
+use Rattle.page_words.proofs.MapLemmas.{len-insert}
+use Rattle.address_space.specs.Cells.{Entries, names, holders_of, nothing}
+use Rattle.address_space.specs.View.{Directories, Roles, entry_in, entries_in}
+use Rattle.address_space.specs.Sound.{Pages}
+
+-- a frame has at most as many holders as there are entries
+few_holders : (E : Entries) (f n : ℕ) → map.len E ≤ n → set.len (holders_of E f) ≤ n
+few_holders E f n h = let a = kept (map.map_values nothing E).entries in let b = changed E.entries in omega arith
+  where
+    kept : (es : List (Slot × Unit {0})) → length (where_key slot_order.cmp (λ slot. names f (map.get E slot)) es) ≤ length es
+    kept [] = omega arith
+    kept (e ∷ es) = step (names f (map.get E e.0)) (kept es)
+      where
+        step : (b : Bool) → length (where_key slot_order.cmp (λ slot. names f (map.get E slot)) es) ≤ length es
+            → length (cond b (e ∷ where_key slot_order.cmp (λ slot. names f (map.get E slot)) es) (where_key slot_order.cmp (λ slot. names f (map.get E slot)) es)) ≤ length (e ∷ es)
+        step true h = omega arith
+        step false h = omega arith
+
+    changed : (es : List (Slot × PageEntry)) → length (change_each nothing es) ≡ length es
+    changed [] = refl
+    changed (e ∷ es) = ap suc (changed es)
+
+collected : (g : Slot → Option PageEntry) (ks : List Slot) → map.len (collect {o = slot_order} g ks) ≤ length ks
+collected g [] = omega arith
+collected g (k ∷ ks) = by (g k) (collected g ks)
+  where
+    by : (x : Option PageEntry) → map.len (collect {o = slot_order} g ks) ≤ length ks → map.len (put_some k x (collect {o = slot_order} g ks)) ≤ length (k ∷ ks)
+    by None h = omega arith
+    by (Some e) h = let l = len-insert (collect {o = slot_order} g ks) k e in let c = at_most (map.contains_key (collect {o = slot_order} g ks) k) (map.len (collect {o = slot_order} g ks)) in omega (arith, l, c, h)
+      where
+        at_most : (b : Bool) (n : ℕ) → cond b n (n + 1) ≤ n + 1
+        at_most true n = omega arith
+        at_most false n = omega arith
+
+suc_times : (n k : ℕ) → suc n * k ≡ k + n * k
+suc_times n k = omega (arith, add-mul n 1 k)
+
+length-range : (a n : ℕ) → length (range_with_len a n) ≡ n
+length-range a zero = refl
+length-range a (suc n) = ap suc (length-range (a + 1) n)
+
+length-slots : (n a k : ℕ) → length (slots_below n (range_with_len a k)) ≡ n * k
+length-slots zero a k = omega arith
+length-slots (suc n) a k =
+    let pages : List ℕ = range_with_len a k in
+    let x = length-append (map_list (at_pid n) pages) (slots_below n pages) in
+    let b = length-slots n a k in
+    let c : length (map_list (at_pid n) pages) ≡ length pages = length-map pages (at_pid n) in
+    let r = length-range a k in
+    let d = suc_times n k in
+    omega (arith, x, b, c, d, r)
+
+user_slots-count : length user_slots ≡ 64 * 0xb0000
+unfolding user_slots
+user_slots-count = length-slots 64 0x40000 0xb0000
+
+user_slots-few : length user_slots < 4294967295
+user_slots-few = let a = user_slots-count in omega (arith, a)
+
+pub count_few : (D : Directories) (m : Frames) (R : Roles) (f c : ℕ) → Pages (entries_in D m) R → R f ≡ Some (Page c) → c < 4294967295
+unfolding entries_in
+count_few D m R f c P is =
+    let a = (P.counts f c is).1 in
+    let b = few_holders (entries_in D m) f (length user_slots) (collected (entry_in D m) user_slots) in
+    let l = user_slots-few in
+    omega (arith, a, b, l)

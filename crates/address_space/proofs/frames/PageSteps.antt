@@ -1,0 +1,172 @@
+-- How pages and their counts change with one entry, and what the bytes of pages give.
+use Rattle.std.proofs.Common.{◌≡◌, ◌≢◌, ℕ, ◌+◌, true, false, cond, List, refl, ap, sym, ◌∙◌, subst, arith, inl, inr, Option, Some, None}
+use Rattle.std.specs.Prelude.{◌⊎◌, ◌==◌}
+use Rattle.std.specs.Option.{option_map}
+use Rattle.std.proofs.lemmas.Bool.{cases_eq}
+use Rattle.std.proofs.lemmas.Bool.Decides.{nat_tests}
+use Rattle.alloc_table.specs.declared.Role.TheVariants.{Reserved, Free, Directory, Table, Page}
+use Rattle.page_map.specs.declared.PageEntry.{PageEntry}
+use Rattle.page_words.specs.FiniteMap as map
+use Rattle.page_words.specs.FiniteMap.{Map}
+use Rattle.page_words.specs.FiniteSet as set
+use Rattle.address_space.specs.Spaces.{Slot, slot_order}
+use Rattle.page_words.specs.FiniteMap.{same}
+use Rattle.page_words.proofs.MapLemmas.{same_or_not, same_itself, get-insert, same_map, same_set, len-insert}
+use Rattle.address_space.specs.Cells.{Entries, names, holders_of, group_of, lazy_count, cell_of, spaces_of}
+use Rattle.address_space.specs.View.{Roles}
+use Rattle.address_space.specs.Sound.{Pages, HoldsPage}
+use Rattle.address_space.proofs.entries.Removal.{put_back, removed, kept_other}
+use Rattle.address_space.proofs.entries.Refinement.{contains-holders_of, same_holders, names-insert_same, holders-insert, holders-other, get-spaces_of, Unused}
+
+-- the entry at a slot after one was put in: the new one, or one from before
+inserted : (E : Entries) (slot : Slot) (e : PageEntry) (q : Slot) (d : PageEntry) → map.get (map.insert E slot e) q ≡ Some d → (d ≡ e) ⊎ (map.get E q ≡ Some d)
+inserted E slot e q d is = elim (same_or_not slot_order q slot) [
+  | inl h ↦ inl (let k : Some e ≡ Some d = sym (get-insert E slot e q ∙ ap (λ b. cond b (Some e) (map.get E q)) h.1) ∙ is in cc)
+  | inr h ↦ inr (sym (get-insert E slot e q ∙ ap (λ b. cond b (Some e) (map.get E q)) h) ∙ is)
+]
+
+pub not_same : (f g : ℕ) → f ≢ g → (f == g) ≡ false
+not_same f g n = grind (arith, nat_tests)
+
+-- a frame that an entry may name is no free frame, no table and no directory
+pub no_free : (R : Roles) (f g : ℕ) → HoldsPage (R f) → R g ≡ Some Free → f ≢ g
+no_free R f g (inl r) free same = let k : R f ≡ R g = ap R same in cc
+no_free R f g (inr h) free same = let k : R f ≡ R g = ap R same in let r = h.1 in cc
+
+pub no_table : (R : Roles) (f g p s : ℕ) → HoldsPage (R f) → R g ≡ Some (Table p s) → f ≢ g
+no_table R f g p s (inl r) table same = let k : R f ≡ R g = ap R same in cc
+no_table R f g p s (inr h) table same = let k : R f ≡ R g = ap R same in let r = h.1 in cc
+
+pub no_directory : (R : Roles) (f g p : ℕ) → HoldsPage (R f) → R g ≡ Some (Directory p) → f ≢ g
+no_directory R f g p (inl r) directory same = let k : R f ≡ R g = ap R same in cc
+no_directory R f g p (inr h) directory same = let k : R f ≡ R g = ap R same in let r = h.1 in cc
+
+-- no entry names a free frame
+pub unused : (E : Entries) (R : Roles) (f : ℕ) → Pages E R → R f ≡ Some Free → Unused E f
+unused E R f P free q = by (map.get E q) refl
+  where
+    by : (x : Option PageEntry) → map.get E q ≡ x → names f x ≡ false
+    by None is = refl
+    by (Some d) is = not_same d.frame f (no_free R d.frame f (P.pages q d is) free)
+
+-- and so no slot holds it
+pub unused_count : (E : Entries) (R : Roles) (f : ℕ) → Pages E R → R f ≡ Some Free → 0 ≡ set.len (holders_of E f)
+unused_count E R f P free = sym (ap set.len (same_set (holders_of E f) set.empty (λ q. contains-holders_of E f q ∙ unused E R f P free q)))
+
+-- spaces see the bytes of the frames that entries name, and no others
+pub same_bytes : (E : Entries) (m m' : ℕ → List ℕ) → ((q : Slot) (d : PageEntry) → map.get E q ≡ Some d → m' d.frame ≡ m d.frame) → spaces_of E m' ≡ spaces_of E m
+same_bytes E m m' is = same_map _ _ (λ q. get-spaces_of E m' q ∙ by q (map.get E q) refl ∙ sym (get-spaces_of E m q))
+  where
+    by : (q : Slot) (x : Option PageEntry) → map.get E q ≡ x → option_map (cell_of E m' q) x ≡ option_map (cell_of E m q) x
+    by q None found = refl
+    by q (Some d) found = λ i. Some (record { write = d.write; may = d.may; accessed = d.accessed; dirty = d.dirty; bytes = is q d found i; holders = group_of E q d.frame })
+
+-- an entry that keeps its frame
+pub pages-same : (E : Entries) (R : Roles) (slot : Slot) (old new : PageEntry) → Pages E R → map.get E slot ≡ Some old → new.frame ≡ old.frame → Pages (map.insert E slot new) R
+pages-same E R slot old new P found kept = record {
+  pages = λ q d is. elim (inserted E slot new q d is) [
+    | inl e ↦ subst (λ f. HoldsPage (R f)) (sym (ap (λ (x : PageEntry). x.frame) e ∙ kept)) (P.pages slot old found)
+    | inr was ↦ P.pages q d was
+  ];
+  counts = λ f c is. let old_counts = P.counts f c is in (old_counts.0, old_counts.1 ∙ sym (ap set.len (same_holders (map.insert E slot new) E f (names-insert_same E slot old new found kept f))));
+}
+
+-- a new entry on a frame, whose count becomes the number of its slots
+pub pages-more : (E : Entries) (R R' : Roles) (slot : Slot) (e : PageEntry) (n : ℕ) → Pages E R → ((f c : ℕ) → R' f ≡ Some (Page c) → names f (map.get E slot) ≡ false) → R' e.frame ≡ Some (Page (n + 1)) → n ≡ set.len (holders_of E e.frame)
+    → ((g : ℕ) → g ≢ e.frame → R' g ≡ R g) → Pages (map.insert E slot e) R'
+pages-more E R R' slot e n P none own count others = record {
+  pages = λ q d is. elim (inserted E slot e q d is) [
+    | inl same ↦ subst (λ (x : PageEntry). HoldsPage (R' x.frame)) (sym same) (inr (n + 1, own))
+    | inr was ↦ elim (cases_eq d.frame e.frame) [
+      | inl same ↦ inr (n + 1, ap R' same ∙ own)
+      | inr differ ↦ subst HoldsPage (sym (others d.frame differ)) (P.pages q d was)
+    ]
+  ];
+  counts = λ f c is. elim (cases_eq f e.frame) [
+    | inl same ↦
+        let k : Some (Page c) ≡ Some (Page (n + 1)) = sym is ∙ ap R' same ∙ own in
+        let c_is : c ≡ n + 1 = cc in
+        let l : set.len (holders_of (map.insert E slot e) f) ≡ set.len (holders_of E e.frame) + 1 =
+        ap (λ g. set.len (holders_of (map.insert E slot e) g)) same ∙ ap set.len (holders-insert E slot e) ∙ len-insert (holders_of E e.frame) slot tt
+        ∙ ap (λ b. cond b (set.len (holders_of E e.frame)) (set.len (holders_of E e.frame) + 1)) (contains-holders_of E e.frame slot ∙ none e.frame (n + 1) own) in
+        (omega arith, omega arith)
+    | inr differ ↦
+        let old = P.counts f c (sym (others f differ) ∙ is) in
+        (old.0, old.1 ∙ sym (ap set.len (holders-other E slot e f (none f c is) (not_same e.frame f (λ s. differ (sym s))))))
+  ];
+}
+
+-- a new entry on a frame that was free
+pub pages-fresh : (E : Entries) (R R' : Roles) (slot : Slot) (e : PageEntry) → Pages E R → map.get E slot ≡ None → R e.frame ≡ Some Free → R' e.frame ≡ Some (Page 1)
+    → ((g : ℕ) → g ≢ e.frame → R' g ≡ R g) → Pages (map.insert E slot e) R'
+pages-fresh E R R' slot e P none free own others =
+    pages-more E R R' slot e 0 P (λ f c _. ap (names f) none) own (unused_count E R e.frame P free) others
+
+-- a new entry on a page
+pub pages-join : (E : Entries) (R R' : Roles) (slot : Slot) (e : PageEntry) (c : ℕ) → Pages E R → map.get E slot ≡ None → R e.frame ≡ Some (Page c) → R' e.frame ≡ Some (Page (c + 1))
+    → ((g : ℕ) → g ≢ e.frame → R' g ≡ R g) → Pages (map.insert E slot e) R'
+pages-join E R R' slot e c P none was own others = pages-more E R R' slot e c P (λ f n _. ap (names f) none) own (P.counts e.frame c was).1 others
+
+-- the role of a frame that was no page and is none
+pub pages-role : (E : Entries) (R R' : Roles) (f : ℕ) → Pages E R → R f ≢ Some Reserved → ((c : ℕ) → R f ≢ Some (Page c)) → ((c : ℕ) → R' f ≢ Some (Page c)) → ((g : ℕ) → g ≢ f → R' g ≡ R g) → Pages E R'
+pages-role E R R' f P zero before after others = record {
+  pages = λ q d is. subst HoldsPage (sym (others d.frame (apart d.frame (P.pages q d is)))) (P.pages q d is);
+  counts = λ g c is. P.counts g c (sym (others g (λ same. after c (sym (ap R' same) ∙ is))) ∙ is);
+}
+  where
+    apart : (g : ℕ) → HoldsPage (R g) → g ≢ f
+    apart g (inl r) same = zero (sym (ap R same) ∙ r)
+    apart g (inr h) same = before h.0 (sym (ap R same) ∙ h.1)
+
+-- a new lazy entry
+pub pages-lazy : (E : Entries) (R : Roles) (slot : Slot) (e : PageEntry) → Pages E R → map.get E slot ≡ None → e.frame ≡ 0 → R 0 ≡ Some Reserved → Pages (map.insert E slot e) R
+pages-lazy E R slot e P none lazy zero = record {
+  pages = λ q d is. elim (inserted E slot e q d is) [
+    | inl same ↦ inl (ap R (ap (λ (x : PageEntry). x.frame) same ∙ lazy) ∙ zero)
+    | inr was ↦ P.pages q d was
+  ];
+  counts = λ f c is. let old = P.counts f c is in (old.0, old.1 ∙ sym (ap set.len (holders-other E slot e f (ap (names f) none) (not_same e.frame f (λ same. let k : R 0 ≡ R f = ap R (sym lazy ∙ same) in cc)))));
+}
+
+-- there is one lazy page more
+pub lazy-more : (E : Entries) (slot : Slot) (e : PageEntry) → map.get E slot ≡ None → e.frame ≡ 0 → lazy_count (map.insert E slot e) ≡ lazy_count E + 1
+lazy-more E slot e none lazy =
+    ap (λ g. set.len (holders_of (map.insert E slot e) g)) (sym lazy) ∙ ap set.len (holders-insert E slot e) ∙ len-insert (holders_of E e.frame) slot tt
+    ∙ ap (λ b. cond b (set.len (holders_of E e.frame)) (set.len (holders_of E e.frame) + 1)) (contains-holders_of E e.frame slot ∙ ap (names e.frame) none)
+    ∙ ap (λ g. set.len (holders_of E g) + 1) lazy
+
+-- as many lazy pages, where an entry on another frame came
+pub lazy-real : (E : Entries) (slot : Slot) (e : PageEntry) → map.get E slot ≡ None → e.frame ≢ 0 → lazy_count (map.insert E slot e) ≡ lazy_count E
+lazy-real E slot e none real = ap set.len (holders-other E slot e 0 (ap (names 0) none) (not_same e.frame 0 real))
+
+-- or where one keeps its frame
+pub lazy-same : (E : Entries) (slot : Slot) (old new : PageEntry) → map.get E slot ≡ Some old → new.frame ≡ old.frame → lazy_count (map.insert E slot new) ≡ lazy_count E
+lazy-same E slot old new found kept = ap set.len (same_holders (map.insert E slot new) E 0 (names-insert_same E slot old new found kept 0))
+
+-- an entry that goes: its frame has one slot less, and every other as many
+pub holders-less : (E : Entries) (slot : Slot) (e : PageEntry) → map.get E slot ≡ Some e
+    → (set.len (holders_of E e.frame) ≡ set.len (holders_of (map.remove E slot) e.frame) + 1) × ((f : ℕ) → f ≢ e.frame → holders_of (map.remove E slot) f ≡ holders_of E f)
+holders-less E slot e found = (
+  ap (λ x. set.len (holders_of x e.frame)) (sym back) ∙ ap set.len (holders-insert E' slot e) ∙ len-insert (holders_of E' e.frame) slot tt
+      ∙ ap (λ b. cond b (set.len (holders_of E' e.frame)) (set.len (holders_of E' e.frame) + 1)) (contains-holders_of E' e.frame slot ∙ ap (names e.frame) (removed E slot)),
+  λ f n. sym (ap (λ x. holders_of x f) (sym back) ∙ holders-other E' slot e f (ap (names f) (removed E slot)) (not_same e.frame f (λ s. n (sym s)))),
+)
+  where
+    E' : Entries
+    E' = map.remove E slot
+
+    back : map.insert E' slot e ≡ E
+    back = put_back E slot e found
+
+-- a lazy page gets a frame: one lazy page less
+pub lazy-filled : (E : Entries) (slot : Slot) (old new : PageEntry) → map.get E slot ≡ Some old → old.frame ≡ 0 → new.frame ≢ 0 → lazy_count (map.insert E slot new) + 1 ≡ lazy_count E
+lazy-filled E slot old new found lazy real =
+    let less = (holders-less E slot old found).0 in
+    let same : holders_of (map.insert E slot new) 0 ≡ holders_of (map.remove E slot) 0 = same_holders (map.insert E slot new) (map.remove E slot) 0 (λ q.
+    elim (same_or_not slot_order q slot) [
+      | inl h ↦ ap (names 0) (get-insert E slot new q ∙ ap (λ b. cond b (Some new) (map.get E q)) h.1) ∙ not_same new.frame 0 real ∙ sym (ap (names 0) (ap (map.get (map.remove E slot)) h.0 ∙ removed E slot))
+      | inr h ↦ ap (names 0) (get-insert E slot new q ∙ ap (λ b. cond b (Some new) (map.get E q)) h) ∙ sym (ap (names 0) (kept_other E slot q (λ e. let b = same_itself slot_order slot in let c : same slot_order q slot ≡ true = ap (λ x. same slot_order x slot) e ∙ b in cc)))
+    ]) in
+    let l : set.len (holders_of (map.insert E slot new) 0) ≡ set.len (holders_of (map.remove E slot) old.frame) = ap set.len (same ∙ ap (holders_of (map.remove E slot)) (sym lazy)) in
+    let r : set.len (holders_of E old.frame) ≡ set.len (holders_of E 0) = ap (λ g. set.len (holders_of E g)) lazy in
+    omega (arith, less, l, r)

@@ -1,0 +1,357 @@
+-- A process whose pages leave their groups, and whose directory then goes.
+use Rattle.std.proofs.Common.{◌≡◌, ◌≢◌, ℕ, ◌+◌, ◌*◌, ◌<◌, ◌≤◌, Bool, true, false, cond, not, ◌&&◌, ◌==◌, List, length, refl, ap, sym, ◌∙◌, subst, arith, inl, inr, Option, Some, None, length-set}
+use Rattle.std.specs.Prelude.{◌⊎◌, is_some, slice_get, slice_set, if◌then◌else◌}
+use Rattle.std.specs.Option.{option_and_then, option_map, unwrap_or}
+use Rattle.std.specs.List.{list_any}
+use Rattle.std.proofs.lemmas.Bool.{cases_eq, cases_lt}
+use Rattle.page_words.specs.Addresses.{slot_number, index_number, IsUserPage}
+use Rattle.page_words.specs.FiniteMap as map
+use Rattle.page_words.specs.FiniteMap.{same}
+use Rattle.page_words.specs.FiniteSet as set
+use Rattle.page_words.specs.FiniteSet.{Set}
+use Rattle.page_words.proofs.MapLemmas.{same_or_not, same_itself, same_map, same_set, get-map_values, get-retain_keys, contains-retain, get-collect}
+use Rattle.phys_memory.specs.Bytes.{frame_bytes, word_in}
+use Rattle.alloc_table.specs.declared.Role.{Role}
+use Rattle.alloc_table.specs.declared.Role.TheVariants.{Free, Directory, Table}
+use Rattle.alloc_table.specs.Roles.{frames_weight, weight, IsReleased, released}
+use Rattle.alloc_table.proofs.RoleLemmas.{weight-set, get-set_same, get-set_other}
+use Rattle.page_map.specs.declared.PageEntry.{PageEntry}
+use Rattle.page_map.specs.Entries.{Frames, word_table, word_entry, table_of, entry_at}
+use Rattle.page_map.specs.Pages.{is_mapped}
+use Rattle.page_map.proofs.PageLemmas.{get-entries_user}
+use Rattle.address_space.specs.Spaces.{Slot, slot_order, Cell, Spaces, cost, need, pages_of, regions_of, without, with_holders, is_slot, is_of, at_page}
+use Rattle.address_space.specs.Slots.{user_slots}
+use Rattle.address_space.specs.Cells.{Entries, lazy_count, cell_of, spaces_of}
+use Rattle.address_space.specs.View.{Directories, Roles, directory_of, table_in, entry_in, entries_in, spaces_in, live_cost, total_cost}
+use Rattle.address_space.specs.Sound.{Tables, Pages, IsSound, IsSpaces}
+use Rattle.address_space.specs.Changes.{SlotRemoved, IsEmptySpace, DroppedBelow, PagesDropped, DirectoryDropped}
+use Rattle.address_space.proofs.costs.Costs.{contains-pages_of}
+use Rattle.address_space.proofs.costs.CostSteps.{sum_one}
+use Rattle.address_space.proofs.entries.EntrySteps.{get-entries_in, entry_by_table}
+use Rattle.address_space.proofs.steps.Openings.{empty_cost}
+use Rattle.address_space.proofs.frames.PageSteps.{pages-role}
+use Rattle.address_space.proofs.entries.Readings.{need_read}
+use Rattle.address_space.proofs.entries.Refinement.{get-spaces_of, leave_refines}
+use Rattle.address_space.proofs.standing.Standing.{past_end}
+use Rattle.address_space.proofs.steps.Steps.{live_small, none_before, none_is, role_own, role_other}
+use borrow.Author.Tests.{eqb-true, eq-eqb}
+
+-- ---- Slots that leave
+
+-- a cell whose group some slots have left
+abbrev pub left : (Slot → Bool) → Cell → Cell
+left gone cell = with_holders cell (set.retain cell.holders (λ s. not (gone s)))
+
+-- what stands at a slot after some have left
+pub get-without : (S : Spaces) (gone : Slot → Bool) (q : Slot) → map.get (without S gone) q ≡ cond (not (gone q)) (option_map (left gone) (map.get S q)) None
+get-without S gone q =
+    get-map_values slot_order (λ slot cell. left gone cell) (map.retain_keys S (λ s. not (gone s))) q
+    ∙ ap (option_map (left gone)) (get-retain_keys S (λ s. not (gone s)) q) ∙ by (not (gone q)) (map.get S q)
+  where
+    by : (b : Bool) (x : Option Cell) → option_map (left gone) (cond b x None) ≡ cond b (option_map (left gone) x) None
+    by true x = refl
+    by false x = refl
+
+both : (all first there : Bool) → (all ≡ false → first ≡ false) → ((there && not first) && not all) ≡ (there && not all)
+both all first false h = refl
+both true true true h = refl
+both true false true h = refl
+both false true true h = let k = h refl in cc
+both false false true h = refl
+
+-- slots that leave before others that they are among
+pub without-without : (S : Spaces) (first all : Slot → Bool) → ((q : Slot) → all q ≡ false → first q ≡ false) → without (without S first) all ≡ without S all
+without-without S first all among = same_map _ _ (λ q. get-without (without S first) all q ∙ at q (all q) refl ∙ sym (get-without S all q))
+  where
+    fewer : (group : Set slot_order) → set.retain (set.retain group (λ s. not (first s))) (λ s. not (all s)) ≡ set.retain group (λ s. not (all s))
+    fewer group = same_set _ _ (λ s.
+        contains-retain (set.retain group (λ s. not (first s))) (λ s. not (all s)) s
+        ∙ ap (λ b. b && not (all s)) (contains-retain group (λ s. not (first s)) s)
+        ∙ both (all s) (first s) (set.contains group s) (among s)
+        ∙ sym (contains-retain group (λ s. not (all s)) s))
+
+    twice : (x : Option Cell) → option_map (left all) (option_map (left first) x) ≡ option_map (left all) x
+    twice None = refl
+    twice (Some c) = ap (λ h. Some (with_holders c h)) (fewer c.holders)
+
+    at : (q : Slot) (b : Bool) → all q ≡ b → cond (not (all q)) (option_map (left all) (map.get (without S first) q)) None ≡ cond (not (all q)) (option_map (left all) (map.get S q)) None
+    at q true is = rw is refl
+    at q false is = ap (λ x. cond (not (all q)) (option_map (left all) x) None) (get-without S first q ∙ ap (λ b. cond (not b) (option_map (left first) (map.get S q)) None) (among q is))
+        ∙ ap (λ x. cond (not (all q)) x None) (twice (map.get S q))
+
+-- a slot is of its own process
+pub slot_of_process : (p page : ℕ) (q : Slot) → is_of p q ≡ false → is_slot p page q ≡ false
+slot_of_process p page q other = elim (same_or_not slot_order (at_page p page) q) [
+  | inl h ↦ absurd (let t : is_of p q ≡ true = ap (λ (x : Slot). x.pid == p) (sym h.0) ∙ eq-eqb p p refl in cc)
+  | inr h ↦ h
+]
+
+nothing_if : (b : Bool) (f : Cell → Cell) (x : Option Cell) → x ≡ None → cond b (option_map f x) None ≡ None
+nothing_if true f None h = refl
+nothing_if true f (Some c) h = cc
+nothing_if false f x h = refl
+
+-- where no slot of a process is mapped, nothing leaves with it
+pub nothing_leaves : (directories : List (Option ℕ)) (bytes : List ℕ) (p : ℕ) → IsEmptySpace (spaces_in directories bytes) p → without (spaces_in directories bytes) (is_of p) ≡ spaces_in directories bytes
+unfolding spaces_in
+nothing_leaves directories bytes p empty =
+    sym (leave_refines E m (is_of p)) ∙ ap (λ x. spaces_of x m) (same_map (map.retain_keys E (λ s. not (is_of p s))) E (λ q. get-retain_keys E (λ s. not (is_of p s)) q ∙ by q (is_of p q) refl))
+  where
+    m : Frames
+    m = frame_bytes bytes
+
+    E : Entries
+    E = entries_in (directory_of directories) m
+
+    none : (q : Slot) → is_of p q ≡ true → map.get E q ≡ None
+    none q is =
+        let own : q.pid ≡ p = eqb-true q.pid p is in
+        let here : q ≡ record { pid = p; page = q.page } = (λ i. record { pid = own i; page = q.page }) in
+        none_before E m q (map.get E q) (sym (get-spaces_of E m q) ∙ ap (map.get (spaces_of E m)) here ∙ empty q.page)
+
+    by : (q : Slot) (b : Bool) → is_of p q ≡ b → cond (not (is_of p q)) (map.get E q) None ≡ map.get E q
+    by q true is = ap (λ b. cond (not b) (map.get E q) None) is ∙ sym (none q is)
+    by q false is = ap (λ b. cond (not b) (map.get E q) None) is
+
+-- ---- Slots without an entry
+
+no_cell_by : (D : Directories) (m : Frames) (q : Slot) → entry_in D m q ≡ None → map.get (spaces_of (entries_in D m) m) q ≡ None
+no_cell_by D m q none =
+    get-spaces_of (entries_in D m) m q
+    ∙ ap (option_map (cell_of (entries_in D m) m q)) (get-entries_in D m q ∙ ap (λ x. cond (list_any (same slot_order q) user_slots) x None) none ∙ either (list_any (same slot_order q) user_slots))
+  where
+    either : (b : Bool) → ◌≡◌ {A = Option PageEntry} (cond b None None) None
+    either true = refl
+    either false = refl
+
+-- no table lies outside the user range
+pub no_table_outside : (directories : List (Option ℕ)) (bytes : List ℕ) (roles : List Role) (p s : ℕ) → IsSound directories bytes roles → (s < 256) ⊎ (960 ≤ s) → table_in (directory_of directories) (frame_bytes bytes) p s ≡ None
+no_table_outside directories bytes roles p s sound out = by (directory_of directories p) refl
+  where
+    word : (d : ℕ) → directory_of directories p ≡ Some d → word_in (frame_bytes bytes d) s ≡ 0
+    word d live = elim (cases_lt s 1024) [
+      | inl inside ↦ sound.tables.outside p d s live inside out
+      | inr past ↦ past_end (frame_bytes bytes d) s (sound.tables.long d (Directory p) (sound.tables.directory p d live)) past
+    ]
+
+    by : (x : Option ℕ) → directory_of directories p ≡ x → option_and_then (λ d. table_of (frame_bytes bytes) d s) x ≡ None
+    by None is = refl
+    by (Some d) is = ap word_table (word d is)
+
+-- and no page
+pub no_cell_outside : (directories : List (Option ℕ)) (bytes : List ℕ) (roles : List Role) (p page : ℕ) → IsSound directories bytes roles → (page < 0x40000) ⊎ (0xf0000 ≤ page) → map.get (spaces_in directories bytes) (at_page p page) ≡ None
+unfolding spaces_in
+no_cell_outside directories bytes roles p page sound out =
+    let D : Directories = directory_of directories in
+    let m : Frames = frame_bytes bytes in
+    no_cell_by D m (at_page p page)
+    (entry_by_table D m (at_page p page) ∙ ap (option_and_then (λ table. word_entry (word_in (m table) (index_number page)))) (no_table_outside directories bytes roles p (slot_number page) sound (elim out [ inl l ↦ inl (omega arith) | inr l ↦ inr (omega arith) ])))
+
+-- a page of the user range that is not mapped
+pub no_cell_unmapped : (directories : List (Option ℕ)) (bytes : List ℕ) (p d page : ℕ) → directory_of directories p ≡ Some d → 0x40000 ≤ page → page < 0xf0000 → is_mapped (frame_bytes bytes) d page ≡ false
+    → map.get (spaces_in directories bytes) (at_page p page) ≡ None
+unfolding spaces_in
+no_cell_unmapped directories bytes p d page live low high unmapped =
+    let m : Frames = frame_bytes bytes in
+    no_cell_by (directory_of directories) m (at_page p page)
+    (ap (option_and_then (λ d. entry_at m d page)) live ∙ none_is (entry_at m d page) (ap is_some (sym (get-entries_user m d page (low, high))) ∙ unmapped))
+
+-- a page that the map has, has an entry
+pub entry_mapped : (m : Frames) (d page : ℕ) → IsUserPage page → is_mapped m d page ≡ true → is_some (entry_at m d page) ≡ true
+entry_mapped m d page user mapped = ap is_some (sym (get-entries_user m d page user)) ∙ mapped
+
+-- ---- The pages of a process leave, from the lowest on
+
+pub dropped_at_first : (directories : List (Option ℕ)) (bytes : List ℕ) (roles : List Role) (p : ℕ) → IsSpaces directories bytes roles → DroppedBelow directories p 0x40000 bytes roles bytes roles
+dropped_at_first directories bytes roles p s = record {
+  after = s;
+  spaces = refl;
+  below = λ page l. no_cell_outside directories bytes roles p page s.sound (inl l);
+  length = refl;
+  low = omega arith;
+  high = omega arith;
+}
+
+pub dropped_next : (directories : List (Option ℕ)) (bytes one two : List ℕ) (roles roles1 roles2 : List Role) (p d from page : ℕ) → DroppedBelow directories p from bytes roles one roles1 → directory_of directories p ≡ Some d
+    → from ≤ page → page < 0xf0000 → ((other : ℕ) → from ≤ other → other < page → is_mapped (frame_bytes one) d other ≡ false) → SlotRemoved directories p page one roles1 two roles2
+    → DroppedBelow directories p (page + 1) bytes roles two roles2
+dropped_next directories bytes one two roles roles1 roles2 p d from page so_far live up high least gone =
+    let S : Spaces = spaces_in directories one in
+    let low = so_far.low in
+    record {
+      after = gone.after;
+      spaces = ap (λ x. without x (is_of p)) gone.spaces ∙ without-without S (is_slot p page) (is_of p) (slot_of_process p page) ∙ so_far.spaces;
+      below = λ other l. ap (λ x. map.get x (at_page p other)) gone.spaces ∙ get-without S (is_slot p page) (at_page p other) ∙ elim (cases_eq other page) [
+        | inl same_page ↦ ap (λ b. cond (not b) (option_map (left (is_slot p page)) (map.get S (at_page p other))) None) (ap (λ n. same slot_order (at_page p page) (at_page p n)) same_page ∙ same_itself slot_order (at_page p page))
+        | inr differ ↦ nothing_if (not (is_slot p page (at_page p other))) (left (is_slot p page)) (map.get S (at_page p other)) (elim (cases_lt other from) [
+          | inl below ↦ so_far.below other below
+          | inr above ↦ no_cell_unmapped directories one p d other live (omega arith) (omega arith) (least other above (omega arith))
+        ])
+      ];
+      length = gone.length ∙ so_far.length;
+      low = omega arith;
+      high = omega arith;
+    }
+
+pub dropped_at_last : (directories : List (Option ℕ)) (bytes one : List ℕ) (roles roles1 : List Role) (p d from : ℕ) → DroppedBelow directories p from bytes roles one roles1 → directory_of directories p ≡ Some d
+    → ((other : ℕ) → from ≤ other → is_mapped (frame_bytes one) d other ≡ false) → PagesDropped directories p bytes roles one roles1
+dropped_at_last directories bytes one roles roles1 p d from so_far live none =
+    let low = so_far.low in
+    let empty : IsEmptySpace (spaces_in directories one) p = λ page. elim (cases_lt page from) [
+      | inl below ↦ so_far.below page below
+      | inr above ↦ elim (cases_lt page 0xf0000) [
+        | inl inside ↦ no_cell_unmapped directories one p d page live (omega arith) inside (none page above)
+        | inr past ↦ no_cell_outside directories one roles1 p page so_far.after.sound (inr past)
+      ]
+    ] in
+    record {
+      after = so_far.after;
+      spaces = sym (nothing_leaves directories one p empty) ∙ so_far.spaces;
+      empty = empty;
+      length = so_far.length;
+    }
+
+-- ---- A directory goes
+
+forgotten : (directories : List (Option ℕ)) (p : ℕ) → p < length directories → directory_of (slice_set directories p None) p ≡ None
+forgotten directories p l = ap (λ x. unwrap_or x None) (get-set_same directories p None l)
+
+remembered : (directories : List (Option ℕ)) (p q : ℕ) → q ≢ p → directory_of (slice_set directories p None) q ≡ directory_of directories q
+remembered directories p q n = ap (λ x. unwrap_or x None) (get-set_other directories p q None n)
+
+-- without a page there is no table
+no_table_left : (directories : List (Option ℕ)) (bytes : List ℕ) (roles : List Role) (p s : ℕ) → IsSpaces directories bytes roles → p < 64 → IsEmptySpace (spaces_in directories bytes) p → table_in (directory_of directories) (frame_bytes bytes) p s ≡ None
+no_table_left directories bytes roles p s spaces few empty = elim (cases_lt s 256) [
+  | inl below ↦ no_table_outside directories bytes roles p s spaces.sound (inl below)
+  | inr low ↦ elim (cases_lt s 960) [
+    | inl high ↦ by (table_in (directory_of directories) (frame_bytes bytes) p s) (sym two ∙ need_read directories bytes p (1024 * s) spaces.in_use few (omega arith) (omega arith) ∙ ap (λ n. cond (is_some (table_in (directory_of directories) (frame_bytes bytes) p n)) 1 2) (let e : slot_number (1024 * s) ≡ s = omega arith in e))
+    | inr above ↦ no_table_outside directories bytes roles p s spaces.sound (inr above)
+  ]
+]
+  where
+    S : Spaces
+    S = spaces_in directories bytes
+
+    no_pages : pages_of S p ≡ set.empty
+    no_pages = same_set (pages_of S p) set.empty (λ page. contains-pages_of S p page ∙ ap is_some (empty page))
+
+    two : need S p (1024 * s) ≡ 2
+    two = ap (λ pages. if set.contains (regions_of pages) (slot_number (1024 * s)) then 1 else 2) no_pages
+
+    by : (x : Option ℕ) → ◌≡◌ {A = ℕ} 2 (cond (is_some x) 1 2) → x ≡ None
+    by None h = refl
+    by (Some t) h = cc
+
+module _ (D D' : Directories) (m : Frames) (R R' : Roles) (T : Tables D m R) (p d : ℕ) (live : D p ≡ Some d) (bare : (s : ℕ) → table_in D m p s ≡ None)
+    (none : D' p ≡ None) (others : (q : ℕ) → q ≢ p → D' q ≡ D q) (role : R' d ≡ Some Free) (roles : (g : ℕ) → g ≢ d → R' g ≡ R g) where
+  was : R d ≡ Some (Directory p)
+  was = T.directory p d live
+
+  kept_tables : (q s : ℕ) → table_in D' m q s ≡ table_in D m q s
+  kept_tables q s = elim (cases_eq q p) [
+    | inl same_pid ↦ ap (λ x. table_in D' m x s) same_pid ∙ ap (option_and_then (λ x. table_of m x s)) none ∙ sym (ap (λ x. table_in D m x s) same_pid ∙ bare s)
+    | inr differ ↦ ap (option_and_then (λ x. table_of m x s)) (others q differ)
+  ]
+
+  kept_entry : (q : Slot) → entry_in D' m q ≡ entry_in D m q
+  kept_entry q = entry_by_table D' m q ∙ ap (option_and_then (λ table. word_entry (word_in (m table) (index_number q.page)))) (kept_tables q.pid (slot_number q.page)) ∙ sym (entry_by_table D m q)
+
+  kept_entries : entries_in D' m ≡ entries_in D m
+  unfolding entries_in
+  kept_entries = same_map _ _ (λ q. get-collect slot_order (entry_in D' m) user_slots q ∙ ap (λ x. cond (list_any (same slot_order q) user_slots) x None) (kept_entry q) ∙ sym (get-collect slot_order (entry_in D m) user_slots q))
+
+  -- a frame with a role, other than the directory's
+  stays : (g : ℕ) (r : Role) → R g ≡ Some r → (r ≡ Directory p → ⊥) → R' g ≡ Some r
+  stays g r is n = roles g (λ same_frame. n (let k : R g ≡ R d = ap R same_frame in let w = was in cc)) ∙ is
+
+  stayed : (g : ℕ) (r : Role) → R' g ≡ Some r → (r ≡ Free → ⊥) → (R g ≡ Some r) × (g ≢ d)
+  stayed g r is n = let apart : g ≢ d = (λ same_frame. n (let k : R' g ≡ R' d = ap R' same_frame in let f = role in cc)) in (sym (roles g apart) ∙ is, apart)
+
+  -- a process that has a directory still is another one
+  another : (q f : ℕ) → D' q ≡ Some f → q ≢ p
+  another q f is same_pid = let k : D' q ≡ D' p = ap D' same_pid in let n = none in cc
+
+  tables-without : Tables D' m R'
+  tables-without = record {
+    zero_role = stays 0 _ T.zero_role (λ e. cc);
+    zero_bytes = T.zero_bytes;
+    reserved = λ g is. T.reserved g (stayed g _ is (λ e. cc)).0;
+    directory = λ q f is. let n = another q f is in stays f (Directory q) (T.directory q f (sym (others q n) ∙ is)) (λ e. n cc);
+    directory_back = λ q f is.
+        let old = stayed f (Directory q) is (λ e. cc) in
+        let there : D q ≡ Some f = T.directory_back q f old.0 in
+        others q (λ same_pid. old.1 (let k : D q ≡ D p = ap D same_pid in let l = live in cc)) ∙ there;
+    table = λ q s t is. stays t (Table q s) (T.table q s t (sym (kept_tables q s) ∙ is)) (λ e. cc);
+    table_back = λ q s t is. kept_tables q s ∙ T.table_back q s t (stayed t (Table q s) is (λ e. cc)).0;
+    dir_words = λ q f s is l. T.dir_words q f s (sym (others q (another q f is)) ∙ is) l;
+    outside = λ q f s is l out. T.outside q f s (sym (others q (another q f is)) ∙ is) l out;
+    table_words = λ q s t i is l. T.table_words q s t i (sym (kept_tables q s) ∙ is) l;
+    long = λ g r is. elim (cases_eq g d) [
+      | inl same_frame ↦ T.long g (Directory p) (ap R same_frame ∙ was)
+      | inr differ ↦ T.long g r (sym (roles g differ) ∙ is)
+    ];
+  }
+
+same_spaces : (directories directories' : List (Option ℕ)) (bytes : List ℕ) → entries_in (directory_of directories') (frame_bytes bytes) ≡ entries_in (directory_of directories) (frame_bytes bytes) → spaces_in directories' bytes ≡ spaces_in directories bytes
+unfolding spaces_in
+same_spaces directories directories' bytes E = ap (λ x. spaces_of x (frame_bytes bytes)) E
+
+total-without : (directories : List (Option ℕ)) (S : Spaces) (p d : ℕ) → p < 64 → p < length directories → directory_of directories p ≡ Some d → IsEmptySpace S p
+    → total_cost directories S ≡ total_cost (slice_set directories p None) S + 1
+unfolding total_cost
+total-without directories S p d few l live empty =
+    sum_one (live_cost (directory_of directories) S) (live_cost (directory_of (slice_set directories p None)) S) p 1 0 64 (omega arith) (omega arith)
+    (ap (λ x. if is_some x then cost S p else 0) live ∙ empty_cost S p empty ∙ sym (ap (λ x. (if is_some x then cost S p else 0) + 1) (forgotten directories p l)))
+    (λ q n. sym (ap (λ x. if is_some x then cost S q else 0) (remembered directories p q n)))
+
+pub directory_removed : (directories : List (Option ℕ)) (bytes : List ℕ) (roles roles' : List Role) (p d : ℕ) → IsSpaces directories bytes roles → directory_of directories p ≡ Some d
+    → IsEmptySpace (spaces_in directories bytes) p → IsReleased roles d roles' → DirectoryDropped directories p bytes roles (slice_set directories p None) roles'
+directory_removed directories bytes roles roles' p d s live empty rel =
+    let D : Directories = directory_of directories in
+    let directories' : List (Option ℕ) = slice_set directories p None in
+    let D' : Directories = directory_of directories' in
+    let m : Frames = frame_bytes bytes in
+    let R : Roles = slice_get roles in
+    let R' : Roles = slice_get roles' in
+    let sound = s.sound in
+    let few : p < 64 = live_small directories p d sound.pids live in
+    let l : p < length directories = (let n = sound.pids in omega arith) in
+    let none : D' p ≡ None = forgotten directories p l in
+    let others : (q : ℕ) → q ≢ p → D' q ≡ D q = remembered directories p in
+    let bare : (t : ℕ) → table_in D m p t ≡ None = λ t. no_table_left directories bytes roles p t s few empty in
+    let was : R d ≡ Some (Directory p) = sound.tables.directory p d live in
+    let same_role : Some rel.role ≡ Some (Directory p) = sym rel.was ∙ was in
+    let role_is : rel.role ≡ Directory p = cc in
+    let role : R' d ≡ Some Free = role_own roles roles' d rel.role (released rel.role) rel.was rel.now ∙ ap (λ r. Some (released r)) role_is in
+    let kept : (g : ℕ) → g ≢ d → R' g ≡ R g = role_other roles roles' d (released rel.role) rel.now in
+    let E : entries_in D' m ≡ entries_in D m = kept_entries D D' m R R' sound.tables p d live bare none others role kept in
+    let spaces : spaces_in directories' bytes ≡ spaces_in directories bytes = same_spaces directories directories' bytes E in
+    let same_length : length roles' ≡ length roles = ap length rel.now ∙ length-set roles d (released rel.role) in
+    let total : total_cost directories (spaces_in directories bytes) ≡ total_cost directories' (spaces_in directories bytes) + 1 = total-without directories (spaces_in directories bytes) p d few l live empty in
+    let total' : total_cost directories' (spaces_in directories' bytes) ≡ total_cost directories' (spaces_in directories bytes) = ap (total_cost directories') spaces in
+    let lighter : frames_weight roles' + 1 ≡ frames_weight roles =
+    (let a = weight-set roles d rel.role (released rel.role) rel.was in
+    let n : frames_weight roles' ≡ frames_weight (slice_set roles d (released rel.role)) = ap frames_weight rel.now in
+    let x : weight rel.role ≡ 1 = ap weight role_is in
+    let y : weight (released rel.role) ≡ 0 = ap (λ r. weight (released r)) role_is in
+    omega (arith, a, n, x, y)) in
+    let weighs = s.weighs in
+    let within = s.within in
+    record {
+      after = record {
+        sound = record {
+          size = sound.size ∙ ap (λ n. 4096 * n) (sym same_length);
+          few = subst (λ n. n ≤ 4096) (sym same_length) sound.few;
+          pids = length-set directories p None ∙ sound.pids;
+          tables = tables-without D D' m R R' sound.tables p d live bare none others role kept;
+          pages = subst (λ x. Pages x R') (sym E) (pages-role (entries_in D m) R R' d sound.pages (λ h. cc) (λ c h. cc) (λ c h. cc) kept);
+        };
+        in_use = λ q r t found. s.in_use q r t (sym (kept_tables D D' m R R' sound.tables p d live bare none others role kept q r) ∙ found);
+        weighs = let z : lazy_count (entries_in D' m) ≡ lazy_count (entries_in D m) = ap lazy_count E in omega (arith, weighs, lighter, total, total', z);
+        within = omega (arith, within, same_length, total, total');
+      };
+      spaces = spaces;
+      none = none;
+      others = others;
+      length = same_length;
+    }

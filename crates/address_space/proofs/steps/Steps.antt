@@ -1,0 +1,221 @@
+-- What each step of the code leaves.
+use Rattle.std.proofs.Common.{◌≡◌, ◌≢◌, ℕ, ◌+◌, ◌*◌, ◌^◌, ◌<◌, ◌≤◌, Bool, true, false, List, length, replicate, refl, ap, sym, ◌∙◌, subst, arith, inl, inr, Option, Some, None, length-set}
+use Rattle.std.specs.Prelude.{is_some, slice_get, slice_set, if◌then◌else◌}
+use Rattle.std.specs.Option.{option_and_then, unwrap_or}
+use Rattle.std.proofs.lemmas.Option.{slice_get_within}
+use Rattle.page_words.specs.Addresses.{slot_number}
+use Rattle.page_words.specs.Words.{is_present, frame_number}
+use Rattle.phys_memory.specs.Bytes.{frame_bytes, word_in, with_frame, with_frame_bytes}
+use Rattle.alloc_table.specs.declared.Role.{Role}
+use Rattle.alloc_table.specs.declared.Role.TheVariants.{Reserved, Free, Directory, Table, Page}
+use Rattle.alloc_table.specs.Roles.{IsTaken}
+use Rattle.alloc_table.proofs.RoleLemmas.{get-set_same, get-set_other, weight-taken}
+use Rattle.phys_memory.proofs.Frames.{with_frame-other, frames-with_frame_bytes}
+use Rattle.page_map.proofs.WordLaws.{entry_word-names, entry_word-lt, entry_word-present, word_entry-entry_word}
+use Rattle.std.proofs.lemmas.List.{length-replicate}
+use Rattle.address_space.proofs.entries.Refinement.{lazy_refines, get-spaces_of}
+use Rattle.std.specs.Option.{option_map}
+use Rattle.page_map.specs.declared.PageEntry.{PageEntry}
+use Rattle.page_map.specs.Entries.{Frames, dir_word, word_table, table_of, with_table, with_entry, entry_word, IsKernelEntry, IsPageMap}
+use Rattle.page_words.specs.FiniteMap as map
+use Rattle.address_space.specs.Spaces.{Slot, fresh, at_page}
+use Rattle.address_space.specs.Cells.{Entries, lazy_count, cell_of, spaces_of}
+use Rattle.address_space.specs.View.{Directories, Roles, directory_of, table_in, entry_in, entries_in, spaces_in, total_cost}
+use Rattle.address_space.specs.Sound.{Tables, Pages, HoldsPage, IsSound, InUseAt, Inside}
+use Rattle.address_space.specs.Changes.{TableGiven, PageAdded, table_need}
+use Rattle.address_space.proofs.costs.CostSteps.{total-entry}
+use Rattle.address_space.proofs.entries.EntrySteps.{Loose, entries-insert, entry_own, tables-entry, use_own, use_kept}
+use Rattle.address_space.proofs.frames.FrameSteps.{tables-linked, linked-entries, linked-own, linked-others, linked-other, kept_table, loose-directory, tables-loose}
+use Rattle.address_space.proofs.frames.PageSteps.{same_bytes, pages-role, pages-lazy, lazy-more, no_free, no_table, no_directory}
+
+-- a frame with a role lies in memory
+inside_by : (bytes : List ℕ) (roles : List Role) (f : ℕ) (r : Role) → length bytes ≡ 4096 * length roles → length roles ≤ 4096 → slice_get roles f ≡ Some r → Inside bytes f
+inside_by bytes roles f r a b is = let h = slice_get_within roles f r is in record { fits = omega arith; small = omega arith }
+
+pub inside : (directories : List (Option ℕ)) (bytes : List ℕ) (roles : List Role) (f : ℕ) (r : Role) → IsSound directories bytes roles → slice_get roles f ≡ Some r → Inside bytes f
+inside directories bytes roles f r s is = inside_by bytes roles f r s.size s.few is
+
+-- each process's page map is as the layer below asks
+pub page_map_by : (D : Directories) (bytes : List ℕ) (roles : List Role) (p d : ℕ) → length bytes ≡ 4096 * length roles → length roles ≤ 4096 → Tables D (frame_bytes bytes) (slice_get roles) → D p ≡ Some d → IsPageMap bytes d
+page_map_by D bytes roles p d size few T live =
+    let m : Frames = frame_bytes bytes in
+    let up : (slot t : ℕ) → table_of m d slot ≡ Some t → table_in D m p slot ≡ Some t = λ slot t is. ap (option_and_then (λ x. table_of m x slot)) live ∙ is in
+    record {
+      directory_inside = (inside_by bytes roles d (Directory p) size few (T.directory p d live)).fits;
+      tables_inside = λ slot t l is. (inside_by bytes roles t (Table p slot) size few (T.table p slot t (up slot t is))).fits;
+      apart = λ slot t l is same. let a = T.table p slot t (up slot t is) in let b = T.directory p d live in let k : slice_get roles t ≡ slice_get roles d = ap (slice_get roles) same in cc;
+      distinct = λ slot other t l k is also. let a = T.table p slot t (up slot t is) in let b = T.table p other t (up other t also) in cc;
+      dir_words = λ slot l. T.dir_words p d slot live l;
+      table_words = λ slot t i l k is. T.table_words p slot t i (up slot t is) k;
+    }
+
+pub page_map_of : (directories : List (Option ℕ)) (bytes : List ℕ) (roles : List Role) (p d : ℕ) → IsSound directories bytes roles → directory_of directories p ≡ Some d → IsPageMap bytes d
+page_map_of directories bytes roles p d s live = page_map_by (directory_of directories) bytes roles p d s.size s.few s.tables live
+
+-- roles after one was set
+pub role_own : (roles roles' : List Role) (f : ℕ) (was role : Role) → slice_get roles f ≡ Some was → roles' ≡ slice_set roles f role → slice_get roles' f ≡ Some role
+role_own roles roles' f was role is now = ap (λ l. slice_get l f) now ∙ get-set_same roles f role (slice_get_within roles f was is)
+
+pub role_other : (roles roles' : List Role) (f : ℕ) (role : Role) → roles' ≡ slice_set roles f role → (g : ℕ) → g ≢ f → slice_get roles' g ≡ slice_get roles g
+role_other roles roles' f role now g n = ap (λ l. slice_get l g) now ∙ get-set_other roles f g role n
+
+-- a blank table was linked
+pub table_given : (directories : List (Option ℕ)) (bytes bytes' : List ℕ) (roles roles' : List Role) (p d s t : ℕ) → IsSound directories bytes roles → directory_of directories p ≡ Some d
+    → 256 ≤ s → s < 960 → table_of (frame_bytes bytes) d s ≡ None → IsTaken roles t (Table p s) roles' → frame_bytes bytes' ≡ with_table (frame_bytes bytes) d s t → length bytes' ≡ length bytes
+    → TableGiven directories p s bytes roles bytes' roles'
+unfolding spaces_in
+table_given directories bytes bytes' roles roles' p d s t sound live low high none taken is long =
+    let D : Directories = directory_of directories in
+    let m : Frames = frame_bytes bytes in
+    let R : Roles = slice_get roles in
+    let R' : Roles = slice_get roles' in
+    let T : Tables D m R = sound.tables in
+    let free : R t ≡ Some Free = taken.was_free in
+    let small = (inside directories bytes roles t Free sound free).small in
+    let own : R' t ≡ Some (Table p s) = role_own roles roles' t Free (Table p s) free taken.now in
+    let others : (g : ℕ) → g ≢ t → R' g ≡ R g = role_other roles roles' t (Table p s) taken.now in
+    let same_length : length roles' ≡ length roles = ap length taken.now ∙ length-set roles t (Table p s) in
+    let E : entries_in D (frame_bytes bytes') ≡ entries_in D m = ap (entries_in D) is ∙ linked-entries D m R T p d s t live none free small low high in
+    let page_kept : (q : Slot) (e : PageEntry) → map.get (entries_in D m) q ≡ Some e → frame_bytes bytes' e.frame ≡ m e.frame = λ q e found.
+    let holds = sound.pages.pages q e found in
+    (λ i. is i e.frame) ∙ linked-other D m R T p d s t live none free small low high e.frame
+    (no_directory R e.frame d p holds (T.directory p d live)) (no_free R e.frame t holds free) in
+    record {
+      sound = record {
+        size = long ∙ sound.size ∙ ap (λ n. 4096 * n) (sym same_length);
+        few = subst (λ n. n ≤ 4096) (sym same_length) sound.few;
+        pids = sound.pids;
+        tables = subst (λ x. Tables D x R') (sym is) (tables-linked D m R T p d s t live none free small low high R' own others);
+        pages = subst (λ x. Pages x R') (sym E) (pages-role (entries_in D m) R R' t sound.pages (λ h. cc) (λ c h. cc) (λ c h. cc) others);
+      };
+      entries = E;
+      spaces = ap (λ x. spaces_of x (frame_bytes bytes')) E ∙ same_bytes (entries_in D m) m (frame_bytes bytes') page_kept;
+      table = (t, ap (λ x. table_in D x p s) is ∙ linked-own D m R T p d s t live none free small low high);
+      weight =
+          let w = weight-taken roles roles' t (Table p s) taken in
+          let l : lazy_count (entries_in D (frame_bytes bytes')) ≡ lazy_count (entries_in D m) = ap lazy_count E in
+          let n : table_need (table_in D m p s) ≡ 1 = ap table_need (ap (option_and_then (λ x. table_of m x s)) live ∙ none) in
+          omega (arith, w, l, n);
+      length = same_length;
+      others = λ q r n use_at f found.
+          let old : table_in D m q r ≡ Some f = sym (ap (λ x. table_in D x q r) is ∙ linked-others D m R T p d s t live none free small low high q r n) ∙ found in
+          let u = use_at f old in
+          (u.0, u.1, ap (λ l. is_present (word_in l u.0)) ((λ i. is i f) ∙ kept_table D m R T p d s t live none free small low high q r f old) ∙ u.2);
+    }
+
+-- a process with a directory is one of the 64
+pub live_small : (directories : List (Option ℕ)) (p d : ℕ) → length directories ≡ 64 → directory_of directories p ≡ Some d → p < 64
+live_small directories p d l live = by (slice_get directories p) refl live
+  where
+    by : (x : Option (Option ℕ)) → slice_get directories p ≡ x → unwrap_or x None ≡ Some d → p < 64
+    by None is h = cc
+    by (Some y) is h = let w = slice_get_within directories p y is in omega arith
+
+-- a frame that was zeroed
+pub zeroed : (bytes one : List ℕ) (f : ℕ) → Inside bytes f → one ≡ with_frame_bytes bytes f (replicate 4096 0) → frame_bytes one ≡ with_frame (frame_bytes bytes) f (replicate 4096 0)
+zeroed bytes one f i is = ap frame_bytes is ∙ frames-with_frame_bytes bytes (replicate 4096 0) f i.fits (length-replicate {A = ℕ} 4096 0)
+
+pub none_before : (E : Entries) (m : Frames) (q : Slot) (x : Option PageEntry) → option_map (cell_of E m q) x ≡ None → x ≡ None
+none_before E m q None h = refl
+none_before E m q (Some d) h = cc
+
+pub table_by_word : (word t : ℕ) → word_table word ≡ Some t → frame_number word ≡ t
+table_by_word word t h = by (is_present word) h
+  where
+    by : (b : Bool) → (if b then Some (frame_number word) else None) ≡ Some t → frame_number word ≡ t
+    by true h = cc
+    by false h = cc
+
+-- a frame that an entry may name lies in memory
+pub holds_inside : (directories : List (Option ℕ)) (bytes : List ℕ) (roles : List Role) (f : ℕ) → IsSound directories bytes roles → HoldsPage (slice_get roles f) → Inside bytes f
+holds_inside directories bytes roles f sound (inl r) = inside directories bytes roles f Reserved sound r
+holds_inside directories bytes roles f sound (inr h) = inside directories bytes roles f (Page h.0) sound h.1
+
+-- the entry of a fresh page
+abbrev pub lazy_entry : Bool → PageEntry
+lazy_entry write = record { frame = 0; write = write; may = true; accessed = false; dirty = false; lazy = true }
+
+pub lazy_rules : (write : Bool) → IsKernelEntry (lazy_entry write)
+lazy_rules write = record { frame = λ h. cc; zero = λ h. refl; clean = λ h. refl; right = λ h. refl; touched = λ h. cc }
+
+-- a lazy page was mapped
+pub page_added : (directories : List (Option ℕ)) (bytes two : List ℕ) (roles : List Role) (p d page t : ℕ) (write : Bool) → IsSound directories bytes roles → directory_of directories p ≡ Some d
+    → 0x40000 ≤ page → page < 0xf0000 → map.get (spaces_in directories bytes) (at_page p page) ≡ None → table_of (frame_bytes bytes) d (slot_number page) ≡ Some t
+    → frame_bytes two ≡ with_entry (frame_bytes bytes) (frame_number (dir_word (frame_bytes bytes) d (slot_number page))) page (lazy_entry write) → length two ≡ length bytes
+    → PageAdded directories p page write bytes roles two roles
+unfolding spaces_in
+page_added directories bytes two roles p d page t write sound live low high unmapped there is_two long_two =
+    let few : p < 64 = live_small directories p d sound.pids live in
+    let D : Directories = directory_of directories in
+    let m : Frames = frame_bytes bytes in
+    let e : PageEntry = lazy_entry write in
+    let m2 : Frames = with_entry m t page e in
+    let slot : Slot = at_page p page in
+    let R : Roles = slice_get roles in
+    let T : Tables D m R = sound.tables in
+    let small : 0 < 2 ^ 20 = omega arith in
+    let named : table_in D m p (slot_number page) ≡ Some t = ap (option_and_then (λ x. table_of m x (slot_number page))) live ∙ there in
+    let role_t : R t ≡ Some (Table p (slot_number page)) = T.table p (slot_number page) t named in
+    let is : frame_bytes two ≡ m2 = is_two ∙ ap (λ g. with_entry m g page e) (table_by_word (dir_word m d (slot_number page)) t there) in
+    let E : Entries = entries_in D m in
+    let E2 : entries_in D (frame_bytes two) ≡ map.insert E slot e = ap (entries_in D) is ∙ entries-insert D m R T p d page t (entry_word e) live there (entry_word-lt e small) e (word_entry-entry_word e small) few low high in
+    let none : map.get E slot ≡ None = none_before E m slot (map.get E slot) (sym (get-spaces_of E m slot) ∙ unmapped) in
+    let page_kept : (q : Slot) (x : PageEntry) → map.get E q ≡ Some x → m2 x.frame ≡ m x.frame = λ q x found.
+    with_frame-other m t x.frame _ (no_table R x.frame t p (slot_number page) (sound.pages.pages q x found) role_t) in
+    let zero : m2 0 ≡ replicate 4096 0 = with_frame-other m t 0 _ (no_table R 0 t p (slot_number page) (inl T.zero_role) role_t) ∙ T.zero_bytes in
+    record {
+      slot = record {
+        sound = record {
+          size = long_two ∙ sound.size;
+          few = sound.few;
+          pids = sound.pids;
+          tables = subst (λ x. Tables D x R) (sym is) (tables-entry D m R T p d page t (entry_word e) live there (entry_word-lt e small) (inr (entry_word-names e small (lazy_rules write))));
+          pages = subst (λ x. Pages x R) (sym E2) (pages-lazy E R slot e sound.pages none refl T.zero_role);
+        };
+        cost = (λ i. total_cost directories (spaces_of (E2 i) (frame_bytes two))) ∙ total-entry directories E m (frame_bytes two) slot e (fresh slot write) d few live none;
+        weight = let l : lazy_count (entries_in D (frame_bytes two)) ≡ lazy_count E + 1 = ap lazy_count E2 ∙ lazy-more E slot e none refl in omega (arith, l);
+        length = refl;
+        own = subst (λ x. InUseAt D x p (slot_number page)) (sym is) (use_own D m R T p d page t (entry_word e) live there (entry_word-lt e small) (entry_word-present e));
+        others = λ q r n use_at. subst (λ x. InUseAt D x q r) (sym is) (use_kept D m R T p d page t (entry_word e) live there (entry_word-lt e small) (entry_word-present e) q r use_at);
+      };
+      lazy = (e, ap (λ x. entry_in D x slot) is ∙ entry_own D m R T p d page t (entry_word e) live there (entry_word-lt e small) ∙ word_entry-entry_word e small, refl);
+      spaces = (λ i. spaces_of (E2 i) (is i)) ∙ lazy_refines E m2 slot write none zero ∙ ap (λ x. map.insert x slot (fresh slot write)) (same_bytes E m m2 page_kept);
+    }
+
+-- whether a slot has a table
+pub some_is : {A : Type 0} (x : Option A) → is_some x ≡ true → (y : A) × (x ≡ Some y)
+some_is None h = cc
+some_is (Some y) h = (y, refl)
+
+pub none_is : {A : Type 0} (x : Option A) → is_some x ≡ false → x ≡ None
+none_is None h = refl
+none_is (Some y) h = cc
+
+-- a page map after a loose frame's bytes were changed
+pub record MapKept (one bytes : List ℕ) (d : ℕ) : Type 0 where
+  pub map : IsPageMap one d
+  pub tables : (s : ℕ) → table_of (frame_bytes one) d s ≡ table_of (frame_bytes bytes) d s
+
+pub map_kept : (directories : List (Option ℕ)) (bytes one : List ℕ) (roles : List Role) (p d f : ℕ) (new : List ℕ) → IsSound directories bytes roles → directory_of directories p ≡ Some d
+    → Loose (slice_get roles) f → length new ≡ 4096 → frame_bytes one ≡ with_frame (frame_bytes bytes) f new → length one ≡ length bytes → MapKept one bytes d
+map_kept directories bytes one roles p d f new sound live loose long is same_length =
+    let D : Directories = directory_of directories in
+    let m : Frames = frame_bytes bytes in
+    let R : Roles = slice_get roles in
+    record {
+      map = page_map_by D one roles p d (same_length ∙ sound.size) sound.few (subst (λ x. Tables D x R) (sym is) (tables-loose D m R sound.tables f new loose long)) live;
+      tables = λ s. ap (λ x. word_table (word_in x s)) ((λ i. is i d) ∙ loose-directory D m R sound.tables f new loose p d live);
+    }
+
+pub free_loose : (R : Roles) (f : ℕ) → R f ≡ Some Free → Loose R f
+free_loose R f free = record { no_directory = λ q h. cc; no_table = λ q r h. cc; not_reserved = λ h. cc }
+
+pub page_loose : (R : Roles) (f c : ℕ) → R f ≡ Some (Page c) → Loose R f
+page_loose R f c is = record { no_directory = λ q h. cc; no_table = λ q r h. cc; not_reserved = λ h. cc }
+
+pub present_by_table : (word : ℕ) → is_some (word_table word) ≡ true → is_present word ≡ true
+present_by_table word h = by (is_present word) h
+  where
+    by : (b : Bool) → is_some (if b then Some (frame_number word) else None) ≡ true → b ≡ true
+    by true h = refl
+    by false h = cc

@@ -1,0 +1,378 @@
+-- What goes through a mapped slot leaves: a store, a load and a change of the right.
+use Rattle.std.proofs.Common.{◌≡◌, ℕ, suc, ◌+◌, ◌*◌, ◌/◌, ◌%◌, ◌^◌, ◌<◌, ◌≤◌, Bool, true, false, cond, List, [], ◌∷◌, ◌++◌, length, take, drop, refl, ap, sym, ◌∙◌, subst, arith, inl, inr, Option, Some, None, length-set, append_assoc}
+use Rattle.std.specs.Prelude.{is_some, slice_get, slice_set, if◌then◌else◌}
+use Rattle.std.specs.Option.{option_and_then, option_map}
+use Rattle.std.specs.List.{list_any}
+use Rattle.byteorder.specs.Endian.{little_bytes}
+use Rattle.page_words.specs.Addresses.{slot_number, index_number, byte_count}
+use Rattle.page_words.specs.declared.addresses.Size.{Size}
+use Rattle.page_words.specs.declared.addresses.Size.TheVariants.{One, Four}
+use Rattle.page_words.specs.Words.{is_present, frame_number, IsKernelTableWord}
+use Rattle.phys_memory.specs.Bytes.{frame_bytes, word_in, with_word, with_frame}
+use Rattle.phys_memory.proofs.Frames.{with_frame-other, frames-with_word, frames-with_byte, length-with_word_in}
+use Rattle.alloc_table.specs.declared.Role.{Role}
+use Rattle.alloc_table.specs.declared.Role.TheVariants.{Table, Page}
+use Rattle.page_map.specs.declared.PageEntry.{PageEntry}
+use Rattle.page_map.specs.Entries.{Frames, dir_word, table_of, word_entry, entry_from, entry_at, with_entry, entry_word, is_lazy_entry, IsKernelEntry}
+use Rattle.page_map.proofs.WordLaws.{entry_word-names, entry_word-lt, entry_word-present, word_entry-entry_word}
+use Rattle.page_words.specs.FiniteMap as map
+use Rattle.page_words.specs.FiniteMap.{change_each}
+use Rattle.std.proofs.lemmas.List.{set_split}
+use Rattle.address_space.specs.Spaces.{Slot, slot_order, Spaces, Cell, cell_or_fresh, write_at, bytes_of, stored, accessed as accessed_in, protected, at_page}
+use Rattle.page_words.specs.FiniteMap.{collect, put_some}
+use Rattle.address_space.specs.Slots.{user_slots}
+use Rattle.page_words.specs.FiniteMap.{same}
+use Rattle.address_space.proofs.entries.UserSlots.{in_user_slots}
+use Rattle.address_space.specs.Cells.{Entries, lazy_count, cell_of, spaces_of}
+use Rattle.address_space.specs.View.{Directories, Roles, directory_of, table_in, entry_in, entries_in, spaces_in, total_cost}
+use Rattle.address_space.specs.Sound.{Tables, Pages, HoldsPage, IsSound, InUseAt, Names, Inside, InUse}
+use Rattle.address_space.specs.Changes.{Touched, flagged}
+use Rattle.address_space.proofs.costs.CostSteps.{total-kept}
+use Rattle.address_space.proofs.entries.EntrySteps.{Loose, get-entries_in, entries-insert, tables-entry, use_kept}
+use Rattle.address_space.proofs.frames.FrameSteps.{loose-entry, loose-entries, tables-loose, use_loose}
+use Rattle.address_space.proofs.frames.PageSteps.{same_bytes, pages-same, no_table, not_same, lazy-same}
+use Rattle.address_space.proofs.entries.Refinement.{get-spaces_of, store_refines, flags_refine, cell_at}
+use Rattle.address_space.proofs.steps.Steps.{inside, holds_inside, live_small, page_loose, table_by_word, some_is}
+
+-- ---- Bytes
+
+four_bytes : (w : ℕ) → little_bytes 4 w ≡ bytes_of 4 w
+four_bytes w =
+    let a : w / 256 ^ 1 ≡ w / 256 = omega arith in
+    let b : w / 256 ^ 2 ≡ w / 256 / 256 = omega arith in
+    let c : w / 256 ^ 3 ≡ w / 256 / 256 / 256 = omega arith in
+    λ i. w % 256 ∷ a i % 256 ∷ b i % 256 ∷ c i % 256 ∷ []
+
+pub word_is_write : (frame : List ℕ) (at w : ℕ) → with_word frame at w ≡ write_at frame at (bytes_of 4 w)
+unfolding with_word
+word_is_write frame at w = ap (λ (b : List ℕ). take at frame ++ (b ++ drop (at + 4) frame)) (four_bytes w) ∙ sym (append_assoc (take at frame) (bytes_of 4 w) (drop (at + 4) frame))
+
+-- ---- Entries
+
+-- what an entry comes from: a table and its word
+pub record Found (D : Directories) (m : Frames) (p d page : ℕ) (e : PageEntry) : Type 0 where
+  pub table : ℕ
+  pub there : table_of m d (slot_number page) ≡ Some table
+  pub word : word_entry (word_in (m table) (index_number page)) ≡ Some e
+
+pub found : (D : Directories) (m : Frames) (p d page : ℕ) (e : PageEntry) → entry_at m d page ≡ Some e → Found D m p d page e
+found D m p d page e is = by (table_of m d (slot_number page)) refl is
+  where
+    by : (x : Option ℕ) → table_of m d (slot_number page) ≡ x → option_and_then (λ table. word_entry (word_in (m table) (index_number page))) x ≡ Some e → Found D m p d page e
+    by None t h = cc
+    by (Some table) t h = record { table = table; there = t; word = h }
+
+-- an entry that a kernel word holds keeps its rules
+pub allowed : (word : ℕ) (e : PageEntry) → IsKernelTableWord word → word_entry word ≡ Some e → IsKernelEntry e
+allowed word e k h = by (is_present word) refl h k
+  where
+    by : (b : Bool) → is_present word ≡ b → (if b then Some (entry_from word) else None) ≡ Some e → IsKernelTableWord word → IsKernelEntry e
+    by false is h k = cc
+    by true is h (inl z) = let c : is_present 0 ≡ true = sym (ap is_present z) ∙ is in cc
+    by true is h (inr n) =
+        let s : entry_from word ≡ e = cc in
+        subst IsKernelEntry s (record { frame = n.frame; zero = n.zero; clean = n.clean; right = n.right; touched = n.touched })
+
+pub get_user : (D : Directories) (m : Frames) (p d page : ℕ) (e : PageEntry) → D p ≡ Some d → p < 64 → 0x40000 ≤ page → page < 0xf0000 → entry_at m d page ≡ Some e → map.get (entries_in D m) (at_page p page) ≡ Some e
+get_user D m p d page e live few low high is =
+    get-entries_in D m (at_page p page)
+    ∙ ap (λ b. cond b (entry_in D m (at_page p page)) None) (in_user_slots p page few low high)
+    ∙ ap (option_and_then (λ d. entry_at m d page)) live ∙ is
+
+-- the rules of an entry that is in use
+pub entry_rules : (directories : List (Option ℕ)) (bytes : List ℕ) (roles : List Role) (p d page : ℕ) (e : PageEntry) → IsSound directories bytes roles → directory_of directories p ≡ Some d → entry_at (frame_bytes bytes) d page ≡ Some e → IsKernelEntry e
+entry_rules directories bytes roles p d page e sound live is =
+    let D : Directories = directory_of directories in
+    let m : Frames = frame_bytes bytes in
+    let f = found D m p d page e is in
+    let up : table_in D m p (slot_number page) ≡ Some f.table = ap (option_and_then (λ x. table_of m x (slot_number page))) live ∙ f.there in
+    allowed (word_in (m f.table) (index_number page)) e (sound.tables.table_words p (slot_number page) f.table (index_number page) up (omega arith)) f.word
+
+pub record HasPage (roles : List Role) (f : ℕ) : Type 0 where
+  pub count : ℕ
+  pub page : slice_get roles f ≡ Some (Page count)
+
+-- a frame other than frame 0 that an entry names is a page
+pub page_held : (directories : List (Option ℕ)) (bytes : List ℕ) (roles : List Role) (f : ℕ) → IsSound directories bytes roles → HoldsPage (slice_get roles f) → 1 ≤ f → HasPage roles f
+page_held directories bytes roles f sound (inl r) up = absurd (let z = sound.tables.reserved f r in omega (arith, z, up))
+page_held directories bytes roles f sound (inr h) up = record { count = h.0; page = h.1 }
+
+-- ---- An access
+
+-- the entry of a slot was written with another on the same frame
+pub record EntrySet (directories : List (Option ℕ)) (p page : ℕ) (e e' : PageEntry) (bytes : List ℕ) (roles : List Role) (bytes' : List ℕ) : Type 0 where
+  pub sound : IsSound directories bytes' roles
+  pub named : map.get (entries_in (directory_of directories) (frame_bytes bytes)) (at_page p page) ≡ Some e
+  pub entries : entries_in (directory_of directories) (frame_bytes bytes') ≡ map.insert (entries_in (directory_of directories) (frame_bytes bytes)) (at_page p page) e'
+  pub spaces : spaces_in directories bytes' ≡ spaces_of (map.insert (entries_in (directory_of directories) (frame_bytes bytes)) (at_page p page) e') (frame_bytes bytes)
+  pub in_use : InUse (directory_of directories) (frame_bytes bytes) → InUse (directory_of directories) (frame_bytes bytes')
+
+pub entry_set : (directories : List (Option ℕ)) (bytes two : List ℕ) (roles : List Role) (p d page : ℕ) (e e' : PageEntry) → IsSound directories bytes roles → directory_of directories p ≡ Some d
+    → 0x40000 ≤ page → page < 0xf0000 → entry_at (frame_bytes bytes) d page ≡ Some e → IsKernelEntry e' → e'.frame ≡ e.frame
+    → frame_bytes two ≡ with_entry (frame_bytes bytes) (frame_number (dir_word (frame_bytes bytes) d (slot_number page))) page e' → length two ≡ length bytes
+    → EntrySet directories p page e e' bytes roles two
+unfolding spaces_in
+entry_set directories bytes two roles p d page e e' sound live low high is_entry rules kept is_two long_two =
+    let few : p < 64 = live_small directories p d sound.pids live in
+    let D : Directories = directory_of directories in
+    let m : Frames = frame_bytes bytes in
+    let R : Roles = slice_get roles in
+    let T : Tables D m R = sound.tables in
+    let slot : Slot = at_page p page in
+    let E : Entries = entries_in D m in
+    let f = found D m p d page e is_entry in
+    let t : ℕ = f.table in
+    let m2 : Frames = with_entry m t page e' in
+    let there : map.get E slot ≡ Some e = get_user D m p d page e live few low high is_entry in
+    let small : e'.frame < 2 ^ 20 = subst (λ g. g < 2 ^ 20) (sym kept) (holds_inside directories bytes roles e.frame sound (sound.pages.pages slot e there)).small in
+    let up_table : table_in D m p (slot_number page) ≡ Some t = ap (option_and_then (λ x. table_of m x (slot_number page))) live ∙ f.there in
+    let role_t : R t ≡ Some (Table p (slot_number page)) = T.table p (slot_number page) t up_table in
+    let is : frame_bytes two ≡ m2 = is_two ∙ ap (λ g. with_entry m g page e') (table_by_word (dir_word m d (slot_number page)) t f.there) in
+    let E2 : entries_in D (frame_bytes two) ≡ map.insert E slot e' = ap (entries_in D) is ∙ entries-insert D m R T p d page t (entry_word e') live f.there (entry_word-lt e' small) e' (word_entry-entry_word e' small) few low high in
+    let P2 : Pages (map.insert E slot e') R = pages-same E R slot e e' sound.pages there kept in
+    let page_kept : (q : Slot) (x : PageEntry) → map.get (map.insert E slot e') q ≡ Some x → m2 x.frame ≡ m x.frame = λ q x was.
+    with_frame-other m t x.frame _ (no_table R x.frame t p (slot_number page) (P2.pages q x was) role_t) in
+    record {
+      sound = record {
+        size = long_two ∙ sound.size;
+        few = sound.few;
+        pids = sound.pids;
+        tables = subst (λ x. Tables D x R) (sym is) (tables-entry D m R T p d page t (entry_word e') live f.there (entry_word-lt e' small) (inr (entry_word-names e' small rules)));
+        pages = subst (λ x. Pages x R) (sym E2) P2;
+      };
+      named = there;
+      entries = E2;
+      spaces = (λ i. spaces_of (E2 i) (is i)) ∙ same_bytes (map.insert E slot e') m m2 page_kept;
+      in_use = λ before q r. subst (λ x. InUseAt D x q r) (sym is) (use_kept D m R T p d page t (entry_word e') live f.there (entry_word-lt e' small) (entry_word-present e') q r (before q r));
+    }
+
+-- the bytes of a page's own frame were written
+pub record FrameWritten (directories : List (Option ℕ)) (bytes : List ℕ) (roles : List Role) (one : List ℕ) : Type 0 where
+  pub sound : IsSound directories one roles
+  pub entries : entries_in (directory_of directories) (frame_bytes one) ≡ entries_in (directory_of directories) (frame_bytes bytes)
+  pub entry : (p d page : ℕ) → directory_of directories p ≡ Some d → entry_at (frame_bytes one) d page ≡ entry_at (frame_bytes bytes) d page
+  pub in_use : InUse (directory_of directories) (frame_bytes bytes) → InUse (directory_of directories) (frame_bytes one)
+
+pub frame_written : (directories : List (Option ℕ)) (bytes one : List ℕ) (roles : List Role) (f : ℕ) (new : List ℕ) → IsSound directories bytes roles → Loose (slice_get roles) f → length new ≡ 4096
+    → frame_bytes one ≡ with_frame (frame_bytes bytes) f new → length one ≡ length bytes → FrameWritten directories bytes roles one
+frame_written directories bytes one roles f new sound loose long_new is long_one =
+    let D : Directories = directory_of directories in
+    let m : Frames = frame_bytes bytes in
+    let R : Roles = slice_get roles in
+    let T : Tables D m R = sound.tables in
+    let E1 : entries_in D (frame_bytes one) ≡ entries_in D m = ap (entries_in D) is ∙ loose-entries D m R T f new loose in
+    record {
+      sound = record {
+        size = long_one ∙ sound.size;
+        few = sound.few;
+        pids = sound.pids;
+        tables = subst (λ x. Tables D x R) (sym is) (tables-loose D m R T f new loose long_new);
+        pages = subst (λ x. Pages x R) (sym E1) sound.pages;
+      };
+      entries = E1;
+      entry = λ p d page live.
+          ap (λ x. entry_at x d page) is
+          ∙ sym (ap (option_and_then (λ d. entry_at (with_frame m f new) d page)) live) ∙ loose-entry D m R T f new loose (at_page p page) ∙ ap (option_and_then (λ d. entry_at m d page)) live;
+      in_use = λ before q r. subst (λ x. InUseAt D x q r) (sym is) (use_loose D m R T f new loose q r (before q r));
+    }
+
+-- an access that completes stores what the machine stores
+pub page_stored : (directories : List (Option ℕ)) (bytes one two : List ℕ) (roles : List Role) (p d page at : ℕ) (written : List ℕ) (e : PageEntry) → IsSound directories bytes roles → directory_of directories p ≡ Some d
+    → 0x40000 ≤ page → page < 0xf0000 → entry_at (frame_bytes bytes) d page ≡ Some e → e.lazy ≡ false → length (write_at (frame_bytes bytes e.frame) at written) ≡ 4096
+    → frame_bytes one ≡ with_frame (frame_bytes bytes) e.frame (write_at (frame_bytes bytes e.frame) at written) → length one ≡ length bytes
+    → frame_bytes two ≡ with_entry (frame_bytes one) (frame_number (dir_word (frame_bytes one) d (slot_number page))) page (record e { accessed = true; dirty = true }) → length two ≡ length one
+    → Touched directories (stored (spaces_in directories bytes) (at_page p page) at written) bytes roles two
+unfolding spaces_in
+page_stored directories bytes one two roles p d page at written e sound live low high is_entry real long is1 long_one is_two long_two =
+    let D : Directories = directory_of directories in
+    let m : Frames = frame_bytes bytes in
+    let E : Entries = entries_in D m in
+    let slot : Slot = at_page p page in
+    let e' : PageEntry = record e { accessed = true; dirty = true } in
+    let rules = entry_rules directories bytes roles p d page e sound live is_entry in
+    let up : 1 ≤ e.frame = rules.frame real in
+    let there : map.get E slot ≡ Some e = get_user D m p d page e live (live_small directories p d sound.pids live) low high is_entry in
+    let own = page_held directories bytes roles e.frame sound (sound.pages.pages slot e there) up in
+    let w = frame_written directories bytes one roles e.frame (write_at (m e.frame) at written) sound (page_loose (slice_get roles) e.frame own.count own.page) long is1 long_one in
+    let rules' : IsKernelEntry e' = record { frame = rules.frame; zero = rules.zero; clean = λ is. cc; right = rules.right; touched = λ _. refl } in
+    let h = entry_set directories one two roles p d page e e' w.sound live low high (w.entry p d page live ∙ is_entry) rules' refl is_two long_two in
+    let E2 : entries_in D (frame_bytes two) ≡ map.insert E slot e' = h.entries ∙ ap (λ x. map.insert x slot e') w.entries in
+    record {
+      sound = h.sound;
+      spaces = h.spaces ∙ (λ i. spaces_of (map.insert (w.entries i) slot e') (is1 i)) ∙ store_refines E m slot e at written there (not_same e.frame 0 (λ z. omega (arith, z, up)));
+      cost = (λ i. total_cost directories (spaces_of (E2 i) (frame_bytes two))) ∙ total-kept directories E m (frame_bytes two) slot e e' there;
+      in_use = λ before. h.in_use (w.in_use before);
+      lazy = ap lazy_count E2 ∙ lazy-same E slot e e' there refl;
+    }
+
+-- flags of a slot's own cell set as in its entry
+flagged_cell : (spaces : Spaces) (slot : Slot) (cell : Cell) (write accessed : Bool) → cell_or_fresh spaces slot ≡ cell
+    → (c : Cell) → c ≡ record cell { write = write; accessed = accessed } → map.insert spaces slot c ≡ map.insert spaces slot (record (cell_or_fresh spaces slot) { write = write; accessed = accessed })
+flagged_cell spaces slot cell write accessed is c same = ap (map.insert spaces slot) (same ∙ ap (λ (x : Cell). record x { write = write; accessed = accessed }) (sym is))
+
+-- an entry's flags alone were written
+pub flags_set : (directories : List (Option ℕ)) (bytes two : List ℕ) (roles : List Role) (p d page : ℕ) (e : PageEntry) (write accessed : Bool) → IsSound directories bytes roles → directory_of directories p ≡ Some d
+    → 0x40000 ≤ page → page < 0xf0000 → entry_at (frame_bytes bytes) d page ≡ Some e
+    → (write ≡ true → e.may ≡ true) → (e.dirty ≡ true → accessed ≡ true)
+    → frame_bytes two ≡ with_entry (frame_bytes bytes) (frame_number (dir_word (frame_bytes bytes) d (slot_number page))) page (record e { write = write; accessed = accessed }) → length two ≡ length bytes
+    → Touched directories (flagged (spaces_in directories bytes) (at_page p page) write accessed) bytes roles two
+unfolding spaces_in
+flags_set directories bytes two roles p d page e write accessed sound live low high is_entry right touched is_two long_two =
+    let m : Frames = frame_bytes bytes in
+    let E : Entries = entries_in (directory_of directories) m in
+    let slot : Slot = at_page p page in
+    let e' : PageEntry = record e { write = write; accessed = accessed } in
+    let rules = entry_rules directories bytes roles p d page e sound live is_entry in
+    let rules' : IsKernelEntry e' = record { frame = rules.frame; zero = rules.zero; clean = rules.clean; right = right; touched = touched } in
+    let h = entry_set directories bytes two roles p d page e e' sound live low high is_entry rules' refl is_two long_two in
+    let cell = cell_at E m slot e h.named in
+    record {
+      sound = h.sound;
+      spaces = h.spaces ∙ flags_refine E m slot e e' h.named refl
+          ∙ flagged_cell (spaces_of E m) slot (cell_of E m slot e) write accessed cell (record (cell_or_fresh (spaces_of E m) slot) { write = write; may = e.may; accessed = accessed; dirty = e.dirty })
+          (ap (λ (c : Cell). record c { write = write; may = e.may; accessed = accessed; dirty = e.dirty }) cell);
+      cost = (λ i. total_cost directories (spaces_of (h.entries i) (frame_bytes two))) ∙ total-kept directories E m (frame_bytes two) slot e e' h.named;
+      in_use = h.in_use;
+      lazy = ap lazy_count h.entries ∙ lazy-same E slot e e' h.named refl;
+    }
+
+pub word_long : (frame : List ℕ) (at word : ℕ) → at < 4096 → at % 4 ≡ 0 → length frame ≡ 4096 → length (with_word frame at word) ≡ 4096
+word_long frame at word l aligned l4 = let i : at ≡ 4 * (at / 4) = omega arith in ap (λ k. length (with_word frame k word)) i ∙ length-with_word_in frame (at / 4) word l4 (omega arith)
+
+-- ---- Bytes of a page, by their place in memory
+
+pub byte_is_write : (frame : List ℕ) (at v : ℕ) → at < length frame → slice_set frame at (v % 256) ≡ write_at frame at (bytes_of 1 v)
+byte_is_write frame at v l =
+    let d : suc at ≡ at + 1 = omega arith in
+    set_split frame at (v % 256) l ∙ ap (λ k. take at frame ++ (v % 256 ∷ drop k frame)) d ∙ sym (append_assoc (take at frame) (v % 256 ∷ []) (drop (at + 1) frame))
+
+pub byte_placed : (bytes one : List ℕ) (f at v : ℕ) → Inside bytes f → at < 4096 → one ≡ slice_set bytes (f * 4096 + at) v
+    → frame_bytes one ≡ with_frame (frame_bytes bytes) f (slice_set (frame_bytes bytes f) at v)
+byte_placed bytes one f at v i l is =
+    let a : f * 4096 + at ≡ 4096 * f + at = omega arith in
+    ap frame_bytes is ∙ ap (λ k. frame_bytes (slice_set bytes k v)) a ∙ frames-with_byte bytes f at v l i.fits
+
+-- a word of a page, by its place in memory
+pub word_placed : (bytes one : List ℕ) (f at word : ℕ) → Inside bytes f → at < 4096 → at % 4 ≡ 0 → one ≡ with_word bytes (f * 4096 + at) word
+    → frame_bytes one ≡ with_frame (frame_bytes bytes) f (with_word (frame_bytes bytes f) at word)
+word_placed bytes one f at word i l aligned is =
+    let a : f * 4096 + at ≡ 4096 * f + 4 * (at / 4) = omega arith in
+    let b : 4 * (at / 4) ≡ at = omega arith in
+    ap frame_bytes is ∙ ap (λ k. frame_bytes (with_word bytes k word)) a ∙ frames-with_word bytes f (at / 4) word (omega arith) i.fits
+    ∙ ap (λ k. with_frame (frame_bytes bytes) f (with_word (frame_bytes bytes f) k word)) b
+
+-- ---- A mapped slot
+
+pub record Mapped (directories : List (Option ℕ)) (bytes : List ℕ) (p page : ℕ) : Type 0 where
+  pub directory : ℕ
+  pub live : directory_of directories p ≡ Some directory
+  pub entry : PageEntry
+  pub here : entry_at (frame_bytes bytes) directory page ≡ Some entry
+
+pub mapped_slot : (directories : List (Option ℕ)) (bytes : List ℕ) (p page : ℕ) → is_some (map.get (spaces_in directories bytes) (at_page p page)) ≡ true → Mapped directories bytes p page
+unfolding spaces_in
+mapped_slot directories bytes p page h = by_directory (directory_of directories p) refl (in_user (list_any (same slot_order slot) user_slots) (entry_in D m slot) (sym (ap is_some (get-spaces_of E m slot) ∙ some_map (map.get E slot) ∙ ap is_some (get-entries_in D m slot)) ∙ h))
+  where
+    D : Directories
+    D = directory_of directories
+
+    m : Frames
+    m = frame_bytes bytes
+
+    E : Entries
+    E = entries_in D m
+
+    slot : Slot
+    slot = at_page p page
+
+    some_map : (x : Option PageEntry) → is_some (option_map (cell_of E m slot) x) ≡ is_some x
+    some_map None = refl
+    some_map (Some d) = refl
+
+    in_user : (b : Bool) (x : Option PageEntry) → is_some (cond b x None) ≡ true → is_some x ≡ true
+    in_user true x h = h
+    in_user false x h = cc
+
+    by_directory : (x : Option ℕ) → D p ≡ x → is_some (option_and_then (λ d. entry_at m d page) x) ≡ true → Mapped directories bytes p page
+    by_directory None is h = cc
+    by_directory (Some d) is h = let e = some_is (entry_at m d page) h in record { directory = d; live = is; entry = e.0; here = e.1 }
+
+-- ---- Entries that were read
+
+-- a frame other than frame 0 that a slot's entry names is a page
+pub page_of_name : (directories : List (Option ℕ)) (bytes : List ℕ) (roles : List Role) (slot : Slot) (f : ℕ) → IsSound directories bytes roles → Names (entries_in (directory_of directories) (frame_bytes bytes)) slot f → 1 ≤ f → HasPage roles f
+page_of_name directories bytes roles slot f sound given up = page_held directories bytes roles f sound (subst (λ g. HoldsPage (slice_get roles g)) given.2 (sound.pages.pages slot given.0 given.1)) up
+
+-- the entry that was read is the one that the map has
+pub named_entry : (directories : List (Option ℕ)) (bytes : List ℕ) (roles : List Role) (p d page : ℕ) (e : PageEntry) → IsSound directories bytes roles → directory_of directories p ≡ Some d → 0x40000 ≤ page → page < 0xf0000
+    → entry_at (frame_bytes bytes) d page ≡ Some e → Names (entries_in (directory_of directories) (frame_bytes bytes)) (at_page p page) e.frame
+named_entry directories bytes roles p d page e sound live low high is =
+    (e, get_user (directory_of directories) (frame_bytes bytes) p d page e live (live_small directories p d sound.pids live) low high is, refl)
+
+-- a mapped slot has a directory, and an entry there
+pub mapped_live : (directories : List (Option ℕ)) (bytes : List ℕ) (p page : ℕ) → Mapped directories bytes p page → is_some (directory_of directories p) ≡ true
+mapped_live directories bytes p page h = ap is_some h.live
+
+pub mapped_entry : (directories : List (Option ℕ)) (bytes : List ℕ) (p d page : ℕ) → (h : Mapped directories bytes p page) → directory_of directories p ≡ Some d → entry_at (frame_bytes bytes) d page ≡ Some h.entry
+mapped_entry directories bytes p d page h is =
+    let e : Some d ≡ Some h.directory = sym is ∙ h.live in
+    let same : d ≡ h.directory = cc in
+    ap (λ x. entry_at (frame_bytes bytes) x page) same ∙ h.here
+
+-- where a store through an entry goes
+pub record Place (bytes : List ℕ) (roles : List Role) (d page : ℕ) (e : PageEntry) : Type 0 where
+  pub inside : Inside bytes e.frame
+  pub loose : Loose (slice_get roles) e.frame
+  pub long : length (frame_bytes bytes e.frame) ≡ 4096
+  pub table : is_some (table_of (frame_bytes bytes) d (slot_number page)) ≡ true
+
+pub stored_place : (directories : List (Option ℕ)) (bytes : List ℕ) (roles : List Role) (p d page : ℕ) (e : PageEntry) → IsSound directories bytes roles → directory_of directories p ≡ Some d → 0x40000 ≤ page → page < 0xf0000
+    → entry_at (frame_bytes bytes) d page ≡ Some e → e.lazy ≡ false → Place bytes roles d page e
+stored_place directories bytes roles p d page e sound live low high is real =
+    let n = named_entry directories bytes roles p d page e sound live low high is in
+    let r = page_of_name directories bytes roles (at_page p page) e.frame sound n ((entry_rules directories bytes roles p d page e sound live is).frame real) in
+    record {
+      inside = inside directories bytes roles e.frame (Page r.count) sound r.page;
+      loose = page_loose (slice_get roles) e.frame r.count r.page;
+      long = sound.tables.long e.frame (Page r.count) r.page;
+      table = ap is_some (found (directory_of directories) (frame_bytes bytes) p d page e is).there;
+    }
+
+-- an entry that was read where a slot isn't lazy
+pub real_entry : (x : Option PageEntry) (e : PageEntry) → x ≡ Some e → is_lazy_entry x ≡ false → e.lazy ≡ false
+real_entry x e is real = sym (ap is_lazy_entry is) ∙ real
+
+-- the frame that an entry names lies in memory
+pub named_inside : (directories : List (Option ℕ)) (bytes : List ℕ) (roles : List Role) (p d page : ℕ) (e : PageEntry) → IsSound directories bytes roles → directory_of directories p ≡ Some d → 0x40000 ≤ page → page < 0xf0000
+    → entry_at (frame_bytes bytes) d page ≡ Some e → Inside bytes e.frame
+named_inside directories bytes roles p d page e sound live low high is =
+    let there = get_user (directory_of directories) (frame_bytes bytes) p d page e live (live_small directories p d sound.pids live) low high is in
+    holds_inside directories bytes roles e.frame sound (sound.pages.pages (at_page p page) e there)
+
+-- a page keeps its length under a store
+pub written_long : (frame : List ℕ) (at : ℕ) (size : Size) (value : ℕ) → length frame ≡ 4096 → at < 4096 → at % byte_count size ≡ 0 → length (write_at frame at (bytes_of (byte_count size) value)) ≡ 4096
+written_long frame at One value long l aligned = sym (ap length (byte_is_write frame at value (omega arith))) ∙ length-set frame at (value % 256) ∙ long
+written_long frame at Four value long l aligned = sym (ap length (word_is_write frame at value)) ∙ word_long frame at value l aligned long
+
+-- the cell of a slot whose entry was read
+pub cell_read : (directories : List (Option ℕ)) (bytes : List ℕ) (p d page : ℕ) (e : PageEntry) → directory_of directories p ≡ Some d → p < 64 → 0x40000 ≤ page → page < 0xf0000 → entry_at (frame_bytes bytes) d page ≡ Some e
+    → cell_or_fresh (spaces_in directories bytes) (at_page p page) ≡ cell_of (entries_in (directory_of directories) (frame_bytes bytes)) (frame_bytes bytes) (at_page p page) e
+unfolding spaces_in
+cell_read directories bytes p d page e live few low high is =
+    cell_at (entries_in (directory_of directories) (frame_bytes bytes)) (frame_bytes bytes) (at_page p page) e (get_user (directory_of directories) (frame_bytes bytes) p d page e live few low high is)
+
+-- where an entry keeps its right, setting accessed is what a load leaves
+pub flagged_load : (directories : List (Option ℕ)) (bytes : List ℕ) (p d page : ℕ) (e : PageEntry) → directory_of directories p ≡ Some d → p < 64 → 0x40000 ≤ page → page < 0xf0000 → entry_at (frame_bytes bytes) d page ≡ Some e
+    → flagged (spaces_in directories bytes) (at_page p page) e.write true ≡ accessed_in (spaces_in directories bytes) (at_page p page)
+flagged_load directories bytes p d page e live few low high is =
+    let cell = cell_read directories bytes p d page e live few low high is in
+    ap (map.insert (spaces_in directories bytes) (at_page p page))
+    (ap (λ (c : Cell). record c { write = e.write; accessed = true }) cell ∙ sym (ap (λ (c : Cell). record c { accessed = true }) cell))
+
+-- where an entry keeps its accessed flag, setting the right is what a change of rights leaves
+pub flagged_right : (directories : List (Option ℕ)) (bytes : List ℕ) (p d page : ℕ) (e : PageEntry) (write : Bool) → directory_of directories p ≡ Some d → p < 64 → 0x40000 ≤ page → page < 0xf0000 → entry_at (frame_bytes bytes) d page ≡ Some e
+    → flagged (spaces_in directories bytes) (at_page p page) write e.accessed ≡ protected (spaces_in directories bytes) (at_page p page) write
+flagged_right directories bytes p d page e write live few low high is =
+    let cell = cell_read directories bytes p d page e live few low high is in
+    ap (map.insert (spaces_in directories bytes) (at_page p page))
+    (ap (λ (c : Cell). record c { write = write; accessed = e.accessed }) cell ∙ sym (ap (λ (c : Cell). record c { write = write }) cell))

@@ -1,0 +1,127 @@
+-- What each change of directories, memory and roles leaves.
+use Rattle.std.specs.Prelude.{◌≡◌, ◌≢◌, ℕ, ◌+◌, ◌<◌, ◌≤◌, Bool, true, false, List, length, Option, Some, None, is_some}
+use Rattle.page_words.specs.Addresses.{slot_number}
+use Rattle.phys_memory.specs.Bytes.{frame_bytes}
+use Rattle.alloc_table.specs.declared.Role.{Role}
+use Rattle.alloc_table.specs.Roles.{IsReleased}
+use Rattle.page_map.specs.declared.PageEntry.{PageEntry}
+use Rattle.page_words.specs.FiniteMap as map
+use Rattle.address_space.specs.Spaces.{cell_or_fresh, Slot, Spaces, need, fresh, joined, without, is_slot, is_of, at_page}
+use Rattle.address_space.specs.Cells.{lazy_count}
+use Rattle.address_space.specs.View.{table_in, total_cost, spaces_in, entries_in, entry_in, directory_of}
+use Rattle.address_space.specs.Sound.{InUse, IsSound, InUseAt, weight_in, IsSpaces}
+
+-- how many frames a slot without a table needs more
+abbrev pub table_need : Option ℕ → ℕ
+table_need None = 1
+table_need (Some table) = 0
+
+-- a slot has a table, which was linked blank where it had none
+pub record TableGiven (directories : List (Option ℕ)) (p s : ℕ) (bytes : List ℕ) (roles : List Role) (bytes' : List ℕ) (roles' : List Role) : Type 0 where
+  pub sound : IsSound directories bytes' roles'
+  pub entries : entries_in (directory_of directories) (frame_bytes bytes') ≡ entries_in (directory_of directories) (frame_bytes bytes)
+  pub spaces : spaces_in directories bytes' ≡ spaces_in directories bytes
+  pub table : (t : ℕ) × (table_in (directory_of directories) (frame_bytes bytes') p s ≡ Some t)
+  pub weight : weight_in directories bytes' roles' ≡ weight_in directories bytes roles + table_need (table_in (directory_of directories) (frame_bytes bytes) p s)
+  pub length : length roles' ≡ length roles
+  pub others : (q r : ℕ) → (q ≡ p → r ≡ s → ⊥) → InUseAt (directory_of directories) (frame_bytes bytes) q r → InUseAt (directory_of directories) (frame_bytes bytes') q r
+
+-- a slot has an entry more: what the frames and the costs know of it
+pub record SlotAdded (directories : List (Option ℕ)) (p page : ℕ) (bytes : List ℕ) (roles : List Role) (bytes' : List ℕ) (roles' : List Role) : Type 0 where
+  pub sound : IsSound directories bytes' roles'
+  pub cost : total_cost directories (spaces_in directories bytes') ≡ total_cost directories (spaces_in directories bytes) + need (spaces_in directories bytes) p page
+  pub weight : weight_in directories bytes' roles' ≡ weight_in directories bytes roles + 1
+  pub length : length roles' ≡ length roles
+  pub own : InUseAt (directory_of directories) (frame_bytes bytes') p (slot_number page)
+  pub others : (q r : ℕ) → (q ≡ p → r ≡ slot_number page → ⊥) → InUseAt (directory_of directories) (frame_bytes bytes) q r → InUseAt (directory_of directories) (frame_bytes bytes') q r
+
+-- a page of zeros was mapped
+pub record PageAdded (directories : List (Option ℕ)) (p page : ℕ) (write : Bool) (bytes : List ℕ) (roles : List Role) (bytes' : List ℕ) (roles' : List Role) : Type 0 where
+  pub slot : SlotAdded directories p page bytes roles bytes' roles'
+  pub spaces : spaces_in directories bytes' ≡ map.insert (spaces_in directories bytes) (at_page p page) (fresh (at_page p page) write)
+  pub lazy : (e : PageEntry) × (entry_in (directory_of directories) (frame_bytes bytes') (at_page p page) ≡ Some e) × (e.lazy ≡ true)
+
+-- a slot joined the group of another
+pub record SlotJoined (directories : List (Option ℕ)) (giver giver_page p page : ℕ) (right : Bool) (bytes : List ℕ) (roles : List Role) (bytes' : List ℕ) (roles' : List Role) : Type 0 where
+  pub slot : SlotAdded directories p page bytes roles bytes' roles'
+  pub spaces : spaces_in directories bytes' ≡ joined (spaces_in directories bytes) (at_page giver giver_page) (at_page p page) right
+
+-- a slot's own cell has these two flags
+abbrev pub flagged : Spaces → Slot → Bool → Bool → Spaces
+flagged spaces slot write accessed = map.insert spaces slot (record (cell_or_fresh spaces slot) { write = write; accessed = accessed })
+
+-- the entry or the bytes of a mapped slot changed, which left these spaces
+pub record Touched (directories : List (Option ℕ)) (spaces' : Spaces) (bytes : List ℕ) (roles : List Role) (bytes' : List ℕ) : Type 0 where
+  pub sound : IsSound directories bytes' roles
+  pub spaces : spaces_in directories bytes' ≡ spaces'
+  pub cost : total_cost directories (spaces_in directories bytes') ≡ total_cost directories (spaces_in directories bytes)
+  pub in_use : InUse (directory_of directories) (frame_bytes bytes) → InUse (directory_of directories) (frame_bytes bytes')
+  pub lazy : lazy_count (entries_in (directory_of directories) (frame_bytes bytes')) ≡ lazy_count (entries_in (directory_of directories) (frame_bytes bytes))
+
+-- a lazy page got a frame of its own
+pub record PageFilled (directories : List (Option ℕ)) (p page : ℕ) (bytes : List ℕ) (roles : List Role) (bytes' : List ℕ) (roles' : List Role) : Type 0 where
+  pub after : IsSpaces directories bytes' roles'
+  pub spaces : spaces_in directories bytes' ≡ spaces_in directories bytes
+  pub real : (e : PageEntry) × (entry_in (directory_of directories) (frame_bytes bytes') (at_page p page) ≡ Some e) × (e.lazy ≡ false)
+  pub length : length roles' ≡ length roles
+
+-- a process got a blank directory
+pub record SpaceAdded (directories : List (Option ℕ)) (p : ℕ) (bytes : List ℕ) (roles : List Role) (directories' : List (Option ℕ)) (bytes' : List ℕ) (roles' : List Role) : Type 0 where
+  pub after : IsSpaces directories' bytes' roles'
+  pub spaces : spaces_in directories' bytes' ≡ spaces_in directories bytes
+  pub cost : total_cost directories' (spaces_in directories' bytes') ≡ total_cost directories (spaces_in directories bytes) + 1
+  pub live : is_some (directory_of directories' p) ≡ true
+  pub others : (q : ℕ) → q ≢ p → directory_of directories' q ≡ directory_of directories q
+  pub length : length roles' ≡ length roles
+
+-- a table that was unlinked is free
+pub record TableFreed (roles : List Role) (freed : Option ℕ) (roles' : List Role) : Type 0 where
+  pub kept : freed ≡ None → roles' ≡ roles
+  pub released : (t : ℕ) → freed ≡ Some t → IsReleased roles t roles'
+
+-- the frame of an entry that went was released, where it had one
+pub record EntryLeft (roles : List Role) (e : PageEntry) (roles' : List Role) : Type 0 where
+  pub lazy : e.lazy ≡ true → roles' ≡ roles
+  pub real : e.lazy ≡ false → IsReleased roles e.frame roles'
+
+-- a slot left its group
+pub record SlotRemoved (directories : List (Option ℕ)) (p page : ℕ) (bytes : List ℕ) (roles : List Role) (bytes' : List ℕ) (roles' : List Role) : Type 0 where
+  pub after : IsSpaces directories bytes' roles'
+  pub spaces : spaces_in directories bytes' ≡ without (spaces_in directories bytes) (is_slot p page)
+  pub length : length roles' ≡ length roles
+
+-- no page of a process is mapped
+abbrev pub IsEmptySpace : Spaces → ℕ → Type 0
+IsEmptySpace spaces p = (page : ℕ) → map.get spaces (at_page p page) ≡ None
+
+-- the pages of a process below one have left their groups
+pub record DroppedBelow (directories : List (Option ℕ)) (p from : ℕ) (bytes : List ℕ) (roles : List Role) (bytes' : List ℕ) (roles' : List Role) : Type 0 where
+  pub after : IsSpaces directories bytes' roles'
+  pub spaces : without (spaces_in directories bytes') (is_of p) ≡ without (spaces_in directories bytes) (is_of p)
+  pub below : (page : ℕ) → page < from → map.get (spaces_in directories bytes') (at_page p page) ≡ None
+  pub length : length roles' ≡ length roles
+  pub low : 0x40000 ≤ from
+  pub high : from ≤ 0xf0000
+
+-- all pages of a process have left their groups
+pub record PagesDropped (directories : List (Option ℕ)) (p : ℕ) (bytes : List ℕ) (roles : List Role) (bytes' : List ℕ) (roles' : List Role) : Type 0 where
+  pub after : IsSpaces directories bytes' roles'
+  pub spaces : spaces_in directories bytes' ≡ without (spaces_in directories bytes) (is_of p)
+  pub empty : IsEmptySpace (spaces_in directories bytes') p
+  pub length : length roles' ≡ length roles
+
+-- a process's directory, without any page, went
+pub record DirectoryDropped (directories : List (Option ℕ)) (p : ℕ) (bytes : List ℕ) (roles : List Role) (directories' : List (Option ℕ)) (roles' : List Role) : Type 0 where
+  pub after : IsSpaces directories' bytes roles'
+  pub spaces : spaces_in directories' bytes ≡ spaces_in directories bytes
+  pub none : directory_of directories' p ≡ None
+  pub others : (q : ℕ) → q ≢ p → directory_of directories' q ≡ directory_of directories q
+  pub length : length roles' ≡ length roles
+
+-- a process's space went
+pub record SpaceDropped (directories : List (Option ℕ)) (p : ℕ) (bytes : List ℕ) (roles : List Role) (directories' : List (Option ℕ)) (bytes' : List ℕ) (roles' : List Role) : Type 0 where
+  pub after : IsSpaces directories' bytes' roles'
+  pub spaces : spaces_in directories' bytes' ≡ without (spaces_in directories bytes) (is_of p)
+  pub none : directory_of directories' p ≡ None
+  pub others : (q : ℕ) → q ≢ p → directory_of directories' q ≡ directory_of directories q
+  pub length : length roles' ≡ length roles

@@ -1,0 +1,203 @@
+//! What goes through a mapped slot: loads and stores, looks that set no flag, and changes of the right to write.
+
+ghost use Rattle.std.specs.Prelude.{◌≡◌, ◌*◌, ◌<◌, ◌%◌, Some, length, slice_set, is_some, true, false};
+ghost use Rattle.page_words.specs.Addresses.{byte_count, IsUserPage};
+ghost use Rattle.phys_memory.specs.Bytes.{frame_bytes, with_frame};
+ghost use Rattle.page_map.specs.Entries.{entry_at, is_lazy_entry};
+ghost use Rattle.address_space.specs.Spaces.{stored, write_at, bytes_of, value_of, bytes_at, cell_or_fresh, accessed, protected, at_page};
+ghost use Rattle.address_space.specs.View.{directory_of, spaces_in};
+ghost use Rattle.address_space.specs.Sound.{IsSound, Inside};
+ghost use Rattle.address_space.specs.Changes.{Touched, flagged};
+
+use crate::Directories;
+use alloc_table::FrameTable;
+use page_map::PageEntry;
+use page_words::{Frame, Page, Pid, Size};
+use phys_memory::Memory;
+
+/// The number in some bytes of a page: one byte, or a word at a multiple of four.
+fn number_at(memory: &Memory, frame: Frame, at: u32, size: Size) -> u32
+    requires frame { Inside memory.now frame }
+    requires inside { at < 4096 }
+    requires aligned { at % byte_count size ≡ 0 }
+    ensures { result ≡ value_of (bytes_at (frame_bytes memory.now frame) at (byte_count size)) }
+{
+    let place = frame.0 as usize * 4096 + at as usize;
+    match size {
+        Size::One => u32::from(memory.read_byte(place)),
+        Size::Four => memory.read_word(place),
+    }
+}
+
+/// The number that a mapped slot has at a place. It sets no flag.
+pub fn look(
+    memory: &Memory,
+    frames: &FrameTable,
+    directories: &Directories,
+    pid: Pid,
+    directory: Frame,
+    page: Page,
+    at: u32,
+    size: Size,
+) -> u32
+    requires sound { IsSound directories.now memory.now frames.now }
+    requires live { directory_of directories.now pid ≡ Some directory }
+    requires user { IsUserPage page }
+    requires mapped { is_some (entry_at (frame_bytes memory.now) directory page) ≡ true }
+    requires inside { at < 4096 }
+    requires aligned { at % byte_count size ≡ 0 }
+    ensures { result ≡ value_of (bytes_at (cell_or_fresh (spaces_in directories.now memory.now) (at_page pid page)).bytes at (byte_count size)) }
+{
+    let entry = page_map::entry(memory, directory, page).unwrap();
+    number_at(memory, entry.frame, at, size)
+}
+
+/// Writes a slot's entry back with other flags, on the same frame.
+fn put_flags(
+    memory: &mut Memory,
+    frames: &FrameTable,
+    directories: &Directories,
+    pid: Pid,
+    directory: Frame,
+    page: Page,
+    write: bool,
+    accessed: bool,
+    entry: PageEntry,
+)
+    requires sound { IsSound directories.now memory.old frames.now }
+    requires live { directory_of directories.now pid ≡ Some directory }
+    requires user { IsUserPage page }
+    requires here { entry_at (frame_bytes memory.old) directory page ≡ Some entry }
+    requires right { write ≡ true → entry.may ≡ true }
+    requires touched { entry.dirty ≡ true → accessed ≡ true }
+    ensures { Touched directories.now (flagged (spaces_in directories.now memory.old) (at_page pid page) write accessed) memory.old frames.now memory.new }
+{
+    let flagged = PageEntry {
+        write,
+        accessed,
+        ..entry
+    };
+    page_map::set_entry(memory, directory, page, flagged);
+}
+
+/// The number that a mapped slot has at a place; accessed is set in its entry.
+pub fn load(
+    memory: &mut Memory,
+    frames: &FrameTable,
+    directories: &Directories,
+    pid: Pid,
+    directory: Frame,
+    page: Page,
+    at: u32,
+    size: Size,
+) -> u32
+    requires sound { IsSound directories.now memory.old frames.now }
+    requires live { directory_of directories.now pid ≡ Some directory }
+    requires user { IsUserPage page }
+    requires mapped { is_some (entry_at (frame_bytes memory.old) directory page) ≡ true }
+    requires inside { at < 4096 }
+    requires aligned { at % byte_count size ≡ 0 }
+    ensures value { result ≡ value_of (bytes_at (cell_or_fresh (spaces_in directories.now memory.old) (at_page pid page)).bytes at (byte_count size)) }
+    ensures touched { Touched directories.now (accessed (spaces_in directories.now memory.old) (at_page pid page)) memory.old frames.now memory.new }
+{
+    let entry = page_map::entry(memory, directory, page).unwrap();
+    let value = number_at(memory, entry.frame, at, size);
+    put_flags(
+        memory,
+        frames,
+        directories,
+        pid,
+        directory,
+        page,
+        entry.write,
+        true,
+        entry,
+    );
+    value
+}
+
+/// Writes the lowest byte of a number.
+fn put_byte(memory: &mut Memory, place: usize, value: u32)
+    requires { place < length memory.old }
+    ensures bytes { memory.new ≡ slice_set memory.old place (value % 256) }
+    ensures length { length memory.new ≡ length memory.old }
+{
+    memory.write_byte(place, (value % 256) as u8);
+}
+
+/// The frame, the place in it and the bytes of a store: one byte, or a word at a multiple of four.
+fn put_bytes(memory: &mut Memory, frame: Frame, at: u32, size: Size, value: u32)
+    requires frame { Inside memory.old frame }
+    requires inside { at < 4096 }
+    requires aligned { at % byte_count size ≡ 0 }
+    ensures frames { frame_bytes memory.new ≡ with_frame (frame_bytes memory.old) frame (write_at (frame_bytes memory.old frame) at (bytes_of (byte_count size) value)) }
+    ensures length { length memory.new ≡ length memory.old }
+{
+    let place = frame.0 as usize * 4096 + at as usize;
+    match size {
+        Size::One => put_byte(memory, place, value),
+        Size::Four => memory.write_word(place, value),
+    }
+}
+
+/// Stores through a slot.
+pub fn store(
+    memory: &mut Memory,
+    frames: &FrameTable,
+    directories: &Directories,
+    pid: Pid,
+    directory: Frame,
+    page: Page,
+    at: u32,
+    size: Size,
+    value: u32,
+)
+    requires sound { IsSound directories.now memory.old frames.now }
+    requires live { directory_of directories.now pid ≡ Some directory }
+    requires user { IsUserPage page }
+    requires mapped { is_some (entry_at (frame_bytes memory.old) directory page) ≡ true }
+    requires real { is_lazy_entry (entry_at (frame_bytes memory.old) directory page) ≡ false }
+    requires inside { at < 4096 }
+    requires aligned { at % byte_count size ≡ 0 }
+    ensures { Touched directories.now (stored (spaces_in directories.now memory.old) (at_page pid page) at (bytes_of (byte_count size) value)) memory.old frames.now memory.new }
+{
+    let entry = page_map::entry(memory, directory, page).unwrap();
+    put_bytes(memory, entry.frame, at, size, value);
+    let stored = PageEntry {
+        accessed: true,
+        dirty: true,
+        ..entry
+    };
+    page_map::set_entry(memory, directory, page, stored);
+}
+
+/// Sets whether the process may write to a mapped page now.
+pub fn set_right(
+    memory: &mut Memory,
+    frames: &FrameTable,
+    directories: &Directories,
+    pid: Pid,
+    directory: Frame,
+    page: Page,
+    write: bool,
+)
+    requires sound { IsSound directories.now memory.old frames.now }
+    requires live { directory_of directories.now pid ≡ Some directory }
+    requires user { IsUserPage page }
+    requires mapped { is_some (entry_at (frame_bytes memory.old) directory page) ≡ true }
+    requires right { write ≡ true → (cell_or_fresh (spaces_in directories.now memory.old) (at_page pid page)).may ≡ true }
+    ensures { Touched directories.now (protected (spaces_in directories.now memory.old) (at_page pid page) write) memory.old frames.now memory.new }
+{
+    let entry = page_map::entry(memory, directory, page).unwrap();
+    put_flags(
+        memory,
+        frames,
+        directories,
+        pid,
+        directory,
+        page,
+        write,
+        entry.accessed,
+        entry,
+    );
+}
