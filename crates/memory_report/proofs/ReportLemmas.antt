@@ -4,8 +4,8 @@ use Rattle.std.specs.Prelude.{if◌then◌else◌, nat_lt}
 use Rattle.std.specs.List.{range_with_len}
 use Rattle.std.specs.Option.{option_map}
 use Rattle.std.proofs.lemmas.List.Sums.{sum_by-cons}
-use Rattle.address_space.proofs.AccessCosts.{cost-same, key-stored}
-use Rattle.address_space.proofs.Totals.{cost-insert_other, cost-joined_other, cost-without_other}
+use Rattle.address_space.proofs.costs.AccessCosts.{cost-same, key-stored}
+use Rattle.address_space.proofs.costs.Totals.{cost-insert_other, cost-joined_other, cost-without_other}
 use Rattle.address_space.specs.Spaces.{Slot, slot_order, Spaces, cost, cell_or_fresh, slot_at, accessed, stored, protected, without, is_slot, fresh, bytes_of}
 use Rattle.kernel_calls.proofs.Decided.{next-stays, next-goes}
 use Rattle.kernel_calls.proofs.Runs.{runs-stay}
@@ -31,7 +31,8 @@ use Rattle.page_words.specs.FiniteMap.{same}
 use Rattle.process_table.proofs.CellLaws.{some_value}
 use Rattle.process_table.proofs.Ranges.{found, sum-same, sum-range}
 use Rattle.process_table.proofs.SpaceLaws.{not_less}
-use Rattle.process_table.specs.Calls.{at_page, spawn_refusal, exit_refusal, after_spawn as spawned_state}
+use Rattle.address_space.specs.Spaces.{at_page}
+use Rattle.process_table.specs.Calls.{spawn_refusal, exit_refusal, after_spawn as spawned_state}
 use Rattle.process_table.specs.State.{State, is_live, room, child_of, shown}
 use Rattle.process_table.specs.WellFormed.{IsWellFormed}
 use Rattle.process_table.specs.declared.causes.Cause.{Cause}

@@ -7,7 +7,7 @@ use Rattle.std.proofs.lemmas.List.{get_or-set_same, get_or-set_other, get_or-rep
 use Rattle.std.proofs.lemmas.List.FromFn.{fill_by_all, get_or-map-range_with_len, length-map-range_with_len}
 use Rattle.std.proofs.Math.ListN.{length-set}
 use Rattle.address_space.specs.Spaces.{Cell, Spaces, cost, is_of}
-use Rattle.address_space.proofs.Totals.{cost-without_other}
+use Rattle.address_space.proofs.costs.Totals.{cost-without_other}
 use Rattle.memory_report.specs.Reports.{row_from, row_of, report_of}
 use Rattle.memory_report.specs.Rows.{at, with_used, with_given_back, child_row, opened, opened_by, closed, closed_by, HasRoom}
 use Rattle.memory_report.specs.declared.rows.Row.{Row}
