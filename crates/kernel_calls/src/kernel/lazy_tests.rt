@@ -46,36 +46,57 @@ fn free_frames(core: &Core) -> u32 {
     free
 }
 
+const ADDRESS: Vaddr = Vaddr(0x4000_0000);
+
+const PAGE: Page = Page(0x40000);
+
+/// The first page of the user range is mapped read-only, loaded, stored to in vain, made writable, and
+/// stored to.
+fn call_at(step: u32) -> Call {
+    let (addr, size) = (ADDRESS, Size::Four);
+    match step {
+        0 => Call::Map {
+            page: PAGE,
+            write: false,
+        },
+        1 => Call::Load { addr, size },
+        3 => Call::Protect {
+            page: PAGE,
+            write: true,
+        },
+        _ => Call::Store {
+            addr,
+            size,
+            value: 1,
+        },
+    }
+}
+
 #[test]
 fn a_page_is_lazy_until_its_first_store(rt: HostRuntime) -> Result<(), Fail> {
     let mut core = Core::boot(rt.alloc(), 16)?;
     let root = Pid::new(0).ok_or("no root")?;
-    let page = Page(0x40000);
-    let addr = Vaddr(0x4000_0000);
-    let size = Size::Four;
-    let load = Call::Load { addr, size };
-    let store = Call::Store {
-        addr,
-        size,
-        value: 1,
+    let fault = Reply::Fault {
+        addr: ADDRESS,
+        code: 7,
     };
-    let mapped = told(&mut core, root, page, Call::Map { page, write: false });
-    assert_eq!(rt; mapped, (Reply::Done, 0x0000_0605));
-    let loaded = told(&mut core, root, page, load);
-    assert_eq!(rt; loaded, (Reply::Value(0), 0x0000_0625));
-    let faulted = told(&mut core, root, page, store);
-    assert_eq!(rt; faulted, (Reply::Fault { addr, code: 7 }, 0x0000_0625));
-    let raised = told(&mut core, root, page, Call::Protect { page, write: true });
-    assert_eq!(rt; raised, (Reply::Done, 0x0000_0e25));
+    for (step, want) in [
+        (0, (Reply::Done, 0x0000_0605)),
+        (1, (Reply::Value(0), 0x0000_0625)),
+        (2, (fault, 0x0000_0625)),
+        (3, (Reply::Done, 0x0000_0e25)),
+    ] {
+        assert_eq!(rt; told(&mut core, root, PAGE, call_at(step)), want);
+    }
     let free = free_frames(&core);
-    let (reply, word) = told(&mut core, root, page, store);
+    let (reply, word) = told(&mut core, root, PAGE, call_at(4));
     assert_eq!(rt; reply, Reply::Done);
     assert_eq!(rt; word % 4096, 0xa67);
     let frame = Frame(word / 4096);
     assert!(rt; frame.0 != 0);
     assert_eq!(rt; word_at(&core, frame, 0), 1);
     assert_eq!(rt; word_at(&core, frame, 1), 0);
-    assert_eq!(rt; free_frames(&core) + 1, free);
+    assert_eq!(rt; free_frames(&core).wrapping_add(1), free);
     Ok(())
 }
 
