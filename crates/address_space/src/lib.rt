@@ -28,7 +28,9 @@ mod fills;
 
 use alloc_table::{FrameTable, Role};
 use page_map::PageEntry;
-use page_words::{Frame, Page, Pid, Size, Vaddr, offset_of, page_of, slot_of};
+use page_words::{
+    Frame, MAX_FRAMES, MIN_FRAMES, Page, Pid, Size, Vaddr, offset_of, page_of, slot_of,
+};
 use phys_memory::Memory;
 use std::alloc::Global;
 use std::marker::Model;
@@ -349,7 +351,7 @@ impl Spaces {
         ensures costs { IfOk result (λ new. total_cost new.directories new.spaces ≡ 0) }
         ensures size { IsErrOf result SpacesFault.BadSize ↔ (16 ≤ frames → frames ≤ 4096 → ⊥) }
     {
-        if frames < 16 || frames > 4096 {
+        if frames < MIN_FRAMES || frames > MAX_FRAMES {
             return Err(SpacesFault::BadSize);
         }
         let Ok(memory) = Memory::new(alloc, frames) else {

@@ -8,8 +8,8 @@ ghost use Rattle.std.specs.Prelude.{◌≡◌, ℕ, ◌+◌, ◌<◌, ◌≤◌,
 ghost use Rattle.alloc_table.specs.Roles.{table_fault, CanBeTaken, IsTaken, IsPageBelow, IsHeld, IsInUse, IsReleased, released, free_frames, frames_weight, opening_roles};
 ghost use Rattle.alloc_table.specs.Weights.{TakingAddsTheRole, HoldingAddsOne, ReleasingTakesOne, FreeOrWeighed};
 
-use frame_ledger::{FEWEST_FRAMES, Ledger, LedgerFault, MOST_FRAMES};
-use page_words::{Frame, Pid};
+use frame_ledger::{Ledger, LedgerFault};
+use page_words::{Frame, MAX_FRAMES, MIN_FRAMES, Pid};
 use std::alloc::Global;
 use std::marker::Model;
 
@@ -101,7 +101,7 @@ impl FrameTable {
     /// BadSize where `frames` is outside 16 to 4,096, and else NoMemory where there is no memory.
     pub fn new(alloc: Global, frames: u32) -> Result<FrameTable, TableFault>
         ensures roles { IfOk result (λ table. table ≡ opening_roles frames) }
-        ensures bad_size { IsErrOf result TableFault.BadSize ↔ (FEWEST_FRAMES ≤ frames → frames ≤ MOST_FRAMES → ⊥) }
+        ensures bad_size { IsErrOf result TableFault.BadSize ↔ (MIN_FRAMES ≤ frames → frames ≤ MAX_FRAMES → ⊥) }
     {
         let ledger = Ledger::new(alloc, frames)?;
         match vec![in alloc; Role::Free; frames as usize] {
@@ -171,8 +171,8 @@ impl FrameTable {
     /// There are 16 to 4,096 frames, of which frame 0 is reserved. With what the frames in use weigh,
     /// the free ones are at least as many as there are frames.
     pub fn within(&self)
-        ensures fewest { FEWEST_FRAMES ≤ length self.now }
-        ensures most { length self.now ≤ MOST_FRAMES }
+        ensures fewest { MIN_FRAMES ≤ length self.now }
+        ensures most { length self.now ≤ MAX_FRAMES }
         ensures reserved { slice_get self.now 0 ≡ Some Role.Reserved }
         ensures weighed { length self.now ≤ free_frames self.now + frames_weight self.now }
     {

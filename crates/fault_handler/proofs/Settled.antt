@@ -26,6 +26,8 @@ use Rattle.fault_handler.specs.Plans.{plan_of, with_fill, plan_at, goes_on}
 use Rattle.address_space.specs.Image.{is_lazy_at}
 use Rattle.process_table.specs.View.{View}
 use Rattle.process_table.specs.Image.{memory_of}
+use Rattle.std.proofs.lemmas.Bool.{not-false}
+use Rattle.page_words.proofs.OptionLemmas.{no_value}
 
 -- a line that stops does not apply where the plan goes on
 skip : (b : Bool) (x y : Plan) → goes_on x ≡ false → goes_on (if b then x else y) ≡ true → (b ≡ false) × (goes_on y ≡ true) × ((if b then x else y) ≡ y)
@@ -65,16 +67,12 @@ ready s p address size access g =
         let k = skip (has_no_room s slot) (plan.Refused Quota) plan.MapZero refl (sym (ap goes_on e) ∙ h) in
         inr (is ∙ e ∙ k.2, m)
 
-of_not : (b : Bool) → not b ≡ false → b ≡ true
-of_not true h = refl
-of_not false h = cc
-
 -- an access that goes on is aligned and lies in the user range
 pub reached : (s : State) (p address : ℕ) (size : Size) (access : Access) → goes_on (plan_of s p address size access) ≡ true → (is_misaligned address size ≡ false) × (is_user_page (page_number address) ≡ true)
 reached s p address size access g =
     let a = skip (is_misaligned address size) (plan.Refused Misaligned) _ refl g in
     let b = skip (not (is_user_page (page_number address))) (plan.Fault (page_fault address access false)) _ refl a.1 in
-    (a.0, of_not _ b.0)
+    (a.0, not-false _ b.0)
 
 -- the state before the access itself: its page is mapped with the right, and the access gives and leaves what it would have
 pub record IsSettled (s t : State) (p address : ℕ) (size : Size) (access : Access) : Type 0 where
@@ -96,10 +94,6 @@ settled-at_once s t p address size access allowed same = subst (λ x. IsSettled 
   state = λ value. refl;
 })
 
-none : (x : Option Cell) → is_some x ≡ false → x ≡ None
-none None h = refl
-none (Some c) h = cc
-
 module _ (s : State) (p address : ℕ) (absent : map.contains_key s.spaces (slot_at p address) ≡ false) where
   abbrev slot : Slot
   slot = slot_at p address
@@ -111,7 +105,7 @@ module _ (s : State) (p address : ℕ) (absent : map.contains_key s.spaces (slot
   there = get-insert s.spaces slot (fresh slot true) slot ∙ ap (λ b. cond b (Some (fresh slot true)) (map.get s.spaces slot)) (same_itself slot_order slot)
 
   unmapped : map.get s.spaces slot ≡ None
-  unmapped = none (map.get s.spaces slot) absent
+  unmapped = no_value (map.get s.spaces slot) absent
 
   same_cell : cell_or_fresh first.spaces slot ≡ cell_or_fresh s.spaces slot
   same_cell = ap (λ (x : Option Cell). unwrap_or x (fresh slot true)) there ∙ sym (ap (λ (x : Option Cell). unwrap_or x (fresh slot true)) unmapped)

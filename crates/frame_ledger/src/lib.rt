@@ -12,15 +12,9 @@ ghost use Rattle.frame_ledger.specs.FreeList.{all_in_use};
 #[cfg(test)]
 mod tests;
 
-use page_words::Frame;
+use page_words::{Frame, MAX_FRAMES, MIN_FRAMES};
 use std::alloc::Global;
 use std::marker::Model;
-
-/// The fewest frames that a ledger is made for.
-pub const FEWEST_FRAMES: u32 = 16;
-
-/// The most frames that a ledger is made for.
-pub const MOST_FRAMES: u32 = 4096;
 
 /// Why there is no ledger.
 #[derive(Clone, Copy, Debug, PartialEq, Eq)]
@@ -69,9 +63,9 @@ impl Ledger {
     pub fn new(alloc: Global, frames: u32) -> Result<Ledger, LedgerFault>
         ensures ledger { IfOk result (λ ledger. ledger ≡ opening frames) }
         ensures size { IfOk result (λ ledger. ledger.frames ≡ frames) }
-        ensures bad_size { IsErrOf result LedgerFault.BadSize ↔ (FEWEST_FRAMES ≤ frames → frames ≤ MOST_FRAMES → ⊥) }
+        ensures bad_size { IsErrOf result LedgerFault.BadSize ↔ (MIN_FRAMES ≤ frames → frames ≤ MAX_FRAMES → ⊥) }
     {
-        if frames < FEWEST_FRAMES || frames > MOST_FRAMES {
+        if frames < MIN_FRAMES || frames > MAX_FRAMES {
             return Err(LedgerFault::BadSize);
         }
         let mut ledger = Ledger::full(alloc, frames)?;
@@ -83,8 +77,8 @@ impl Ledger {
 
     /// A ledger of which no frame is free, of 16 to 4,096 frames.
     fn full(alloc: Global, frames: u32) -> Result<Ledger, LedgerFault>
-        requires fewest { FEWEST_FRAMES ≤ frames }
-        requires most { frames ≤ MOST_FRAMES }
+        requires fewest { MIN_FRAMES ≤ frames }
+        requires most { frames ≤ MAX_FRAMES }
         ensures ledger { IfOk result (λ ledger. ledger ≡ all_in_use frames) }
         ensures no_memory { IfErr result (λ fault. fault ≡ LedgerFault.NoMemory) }
     {
@@ -147,8 +141,8 @@ impl Ledger {
 
     /// There are 16 to 4,096 frames, and each that is free is one of 1 to n - 1.
     pub fn within(&self)
-        ensures fewest { FEWEST_FRAMES ≤ self.now.frames }
-        ensures most { self.now.frames ≤ MOST_FRAMES }
+        ensures fewest { MIN_FRAMES ≤ self.now.frames }
+        ensures most { self.now.frames ≤ MAX_FRAMES }
         ensures free { (frame : ℕ) → IsFree self.now frame → (1 ≤ frame) × (frame < self.now.frames) }
     {
         let _ = &self.places;

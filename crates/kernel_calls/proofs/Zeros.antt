@@ -10,6 +10,7 @@ use Rattle.process_table.specs.Calls.{loaded}
 use Rattle.fault_handler.specs.Plans.{plan_of, goes_on}
 use Rattle.fault_handler.specs.declared.plans.Plan.TheVariants as plan
 use Rattle.fault_handler.proofs.Settled.{ready}
+use Rattle.page_words.proofs.OptionLemmas.{no_value}
 
 abbrev zeros_of : ℕ → List ℕ
 zeros_of n = replicate n 0
@@ -28,10 +29,6 @@ zeros_left (suc at) (suc n) = zeros_left at n
 value-zeros : (at k : ℕ) → value_of (bytes_at zeros at k) ≡ 0
 value-zeros at k = let r = zeros_left at 4096 in ap (λ xs. value_of (take k xs)) r.1 ∙ zeros_value k r.0
 
-none : (x : Option Cell) → is_some x ≡ false → x ≡ None
-none None h = refl
-none (Some c) h = cc
-
 loaded-unmapped : (s : State) (p address : ℕ) (size : Size) → map.get s.spaces (slot_at p address) ≡ None → loaded s p address size ≡ 0
 loaded-unmapped s p address size is =
     ap (λ (x : Option Cell). value_of (bytes_at (unwrap_or x (fresh (slot_at p address) true)).bytes (offset_number address) (byte_count size))) is ∙ value-zeros (offset_number address) (byte_count size)
@@ -39,5 +36,5 @@ loaded-unmapped s p address size is =
 pub loaded-first : (s : State) (p address : ℕ) (size : Size) → plan_of s p address size Read ≡ plan.MapZero → loaded s p address size ≡ 0
 loaded-first s p address size is = elim (ready s p address size Read (ap goes_on is)) [
   | inl h ↦ let e : plan.MapZero ≡ plan.Complete = sym is ∙ h.0 in cc
-  | inr h ↦ loaded-unmapped s p address size (none (map.get s.spaces (slot_at p address)) h.1)
+  | inr h ↦ loaded-unmapped s p address size (no_value (map.get s.spaces (slot_at p address)) h.1)
 ]

@@ -28,7 +28,6 @@ use Rattle.page_words.proofs.MapLemmas.{same-true}
 use Rattle.page_words.specs.Addresses.{offset_number, byte_count}
 use Rattle.page_words.specs.FiniteMap as map
 use Rattle.page_words.specs.FiniteMap.{same}
-use Rattle.process_table.proofs.CellLaws.{some_value}
 use Rattle.process_table.proofs.Ranges.{found, sum-same, sum-range}
 use Rattle.process_table.proofs.SpaceLaws.{not_less}
 use Rattle.address_space.specs.Spaces.{at_page}
@@ -38,6 +37,7 @@ use Rattle.process_table.specs.WellFormed.{IsWellFormed}
 use Rattle.process_table.specs.declared.causes.Cause.{Cause}
 use Rattle.process_table.specs.declared.causes.Cause.TheVariants as cause
 use Rattle.quota_tree.specs.Book.{Member, next_number}
+use Rattle.page_words.proofs.OptionLemmas.{some_value}
 
 -- a call that completes has no cause to be refused
 not_refused : (x : Option Cause) (r : Reply) → completes (refused_or x r) ≡ true → x ≡ None

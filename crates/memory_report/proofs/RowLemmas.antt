@@ -17,9 +17,7 @@ use Rattle.page_words.proofs.SetLemmas.{get-remove}
 use Rattle.page_words.specs.FiniteMap as map
 use Rattle.page_words.specs.FiniteMap.{nat_order}
 use Rattle.process_table.proofs.BookLaws.{next_free, parents_in}
-use Rattle.process_table.proofs.CellLaws.{same_Some, some_value}
 use Rattle.process_table.proofs.Sizes.{cost-no_pages}
-use Rattle.process_table.proofs.SpaceLaws.{no_value}
 use Rattle.process_table.specs.Calls.{after_exit}
 use Rattle.process_table.specs.State.{State, open_with, is_live, room, shown}
 use Rattle.process_table.specs.WellFormed.{IsWellFormed}
@@ -27,6 +25,8 @@ use Rattle.quota_tree.proofs.BookFacts.{child_yes, child_no, get-insert_other, g
 use Rattle.quota_tree.proofs.Sums.{given-insert, given-none, given-remove}
 use Rattle.quota_tree.specs.Book.{Book, Member, given, quota_of, next_number}
 use borrow.Author.Tests.{eqb-true}
+use Rattle.std.proofs.lemmas.Option.{same_Some}
+use Rattle.page_words.proofs.OptionLemmas.{some_value, no_value}
 
 -- the row of a process whose entry in the book this is, if there is one
 abbrev row_by : State → ℕ → Option Member → Option Row

@@ -19,20 +19,16 @@ use Rattle.page_sharing.specs.declared.Offer.{Offer}
 use Rattle.page_sharing.specs.Offers.{OfferKey, Offers, offer_order, offer_answer, answered, limited, pending}
 use Rattle.page_sharing.specs.Listed.{key_of, has_key, offers_in, IsDistinct, IsOffers}
 use borrow.Author.Tests.{eqb-true, eq-eqb}
+use Rattle.std.specs.Cmp.{tied_then}
 
 -- ---- Keys
-
-tied_then : (a b : Ordering) → is_eq (ordering_then a b) ≡ (is_eq a && is_eq b)
-tied_then Less b = refl
-tied_then Equal b = refl
-tied_then Greater b = refl
 
 -- whether an offer has a key, as the order of keys sees it
 same-key_of : (key : OfferKey) (offer : Offer) → same offer_order key (key_of offer) ≡ has_key key offer
 same-key_of key offer =
     same_sym offer_order key (key_of offer)
-    ∙ tied_then (nat_cmp offer.offerer key.offerer) (ordering_then (nat_cmp offer.page key.page) (nat_cmp offer.target key.target))
-    ∙ (λ i. unsigned_tied offer.offerer key.offerer i && tied_then (nat_cmp offer.page key.page) (nat_cmp offer.target key.target) i)
+    ∙ sym (tied_then (nat_cmp offer.offerer key.offerer) (ordering_then (nat_cmp offer.page key.page) (nat_cmp offer.target key.target)))
+    ∙ (λ i. unsigned_tied offer.offerer key.offerer i && sym (tied_then (nat_cmp offer.page key.page) (nat_cmp offer.target key.target)) i)
     ∙ (λ i. (offer.offerer == key.offerer) && (unsigned_tied offer.page key.page i && unsigned_tied offer.target key.target i))
 
 -- ---- The map of a list

@@ -2,3 +2,4 @@ pub mod Flags
 pub mod MapLemmas
 pub mod SetLemmas
 pub mod Marks
+pub mod OptionLemmas

@@ -13,6 +13,7 @@ use Rattle.page_words.specs.FiniteSet.{Set}
 use Rattle.page_words.specs.Marked.{marked_from, marked}
 use Rattle.page_words.proofs.MapLemmas.{contains-insert, len-insert, same_itself, same_set}
 use Rattle.page_words.proofs.SetLemmas.{contains-remove, same_cases, contains-no_members}
+use Rattle.std.proofs.Math.Bool.{and-false, and-true, or-false}
 
 contains-one_more : (mark : Bool) (s : Set nat_order) (k q : ℕ) → set.contains (cond mark (set.insert s k) s) q ≡ ((mark && same nat_order q k) || set.contains s q)
 contains-one_more true s k q = contains-insert s k q
@@ -21,14 +22,6 @@ contains-one_more false s k q = refl
 apart : (q k : ℕ) → q ≢ k → same nat_order q k ≡ false
 apart q k n = elim (same_cases nat_order q k) [ inl h ↦ absurd (n h.0) | inr h ↦ h.1 ]
 
-and_false : (b : Bool) → (b && false) ≡ false
-and_false true = refl
-and_false false = refl
-
-and_true : (b : Bool) → ((b && true) || false) ≡ b
-and_true true = refl
-and_true false = refl
-
 pub contains-below : (start : ℕ) (marks : List Bool) (q : ℕ) → q < start → set.contains (marked_from start marks) q ≡ false
 contains-below start [] q h = refl
 contains-below start (mark ∷ marks) q h =
@@ -36,7 +29,7 @@ contains-below start (mark ∷ marks) q h =
     let other : q ≢ start = omega arith in
     contains-one_more mark (marked_from (start + 1) marks) start q
     ∙ (λ i. (mark && apart q start other i) || rest i)
-    ∙ ap (λ b. b || false) (and_false mark)
+    ∙ ap (λ b. b || false) (and-false mark)
 
 contains-at : (start : ℕ) (marks : List Bool) (i q : ℕ) → q ≡ start + i → set.contains (marked_from start marks) q ≡ get_or marks i false
 contains-at start [] i q e = refl
@@ -45,12 +38,12 @@ contains-at start (mark ∷ marks) zero q e =
     let none = contains-below (start + 1) marks q (omega arith) in
     contains-one_more mark (marked_from (start + 1) marks) start q
     ∙ (λ i. (mark && (ap (λ k. same nat_order q k) (sym is) ∙ same_itself nat_order q) i) || none i)
-    ∙ and_true mark
+    ∙ or-false (mark && true) ∙ and-true mark
 contains-at start (mark ∷ marks) (suc i) q e =
     let other : q ≢ start = omega arith in
     contains-one_more mark (marked_from (start + 1) marks) start q
     ∙ ap (λ b. (mark && b) || set.contains (marked_from (start + 1) marks) q) (apart q start other)
-    ∙ ap (λ b. b || set.contains (marked_from (start + 1) marks) q) (and_false mark)
+    ∙ ap (λ b. b || set.contains (marked_from (start + 1) marks) q) (and-false mark)
     ∙ contains-at (start + 1) marks i q (omega arith)
 
 -- a number is marked exactly where the list is true at it

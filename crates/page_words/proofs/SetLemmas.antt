@@ -31,9 +31,6 @@ module _ {K X : Type 0} {o : Order K} where
       ∙ negated (same o k q) _ _
       ∙ ap (λ b. cond b None (map.get m q)) (same_sym o k q)
 
-  pub len_before_remove : (m : Map o X) (k : K) → cond (map.contains_key m k) 1 0 + map.len (map.remove m k) ≡ map.len m
-  len_before_remove m k = length_without o.cmp o.total k m.entries m.sorted
-
 module _ {K : Type 0} (o : Order K) where
   nothing : (q : K) (es : List (K × Unit {0})) → length es ≡ 0 → is_some (find o.cmp q es) ≡ false
   nothing q [] h = refl
@@ -54,6 +51,3 @@ module _ {K : Type 0} {o : Order K} where
   -- a set of no members has none, and only such a set
   pub contains-no_members : (s : Set o) → set.len s ≡ 0 → (q : K) → set.contains s q ≡ false
   contains-no_members s h q = nothing o q s.entries h
-
-  pub len-no_members : (s : Set o) → ((q : K) → set.contains s q ≡ false) → set.len s ≡ 0
-  len-no_members s none = ap set.len (same_set s set.empty none)

@@ -35,6 +35,12 @@ impl Model for Page {
 #[derive(Clone, Copy, Debug, PartialEq, Eq, PartialOrd, Ord, Hash)]
 pub struct Frame(pub u32);
 
+/// The fewest frames of a machine's memory.
+pub const MIN_FRAMES: u32 = 16;
+
+/// The most frames of a machine's memory.
+pub const MAX_FRAMES: u32 = 4096;
+
 impl Model for Frame {
     ghost use Rattle.std.specs.Prelude.{ℕ};
 

@@ -11,7 +11,8 @@ mod maps;
 mod words;
 
 pub use addresses::{
-    Frame, Page, Pid, Size, Vaddr, in_user_range, index_of, offset_of, page_of, slot_of,
+    Frame, MAX_FRAMES, MIN_FRAMES, Page, Pid, Size, Vaddr, in_user_range, index_of, offset_of,
+    page_of, slot_of,
 };
 pub use maps::{
     keys_are_told_apart, maps_are_their_answers, sets_are_their_members, values_change_by_key,

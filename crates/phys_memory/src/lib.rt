@@ -14,18 +14,12 @@ ghost use Rattle.phys_memory.specs.Bytes.{FramesBeginBlank, FramesEnd, BytesLieI
 ghost use Rattle.phys_memory.specs.Bytes.{FramesAreWhole, WordsKeepLengths, FramesKeepLengths};
 
 use byteorder::{ByteOrder, LittleEndian};
-use page_words::Frame;
+use page_words::{Frame, MAX_FRAMES, MIN_FRAMES};
 use std::alloc::Global;
 use std::marker::Model;
 
 /// How many bytes a frame has.
 pub const FRAME_BYTES: usize = 4096;
-
-/// The least number of frames of a memory.
-pub const MIN_FRAMES: u32 = 16;
-
-/// The greatest number of frames of a memory.
-pub const MAX_FRAMES: u32 = 4096;
 
 /// Why there is no memory.
 #[derive(Clone, Copy, Debug, PartialEq, Eq)]

@@ -17,10 +17,13 @@ use Rattle.process_table.specs.State.{State, open_with, is_live, room, child_of}
 use Rattle.process_table.specs.Calls.{spawn_refusal, exit_refusal, after_unmap, after_spawn, after_exit}
 use Rattle.process_table.specs.declared.causes.Cause.TheVariants.{BadQuota, TableFull, Quota, RootExit, HasChildren}
 use Rattle.process_table.specs.WellFormed.{IsOfferIn, IsWellFormed, total}
-use Rattle.process_table.proofs.CellLaws.{same_Some, some_value, not_true, without-stays, without-was, cells-without}
+use Rattle.process_table.proofs.CellLaws.{without-stays, without-was, cells-without}
 use Rattle.process_table.proofs.Sizes.{cost-fewer, cost-no_pages, len-retain}
-use Rattle.process_table.proofs.SpaceLaws.{not_less, no_value}
+use Rattle.process_table.proofs.SpaceLaws.{not_less}
 use borrow.Author.Tests.{eq-eqb}
+use Rattle.std.proofs.lemmas.Option.{same_Some}
+use Rattle.page_words.proofs.OptionLemmas.{some_value, no_value}
+use Rattle.std.proofs.lemmas.Bool.{not-true}
 
 -- ---- What is left where slots and offers go
 
@@ -66,7 +69,7 @@ module _ (s : State) (p page : ℕ) (w : IsWellFormed s) where
     | inl is ↦ absurd (
         let a : (key.offerer == p) ≡ true = eq-eqb key.offerer p (sym (ap (λ (x : Slot). x.pid) is.0)) in
         let b : (key.page == page) ≡ true = eq-eqb key.page page (sym (ap (λ (x : Slot). x.page) is.0)) in
-        let f : ((key.offerer == p) && (key.page == page)) ≡ false = not_true ((key.offerer == p) && (key.page == page)) h in
+        let f : ((key.offerer == p) && (key.page == page)) ≡ false = not-true ((key.offerer == p) && (key.page == page)) h in
         let t : ((key.offerer == p) && (key.page == page)) ≡ true = (λ i. a i && b i) in
         cc)
     | inr other ↦ other.1
@@ -97,7 +100,7 @@ find-range t a (suc n) k h = by (t a) refl (λ later. let r = find-range t (a + 
 
 -- the next number is one below 64 that is not live
 pub next_free : (book : Book) (k : ℕ) → next_number book ≡ Some k → (k < 64) × (map.contains_key book k ≡ false)
-next_free book k h = let r = find-range (λ p. not (map.contains_key book p)) 0 64 k h in let l = r.0 in let m : k < 64 = omega (arith, l) in (m, not_true (map.contains_key book k) r.1)
+next_free book k h = let r = find-range (λ p. not (map.contains_key book p)) 0 64 k h in let l = r.0 in let m : k < 64 = omega (arith, l) in (m, not-true (map.contains_key book k) r.1)
 
 spawn_allowed : (a : Bool) (x : Option ℕ) (c : Bool) → (if a then Some BadQuota else if is_none x then Some TableFull else if c then Some Quota else None) ≡ None → (a ≡ false) × ((k : ℕ) × (x ≡ Some k)) × (c ≡ false)
 spawn_allowed true x c h = cc

@@ -12,29 +12,18 @@ use Rattle.page_words.proofs.MapLemmas.{same_itself, same-true, get-insert, get-
 use Rattle.page_words.proofs.SetLemmas.{same_cases}
 use Rattle.address_space.specs.Spaces.{Slot, slot_order, Cell, Spaces, without, with_holders}
 use Rattle.process_table.specs.WellFormed.{IsCellAt}
+use Rattle.std.proofs.Math.Bool.{or-false}
+use Rattle.std.proofs.lemmas.Bool.{not-true}
+use Rattle.std.proofs.lemmas.Option.{same_Some}
 
 -- each cell is well formed
 abbrev pub AreCells : Spaces → Type 0
 AreCells S = (slot : Slot) (cell : Cell) → map.get S slot ≡ Some cell → IsCellAt S slot cell
 
--- a value that stands at one place is the one that stands there
-pub same_Some : {A : Type 0} (x y : A) → Some x ≡ Some y → x ≡ y
-same_Some x y e = ap (λ o. unwrap_or o x) e
-
--- what is there is a value
-pub some_value : {A : Type 0} (x : Option A) → is_some x ≡ true → (a : A) × (x ≡ Some a)
-some_value None h = cc
-some_value (Some a) h = (a, refl)
-
 -- two tests that both pass
 pub both_true : (a b : Bool) → (a && b) ≡ true → (a ≡ true) × (b ≡ true)
 both_true true b h = (refl, h)
 both_true false b h = cc
-
--- a test whose opposite passes
-pub not_true : (b : Bool) → not b ≡ true → b ≡ false
-not_true true h = cc
-not_true false h = refl
 
 -- what was put at a key stands there
 pub get-inserted : (S : Spaces) (slot : Slot) (c : Cell) → map.get (map.insert S slot c) slot ≡ Some c
@@ -62,13 +51,9 @@ lone-cell T slot c now user long small write dirty alone = record {
   alike = λ other h. (c, only other h, refl, refl);
 }
   where
-    or_false : (b : Bool) → (b || false) ≡ b
-    or_false true = refl
-    or_false false = refl
-
     only : (other : Slot) → IsTrue (set.contains c.holders other) → map.get T other ≡ Some c
     only other h =
-        let e = same-true slot_order other slot (sym (or_false (same slot_order other slot)) ∙ sym (contains-insert {o = slot_order} set.empty slot other) ∙ sym (ap (λ (g : Set slot_order). set.contains g other) alone) ∙ h) in
+        let e = same-true slot_order other slot (sym (or-false (same slot_order other slot)) ∙ sym (contains-insert {o = slot_order} set.empty slot other) ∙ sym (ap (λ (g : Set slot_order). set.contains g other) alone) ∙ h) in
         ap (map.get T) e ∙ now
 
 -- the other cells do not see it
@@ -219,4 +204,4 @@ module _ (S : Spaces) (gone : Slot → Bool) where
           alike other inside =
               let a = both_true (set.contains d.holders other) (not (gone other)) (sym (contains-retain d.holders (λ s. not (gone s)) other) ∙ inside) in
               let o = (cells q d at).alike other a.0 in
-              (left_in o.0, without-stays other o.0 o.1 (not_true (gone other) a.1), ap (λ (h : Set slot_order). set.retain h (λ s. not (gone s))) o.2, o.3)
+              (left_in o.0, without-stays other o.0 o.1 (not-true (gone other) a.1), ap (λ (h : Set slot_order). set.retain h (λ s. not (gone s))) o.2, o.3)

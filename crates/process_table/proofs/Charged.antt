@@ -14,6 +14,7 @@ use Rattle.quota_tree.specs.Book.{Member, quota_of}
 use Rattle.quota_tree.specs.Containers.{Containers, IsLive, used_of, with_used, after_close, total_used}
 use Rattle.process_table.specs.View.{IsProcesses}
 use Rattle.process_table.proofs.Ranges.{found, sum-range}
+use Rattle.page_words.proofs.OptionLemmas.{is_some-map}
 
 -- ---- The costs of processes that do not act
 
@@ -146,7 +147,3 @@ charged-exit v w c p kept child spaces long none others = record {
     gone q e l = let a = sym (ap is_some (removed-itself c.book p)) ∙ ap (map.contains_key (after_close c p).book) e ∙ l in cc
 
 -- ---- Readings of a cell
-
-pub is_some-map : {A B : Type 0} (f : A → B) (x : Option A) → is_some (option_map f x) ≡ is_some x
-is_some-map f None = refl
-is_some-map f (Some a) = refl

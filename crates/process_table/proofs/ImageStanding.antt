@@ -26,6 +26,8 @@ use Rattle.process_table.specs.State.{State, is_live, shown, container_of}
 use Rattle.process_table.specs.View.{View}
 use Rattle.process_table.specs.Image.{image_of, IsCharge, quota_from, IsSoundImage, StandsFor, StandsForOne}
 use Rattle.process_table.proofs.Ranges.{found, sum-same, sum-range}
+use Rattle.page_words.proofs.OptionLemmas.{is_some-map}
+use Rattle.page_words.proofs.OptionLemmas.{some_value}
 
 -- ---- What a process is charged for
 
@@ -112,14 +114,6 @@ from_some : {A B : Type 0} (f : A → B) (x : Option A) (c : B) → option_map f
 from_some f None c h = cc
 from_some f (Some a) c h = (a, refl, ap (λ o. unwrap_or o (f a)) h)
 
-some_map : {A B : Type 0} (f : A → B) (x : Option A) → is_some (option_map f x) ≡ is_some x
-some_map f None = refl
-some_map f (Some a) = refl
-
-is_there : {A : Type 0} (x : Option A) → is_some x ≡ true → (a : A) × (x ≡ Some a)
-is_there None h = cc
-is_there (Some a) h = (a, refl)
-
 abbrev memory_of : View → memory.Image
 memory_of v = record { directories = v.directories; bytes = v.bytes; roles = v.roles }
 
@@ -131,7 +125,7 @@ module _ (v : View) (stands : memory.StandsFor (memory_of v) v.state.spaces) (li
   quota_is p m h = ap (λ o. unwrap_or (option_map (λ (m : Member). m.quota) o) 0) h
 
   root_there : (m : Member) × (map.get v.state.book 0 ≡ Some m)
-  root_there = is_there (map.get v.state.book 0) root
+  root_there = some_value (map.get v.state.book 0) root
 
   member_of : (p : ℕ) (c : Container) → container_of v.state p ≡ Some c → (m : Member) × (map.get v.state.book p ≡ Some m) × (shown v.state p m ≡ c)
   member_of p c h = from_some (λ m. shown v.state p m) (map.get v.state.book p) c h
@@ -139,7 +133,7 @@ module _ (v : View) (stands : memory.StandsFor (memory_of v) v.state.spaces) (li
   parent_there : (p : ℕ) (c : Container) → container_of v.state p ≡ Some c → is_some (container_of v.state c.parent) ≡ true
   parent_there p c h =
       let m = member_of p c h in
-      some_map (λ m. shown v.state c.parent m) (map.get v.state.book c.parent) ∙ ap (λ (c : Container). is_live v.state c.parent) (sym m.2) ∙ (members p m.0 m.1).1
+      is_some-map (λ m. shown v.state c.parent m) (map.get v.state.book c.parent) ∙ ap (λ (c : Container). is_live v.state c.parent) (sym m.2) ∙ (members p m.0 m.1).1
 
   within_quota : (p : ℕ) (c : Container) → container_of v.state p ≡ Some c → c.used + c.given ≤ c.quota
   within_quota p c h =
@@ -152,7 +146,7 @@ module _ (v : View) (stands : memory.StandsFor (memory_of v) v.state.spaces) (li
   sound_image = record {
     memory = stands.sound;
     root = (shown v.state 0 root_there.0, ap (option_map (λ m. shown v.state 0 m)) root_there.1, ap suc_of (sym (quota_is 0 root_there.0 root_there.1)) ∙ root_quota);
-    live = λ p. some_map (λ m. shown v.state p m) (map.get v.state.book p) ∙ sym (live p);
+    live = λ p. is_some-map (λ m. shown v.state p m) (map.get v.state.book p) ∙ sym (live p);
     parents = parent_there;
     given = λ p c h. ap (λ (c : Container). c.given) (sym (member_of p c h).2) ∙ given-range v.state p (λ k m is. (members k m is).0);
     within = within_quota;

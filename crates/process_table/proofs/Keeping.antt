@@ -19,11 +19,11 @@ use Rattle.process_table.specs.WellFormed.{IsWellFormed}
 use Rattle.process_table.specs.declared.causes.Cause.{Cause}
 use Rattle.process_table.specs.declared.causes.Cause.TheVariants.{NoProcess}
 use Rattle.process_table.proofs.BookLaws.{well_formed-spawn, well_formed-exit}
-use Rattle.process_table.proofs.CellLaws.{some_value}
 use Rattle.process_table.proofs.Refusals.{no_cause}
 use Rattle.process_table.proofs.SharingLaws.{well_formed-protect, well_formed-offer, well_formed-accept}
 use Rattle.process_table.proofs.SpaceLaws.{well_formed-map, well_formed-load, well_formed-store}
 use borrow.Author.Tests.{eqb-true}
+use Rattle.page_words.proofs.OptionLemmas.{some_value}
 
 -- parts that agree are whole where the state that they make is well formed
 pub whole : (v : frames.View) (c : Containers) (o : Offers) (s : State) → IsProcesses v c → v.spaces ≡ s.spaces → c.book ≡ s.book → o ≡ s.offers → IsWellFormed s → IsWhole v c o

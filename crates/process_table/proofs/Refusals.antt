@@ -14,14 +14,8 @@ use Rattle.process_table.specs.TestAnswers.{first_cause, number_unless, map_answ
 use Rattle.process_table.specs.declared.causes.Cause.{Cause}
 use Rattle.process_table.specs.declared.causes.Cause.TheVariants.{NoProcess}
 use borrow.Author.Tests.{eq-eqb}
-
-of_not : (b : Bool) → not b ≡ false → b ≡ true
-of_not true h = refl
-of_not false h = cc
-
-pub no_cell : (x : Option Cell) → is_some x ≡ false → x ≡ None
-no_cell None h = refl
-no_cell (Some c) h = cc
+use Rattle.std.proofs.lemmas.Bool.{not-false}
+use Rattle.page_words.proofs.OptionLemmas.{no_value}
 
 choice : (b : Bool) (c : Cause) (y : Option Cause) → (if b then Some c else y) ≡ None → (b ≡ false) × (y ≡ None)
 choice true c y h = cc
@@ -38,15 +32,10 @@ may_map s p page h =
     let a = choice (not (is_user_page page)) _ _ h in
     let b = choice (is_mapped s (at_page p page)) _ _ a.1 in
     let c = choice (has_no_room s (at_page p page)) _ _ b.1 in
-    record { user = of_not _ a.0; none = no_cell _ b.0; room = c.0 }
-
--- a page may be unmapped: what it tells
-pub record MayUnmap (s : State) (p page : ℕ) : Type 0 where
-  pub user : is_user_page page ≡ true
-  pub mapped : is_some (map.get s.spaces (at_page p page)) ≡ true
+    record { user = not-false _ a.0; none = no_value _ b.0; room = c.0 }
 
 right_of_not : (write may : Bool) → (write && not may) ≡ false → write ≡ true → may ≡ true
-right_of_not true may h e = of_not may h
+right_of_not true may h e = not-false may h
 right_of_not false may h e = cc
 
 -- a page's right may be set: what it tells
@@ -61,7 +50,7 @@ may_protect s p page write h =
     let a = choice (not (is_user_page page)) _ _ h in
     let b = choice (not (is_mapped s (at_page p page))) _ _ a.1 in
     let c = choice (write && not may) _ _ b.1 in
-    record { user = of_not _ a.0; mapped = of_not _ b.0; right = right_of_not write may c.0 }
+    record { user = not-false _ a.0; mapped = not-false _ b.0; right = right_of_not write may c.0 }
 
 apart_of : (m n : ℕ) → (m == n) ≡ false → m ≢ n
 apart_of m n h e = let t = eq-eqb m n e in cc
@@ -90,19 +79,14 @@ may_offer s p page target write h =
     let f = choice (map.contains_key s.offers (offer_of p page target)) _ _ e.1 in
     let g = choice (nat_le 32 (map.len (pending s.offers p))) _ _ f.1 in
     record {
-      user = of_not _ a.0;
-      mapped = of_not _ b.0;
+      user = not-false _ a.0;
+      mapped = not-false _ b.0;
       another = apart_of target p c.0;
-      live = of_not _ d.0;
+      live = not-false _ d.0;
       right = right_of_not write may e.0;
       new = f.0;
       few = below_of (map.len (pending s.offers p)) g.0;
     }
-
--- an offer may be withdrawn: what it tells
-pub record MayWithdraw (s : State) (p page target : ℕ) : Type 0 where
-  pub user : is_user_page page ≡ true
-  pub there : map.contains_key s.offers (offer_of p page target) ≡ true
 
 -- an offer may be accepted: what it tells
 pub record MayAccept (s : State) (p giver giver_page page : ℕ) : Type 0 where
@@ -117,7 +101,7 @@ may_accept s p giver giver_page page h =
     let b = choice (not (map.contains_key s.offers (offer_of giver giver_page p))) _ _ a.1 in
     let c = choice (is_mapped s (at_page p page)) _ _ b.1 in
     let d = choice (has_no_room s (at_page p page)) _ _ c.1 in
-    record { user = of_not _ a.0; there = of_not _ b.0; none = no_cell _ c.0; room = d.0 }
+    record { user = not-false _ a.0; there = not-false _ b.0; none = no_value _ c.0; room = d.0 }
 
 -- a test that answers a number has found no cause
 pub no_cause : (s : State) (p : ℕ) (cause : Option Cause) (number : ℕ) → IsOk (number_unless (first_cause s p cause) number) → (is_live s p ≡ true) × (cause ≡ None)

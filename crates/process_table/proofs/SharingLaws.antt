@@ -17,12 +17,14 @@ use Rattle.page_sharing.specs.Offers.{OfferKey, Offers, offer_order, offer_of, p
 use Rattle.process_table.specs.State.{State, is_live, has_no_room, room}
 use Rattle.process_table.specs.Calls.{protect_refusal, offer_refusal, accept_refusal, offered, after_protect, after_offer, after_withdraw, after_accept}
 use Rattle.process_table.specs.WellFormed.{IsCellAt, IsOfferIn, IsWellFormed}
-use Rattle.process_table.proofs.CellLaws.{AreCells, same_Some, some_value, get-inserted, get-inserted_other}
+use Rattle.process_table.proofs.CellLaws.{AreCells, get-inserted, get-inserted_other}
 use Rattle.process_table.proofs.BookLaws.{retained}
 use Rattle.process_table.proofs.Refusals.{MayProtect, MayOffer, may_protect, may_offer, may_accept}
 use Rattle.process_table.proofs.Sizes.{len-retain}
 use Rattle.process_table.proofs.SpaceLaws.{not_less, user_page, with-spaces, well_formed-flags}
 use borrow.Author.Tests.{eqb-true}
+use Rattle.std.proofs.lemmas.Option.{same_Some}
+use Rattle.page_words.proofs.OptionLemmas.{some_value}
 
 -- ---- A change of the right to write
 

@@ -27,8 +27,10 @@ use Rattle.process_table.specs.Calls.{map_refusal, after_map, after_load, after_
 use Rattle.process_table.specs.declared.causes.Cause.TheVariants.{BadPage, Mapped, Quota}
 use Rattle.process_table.specs.Laws.{IsReachable}
 use Rattle.process_table.specs.WellFormed.{IsCellAt, IsOfferIn, IsWellFormed}
-use Rattle.process_table.proofs.CellLaws.{AreCells, same_Some, some_value, get-inserted, get-inserted_other, lone-cell, cells-lone, IsRenewed, cells-renewed}
+use Rattle.process_table.proofs.CellLaws.{AreCells, get-inserted, get-inserted_other, lone-cell, cells-lone, IsRenewed, cells-renewed}
 use Rattle.process_table.proofs.Sizes.{cost-fewer}
+use Rattle.std.proofs.lemmas.Option.{same_Some}
+use Rattle.page_words.proofs.OptionLemmas.{some_value, no_value}
 
 -- what a test of order that fails says
 pub not_less : (a b : ℕ) → nat_lt a b ≡ false → b ≤ a
@@ -122,11 +124,6 @@ map_allowed false b c h = cc
 map_allowed true true c h = cc
 map_allowed true false true h = cc
 map_allowed true false false h = (refl, refl, refl)
-
--- what is not there is no value
-pub no_value : {A : Type 0} (x : Option A) → is_some x ≡ false → x ≡ None
-no_value None h = refl
-no_value (Some a) h = cc
 
 -- a map that is not refused
 pub well_formed-map : (s : State) (p page : ℕ) (write : Bool) → IsWellFormed s → is_live s p ≡ true → map_refusal s p page ≡ None → IsWellFormed (after_map s p page write)

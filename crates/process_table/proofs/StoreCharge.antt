@@ -7,10 +7,7 @@ use Rattle.address_space.specs.Spaces.{Slot, Cell, slot_at, cost, accessed, stor
 use Rattle.address_space.proofs.costs.AccessCosts.{cost-accessed_mapped, cost-accessed_new, cost-stored_mapped, cost-stored_new}
 use Rattle.process_table.specs.State.{State}
 use Rattle.process_table.specs.Calls.{after_load, after_store}
-
-none : (x : Option Cell) → is_some x ≡ false → x ≡ None
-none None h = refl
-none (Some c) h = cc
+use Rattle.page_words.proofs.OptionLemmas.{no_value}
 
 -- a store is charged as a load is
 pub store_charge : (s : State) (p address : ℕ) (size : Size) (value : ℕ) → cost (after_store s p address size value).spaces p ≡ cost (after_load s p address).spaces p
@@ -24,4 +21,4 @@ store_charge s p address size value = by (map.contains_key s.spaces slot) refl
 
     by : (b : Bool) → map.contains_key s.spaces slot ≡ b → cost (stored s.spaces slot (offset_number address) new) p ≡ cost (accessed s.spaces slot) p
     by true is = cost-stored_mapped s.spaces slot (offset_number address) new is ∙ sym (cost-accessed_mapped s.spaces slot is)
-    by false is = let n = none (map.get s.spaces slot) is in cost-stored_new s.spaces slot (offset_number address) new n ∙ sym (cost-accessed_new s.spaces slot n)
+    by false is = let n = no_value (map.get s.spaces slot) is in cost-stored_new s.spaces slot (offset_number address) new n ∙ sym (cost-accessed_new s.spaces slot n)

@@ -6,6 +6,7 @@ use Rattle.page_words.proofs.MapLemmas.{get-insert}
 use Rattle.page_words.proofs.SetLemmas.{get-remove, same_cases}
 use Rattle.quota_tree.specs.Book.{Book, Member, is_child}
 use borrow.Author.Tests.{eqb-true, eq-eqb}
+use Rattle.std.proofs.Math.Bool.{and-false}
 
 -- a test of two numbers that are not the same
 pub eqb-false : (m n : ℕ) → m ≢ n → (m == n) ≡ false
@@ -19,13 +20,9 @@ eqb-false m n other = by (m == n) refl
 pub child_yes : (p k q : ℕ) → k ≢ 0 → is_child p (k, record { parent = p; quota = q }) ≡ true
 child_yes p k q n = λ i. not (eqb-false k 0 n i) && eq-eqb p p refl i
 
-and_false : (b : Bool) → (b && false) ≡ false
-and_false true = refl
-and_false false = refl
-
 -- and nobody else's
 pub child_no : (p x k q : ℕ) → p ≢ x → is_child x (k, record { parent = p; quota = q }) ≡ false
-child_no p x k q n = ap (λ b. not (k == 0) && b) (eqb-false p x n) ∙ and_false (not (k == 0))
+child_no p x k q n = ap (λ b. not (k == 0) && b) (eqb-false p x n) ∙ and-false (not (k == 0))
 
 -- one entry more leaves who is live
 pub contains_key-insert : (book : Book) (k : ℕ) (m : Member) (x : ℕ) → map.contains_key book x ≡ true → map.contains_key (map.insert book k m) x ≡ true

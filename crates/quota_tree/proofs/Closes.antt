@@ -8,18 +8,16 @@ use Rattle.page_words.proofs.SetLemmas.{same_cases}
 use Rattle.quota_tree.specs.declared.Container.{Container}
 use Rattle.quota_tree.specs.Book.{Member, Book, is_child, given, number_of_children}
 use Rattle.quota_tree.specs.Collected.{collected}
-use Rattle.quota_tree.specs.Containers.{after_close}
+use Rattle.quota_tree.specs.Containers.{after_close, giver_after_close}
 use Rattle.quota_tree.specs.Kept.{member_of, seen_as, IsKept, IsQuotas}
 use Rattle.quota_tree.proofs.CollectedLemmas.{get-collected, collected-set, collected-unset}
 use Rattle.quota_tree.proofs.Sums.{given-remove, number-remove}
-use Rattle.quota_tree.proofs.Views.{is_Some, get-member}
+use Rattle.quota_tree.proofs.Views.{get-member}
 use Rattle.quota_tree.proofs.BookFacts.{child_yes, child_no, get-remove_other}
 use Rattle.quota_tree.proofs.Writes.{after_set, insert_same, book-set, only_if}
+use Rattle.std.proofs.lemmas.Option.{same_Some}
 
 -- ---- A close: a process without children goes, and its quota returns to its parent
-
-abbrev pub giver_after_close : Container → ℕ → Container
-giver_after_close g q = record g { given = g.given - q; children = g.children - 1 }
 
 module _ (cs : List (Option Container)) (kept : IsQuotas cs) (k : ℕ) (k_in : k < length cs) (d : Container) (hd : get_or cs k None ≡ Some d)
     (not_0 : k ≢ 0) (childless : number_of_children (collected member_of cs) k ≡ 0) where
@@ -121,7 +119,7 @@ module _ (cs : List (Option Container)) (kept : IsQuotas cs) (k : ℕ) (k_in : k
     }
       where
         kept_at : (x y : ℕ) (c e : Container) → x ≡ y → Some e ≡ Some c → IsKept closed_book y e → IsKept closed_book x c
-        kept_at x y c e i f h = subst (λ (n : ℕ). IsKept closed_book n c) (sym i) (subst (λ (z : Container). IsKept closed_book y z) (is_Some e c f) h)
+        kept_at x y c e i f h = subst (λ (n : ℕ). IsKept closed_book n c) (sym i) (subst (λ (z : Container). IsKept closed_book y z) (same_Some e c f) h)
 
         new : (x : ℕ) (c : Container) → ((x ≡ k) × (None ≡ Some c)) ⊎ ((x ≢ k) × (get_or (slice_set cs d.parent (Some (giver_after_close g d.quota))) x None ≡ Some c)) → IsKept closed_book x c
         new x c (inl is) = absurd (let f : false ≡ true = ap is_some is.1 in cc)

@@ -9,13 +9,14 @@ use Rattle.quota_tree.specs.declared.Container.{Container}
 use Rattle.quota_tree.specs.declared.QuotaFault.TheVariants.{BadQuota, TableFull, NoRoom}
 use Rattle.quota_tree.specs.Book.{Book, is_child, given, number_of_children, next_number}
 use Rattle.quota_tree.specs.Collected.{collected}
-use Rattle.quota_tree.specs.Containers.{Containers, room_of, opened_container, split_answer, fitting, after_split}
+use Rattle.quota_tree.specs.Containers.{Containers, giver_after_split, room_of, opened_container, split_answer, fitting, after_split}
 use Rattle.quota_tree.specs.Kept.{member_of, seen_as, IsKept, IsQuotas}
 use Rattle.quota_tree.proofs.CollectedLemmas.{get-collected, collected-set}
 use Rattle.quota_tree.proofs.Sums.{given-insert, number-insert, given-none, number-none, number-given}
-use Rattle.quota_tree.proofs.Views.{is_Some, live-container, parents_live, each_quota, room_of-container, within_places, absent_at}
+use Rattle.quota_tree.proofs.Views.{live-container, parents_live, each_quota, room_of-container, within_places, absent_at}
 use Rattle.quota_tree.proofs.BookFacts.{child_yes, child_no, contains_key-insert, get-insert_other}
 use Rattle.quota_tree.proofs.Writes.{after_set, insert_same, book-set, live_and_absent, only_if}
+use Rattle.std.proofs.lemmas.Option.{same_Some}
 
 -- ---- What a split answers
 
@@ -59,9 +60,6 @@ module _ (c : Containers) (parent quota : ℕ) where
           }
 
 -- ---- A split: a parent gives a part of its room to a child that wasn't there
-
-abbrev pub giver_after_split : Container → ℕ → Container
-giver_after_split g q = record g { given = g.given + q; children = g.children + 1 }
 
 module _ (cs : List (Option Container)) (kept : IsQuotas cs) (p k q : ℕ) (p_in : p < length cs) (k_in : k < length cs)
     (g : Container) (hg : get_or cs p None ≡ Some g) (hk : get_or cs k None ≡ None) (some : 1 ≤ q) (room : q ≤ g.quota - g.used - g.given) where
@@ -165,7 +163,7 @@ module _ (cs : List (Option Container)) (kept : IsQuotas cs) (p k q : ℕ) (p_in
   }
     where
       kept_at : (x y : ℕ) (c d : Container) → x ≡ y → Some d ≡ Some c → IsKept book2 y d → IsKept book2 x c
-      kept_at x y c d e f h = subst (λ (n : ℕ). IsKept book2 n c) (sym e) (subst (λ (z : Container). IsKept book2 y z) (is_Some d c f) h)
+      kept_at x y c d e f h = subst (λ (n : ℕ). IsKept book2 n c) (sym e) (subst (λ (z : Container). IsKept book2 y z) (same_Some d c f) h)
 
       new : (x : ℕ) (c : Container) → ((x ≡ k) × (Some (opened_container p q) ≡ Some c)) ⊎ ((x ≢ k) × (get_or (slice_set cs p (Some (giver_after_split g q))) x None ≡ Some c)) → IsKept book2 x c
       new x c (inl is) = kept_at x k c (opened_container p q) is.0 is.1 child_kept

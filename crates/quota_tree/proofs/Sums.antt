@@ -13,6 +13,7 @@ use Rattle.page_words.proofs.MapLemmas.{get-insert, same_map}
 use Rattle.page_words.proofs.SetLemmas.{get-remove, same_cases}
 use Rattle.quota_tree.specs.Book.{Member, Book, is_child, given, number_of_children}
 use borrow.Author.Tests.{eqb-true, eq-eqb}
+use Rattle.std.proofs.lemmas.Option.{same_Some}
 
 first_of : (a b : Bool) → T (a && b) → T a
 first_of true b h = tt
@@ -66,9 +67,6 @@ sum_none k f (e ∷ es) h =
 find_none : (k : ℕ) (es : List Entry) → T (below_all nat_cmp k es) → find nat_cmp k es ≡ None
 find_none k [] h = refl
 find_none k (e ∷ es) h = ap (λ b. cond b (Some e.1) (find nat_cmp k es)) (lt_not_eq (nat_cmp k e.0) (first_of _ _ h)) ∙ find_none k es (second_of _ _ h)
-
-same_Some : {A : Type 0} (x y : A) → Some x ≡ Some y → x ≡ y
-same_Some x y e = ap (λ o. unwrap_or o x) e
 
 sum_one : (k : ℕ) (f : Entry → ℕ) (es : List Entry) (v : Member) → T (is_sorted nat_cmp es) → find nat_cmp k es ≡ Some v → sum_by (at_key k f) es ≡ f (k, v)
 sum_one k f [] v h found = cc

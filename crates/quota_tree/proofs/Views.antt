@@ -15,9 +15,7 @@ use Rattle.quota_tree.specs.Containers.{IsLive, used_of, room_of, total_used, op
 use Rattle.quota_tree.specs.Kept.{member_of, seen_as, IsKept, IsQuotas}
 use Rattle.quota_tree.proofs.CollectedLemmas.{get-collected, collected_from-replicate, find-position}
 use Rattle.quota_tree.proofs.Sums.{Parents, costs_within}
-
-pub is_Some : {A : Type 0} (x y : A) → Some x ≡ Some y → x ≡ y
-is_Some x y e = ap (λ o. unwrap_or o x) e
+use Rattle.std.proofs.lemmas.Option.{same_Some}
 
 pub IfSome-each : {A : Type 0} (P : A → Type 0) (o : Option A) → ((x : A) → o ≡ Some x → P x) → IfSome o P
 IfSome-each P None h = tt
@@ -63,7 +61,7 @@ module _ (cs : List (Option Container)) where
     member_kept : (p : ℕ) (m : Member) → map.get (collected member_of cs) p ≡ Some m → (c : Container) × (get_or cs p None ≡ Some c) × (m ≡ member_of c)
     member_kept p m h =
         let c = container_where_live p (ap is_some h) in
-        (c.0, c.1, is_Some m (member_of c.0) (sym h ∙ get-member p c.0 c.1))
+        (c.0, c.1, same_Some m (member_of c.0) (sym h ∙ get-member p c.0 c.1))
 
     pub parents_live : Parents (collected member_of cs)
     parents_live p m h =
@@ -212,5 +210,5 @@ module _ (n quota : ℕ) (some : 1 ≤ quota) where
       root_kept = record { parent = refl; given = refl; children = refl; used = omega arith; within = some }
 
       each : (p : ℕ) (c : Container) → get_or (Some (opened_container 0 quota) ∷ replicate n None) p None ≡ Some c → IsKept (collected member_of (Some (opened_container 0 quota) ∷ replicate n None)) p c
-      each zero c h = subst (λ (b : Book). IsKept b 0 c) (sym (collected-opening member_of)) (subst (λ (x : Container). IsKept (map.insert map.empty 0 (member_of (opened_container 0 quota))) 0 x) (is_Some (opened_container 0 quota) c h) root_kept)
+      each zero c h = subst (λ (b : Book). IsKept b 0 c) (sym (collected-opening member_of)) (subst (λ (x : Container). IsKept (map.insert map.empty 0 (member_of (opened_container 0 quota))) 0 x) (same_Some (opened_container 0 quota) c h) root_kept)
       each (suc p) c h = absurd (none_later n p c h)

@@ -12,7 +12,8 @@ use Rattle.quota_tree.specs.Collected.{collected}
 use Rattle.quota_tree.specs.Containers.{with_used}
 use Rattle.quota_tree.specs.Kept.{member_of, seen_as, IsKept, IsQuotas}
 use Rattle.quota_tree.proofs.CollectedLemmas.{collected-set}
-use Rattle.quota_tree.proofs.Views.{is_Some, get-member}
+use Rattle.quota_tree.proofs.Views.{get-member}
+use Rattle.std.proofs.lemmas.Option.{same_Some}
 
 -- ---- Writes into the list
 
@@ -42,7 +43,7 @@ module _ (cs : List (Option Container)) (kept : IsQuotas cs) (p : ℕ) (within :
     places = length-set cs p (Some d) ∙ kept.places;
     root = record { quota = kept.root.quota; is = ap (λ b. map.get b 0) book-set ∙ kept.root.is };
     each = λ q x at. subst (λ (b : Book). IsKept b q x) (sym book-set) (elim (after_set cs p (Some d) q x within at) [
-      | inl is ↦ (let e : d ≡ x = is_Some d x is.1 in subst (λ (n : ℕ). IsKept (collected member_of cs) n x) (sym is.0) (subst (λ (y : Container). IsKept (collected member_of cs) p y) e new))
+      | inl is ↦ (let e : d ≡ x = same_Some d x is.1 in subst (λ (n : ℕ). IsKept (collected member_of cs) n x) (sym is.0) (subst (λ (y : Container). IsKept (collected member_of cs) p y) e new))
       | inr other ↦ kept.each q x other.1
     ]);
   }

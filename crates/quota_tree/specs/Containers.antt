@@ -1,5 +1,5 @@
 -- The containers as two finite maps, and what each call answers and leaves.
-use Rattle.std.proofs.Common.{◌≡◌, ℕ, ◌-◌, ◌==◌, if◌then◌else◌, nat_lt, true, Option, Some, None, Result, Ok, Err, unwrap_or, sum_by, refl}
+use Rattle.std.proofs.Common.{◌≡◌, ℕ, ◌+◌, ◌-◌, ◌==◌, if◌then◌else◌, nat_lt, true, Option, Some, None, Result, Ok, Err, unwrap_or, sum_by, refl}
 use Rattle.std.specs.Option.{option_map}
 use Rattle.std.specs.Coded.{Coded, code_by, coded×, coded_ℕ}
 use Rattle.page_words.specs.FiniteMap as map
@@ -28,6 +28,17 @@ used_of c p = unwrap_or (map.get c.used p) 0
 -- a container that gives nothing, and uses one frame
 abbrev pub opened_container : ℕ → ℕ → Container
 opened_container parent quota = record { parent = parent; quota = quota; used = 1; given = 0; children = 0 }
+
+-- a container that uses that many frames
+abbrev pub charged_with : Container → ℕ → Container
+charged_with c frames = record c { used = frames }
+
+-- a parent's container, with one child more of that quota, or less
+abbrev pub giver_after_split : Container → ℕ → Container
+giver_after_split g quota = record g { given = g.given + quota; children = g.children + 1 }
+
+abbrev pub giver_after_close : Container → ℕ → Container
+giver_after_close g quota = record g { given = g.given - quota; children = g.children - 1 }
 
 -- what a process may still use or give
 abbrev pub room_of : Containers → ℕ → ℕ

@@ -8,8 +8,8 @@
 
 ghost use Rattle.std.specs.Prelude.{◌≡◌, ℕ, ◌+◌, ◌-◌, ◌<◌, ◌≤◌, ◌≢◌, ◌^◌, ◌↔◌, IfSome, None, Ok, IsOk, IsSome, Some, is_some, not, slice_index_or, slice_set, position};
 ghost use Rattle.page_words.specs.FiniteMap as map;
-ghost use Rattle.quota_tree.specs.Book.{Member, given, quota_of, number_of_children};
-ghost use Rattle.quota_tree.specs.Containers.{opening, IsLive, opened_container, room_of, used_of, split_answer, after_split, with_used, after_close, container_of, total_used};
+ghost use Rattle.quota_tree.specs.Book.{Member, given, quota_of, number_of_children, next_number};
+ghost use Rattle.quota_tree.specs.Containers.{opening, IsLive, opened_container, room_of, used_of, split_answer, after_split, with_used, after_close, container_of, total_used, charged_with, giver_after_split, giver_after_close};
 
 use page_words::Pid;
 use std::marker::Model;
@@ -66,6 +66,7 @@ fn root_pid() -> Pid
     Pid::new(0).unwrap()
 }
 
+/// A container of a new child.
 fn opened(parent: Pid, quota: u32) -> Container
     ensures { result ≡ opened_container parent quota }
 {
@@ -76,6 +77,62 @@ fn opened(parent: Pid, quota: u32) -> Container
         given: 0,
         children: 0,
     }
+}
+
+/// The container with that many frames more in use.
+fn charged(container: Container, frames: u32) -> Container
+    requires { container.used + frames < 2 ^ 32 }
+    ensures { result ≡ charged_with container (container.used + frames) }
+{
+    Container {
+        used: container.used + frames,
+        ..container
+    }
+}
+
+/// The container with that many frames less in use.
+fn refunded(container: Container, frames: u32) -> Container
+    requires { frames ≤ container.used }
+    ensures { result ≡ charged_with container (container.used - frames) }
+{
+    Container {
+        used: container.used - frames,
+        ..container
+    }
+}
+
+/// The container of a parent with one child more, of that quota.
+fn with_child(parent: Container, quota: u32) -> Container
+    requires given { parent.given + quota < 2 ^ 32 }
+    requires children { parent.children + 1 < 2 ^ 32 }
+    ensures { result ≡ giver_after_split parent quota }
+{
+    Container {
+        given: parent.given + quota,
+        children: parent.children + 1,
+        ..parent
+    }
+}
+
+/// The container of a parent with one child less, of that quota.
+fn without_child(parent: Container, quota: u32) -> Container
+    requires given { quota ≤ parent.given }
+    requires children { 1 ≤ parent.children }
+    ensures { result ≡ giver_after_close parent quota }
+{
+    Container {
+        given: parent.given - quota,
+        children: parent.children - 1,
+        ..parent
+    }
+}
+
+/// What is left of a quota.
+fn left_of(container: Container) -> u32
+    requires { container.used + container.given ≤ container.quota }
+    ensures { result ≡ container.quota - container.used - container.given }
+{
+    container.quota - container.used - container.given
 }
 
 fn container_at(containers: &[Option<Container>; 64], pid: Pid) -> Option<Container>
@@ -112,6 +169,13 @@ fn first_number(containers: &[Option<Container>; 64]) -> Option<Pid>
 }
 
 impl Quotas {
+    /// The least number that isn't live.
+    fn next_number(&self) -> Option<Pid>
+        ensures { result ≡ next_number self.now.book }
+    {
+        first_number(&self.containers)
+    }
+
     /// Process 0 alone, with that quota, of which it uses one frame. The quota is at least 1.
     pub fn new(root: u32) -> Quotas
         requires { 1 ≤ root }
@@ -133,7 +197,7 @@ impl Quotas {
         if quota == 0 {
             return Err(QuotaFault::BadQuota);
         }
-        let Some(child) = first_number(&self.containers) else {
+        let Some(child) = self.next_number() else {
             return Err(QuotaFault::TableFull);
         };
         if quota > self.room(parent) {
@@ -151,10 +215,8 @@ impl Quotas {
         ensures containers { self.new ≡ after_split self.old parent quota result }
     {
         let child = self.can_split(parent, quota).unwrap();
-        let mut giver = live(&self.containers, parent);
-        giver.given += quota;
-        giver.children += 1;
-        put(&mut self.containers, parent, Some(giver));
+        let giver = live(&self.containers, parent);
+        put(&mut self.containers, parent, Some(with_child(giver, quota)));
         put(&mut self.containers, child, Some(opened(parent, quota)));
         child
     }
@@ -165,9 +227,8 @@ impl Quotas {
         requires room { frames ≤ room_of self.old pid }
         ensures { self.new ≡ with_used self.old pid (used_of self.old pid + frames) }
     {
-        let mut charged = live(&self.containers, pid);
-        charged.used += frames;
-        put(&mut self.containers, pid, Some(charged));
+        let container = live(&self.containers, pid);
+        put(&mut self.containers, pid, Some(charged(container, frames)));
     }
 
     /// Charges a live process for that many frames less, fewer than it uses.
@@ -176,9 +237,8 @@ impl Quotas {
         requires used { frames < used_of self.old pid }
         ensures { self.new ≡ with_used self.old pid (used_of self.old pid - frames) }
     {
-        let mut refunded = live(&self.containers, pid);
-        refunded.used -= frames;
-        put(&mut self.containers, pid, Some(refunded));
+        let container = live(&self.containers, pid);
+        put(&mut self.containers, pid, Some(refunded(container, frames)));
     }
 
     /// Takes out a live process, which isn't process 0 and has no children. Its quota returns to its
@@ -190,9 +250,8 @@ impl Quotas {
         ensures { self.new ≡ after_close self.old pid }
     {
         let closed = live(&self.containers, pid);
-        let mut giver = live(&self.containers, closed.parent);
-        giver.given -= closed.quota;
-        giver.children -= 1;
+        let giver = live(&self.containers, closed.parent);
+        let giver = without_child(giver, closed.quota);
         put(&mut self.containers, closed.parent, Some(giver));
         put(&mut self.containers, pid, None);
     }
@@ -202,8 +261,7 @@ impl Quotas {
         requires { IsLive self.now pid }
         ensures { result ≡ room_of self.now pid }
     {
-        let container = live(&self.containers, pid);
-        container.quota - container.used - container.given
+        left_of(live(&self.containers, pid))
     }
 
     /// The container of a process; None where it isn't live.

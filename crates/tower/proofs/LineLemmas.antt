@@ -21,10 +21,6 @@ pub record IsSome (lines : List (List ℕ)) : Type 0 where
 
 -- ---- Lists of lines
 
-last_and_front : (first : List ℕ) (others : List (List ℕ)) → all_but_last (first ∷ others) ++ last_of (first ∷ others) ∷ [] ≡ first ∷ others
-last_and_front first [] = refl
-last_and_front first (next ∷ others) = ap (λ lines. first ∷ lines) (last_and_front next others)
-
 front_of_two : (a : List (List ℕ)) (first : List ℕ) (others : List (List ℕ)) → all_but_last (a ++ first ∷ others) ≡ a ++ all_but_last (first ∷ others)
 front_of_two [] first others = refl
 front_of_two (x ∷ []) first others = refl

@@ -26,6 +26,8 @@ use Rattle.address_space.proofs.steps.Departures.{no_cell_outside}
 use Rattle.address_space.proofs.steps.Openings.{cost_within}
 use Rattle.address_space.proofs.entries.Readings.{need_read, get-spaces_in}
 use Rattle.address_space.proofs.steps.Steps.{live_small}
+use Rattle.std.proofs.Math.Bool.{and-false, and-true}
+use Rattle.page_words.proofs.OptionLemmas.{is_some-map}
 
 -- what a page costs where its region has a table, and where it has none
 abbrev priced : Bool → ℕ
@@ -36,10 +38,6 @@ one_price true true h = refl
 one_price true false h = cc
 one_price false true h = cc
 one_price false false h = refl
-
-some_map : {X Y : Type 0} (f : X → Y) (x : Option X) → is_some (option_map f x) ≡ is_some x
-some_map f None = refl
-some_map f (Some x) = refl
 
 -- how many of some regions are below one
 abbrev pub regions_below : Set nat_order → ℕ → ℕ
@@ -64,14 +62,6 @@ next_below q s n = elim (cases_lt q s) [
 
 not_same : (q s : ℕ) → same nat_order q s ≡ false → q ≡ s → ⊥
 not_same q s h e = let t : same nat_order q s ≡ true = ap (same nat_order q) (sym e) ∙ same_itself nat_order q in cc
-
-and_false : (b : Bool) → (b && false) ≡ false
-and_false true = refl
-and_false false = refl
-
-and_true : (b : Bool) → (b && true) ≡ b
-and_true true = refl
-and_true false = refl
 
 below_next : (regions : Set nat_order) (s : ℕ) → regions_below regions (s + 1) ≡ regions_below regions s + counted (set.contains regions s)
 below_next regions s = by (set.contains regions s) refl
@@ -106,7 +96,7 @@ below_next regions s = by (set.contains regions s) refl
         ∙ sym (before q))
 
     fresh_one : map.contains_key old s ≡ false
-    fresh_one = before s ∙ ap (λ b. set.contains regions s && b) (lt_false s s (omega arith)) ∙ and_false (set.contains regions s)
+    fresh_one = before s ∙ ap (λ b. set.contains regions s && b) (lt_false s s (omega arith)) ∙ and-false (set.contains regions s)
 
     by : (b : Bool) → set.contains regions s ≡ b → set.len new ≡ set.len old + counted b
     by true there = ap set.len (with_it there) ∙ len-insert old s tt ∙ ap (λ b. cond b (set.len old) (set.len old + 1)) fresh_one
@@ -157,7 +147,7 @@ module _ (directories : List (Option ℕ)) (bytes : List ℕ) (roles : List Role
   regions_at_last = ap set.len (same_set (set.retain regions (λ r. nat_lt r 960)) regions (λ q. contains-retain regions (λ r. nat_lt r 960) q ∙ by q (set.contains regions q) refl))
     where
       by : (q : ℕ) (b : Bool) → set.contains regions q ≡ b → (set.contains regions q && nat_lt q 960) ≡ set.contains regions q
-      by q true there = let u = user_region q there in ap (λ b. set.contains regions q && b) (lt_true q 960 u.1) ∙ and_true (set.contains regions q)
+      by q true there = let u = user_region q there in ap (λ b. set.contains regions q && b) (lt_true q 960 u.1) ∙ and-true (set.contains regions q)
       by q false none = ap (λ b. b && nat_lt q 960) none ∙ sym none
 
   pub regions_next : (s n k : ℕ) → 256 ≤ s → s < 960 → n ≡ regions_below regions s → k ≡ counted (is_some (table_of (frame_bytes bytes) d s)) → n + k ≡ regions_below regions (s + 1)
@@ -172,11 +162,11 @@ module _ (directories : List (Option ℕ)) (bytes : List ℕ) (roles : List Role
   pages_are_entries = same_set (pages_of S p) (map.map_values (λ page (e : PageEntry). tt) (entries_of (frame_bytes bytes) d)) (λ page.
       contains-pages_of S p page
       ∙ elim (user_cases page) [
-        | inl user ↦ ap is_some (get-spaces_in directories bytes p page few user.0 user.1 ∙ ap (λ x. option_map (cell page) (option_and_then (λ d. entry_at (frame_bytes bytes) d page) x)) live) ∙ some_map (cell page) (entry_at (frame_bytes bytes) d page)
+        | inl user ↦ ap is_some (get-spaces_in directories bytes p page few user.0 user.1 ∙ ap (λ x. option_map (cell page) (option_and_then (λ d. entry_at (frame_bytes bytes) d page) x)) live) ∙ is_some-map (cell page) (entry_at (frame_bytes bytes) d page)
             ∙ sym (ap is_some (get-entries_user (frame_bytes bytes) d page user))
         | inr out ↦ ap is_some (no_cell_outside directories bytes roles p page spaces.sound out) ∙ sym (ap is_some (get-entries_other (frame_bytes bytes) d page out))
       ]
-      ∙ sym (ap is_some (get-map_values nat_order (λ page (e : PageEntry). tt) (entries_of (frame_bytes bytes) d) page) ∙ some_map (λ (e : PageEntry). tt) (map.get (entries_of (frame_bytes bytes) d) page)))
+      ∙ sym (ap is_some (get-map_values nat_order (λ page (e : PageEntry). tt) (entries_of (frame_bytes bytes) d) page) ∙ is_some-map (λ (e : PageEntry). tt) (map.get (entries_of (frame_bytes bytes) d) page)))
     where
       cell : ℕ → PageEntry → Cell
       cell page = cell_of (entries_in (directory_of directories) (frame_bytes bytes)) (frame_bytes bytes) (at_page p page)

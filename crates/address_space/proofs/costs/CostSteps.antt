@@ -26,6 +26,8 @@ use Rattle.address_space.specs.View.{Directories, directory_of, table_in, entry_
 use Rattle.address_space.specs.Sound.{InUseAt}
 use Rattle.address_space.proofs.entries.EntrySteps.{get-entries_in, entry_by_table}
 use Rattle.address_space.proofs.entries.Refinement.{get-spaces_of}
+use Rattle.std.proofs.Math.Bool.{or-true}
+use Rattle.page_words.proofs.OptionLemmas.{is_some-map}
 
 -- ---- A sum over a range, with one term changed
 
@@ -98,13 +100,9 @@ need-most S p page = by (set.contains (regions_of (pages_of S p)) (slot_number p
 passing : (o : Set nat_order) (t : ℕ → Bool) → list_any t (set.items o) ≡ true → (k : ℕ) × (t k ≡ true) × (set.contains o k ≡ true)
 passing o t h = let r = by (set.items o) h in (r.0, r.1, is_some-find nat_order.cmp r.0 o.entries ∙ r.2)
   where
-    or_true : (a : Bool) → (a || true) ≡ true
-    or_true true = refl
-    or_true false = refl
-
     step : (x : ℕ) (xs : List ℕ) (b : Bool) → t x ≡ b → (b || list_any t xs) ≡ true → (list_any t xs ≡ true → (k : ℕ) × (t k ≡ true) × (list_any (same nat_order k) xs ≡ true)) → (k : ℕ) × (t k ≡ true) × (list_any (same nat_order k) (x ∷ xs) ≡ true)
     step x xs true is h rest = (x, is, ap (λ b. b || list_any (same nat_order x) xs) (same_itself nat_order x))
-    step x xs false is h rest = let r = rest h in (r.0, r.1, ap (λ b. same nat_order r.0 x || b) r.2 ∙ or_true (same nat_order r.0 x))
+    step x xs false is h rest = let r = rest h in (r.0, r.1, ap (λ b. same nat_order r.0 x || b) r.2 ∙ or-true (same nat_order r.0 x))
 
     by : (ks : List ℕ) → list_any t ks ≡ true → (k : ℕ) × (t k ≡ true) × (list_any (same nat_order k) ks ≡ true)
     by [] h = cc
@@ -160,15 +158,11 @@ total-kept directories E m m' slot old new found =
 pub need-two : (D : Directories) (m : Frames) (p page : ℕ) → table_in D m p (slot_number page) ≡ None → need (spaces_of (entries_in D m) m) p page ≡ 2
 need-two D m p page none = by (set.contains (regions_of (pages_of (spaces_of (entries_in D m) m) p)) (slot_number page)) refl
   where
-    some_map : (E : Entries) (q : Slot) (x : Option PageEntry) → is_some (option_map (cell_of E m q) x) ≡ is_some x
-    some_map E q None = refl
-    some_map E q (Some d) = refl
-
     clash : (other : ℕ) → slot_number other ≡ slot_number page → map_of.contains_key (spaces_of (entries_in D m) m) (at_page p other) ≡ true → ⊥
     clash other same_region h =
         let q : Slot = at_page p other in
         let entry : is_some (cond (list_any (same slot_order q) user_slots) (entry_in D m q) None) ≡ true =
-        sym (ap is_some (get-spaces_of (entries_in D m) m q) ∙ some_map (entries_in D m) q (map_of.get (entries_in D m) q) ∙ ap is_some (get-entries_in D m q)) ∙ h in
+        sym (ap is_some (get-spaces_of (entries_in D m) m q) ∙ is_some-map (cell_of (entries_in D m) m q) (map_of.get (entries_in D m) q) ∙ ap is_some (get-entries_in D m q)) ∙ h in
         let no : entry_in D m q ≡ None = entry_by_table D m q ∙ ap (option_and_then _) (ap (table_in D m p) same_region ∙ none) in
         absurd (gone (list_any (same slot_order q) user_slots) (entry_in D m q) no entry)
       where
@@ -190,15 +184,11 @@ spread : (k : ℕ) (ks : List ℕ) → list_any (same nat_order k) ks ≡ true �
 spread k [] h = cc
 spread k (x ∷ xs) h = step (same_or_not nat_order k x) h (spread k xs)
   where
-    or_true : (a : Bool) → (a || true) ≡ true
-    or_true true = refl
-    or_true false = refl
-
     step : ((k ≡ x) × (same nat_order k x ≡ true)) ⊎ (same nat_order k x ≡ false) → (same nat_order k x || list_any (same nat_order k) xs) ≡ true
         → (list_any (same nat_order k) xs ≡ true → list_any (λ n. same nat_order (slot_number k) (slot_number n)) xs ≡ true)
         → (same nat_order (slot_number k) (slot_number x) || list_any (λ n. same nat_order (slot_number k) (slot_number n)) xs) ≡ true
     step (inl e) h rest = ap (λ b. b || list_any (λ n. same nat_order (slot_number k) (slot_number n)) xs) (ap (λ y. same nat_order (slot_number k) (slot_number y)) (sym e.0) ∙ same_itself nat_order (slot_number k))
-    step (inr e) h rest = ap (λ b. same nat_order (slot_number k) (slot_number x) || b) (rest (ap (λ b. b || list_any (same nat_order k) xs) (sym e) ∙ h)) ∙ or_true _
+    step (inr e) h rest = ap (λ b. same nat_order (slot_number k) (slot_number x) || b) (rest (ap (λ b. b || list_any (same nat_order k) xs) (sym e) ∙ h)) ∙ or-true _
 
 -- a page's region is one of the regions
 pub region_there : (pages : Set nat_order) (k : ℕ) → set.contains pages k ≡ true → set.contains (regions_of pages) (slot_number k) ≡ true

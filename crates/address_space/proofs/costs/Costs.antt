@@ -15,11 +15,7 @@ use Rattle.page_words.specs.Addresses.{slot_number}
 use Rattle.address_space.specs.Spaces.{Slot, slot_order, slot_cmp, Cell, Spaces, cost, cost_of, need, pages_of, regions_of, at_page}
 use Rattle.page_words.specs.FiniteMap.{same}
 use Rattle.page_words.proofs.MapLemmas.{get-insert, same_set, contains-insert, contains-from_list, len-insert, list_any-put, list_any-map}
-
-both_tied : (a b : Ordering) → is_eq (ordering_then a b) ≡ (is_eq a && is_eq b)
-both_tied Less b = refl
-both_tied Equal b = refl
-both_tied Greater b = refl
+use Rattle.std.specs.Cmp.{tied_then}
 
 -- whether a page stands among the slots of a process
 among : (p page : ℕ) (es : List (Slot × Cell))
@@ -32,7 +28,7 @@ among p page (e ∷ es) =
     ] refl
   where
     tied : same slot_order (at_page p page) e.0 ≡ (is_eq (nat_cmp p e.0.pid) && same nat_order page e.0.page)
-    tied = both_tied (nat_cmp p e.0.pid) (nat_cmp page e.0.page)
+    tied = sym (tied_then (nat_cmp p e.0.pid) (nat_cmp page e.0.page))
 
     turned : is_eq (nat_cmp p e.0.pid) ≡ (e.0.pid == p)
     turned = (eq_by_cmp_equiv nat_order.total).symm p e.0.pid ∙ unsigned_tied e.0.pid p
@@ -54,7 +50,7 @@ pages-insert spaces slot cell = same_set (pages_of (map.insert spaces slot cell)
     contains-pages_of (map.insert spaces slot cell) slot.pid page
     ∙ ap is_some (get-insert spaces slot cell (at_page slot.pid page))
     ∙ some_or (same slot_order (at_page slot.pid page) slot) (map.get spaces (at_page slot.pid page))
-    ∙ (λ i. (both_tied (nat_cmp slot.pid slot.pid) (nat_cmp page slot.page) ∙ ap (λ b. b && same nat_order page slot.page) ((eq_by_cmp_equiv nat_order.total).refl slot.pid)) i || sym (contains-pages_of spaces slot.pid page) i)
+    ∙ (λ i. (sym (tied_then (nat_cmp slot.pid slot.pid) (nat_cmp page slot.page)) ∙ ap (λ b. b && same nat_order page slot.page) ((eq_by_cmp_equiv nat_order.total).refl slot.pid)) i || sym (contains-pages_of spaces slot.pid page) i)
     ∙ sym (contains-insert (pages_of spaces slot.pid) slot.page page))
   where
     some_or : (b : Bool) (x : Option Cell) → is_some (cond b (Some cell) x) ≡ (b || is_some x)

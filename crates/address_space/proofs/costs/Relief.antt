@@ -19,6 +19,8 @@ use Rattle.address_space.proofs.costs.Costs.{contains-pages_of, same_pages, cost
 use Rattle.address_space.proofs.costs.CostSteps.{region_there, region_member, keys}
 use Rattle.address_space.proofs.entries.EntrySteps.{get-entries_in}
 use Rattle.address_space.proofs.entries.UserSlots.{in_user_slots}
+use Rattle.page_words.proofs.OptionLemmas.{is_some-map}
+use Rattle.page_words.proofs.OptionLemmas.{no_value}
 
 module _ (S : Spaces) (p page : ℕ) where
   abbrev slot : Slot
@@ -27,15 +29,11 @@ module _ (S : Spaces) (p page : ℕ) where
   abbrev left : Spaces
   left = without S (is_slot p page)
 
-  some_map : {X Y : Type 0} (f : X → Y) (x : Option X) → is_some (option_map f x) ≡ is_some x
-  some_map f None = refl
-  some_map f (Some x) = refl
-
   -- what is left is mapped as before, but for the slot
   key_left : (q : Slot) → map.contains_key left q ≡ cond (not (is_slot p page q)) (map.contains_key S q) false
   key_left q =
       ap is_some (get-map_values slot_order (λ slot cell. with_holders cell (set.retain cell.holders (λ s. not (is_slot p page s)))) (map.retain_keys S (λ s. not (is_slot p page s))) q)
-      ∙ some_map (λ cell. with_holders cell (set.retain cell.holders (λ s. not (is_slot p page s)))) (map.get (map.retain_keys S (λ s. not (is_slot p page s))) q)
+      ∙ is_some-map (λ cell. with_holders cell (set.retain cell.holders (λ s. not (is_slot p page s)))) (map.get (map.retain_keys S (λ s. not (is_slot p page s))) q)
       ∙ ap is_some (get-retain_keys S (λ s. not (is_slot p page s)) q)
       ∙ by (not (is_slot p page q))
     where
@@ -44,11 +42,7 @@ module _ (S : Spaces) (p page : ℕ) where
       by false = refl
 
   pub is_gone : map.get left slot ≡ None
-  is_gone = none (map.get left slot) (key_left slot ∙ ap (λ b. cond (not b) (map.contains_key S slot) false) (same_itself slot_order slot))
-    where
-      none : (x : Option Cell) → is_some x ≡ false → x ≡ None
-      none None h = refl
-      none (Some c) h = cc
+  is_gone = no_value (map.get left slot) (key_left slot ∙ ap (λ b. cond (not b) (map.contains_key S slot) false) (same_itself slot_order slot))
 
   others_left : (q : Slot) → is_slot p page q ≡ false → map.contains_key left q ≡ map.contains_key S q
   others_left q h = key_left q ∙ ap (λ b. cond (not b) (map.contains_key S q) false) h

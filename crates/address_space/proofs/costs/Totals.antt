@@ -13,7 +13,7 @@ use Rattle.address_space.proofs.costs.AccessCosts.{cost-same, key-insert, key-st
 use Rattle.address_space.proofs.costs.Costs.{cost-insert, same_pages}
 use Rattle.address_space.proofs.costs.CostSteps.{total-insert, other_slot, need-most}
 use Rattle.address_space.proofs.steps.Departures.{get-without}
-use Rattle.address_space.proofs.steps.Steps.{some_is}
+use Rattle.page_words.proofs.OptionLemmas.{some_value}
 
 key-each : (f : Slot → Cell → Cell) (S : Spaces) (q : Slot) → map.contains_key (map.map_values f S) q ≡ map.contains_key S q
 key-each f S q = ap is_some (get-map_values slot_order f S q) ∙ by (map.get S q)
@@ -75,7 +75,7 @@ cost-without_other S gone p stays = cost-by-pages (without S gone) S p (λ page.
 pub total_mapped_most : (directories : List (Option ℕ)) (S : Spaces) (slot : Slot) (cell : Cell) → slot.pid < 64 → is_some (directory_of directories slot.pid) ≡ true → map.get S slot ≡ None
     → total_cost directories (map.insert S slot cell) ≤ 2 + total_cost directories S
 total_mapped_most directories S slot cell few live none =
-    let d = some_is (directory_of directories slot.pid) live in
+    let d = some_value (directory_of directories slot.pid) live in
     let t = total-insert directories S slot cell d.0 few d.1 none in
     let most = need-most S slot.pid slot.page in
     omega (arith, t, most)

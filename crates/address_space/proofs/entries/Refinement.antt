@@ -13,6 +13,8 @@ use Rattle.page_map.specs.declared.PageEntry.{PageEntry}
 use Rattle.phys_memory.specs.Bytes.{with_frame}
 use Rattle.address_space.specs.Cells.{Entries, names, nothing, holders_of, group_of, cell_of, spaces_of}
 use borrow.Author.Tests.{eqb-true, eq-eqb}
+use Rattle.std.proofs.Math.Bool.{and-false, and-true}
+use Rattle.std.proofs.lemmas.Option.{same_Some}
 
 contained : (slot : Slot) (x : Option PageEntry) (f : ℕ) → (is_some (option_map (nothing slot) x) && names f x) ≡ names f x
 contained slot None f = refl
@@ -178,16 +180,8 @@ option_filter f false x = refl
 
 names-filter : (f : ℕ) (b : Bool) (x : Option PageEntry) → names f (cond b x None) ≡ (names f x && b)
 names-filter f true None = refl
-names-filter f true (Some e) = and_true (e.frame == f)
-  where
-    and_true : (b : Bool) → b ≡ (b && true)
-    and_true true = refl
-    and_true false = refl
-names-filter f false x = and_false (names f x)
-  where
-    and_false : (b : Bool) → false ≡ (b && false)
-    and_false true = refl
-    and_false false = refl
+names-filter f true (Some e) = sym (and-true (e.frame == f))
+names-filter f false x = sym (and-false (names f x))
 
 -- the entries of some slots go: the slots leave their groups as the machine says
 pub leave_refines : (entries : Entries) (bytes : ℕ → List ℕ) (gone : Slot → Bool) → spaces_of (map.retain_keys entries (λ s. not (gone s))) bytes ≡ without (spaces_of entries bytes) gone
@@ -296,6 +290,3 @@ fill_refines entries bytes slot e f found lazy unused real zero clean =
     ∙ insert_there (spaces_of entries bytes) slot (cell_of entries bytes slot e) (get-spaces_of entries bytes slot ∙ ap (option_map (cell_of entries bytes slot)) found)
 
 -- ---- Groups
-
-pub same_Some : {A : Type 0} (x y : A) → Some x ≡ Some y → x ≡ y
-same_Some x y e = ap (λ o. unwrap_or o x) e

@@ -8,10 +8,8 @@ use Rattle.page_words.specs.FiniteMap.{same, nat_order}
 use Rattle.page_words.proofs.MapLemmas.{same_or_not, same_itself, list_any-map}
 use Rattle.address_space.specs.Spaces.{slot_order, at_page}
 use Rattle.address_space.specs.Slots.{user_slots, slots_below, at_pid}
-
-or_true : (a : Bool) → (a || true) ≡ true
-or_true true = refl
-or_true false = refl
+use Rattle.std.proofs.Math.Bool.{or-true}
+use Rattle.std.specs.Cmp.{tied_then}
 
 any-append : {A : Type 0} (t : A → Bool) (xs ys : List A) → list_any t (xs ++ ys) ≡ (list_any t xs || list_any t ys)
 any-append t [] ys = refl
@@ -36,12 +34,7 @@ range_any x a (suc n) low high =
     above x a low n = omega arith
 
 slot_same_parts : (p page : ℕ) (q n : ℕ) → same slot_order (at_page p page) (at_page q n) ≡ (same nat_order p q && same nat_order page n)
-slot_same_parts p page q n = both_tied (nat_cmp p q) (nat_cmp page n)
-  where
-    both_tied : (a b : Ordering) → is_eq (ordering_then a b) ≡ (is_eq a && is_eq b)
-    both_tied Less b = refl
-    both_tied Equal b = refl
-    both_tied Greater b = refl
+slot_same_parts p page q n = sym (tied_then (nat_cmp p q) (nat_cmp page n))
 
 any_ext : {A : Type 0} (s t : A → Bool) (xs : List A) → ((x : A) → s x ≡ t x) → list_any s xs ≡ list_any t xs
 any_ext s t [] is = refl
@@ -57,7 +50,7 @@ slots_any p page (suc n) pages low user =
           ∙ any_ext (λ y. same slot_order (at_page p page) (at_pid n y)) (λ y. same nat_order page y) pages (λ y. slot_same_parts p page n y ∙ ap (λ b. b && same nat_order page y) h.1)
           ∙ user)
       | inr h ↦ ap (λ b. list_any (same slot_order (at_page p page)) (map (at_pid n) pages) || b) (slots_any p page n pages (below p n low (apart p n h)) user)
-          ∙ or_true (list_any (same slot_order (at_page p page)) (map (at_pid n) pages))
+          ∙ or-true (list_any (same slot_order (at_page p page)) (map (at_pid n) pages))
     ]
   where
     apart : (p n : ℕ) → same nat_order p n ≡ false → (p ≡ n) → ⊥

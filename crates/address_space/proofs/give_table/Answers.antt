@@ -2,8 +2,9 @@ use Rattle.std.proofs.Common.{◌≡◌, ◌∙◌, sym, None}
 use Rattle.phys_memory.specs.Bytes.{frame_bytes}
 use Rattle.page_map.specs.Entries.{table_of}
 use Rattle.alloc_table.specs.declared.Role.TheVariants.{Free}
-use Rattle.address_space.proofs.steps.Steps.{page_map_of, inside, table_given, none_is}
+use Rattle.address_space.proofs.steps.Steps.{page_map_of, inside, table_given}
 use Rattle.address_space.proofs.give_table.Goals as goal
+use Rattle.page_words.proofs.OptionLemmas.{no_value}
 
 pub has_table-requires-clause-map : goal.has_table-requires-clause-map
 has_table-requires-clause-map c = page_map_of c.args.directories.now c.args.memory.now c.args.frames.now c.args.pid c.args.directory c.requires.sound c.requires.live
@@ -16,6 +17,6 @@ link_table-requires-clause-inside c = (inside c.args.directories.now c.args.memo
 
 pub returns-then-not-has_table : goal.returns-then-not-has_table
 returns-then-not-has_table c =
-    let none : table_of (frame_bytes c.args.memory.now) c.args.directory c.args.slot ≡ None = none_is _ (sym c.has_table.ensures ∙ c.if-not-has_table.true) in
+    let none : table_of (frame_bytes c.args.memory.now) c.args.directory c.args.slot ≡ None = no_value _ (sym c.has_table.ensures ∙ c.if-not-has_table.true) in
     table_given c.args.directories.now c.args.memory.now c.link_table.new.memory c.args.frames.now c.take-table.new.frames c.args.pid c.args.directory c.args.slot c.take-table.result
     c.requires.sound c.requires.live c.requires.low c.requires.high none c.take-table.ensures c.link_table.ensures.frames c.link_table.ensures.length

@@ -33,8 +33,9 @@ use Rattle.address_space.proofs.frames.PageSteps.{pages-role}
 use Rattle.address_space.proofs.entries.Readings.{need_read}
 use Rattle.address_space.proofs.entries.Refinement.{get-spaces_of, leave_refines}
 use Rattle.address_space.proofs.standing.Standing.{past_end}
-use Rattle.address_space.proofs.steps.Steps.{live_small, none_before, none_is, role_own, role_other}
+use Rattle.address_space.proofs.steps.Steps.{live_small, none_before, role_own, role_other}
 use borrow.Author.Tests.{eqb-true, eq-eqb}
+use Rattle.page_words.proofs.OptionLemmas.{no_value}
 
 -- ---- Slots that leave
 
@@ -154,7 +155,7 @@ unfolding spaces_in
 no_cell_unmapped directories bytes p d page live low high unmapped =
     let m : Frames = frame_bytes bytes in
     no_cell_by (directory_of directories) m (at_page p page)
-    (ap (option_and_then (λ d. entry_at m d page)) live ∙ none_is (entry_at m d page) (ap is_some (sym (get-entries_user m d page (low, high))) ∙ unmapped))
+    (ap (option_and_then (λ d. entry_at m d page)) live ∙ no_value (entry_at m d page) (ap is_some (sym (get-entries_user m d page (low, high))) ∙ unmapped))
 
 -- a page that the map has, has an entry
 pub entry_mapped : (m : Frames) (d page : ℕ) → IsUserPage page → is_mapped m d page ≡ true → is_some (entry_at m d page) ≡ true

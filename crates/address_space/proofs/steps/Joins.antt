@@ -27,7 +27,8 @@ use Rattle.address_space.proofs.entries.EntrySteps.{entries-insert, tables-entry
 use Rattle.address_space.proofs.frames.FrameSteps.{tables-role}
 use Rattle.address_space.proofs.frames.PageSteps.{same_bytes, pages-join, no_table, not_same, lazy-real}
 use Rattle.address_space.proofs.entries.Refinement.{get-spaces_of, join_refines}
-use Rattle.address_space.proofs.steps.Steps.{inside, live_small, page_loose, none_before, table_by_word, role_own, role_other, some_is}
+use Rattle.address_space.proofs.steps.Steps.{inside, live_small, page_loose, none_before, table_by_word, role_own, role_other}
+use Rattle.page_words.proofs.OptionLemmas.{some_value}
 
 pub slot_joined : (directories : List (Option ℕ)) (bytes two : List ℕ) (roles roles' : List Role) (giver giver_page p d page f c : ℕ) (right : Bool) → IsSound directories bytes roles → directory_of directories p ≡ Some d
     → 0x40000 ≤ page → page < 0xf0000 → map.get (spaces_in directories bytes) (at_page p page) ≡ None → is_some (table_of (frame_bytes bytes) d (slot_number page)) ≡ true
@@ -45,7 +46,7 @@ slot_joined directories bytes two roles roles' giver giver_page p d page f c rig
     let slot : Slot = at_page p page in
     let e : PageEntry = record { frame = f; write = right; may = right; accessed = false; dirty = false; lazy = false } in
     let E : Entries = entries_in D m in
-    let at = some_is (table_of m d (slot_number page)) table in
+    let at = some_value (table_of m d (slot_number page)) table in
     let t : ℕ = at.0 in
     let m2 : Frames = with_entry m t page e in
     let own : R' f ≡ Some (Page (c + 1)) = role_own roles roles' f (Page c) (Page (c + 1)) role now in

@@ -182,15 +182,6 @@ page_added directories bytes two roles p d page t write sound live low high unma
       spaces = (λ i. spaces_of (E2 i) (is i)) ∙ lazy_refines E m2 slot write none zero ∙ ap (λ x. map.insert x slot (fresh slot write)) (same_bytes E m m2 page_kept);
     }
 
--- whether a slot has a table
-pub some_is : {A : Type 0} (x : Option A) → is_some x ≡ true → (y : A) × (x ≡ Some y)
-some_is None h = cc
-some_is (Some y) h = (y, refl)
-
-pub none_is : {A : Type 0} (x : Option A) → is_some x ≡ false → x ≡ None
-none_is None h = refl
-none_is (Some y) h = cc
-
 -- a page map after a loose frame's bytes were changed
 pub record MapKept (one bytes : List ℕ) (d : ℕ) : Type 0 where
   pub map : IsPageMap one d

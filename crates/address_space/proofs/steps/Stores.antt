@@ -32,7 +32,9 @@ use Rattle.address_space.proofs.entries.EntrySteps.{Loose, get-entries_in, entri
 use Rattle.address_space.proofs.frames.FrameSteps.{loose-entry, loose-entries, tables-loose, use_loose}
 use Rattle.address_space.proofs.frames.PageSteps.{same_bytes, pages-same, no_table, not_same, lazy-same}
 use Rattle.address_space.proofs.entries.Refinement.{get-spaces_of, store_refines, flags_refine, cell_at}
-use Rattle.address_space.proofs.steps.Steps.{inside, holds_inside, live_small, page_loose, table_by_word, some_is}
+use Rattle.address_space.proofs.steps.Steps.{inside, holds_inside, live_small, page_loose, table_by_word}
+use Rattle.page_words.proofs.OptionLemmas.{is_some-map}
+use Rattle.page_words.proofs.OptionLemmas.{some_value}
 
 -- ---- Bytes
 
@@ -271,7 +273,7 @@ pub record Mapped (directories : List (Option ℕ)) (bytes : List ℕ) (p page :
 
 pub mapped_slot : (directories : List (Option ℕ)) (bytes : List ℕ) (p page : ℕ) → is_some (map.get (spaces_in directories bytes) (at_page p page)) ≡ true → Mapped directories bytes p page
 unfolding spaces_in
-mapped_slot directories bytes p page h = by_directory (directory_of directories p) refl (in_user (list_any (same slot_order slot) user_slots) (entry_in D m slot) (sym (ap is_some (get-spaces_of E m slot) ∙ some_map (map.get E slot) ∙ ap is_some (get-entries_in D m slot)) ∙ h))
+mapped_slot directories bytes p page h = by_directory (directory_of directories p) refl (in_user (list_any (same slot_order slot) user_slots) (entry_in D m slot) (sym (ap is_some (get-spaces_of E m slot) ∙ is_some-map (cell_of E m slot) (map.get E slot) ∙ ap is_some (get-entries_in D m slot)) ∙ h))
   where
     D : Directories
     D = directory_of directories
@@ -285,17 +287,13 @@ mapped_slot directories bytes p page h = by_directory (directory_of directories 
     slot : Slot
     slot = at_page p page
 
-    some_map : (x : Option PageEntry) → is_some (option_map (cell_of E m slot) x) ≡ is_some x
-    some_map None = refl
-    some_map (Some d) = refl
-
     in_user : (b : Bool) (x : Option PageEntry) → is_some (cond b x None) ≡ true → is_some x ≡ true
     in_user true x h = h
     in_user false x h = cc
 
     by_directory : (x : Option ℕ) → D p ≡ x → is_some (option_and_then (λ d. entry_at m d page) x) ≡ true → Mapped directories bytes p page
     by_directory None is h = cc
-    by_directory (Some d) is h = let e = some_is (entry_at m d page) h in record { directory = d; live = is; entry = e.0; here = e.1 }
+    by_directory (Some d) is h = let e = some_value (entry_at m d page) h in record { directory = d; live = is; entry = e.0; here = e.1 }
 
 -- ---- Entries that were read
 

@@ -4,9 +4,9 @@ use Rattle.address_space.specs.Spaces.{Spaces, slot_at, cost, need, at_page}
 use Rattle.address_space.specs.Shown.{shown}
 use Rattle.address_space.proofs.costs.AccessCosts.{cost-accessed_mapped, cost-accessed_new}
 use Rattle.std.specs.Option.{option_map}
-use Rattle.process_table.proofs.Charged.{is_some-map}
-use Rattle.process_table.proofs.Refusals.{no_cell}
 use Rattle.process_table.proofs.charges.charge_at.Goals as goal
+use Rattle.page_words.proofs.OptionLemmas.{is_some-map}
+use Rattle.page_words.proofs.OptionLemmas.{no_value}
 
 pub returns-then-is_some : goal.returns-then-is_some
 returns-then-is_some c =
@@ -28,4 +28,4 @@ returns-else-is_some c =
     ∙ sym (is_some-map shown (map.get S (at_page c.args.pid c.page_of-page.result)))
     ∙ ap (λ X. is_some (option_map shown (map.get X (at_page c.args.pid c.page_of-page.result)))) (sym c.spaces.ensures.spaces)
     ∙ ap is_some (sym c.cell.ensures) ∙ sym c.is_some.ensures ∙ c.if-is_some.false in
-    c.charge_with.ensures ∙ ap (λ n. cost S c.args.pid + need S c.args.pid n) c.page_of-page.ensures.value ∙ sym (cost-accessed_new S slot (no_cell (map.get S slot) none))
+    c.charge_with.ensures ∙ ap (λ n. cost S c.args.pid + need S c.args.pid n) c.page_of-page.ensures.value ∙ sym (cost-accessed_new S slot (no_value (map.get S slot) none))

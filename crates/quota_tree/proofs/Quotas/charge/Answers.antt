@@ -1,29 +1,30 @@
-use Rattle.std.proofs.Common.{◌+◌, refl, sym, ap, ◌∙◌, arith}
+use Rattle.std.proofs.Common.{◌+◌, Some, refl, sym, ap, ◌∙◌, arith}
+use Rattle.std.specs.Prelude.{slice_set}
 use Rattle.page_words.specs.FiniteMap as map
-use Rattle.quota_tree.specs.Containers.{room_of, used_of, with_used}
+use Rattle.quota_tree.specs.Containers.{room_of, used_of, with_used, charged_with}
 use Rattle.quota_tree.specs.Kept.{seen_as}
 use Rattle.quota_tree.proofs.Views.{is_some-live, room_of-container, used_of-container, within_places}
 use Rattle.quota_tree.proofs.Writes.{quotas-charged, seen_as-charged}
 use Rattle.quota_tree.proofs.Quotas.charge.Goals as goal
 
-pub live-charged-requires : goal.live-charged-requires
-live-charged-requires c = is_some-live c.self.inside.containers c.args.pid (ap (λ view. map.contains_key view.book c.args.pid) c.self.view_is ∙ c.requires.live)
+pub live-container-requires : goal.live-container-requires
+live-container-requires c = is_some-live c.self.inside.containers c.args.pid (ap (λ view. map.contains_key view.book c.args.pid) c.self.view_is ∙ c.requires.live)
 
-pub overflow_add-charged : goal.overflow_add-charged
-overflow_add-charged c =
-    let room = ap (λ view. room_of view c.args.pid) (sym c.self.view_is) ∙ room_of-container c.self.inside.containers c.self.invariant c.args.pid c.live-charged.result c.live-charged.ensures.container in
-    let within = (c.self.invariant.each c.args.pid c.live-charged.result c.live-charged.ensures.container).within in
-    omega (arith, room, within, c.requires.room, c.live-charged.ensures.fits)
+pub charged-requires : goal.charged-requires
+charged-requires c =
+    let room = ap (λ view. room_of view c.args.pid) (sym c.self.view_is) ∙ room_of-container c.self.inside.containers c.self.invariant c.args.pid c.live-container.result c.live-container.ensures.container in
+    let within = (c.self.invariant.each c.args.pid c.live-container.result c.live-container.ensures.container).within in
+    omega (arith, room, within, c.requires.room, c.live-container.ensures.fits)
 
 pub invariant_of-self : goal.invariant_of-self
 invariant_of-self c =
-    let at = c.live-charged.ensures.container in
-    let room = ap (λ view. room_of view c.args.pid) (sym c.self.view_is) ∙ room_of-container c.self.inside.containers c.self.invariant c.args.pid c.live-charged.result at in
-    let old = c.self.invariant.each c.args.pid c.live-charged.result at in
+    let at = c.live-container.ensures.container in
+    let room = ap (λ view. room_of view c.args.pid) (sym c.self.view_is) ∙ room_of-container c.self.inside.containers c.self.invariant c.args.pid c.live-container.result at in
+    let old = c.self.invariant.each c.args.pid c.live-container.result at in
     let used = old.used in
     let within = old.within in
-    rw c.put.ensures (quotas-charged c.self.inside.containers c.self.invariant c.args.pid (within_places c.self.inside.containers c.self.invariant c.args.pid c.live-charged.result at)
-    c.live-charged.result (record c.live-charged.result { used = c.live-charged.result.used + c.args.frames }) at refl
+    rw (c.put.ensures, c.charged.ensures) (quotas-charged c.self.inside.containers c.self.invariant c.args.pid (within_places c.self.inside.containers c.self.invariant c.args.pid c.live-container.result at)
+    c.live-container.result (charged_with c.live-container.result (c.live-container.result.used + c.args.frames)) at refl
     (record {
       parent = old.parent;
       given = old.given;
@@ -34,9 +35,9 @@ invariant_of-self c =
 
 pub returns : goal.returns
 returns c =
-    let at = c.live-charged.ensures.container in
-    let used = sym (used_of-container c.self.inside.containers c.args.pid c.live-charged.result at) ∙ ap (λ view. used_of view c.args.pid) c.self.view_is in
-    ap seen_as c.put.ensures
-    ∙ seen_as-charged c.self.inside.containers c.self.invariant c.args.pid (within_places c.self.inside.containers c.self.invariant c.args.pid c.live-charged.result at)
-    c.live-charged.result (record c.live-charged.result { used = c.live-charged.result.used + c.args.frames }) at refl
+    let at = c.live-container.ensures.container in
+    let used = sym (used_of-container c.self.inside.containers c.args.pid c.live-container.result at) ∙ ap (λ view. used_of view c.args.pid) c.self.view_is in
+    ap seen_as (c.put.ensures ∙ ap (λ x. slice_set c.self.inside.containers c.args.pid (Some x)) c.charged.ensures)
+    ∙ seen_as-charged c.self.inside.containers c.self.invariant c.args.pid (within_places c.self.inside.containers c.self.invariant c.args.pid c.live-container.result at)
+    c.live-container.result (charged_with c.live-container.result (c.live-container.result.used + c.args.frames)) at refl
     ∙ (λ i. with_used (c.self.view_is i) c.args.pid (used i + c.args.frames))

@@ -14,8 +14,8 @@ live-giver-requires c =
     let at = c.live-closed.ensures.container in
     is_some-live c.self.inside.containers c.live-closed.result.parent (c.self.invariant.each c.args.pid c.live-closed.result at).parent
 
-pub overflow_sub-giver : goal.overflow_sub-giver
-overflow_sub-giver c =
+pub without_child-giver-requires-clause-given : goal.without_child-giver-requires-clause-given
+without_child-giver-requires-clause-given c =
     let cs = c.self.inside.containers in
     let at = c.live-closed.ensures.container in
     let giver = c.live-giver.ensures.container in
@@ -23,8 +23,8 @@ overflow_sub-giver c =
     giver_gave cs c.self.invariant c.args.pid (within_places cs c.self.invariant c.args.pid c.live-closed.result at) c.live-closed.result at c.requires.not_root childless
     c.live-giver.result giver (within_places cs c.self.invariant c.live-closed.result.parent c.live-giver.result giver)
 
-pub overflow_sub-giver-2 : goal.overflow_sub-giver-2
-overflow_sub-giver-2 c =
+pub without_child-giver-requires-clause-children : goal.without_child-giver-requires-clause-children
+without_child-giver-requires-clause-children c =
     let cs = c.self.inside.containers in
     let at = c.live-closed.ensures.container in
     let giver = c.live-giver.ensures.container in
@@ -38,7 +38,7 @@ invariant_of-self c =
     let at = c.live-closed.ensures.container in
     let giver = c.live-giver.ensures.container in
     let childless = ap (λ view. number_of_children view.book c.args.pid) c.self.view_is ∙ c.requires.childless in
-    rw (c.put-2.ensures, c.put.ensures)
+    rw (c.put-2.ensures, c.put.ensures, c.without_child-giver.ensures)
     (quotas-close cs c.self.invariant c.args.pid (within_places cs c.self.invariant c.args.pid c.live-closed.result at) c.live-closed.result at c.requires.not_root childless
     c.live-giver.result giver (within_places cs c.self.invariant c.live-closed.result.parent c.live-giver.result giver))
 
@@ -48,7 +48,7 @@ returns c =
     let at = c.live-closed.ensures.container in
     let giver = c.live-giver.ensures.container in
     let childless = ap (λ view. number_of_children view.book c.args.pid) c.self.view_is ∙ c.requires.childless in
-    rw (c.put-2.ensures, c.put.ensures)
+    rw (c.put-2.ensures, c.put.ensures, c.without_child-giver.ensures)
     (seen_as-close cs c.self.invariant c.args.pid (within_places cs c.self.invariant c.args.pid c.live-closed.result at) c.live-closed.result at c.requires.not_root childless
     c.live-giver.result giver (within_places cs c.self.invariant c.live-closed.result.parent c.live-giver.result giver))
     ∙ ap (λ view. after_close view c.args.pid) c.self.view_is

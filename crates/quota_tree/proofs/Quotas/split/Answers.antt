@@ -8,23 +8,23 @@ use Rattle.quota_tree.proofs.Quotas.split.Goals as goal
 pub live-giver-requires : goal.live-giver-requires
 live-giver-requires c = is_some-live c.self.inside.containers c.args.parent (ap (λ view. map.contains_key view.book c.args.parent) c.self.view_is ∙ c.requires.live)
 
-pub overflow_add-giver : goal.overflow_add-giver
-overflow_add-giver c =
+pub with_child-requires-clause-given : goal.with_child-requires-clause-given
+with_child-requires-clause-given c =
     let answer = ap (λ view. split_answer view c.args.parent c.args.quota) c.self.view_is ∙ sym c.can_split.ensures ∙ c.unwrap-child.ensures in
     omega (arith, giver_room c.self.inside.containers c.self.invariant c.args.parent c.args.quota c.unwrap-child.result answer c.live-giver.result c.live-giver.ensures.container, c.live-giver.ensures.fits)
 
-pub overflow_add-giver-2 : goal.overflow_add-giver-2
-overflow_add-giver-2 c =
+pub with_child-requires-clause-children : goal.with_child-requires-clause-children
+with_child-requires-clause-children c =
     let answer = ap (λ view. split_answer view c.args.parent c.args.quota) c.self.view_is ∙ sym c.can_split.ensures ∙ c.unwrap-child.ensures in
     omega (arith, giver_children c.self.inside.containers c.self.invariant c.args.parent c.args.quota c.unwrap-child.result answer c.live-giver.result c.live-giver.ensures.container, c.live-giver.ensures.fits)
 
 pub invariant_of-self : goal.invariant_of-self
 invariant_of-self c =
     let answer = ap (λ view. split_answer view c.args.parent c.args.quota) c.self.view_is ∙ sym c.can_split.ensures ∙ c.unwrap-child.ensures in
-    rw (c.put-2.ensures, c.put.ensures, c.opened.ensures) (quotas-split_answer c.self.inside.containers c.self.invariant c.args.parent c.args.quota c.unwrap-child.result answer c.live-giver.result c.live-giver.ensures.container)
+    rw (c.put-2.ensures, c.put.ensures, c.with_child.ensures, c.opened.ensures) (quotas-split_answer c.self.inside.containers c.self.invariant c.args.parent c.args.quota c.unwrap-child.result answer c.live-giver.result c.live-giver.ensures.container)
 
 pub returns-clause-containers : goal.returns-clause-containers
 returns-clause-containers c =
     let answer = ap (λ view. split_answer view c.args.parent c.args.quota) c.self.view_is ∙ sym c.can_split.ensures ∙ c.unwrap-child.ensures in
-    rw (c.put-2.ensures, c.put.ensures, c.opened.ensures) (seen_as-split_answer c.self.inside.containers c.self.invariant c.args.parent c.args.quota c.unwrap-child.result answer c.live-giver.result c.live-giver.ensures.container)
+    rw (c.put-2.ensures, c.put.ensures, c.with_child.ensures, c.opened.ensures) (seen_as-split_answer c.self.inside.containers c.self.invariant c.args.parent c.args.quota c.unwrap-child.result answer c.live-giver.result c.live-giver.ensures.container)
     ∙ ap (λ view. after_split view c.args.parent c.args.quota c.unwrap-child.result) c.self.view_is
