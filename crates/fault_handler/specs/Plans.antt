@@ -4,7 +4,6 @@ use Rattle.page_words.specs.Addresses.{page_number, is_user_page}
 use Rattle.page_words.specs.declared.addresses.Size.{Size}
 use Rattle.address_space.specs.Spaces.{cell_or_fresh, slot_at}
 use Rattle.table_walk.specs.declared.Access.{Access}
-use Rattle.table_walk.specs.declared.Access.TheVariants.{Read, Write}
 use Rattle.table_walk.specs.Walk.{is_write, page_fault}
 use Rattle.address_space.specs.Image.{is_lazy_at}
 use Rattle.process_table.specs.State.{State, is_mapped, has_no_room}

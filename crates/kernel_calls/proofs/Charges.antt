@@ -1,14 +1,12 @@
 -- What a process is charged for after its own call.
-use Rattle.std.proofs.Common.{◌≡◌, ℕ, Bool, true, false, cond, not, List, refl, ap, sym, ◌∙◌, Option, Some, None, is_some}
-use Rattle.page_words.specs.Addresses.{offset_number, byte_count}
-use Rattle.page_words.specs.declared.addresses.Size.{Size}
+use Rattle.std.proofs.Common.{◌≡◌, ℕ, Bool, true, false, cond, not, refl, ap, sym, ◌∙◌, Option, Some, None, is_some}
 use Rattle.page_words.specs.FiniteMap as map
 use Rattle.page_words.specs.FiniteMap.{same, nat_order}
 use Rattle.page_words.proofs.MapLemmas.{get-insert, get-retain_keys, same_itself}
-use Rattle.address_space.specs.Spaces.{Slot, Cell, slot_order, slot_at, cost, fresh, accessed, stored, bytes_of, at_page}
-use Rattle.address_space.proofs.costs.AccessCosts.{cost-same, cost-accessed_mapped, cost-accessed_new, cost-stored_mapped, cost-stored_new}
+use Rattle.address_space.specs.Spaces.{Slot, Cell, slot_order, cost, fresh, at_page}
+use Rattle.address_space.proofs.costs.AccessCosts.{cost-same}
 use Rattle.process_table.specs.State.{State, is_live, child_of}
-use Rattle.process_table.specs.Calls.{after_load, after_store, after_map, after_spawn, after_exit}
+use Rattle.process_table.specs.Calls.{after_map, after_spawn, after_exit}
 use Rattle.quota_tree.proofs.BookFacts.{contains_key-insert}
 
 -- a page is charged whatever its right

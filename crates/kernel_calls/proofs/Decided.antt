@@ -16,7 +16,7 @@ use Rattle.process_table.specs.declared.causes.Cause.TheVariants as cause
 use Rattle.address_space.specs.Image.{is_lazy_at}
 use Rattle.process_table.specs.View.{View}
 use Rattle.process_table.specs.Image.{memory_of}
-use Rattle.fault_handler.specs.Plans.{plan_of, plan_at, with_fill, goes_on}
+use Rattle.fault_handler.specs.Plans.{plan_of, plan_at, goes_on}
 use Rattle.fault_handler.proofs.Settled.{fill_goes_on}
 use Rattle.fault_handler.specs.declared.plans.Plan.{Plan}
 use Rattle.fault_handler.specs.declared.plans.Plan.TheVariants as plan

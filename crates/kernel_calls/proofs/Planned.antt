@@ -1,6 +1,6 @@
 -- Decisions on accesses, by their plans.
 use Rattle.std.proofs.Common.{◌≡◌, ℕ, Bool, true, false, refl, ap, sym, ◌∙◌, inl, inr}
-use Rattle.std.specs.Prelude.{if◌then◌else◌, ◌&&◌}
+use Rattle.std.specs.Prelude.{if◌then◌else◌}
 use Rattle.page_words.specs.declared.addresses.Size.{Size}
 use Rattle.address_space.specs.Spaces.{cost, slot_at}
 use Rattle.address_space.specs.Image.{is_lazy_at}
@@ -11,7 +11,6 @@ use Rattle.process_table.specs.Calls.{loaded, after_load, after_store}
 use Rattle.process_table.specs.declared.causes.Cause.TheVariants as cause
 use Rattle.table_walk.specs.declared.Access.{Access}
 use Rattle.table_walk.specs.declared.Access.TheVariants.{Read, Write}
-use Rattle.table_walk.specs.Walk.{is_write}
 use Rattle.fault_handler.specs.Plans.{plan_of, plan_at, with_fill, goes_on}
 use Rattle.fault_handler.specs.declared.plans.Plan.{Plan}
 use Rattle.fault_handler.specs.declared.plans.Plan.TheVariants as plan

@@ -1,8 +1,8 @@
 -- Each event keeps states well formed and leaves the root's entry in the book, and so does every run.
-use Rattle.std.proofs.Common.{◌≡◌, ℕ, ◌+◌, ◌%◌, ◌==◌, ◌⊎◌, ◌&&◌, Bool, true, false, not, refl, sym, ap, subst, ◌∙◌, List, [], ◌∷◌, Option, Some, None, unwrap_or, inl, inr, arith}
+use Rattle.std.proofs.Common.{◌≡◌, ℕ, ◌+◌, ◌⊎◌, ◌&&◌, Bool, true, false, not, refl, sym, ap, subst, ◌∙◌, List, [], ◌∷◌, Option, Some, None, unwrap_or, inl, inr, arith}
 use Rattle.std.specs.Prelude.{if◌then◌else◌}
 use Rattle.std.specs.Option.{option_map}
-use Rattle.page_words.specs.Addresses.{page_number, byte_count, is_user_page}
+use Rattle.page_words.specs.Addresses.{page_number, is_user_page}
 use Rattle.page_words.specs.declared.addresses.Size.{Size}
 use Rattle.page_words.specs.FiniteMap as map
 use Rattle.address_space.specs.Spaces.{cell_or_fresh, slot_at}
@@ -31,7 +31,7 @@ use Rattle.kernel_calls.specs.declared.calls.Event.{Event}
 use Rattle.kernel_calls.specs.declared.calls.Reply.{Reply}
 use Rattle.kernel_calls.specs.declared.calls.Reply.TheVariants as reply
 use Rattle.kernel_calls.proofs.Decided.{next-stays, next-goes}
-use borrow.Author.Tests.{eqb-true}
+use Rattle.process_table.proofs.Keeping.{aligned_is}
 
 -- a call that completes has no cause to be refused
 not-refused : (x : Option Cause) (r : Reply) → completes (refused_or x r) ≡ true → x ≡ None
@@ -64,13 +64,6 @@ reachable s p address size access g =
     by false true false w true h = cc
     by false true false w false h = inr refl
 
-aligned : (address : ℕ) (size : Size) → is_misaligned address size ≡ false → address % byte_count size ≡ 0
-aligned address size h = by (address % byte_count size == 0) refl h
-  where
-    by : (b : Bool) → (address % byte_count size == 0) ≡ b → not b ≡ false → address % byte_count size ≡ 0
-    by true is e = eqb-true (address % byte_count size) 0 is
-    by false is e = cc
-
 -- a well formed state, whose root has the entry that it has in another
 abbrev pub IsKept : State → State → Type 0
 IsKept s t = IsWellFormed t × (map.get t.book 0 ≡ map.get s.book 0)
@@ -82,7 +75,7 @@ kept-call s p (call.Load address size) w live h =
 kept-call s p (call.Store address size value) w live h =
     let g = went-on (plan_of s p address size Write) _ h in
     let r = reached s p address size Write g in
-    (well_formed-store s p address size value w live r.1 (aligned address size r.0) (reachable s p address size Write g), refl)
+    (well_formed-store s p address size value w live r.1 (aligned_is address size r.0) (reachable s p address size Write g), refl)
 kept-call s p (call.Map page write) w live h = (well_formed-map s p page write w live (not-refused (map_refusal s p page) _ h), refl)
 kept-call s p (call.Unmap page) w live h = (well_formed-unmap s p page w, refl)
 kept-call s p (call.Protect page write) w live h = (well_formed-protect s p page write w live (not-refused (protect_refusal s p page write) _ h), refl)

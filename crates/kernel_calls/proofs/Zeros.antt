@@ -1,5 +1,5 @@
 -- A load of a page that is mapped first gives 0.
-use Rattle.std.proofs.Common.{◌≡◌, ℕ, zero, suc, true, false, List, take, drop, replicate, refl, ap, sym, ◌∙◌, inl, inr, Option, Some, None, unwrap_or, is_some, arith}
+use Rattle.std.proofs.Common.{◌≡◌, ℕ, zero, suc, true, List, take, drop, replicate, refl, ap, sym, ◌∙◌, inl, inr, Option, None, unwrap_or, arith}
 use Rattle.page_words.specs.Addresses.{offset_number, byte_count}
 use Rattle.page_words.specs.declared.addresses.Size.{Size}
 use Rattle.page_words.specs.FiniteMap as map

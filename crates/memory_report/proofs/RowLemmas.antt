@@ -21,12 +21,13 @@ use Rattle.process_table.proofs.Sizes.{cost-no_pages}
 use Rattle.process_table.specs.Calls.{after_exit}
 use Rattle.process_table.specs.State.{State, open_with, is_live, room, shown}
 use Rattle.process_table.specs.WellFormed.{IsWellFormed}
-use Rattle.quota_tree.proofs.BookFacts.{child_yes, child_no, get-insert_other, get-remove_other}
+use Rattle.quota_tree.proofs.BookFacts.{child_yes, child_no, get-insert_other}
 use Rattle.quota_tree.proofs.Sums.{given-insert, given-none, given-remove}
 use Rattle.quota_tree.specs.Book.{Book, Member, given, quota_of, next_number}
 use borrow.Author.Tests.{eqb-true}
 use Rattle.std.proofs.lemmas.Option.{same_Some}
 use Rattle.page_words.proofs.OptionLemmas.{some_value, no_value}
+use Rattle.page_words.proofs.SetLemmas.{get-remove_other}
 
 -- the row of a process whose entry in the book this is, if there is one
 abbrev row_by : State → ℕ → Option Member → Option Row

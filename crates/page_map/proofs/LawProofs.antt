@@ -1,5 +1,5 @@
 -- Proofs of the laws of a page map.
-use Rattle.std.proofs.Common.{◌≡◌, ◌≢◌, ℕ, ◌+◌, ◌*◌, ◌<◌, ◌≤◌, true, false, List, length, replicate, refl, ap, sym, ◌∙◌, arith, inl, inr, Option, Some, None}
+use Rattle.std.proofs.Common.{◌≡◌, ◌≢◌, ℕ, ◌+◌, ◌*◌, ◌<◌, ◌≤◌, true, false, List, length, replicate, refl, ap, sym, ◌∙◌, arith, inl, inr, Some, None}
 use Rattle.std.specs.Option.{option_and_then}
 use Rattle.std.proofs.lemmas.Bool.Decides.{nat_tests}
 use Rattle.page_words.specs.Addresses.{page_number, slot_number, index_number}
@@ -13,6 +13,7 @@ use Rattle.page_map.specs.Entries.{Frames, dir_word, word_table, table_of, entry
 use Rattle.page_map.specs.Laws.{BlankFramesAreMaps, BlankFramesMapNothing, WalksReadEntries, end_at_entry}
 use Rattle.page_map.proofs.PageLemmas.{get-entries_user, get-entries_other, user_cases}
 use Rattle.page_map.proofs.MapChanges.{table_there, present_entry}
+use Rattle.page_map.proofs.MapSteps.{some_not_none}
 
 -- each word of a blank directory is 0
 blank_word : (m : Frames) (d slot : ℕ) → m d ≡ replicate 4096 0 → slot < 1024 → dir_word m d slot ≡ 0
@@ -21,17 +22,15 @@ blank_word m d slot blank small = ap (λ l. word_in l slot) blank ∙ word_in-ze
 blank_table : (m : Frames) (d slot : ℕ) → m d ≡ replicate 4096 0 → slot < 1024 → table_of m d slot ≡ None
 blank_table m d slot blank small = ap word_table (blank_word m d slot blank small)
 
-none_some : (x : Option ℕ) (t : ℕ) → x ≡ None → x ≡ Some t → ⊥
-none_some x t none some = cc
 
 pub blank_frames_are_maps : BlankFramesAreMaps
 blank_frames_are_maps bytes d inside blank = record {
   directory_inside = inside;
-  tables_inside = λ s t l is. absurd (none_some _ t (blank_table (frame_bytes bytes) d s blank l) is);
-  apart = λ s t l is. absurd (none_some _ t (blank_table (frame_bytes bytes) d s blank l) is);
-  distinct = λ s o t l k is also. absurd (none_some _ t (blank_table (frame_bytes bytes) d s blank l) is);
+  tables_inside = λ s t l is. absurd (some_not_none _ t (blank_table (frame_bytes bytes) d s blank l) is);
+  apart = λ s t l is. absurd (some_not_none _ t (blank_table (frame_bytes bytes) d s blank l) is);
+  distinct = λ s o t l k is also. absurd (some_not_none _ t (blank_table (frame_bytes bytes) d s blank l) is);
   dir_words = λ s l. inl (blank_word (frame_bytes bytes) d s blank l);
-  table_words = λ s t i l k is. absurd (none_some _ t (blank_table (frame_bytes bytes) d s blank l) is);
+  table_words = λ s t i l k is. absurd (some_not_none _ t (blank_table (frame_bytes bytes) d s blank l) is);
 }
 
 pub blank_frames_map_nothing : BlankFramesMapNothing
@@ -45,7 +44,7 @@ pub blank_fresh : (m : Frames) (d slot t : ℕ) → m d ≡ replicate 4096 0 →
 blank_fresh m d slot t blank small nonzero apart = record {
   unlinked = blank_table m d slot blank small;
   not_reserved = nonzero;
-  foreign = record { no_directory = apart; no_table = λ s u l is. absurd (none_some _ u (blank_table m d s blank l) is) };
+  foreign = record { no_directory = apart; no_table = λ s u l is. absurd (some_not_none _ u (blank_table m d s blank l) is) };
 }
 
 -- ---- The walk

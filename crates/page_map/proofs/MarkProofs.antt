@@ -1,6 +1,6 @@
 -- A mark on a page map touches one entry.
 use Rattle.std.proofs.Common.{◌≡◌, ◌≢◌, ℕ, ◌+◌, ◌*◌, ◌^◌, ◌<◌, ◌≤◌, Bool, true, false, List, length, refl, ap, sym, ◌∙◌, subst, arith, inl, inr, Option, Some, None, ◌/◌}
-use Rattle.std.specs.Prelude.{◌⊎◌, bit_or, not, ◌&&◌}
+use Rattle.std.specs.Prelude.{◌⊎◌, not, ◌&&◌}
 use Rattle.std.specs.Option.{option_and_then}
 use Rattle.std.proofs.lemmas.Nat.{or_lt}
 use Rattle.std.proofs.lemmas.Bool.{cases_eq}
@@ -24,6 +24,7 @@ use Rattle.page_map.specs.Laws.{touched_entry, with_touched_words, TouchesEntry,
 use Rattle.page_map.proofs.PageLemmas.{entries-same, entries-insert}
 use Rattle.page_map.proofs.MapSteps.{TablesApart, tables_of_map, map_of_tables, with_word_at, with_dir_word, entry_own, entry_other, tables-written, table_own, table_other, dir_word_own, dir_word_other, dir_long}
 use Rattle.page_map.proofs.MapChanges.{user_slot, present_entry, found_word}
+use Rattle.table_walk.proofs.MarkLemmas.{touched_lt}
 
 -- ---- The words
 
@@ -98,9 +99,6 @@ touched_names : (access : Access) (w : ℕ) → NamesPage w → (access ≡ Writ
 touched_names Read w n right = flagged_names w 5 n (inl refl)
 touched_names Write w n right = flagged_names (accessed_word w) 6 (flagged_names w 5 n (inl refl)) (inr (refl, is_accessed_now w, set_flag_other w 5 10 (omega arith) ∙ not_lazy w n (right refl)))
 
-touched_lt : (access : Access) (w : ℕ) → w < 2 ^ 32 → touched_word access w < 2 ^ 32
-touched_lt Read w h = or_lt 32 w 32 h (omega arith)
-touched_lt Write w h = or_lt 32 (bit_or w 32) 64 (or_lt 32 w 32 h (omega arith)) (omega arith)
 
 entry_from-touched : (access : Access) (w : ℕ) → entry_from (touched_word access w) ≡ touched_entry access (entry_from w)
 entry_from-touched Read w =

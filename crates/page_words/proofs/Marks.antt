@@ -14,13 +14,11 @@ use Rattle.page_words.specs.Marked.{marked_from, marked}
 use Rattle.page_words.proofs.MapLemmas.{contains-insert, len-insert, same_itself, same_set}
 use Rattle.page_words.proofs.SetLemmas.{contains-remove, same_cases, contains-no_members}
 use Rattle.std.proofs.Math.Bool.{and-false, and-true, or-false}
+use Rattle.page_words.proofs.SetLemmas.{same_apart}
 
 contains-one_more : (mark : Bool) (s : Set nat_order) (k q : ℕ) → set.contains (cond mark (set.insert s k) s) q ≡ ((mark && same nat_order q k) || set.contains s q)
 contains-one_more true s k q = contains-insert s k q
 contains-one_more false s k q = refl
-
-apart : (q k : ℕ) → q ≢ k → same nat_order q k ≡ false
-apart q k n = elim (same_cases nat_order q k) [ inl h ↦ absurd (n h.0) | inr h ↦ h.1 ]
 
 pub contains-below : (start : ℕ) (marks : List Bool) (q : ℕ) → q < start → set.contains (marked_from start marks) q ≡ false
 contains-below start [] q h = refl
@@ -28,7 +26,7 @@ contains-below start (mark ∷ marks) q h =
     let rest = contains-below (start + 1) marks q (omega arith) in
     let other : q ≢ start = omega arith in
     contains-one_more mark (marked_from (start + 1) marks) start q
-    ∙ (λ i. (mark && apart q start other i) || rest i)
+    ∙ (λ i. (mark && same_apart nat_order q start other i) || rest i)
     ∙ ap (λ b. b || false) (and-false mark)
 
 contains-at : (start : ℕ) (marks : List Bool) (i q : ℕ) → q ≡ start + i → set.contains (marked_from start marks) q ≡ get_or marks i false
@@ -42,7 +40,7 @@ contains-at start (mark ∷ marks) zero q e =
 contains-at start (mark ∷ marks) (suc i) q e =
     let other : q ≢ start = omega arith in
     contains-one_more mark (marked_from (start + 1) marks) start q
-    ∙ ap (λ b. (mark && b) || set.contains (marked_from (start + 1) marks) q) (apart q start other)
+    ∙ ap (λ b. (mark && b) || set.contains (marked_from (start + 1) marks) q) (same_apart nat_order q start other)
     ∙ ap (λ b. b || set.contains (marked_from (start + 1) marks) q) (and-false mark)
     ∙ contains-at (start + 1) marks i q (omega arith)
 

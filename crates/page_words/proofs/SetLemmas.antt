@@ -1,13 +1,13 @@
 -- What is left after a removal, and how many members a set has.
-use Rattle.std.proofs.Common.{◌≡◌, ◌≢◌, ◌+◌, ◌⊎◌, inl, inr, Bool, true, false, cond, not, ◌&&◌, List, [], ◌∷◌, length, is_some, refl, sym, ap, ◌∙◌, Option, None, arith}
+use Rattle.std.proofs.Common.{◌≡◌, ◌≢◌, ◌⊎◌, inl, inr, Bool, true, false, cond, not, ◌&&◌, List, [], ◌∷◌, length, is_some, refl, sym, ap, ◌∙◌, Option, Some, None, arith}
 use Rattle.std.specs.Ordering.{eq_by_cmp}
 use Rattle.std.specs.Cmp.{eq_by_cmp_equiv}
-use Rattle.std.specs.FinMap.Entries.{find, length_without}
+use Rattle.std.specs.FinMap.Entries.{find}
 use Rattle.page_words.specs.FiniteMap as map
 use Rattle.page_words.specs.FiniteMap.{Order, Map, same}
 use Rattle.page_words.specs.FiniteSet as set
 use Rattle.page_words.specs.FiniteSet.{Set}
-use Rattle.page_words.proofs.MapLemmas.{get-retain_keys, same_itself, same_or_not, same_set}
+use Rattle.page_words.proofs.MapLemmas.{get-insert, get-retain_keys, same_itself, same_map, same_or_not}
 
 negated : {A : Type 0} (b : Bool) (x y : A) → cond (not b) x y ≡ cond b y x
 negated true x y = refl
@@ -24,12 +24,35 @@ module _ {K : Type 0} (o : Order K) where
     | inr h ↦ inr (λ e. (let t : true ≡ false = sym (ap (same o x) (sym e) ∙ same_itself o x) ∙ h in cc), h)
   ]
 
+  pub same_apart : (x y : K) → x ≢ y → same o x y ≡ false
+  same_apart x y n = elim (same_cases x y) [
+    | inl is ↦ absurd (n is.0)
+    | inr other ↦ other.1
+  ]
+
 module _ {K X : Type 0} {o : Order K} where
   pub get-remove : (m : Map o X) (k q : K) → map.get (map.remove m k) q ≡ cond (same o q k) None (map.get m q)
   get-remove m k q =
       get-retain_keys m (λ j. not (eq_by_cmp o.cmp k j)) q
       ∙ negated (same o k q) _ _
       ∙ ap (λ b. cond b None (map.get m q)) (same_sym o k q)
+
+  -- a key that was removed is gone
+  pub get-removed : (m : Map o X) (k : K) → map.get (map.remove m k) k ≡ None
+  get-removed m k = get-remove m k k ∙ ap (λ b. cond b None (map.get m k)) (same_itself o k)
+
+  -- the other keys stay
+  pub get-remove_other : (m : Map o X) (k q : K) → q ≢ k → map.get (map.remove m k) q ≡ map.get m q
+  get-remove_other m k q n = get-remove m k q ∙ ap (λ b. cond b None (map.get m q)) (same_apart o q k n)
+
+  -- what was removed, put back
+  pub put_back : (m : Map o X) (k : K) (v : X) → map.get m k ≡ Some v → map.insert (map.remove m k) k v ≡ m
+  put_back m k v h = same_map (map.insert (map.remove m k) k v) m (λ q.
+      get-insert (map.remove m k) k v q
+      ∙ elim (same_cases o q k) [
+        | inl is ↦ rw is.1 (sym h ∙ ap (map.get m) (sym is.0))
+        | inr other ↦ rw other.1 (get-remove_other m k q other.0)
+      ])
 
 module _ {K : Type 0} (o : Order K) where
   nothing : (q : K) (es : List (K × Unit {0})) → length es ≡ 0 → is_some (find o.cmp q es) ≡ false

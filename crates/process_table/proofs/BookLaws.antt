@@ -11,7 +11,7 @@ use Rattle.page_words.proofs.SetLemmas.{get-remove, same_cases}
 use Rattle.address_space.specs.Spaces.{Slot, slot_order, Cell, Spaces, cost, without, is_slot, is_of, at_page}
 use Rattle.quota_tree.specs.Book.{Book, Member, is_child, given, number_of_children, quota_of, next_number}
 use Rattle.quota_tree.proofs.Sums.{Parents, costs_within, given-insert, given-none, given-remove, number-remove}
-use Rattle.quota_tree.proofs.BookFacts.{child_yes, child_no, contains_key-insert, get-insert_other, get-remove_other}
+use Rattle.quota_tree.proofs.BookFacts.{child_yes, child_no, contains_key-insert, get-insert_other}
 use Rattle.page_sharing.specs.Offers.{OfferKey, Offers, pending}
 use Rattle.process_table.specs.State.{State, open_with, is_live, room, child_of}
 use Rattle.process_table.specs.Calls.{spawn_refusal, exit_refusal, after_unmap, after_spawn, after_exit}
@@ -24,6 +24,8 @@ use borrow.Author.Tests.{eq-eqb}
 use Rattle.std.proofs.lemmas.Option.{same_Some}
 use Rattle.page_words.proofs.OptionLemmas.{some_value, no_value}
 use Rattle.std.proofs.lemmas.Bool.{not-true}
+use Rattle.std.proofs.lemmas.Bool.{eqb-false}
+use Rattle.page_words.proofs.SetLemmas.{get-remove_other}
 
 -- ---- What is left where slots and offers go
 
@@ -245,15 +247,12 @@ neither true b h = cc
 neither false true h = cc
 neither false false h = (refl, refl)
 
-differ : (m n : ℕ) → (m == n) ≡ false → m ≢ n
-differ m n h e = let t = eq-eqb m n e in cc
-
 module _ (s : State) (p : ℕ) (w : IsWellFormed s) (live : is_live s p ≡ true) (allowed : exit_refusal s p ≡ None) where
   causes : ((p == 0) ≡ false) × (nat_lt 0 (number_of_children s.book p) ≡ false)
   causes = exit_allowed (p == 0) (nat_lt 0 (number_of_children s.book p)) allowed
 
   not_root : p ≢ 0
-  not_root = differ p 0 causes.0
+  not_root = eqb-false p 0 causes.0
 
   childless : number_of_children s.book p ≤ 0
   childless = not_less 0 (number_of_children s.book p) causes.1
@@ -304,7 +303,7 @@ module _ (s : State) (p : ℕ) (w : IsWellFormed s) (live : is_live s p ≡ true
   owners-exit : (slot : Slot) (cell : Cell) → map.get (without s.spaces (is_of p)) slot ≡ Some cell → map.contains_key book_less slot.pid ≡ true
   owners-exit slot cell h =
       let l = without-was s.spaces (is_of p) slot cell h in
-      still_live slot.pid (differ slot.pid p l.2) (w.owners slot l.0 l.1)
+      still_live slot.pid (eqb-false slot.pid p l.2) (w.owners slot l.0 l.1)
 
   abbrev stays : OfferKey → Bool
   stays key = not ((key.offerer == p) || (key.target == p))
@@ -313,7 +312,7 @@ module _ (s : State) (p : ℕ) (w : IsWellFormed s) (live : is_live s p ≡ true
   offer_slot key h = (neither (key.offerer == p) (key.target == p) h).0
 
   offer_target : (key : OfferKey) → stays key ≡ true → is_live s key.target ≡ true → map.contains_key book_less key.target ≡ true
-  offer_target key h = still_live key.target (differ key.target p (neither (key.offerer == p) (key.target == p) h).1)
+  offer_target key h = still_live key.target (eqb-false key.target p (neither (key.offerer == p) (key.target == p) h).1)
 
   -- an exit that is not refused
   pub well_formed-exit : IsWellFormed (after_exit s p)

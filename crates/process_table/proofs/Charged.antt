@@ -8,13 +8,12 @@ use Rattle.address_space.specs.Spaces.{cost, without, is_of}
 use Rattle.address_space.specs.View as frames
 use Rattle.address_space.specs.View.{directory_of, live_cost, total_cost}
 use Rattle.address_space.proofs.costs.CostSteps.{sum_one}
-use Rattle.address_space.proofs.frames.PageSteps.{not_same}
 use Rattle.address_space.proofs.costs.Totals.{cost-without_other}
 use Rattle.quota_tree.specs.Book.{Member, quota_of}
 use Rattle.quota_tree.specs.Containers.{Containers, IsLive, used_of, with_used, after_close, total_used}
 use Rattle.process_table.specs.View.{IsProcesses}
 use Rattle.process_table.proofs.Ranges.{found, sum-range}
-use Rattle.page_words.proofs.OptionLemmas.{is_some-map}
+use Rattle.std.proofs.lemmas.Bool.{ne_eqb}
 
 -- ---- The costs of processes that do not act
 
@@ -138,7 +137,7 @@ charged-exit v w c p kept child spaces long none others = record {
   charged = λ q l. elim (same_or_not nat_order p q) [
     | inl h ↦ absurd (gone q h.0 l)
     | inr h ↦ ap (λ x. unwrap_or x 0) (removed-other c.used p q h) ∙ kept.charged q (sym (ap is_some (removed-other c.book p q h)) ∙ l)
-        ∙ sym (ap (λ S. cost S q) spaces ∙ cost-without_other v.spaces (is_of p) q (λ page. not_same q p (differ-back p q h)))
+        ∙ sym (ap (λ S. cost S q) spaces ∙ cost-without_other v.spaces (is_of p) q (λ page. ne_eqb q p (differ-back p q h)))
   ];
   root = ap (λ (x : Option Member). 1 + unwrap_or (option_map (λ m. m.quota) x) 0) (removed-other c.book p 0 (apart-root p child)) ∙ kept.root ∙ sym long;
 }

@@ -62,7 +62,7 @@ page_is_user page h =
     let b : nat_le page 0xeffff ≡ true = grind (arith, nat_tests) in
     λ i. a i && b i
 
-aligned_is : (address : ℕ) (size : Size) → is_misaligned address size ≡ false → address % byte_count size ≡ 0
+pub aligned_is : (address : ℕ) (size : Size) → is_misaligned address size ≡ false → address % byte_count size ≡ 0
 aligned_is address size h = by (address % byte_count size == 0) refl h
   where
     by : (b : Bool) → (address % byte_count size == 0) ≡ b → not b ≡ false → address % byte_count size ≡ 0

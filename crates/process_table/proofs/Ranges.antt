@@ -1,8 +1,6 @@
 -- Sums over a map's entries as sums over the numbers below a bound.
 use Rattle.std.proofs.Common.{◌≡◌, ◌≢◌, ℕ, ◌+◌, ◌<◌, ◌&&◌, ◌==◌, Bool, true, false, cond, T, List, [], ◌∷◌, refl, sym, ap, subst, ◌∙◌, Option, Some, None, is_some, sum_by, arith, inl, inr}
-use Rattle.std.specs.declared.cmp.Ordering.{Ordering}
-use Rattle.std.specs.declared.cmp.Ordering.TheVariants.{Less, Equal, Greater}
-use Rattle.std.specs.Ordering.{nat_cmp, is_lt, is_eq}
+use Rattle.std.specs.Ordering.{nat_cmp}
 use Rattle.std.specs.Cmp.{unsigned_tied}
 use Rattle.std.specs.List.{range_with_len}
 use Rattle.std.specs.FinMap.Entries.{find, below_all, is_sorted}
@@ -17,6 +15,7 @@ use Rattle.quota_tree.specs.Book.{Member}
 use Rattle.process_table.specs.State.{State, is_live}
 use Rattle.process_table.specs.WellFormed.{total}
 use borrow.Author.Tests.{eqb-true, eq-eqb}
+use Rattle.quota_tree.proofs.Sums.{lt_not_eq}
 
 -- what g gives of a value, and 0 of none
 abbrev pub found : {X : Type 0} → (X → ℕ) → Option X → ℕ
@@ -36,11 +35,6 @@ sum-zero {A} (x ∷ xs) = let a = sum_by-cons (λ (_ : A). 0) x xs in let d = su
 both : (a b : Bool) → T (a && b) → T a × T b
 both true b h = (tt, h)
 both false b h = absurd h
-
-lt_not_eq : (r : Ordering) → T (is_lt r) → is_eq r ≡ false
-lt_not_eq Less h = refl
-lt_not_eq Equal h = absurd h
-lt_not_eq Greater h = refl
 
 module _ {X : Type 0} where
   -- a key below all entries is none of them

@@ -4,7 +4,7 @@ use Rattle.std.specs.Prelude.{if◌then◌else◌, is_some, IsOk, nat_le}
 use Rattle.std.proofs.lemmas.Bool.Decides.{nat_tests}
 use Rattle.page_words.specs.Addresses.{is_user_page}
 use Rattle.page_words.specs.FiniteMap as map
-use Rattle.address_space.specs.Spaces.{Cell, fresh, cell_or_fresh, joined, cost, need, at_page}
+use Rattle.address_space.specs.Spaces.{fresh, cell_or_fresh, joined, cost, need, at_page}
 use Rattle.address_space.proofs.costs.Costs.{cost-insert}
 use Rattle.address_space.proofs.costs.Totals.{cost-joined}
 use Rattle.page_sharing.specs.Offers.{offer_of, pending}
@@ -13,9 +13,9 @@ use Rattle.process_table.specs.Calls.{map_refusal, protect_refusal, offer_refusa
 use Rattle.process_table.specs.TestAnswers.{first_cause, number_unless, map_answer, accept_answer}
 use Rattle.process_table.specs.declared.causes.Cause.{Cause}
 use Rattle.process_table.specs.declared.causes.Cause.TheVariants.{NoProcess}
-use borrow.Author.Tests.{eq-eqb}
 use Rattle.std.proofs.lemmas.Bool.{not-false}
 use Rattle.page_words.proofs.OptionLemmas.{no_value}
+use Rattle.std.proofs.lemmas.Bool.{eqb-false}
 
 choice : (b : Bool) (c : Cause) (y : Option Cause) → (if b then Some c else y) ≡ None → (b ≡ false) × (y ≡ None)
 choice true c y h = cc
@@ -52,9 +52,6 @@ may_protect s p page write h =
     let c = choice (write && not may) _ _ b.1 in
     record { user = not-false _ a.0; mapped = not-false _ b.0; right = right_of_not write may c.0 }
 
-apart_of : (m n : ℕ) → (m == n) ≡ false → m ≢ n
-apart_of m n h e = let t = eq-eqb m n e in cc
-
 below_of : (n : ℕ) → nat_le 32 n ≡ false → n < 32
 below_of n h = grind (arith, nat_tests)
 
@@ -81,7 +78,7 @@ may_offer s p page target write h =
     record {
       user = not-false _ a.0;
       mapped = not-false _ b.0;
-      another = apart_of target p c.0;
+      another = eqb-false target p c.0;
       live = not-false _ d.0;
       right = right_of_not write may e.0;
       new = f.0;

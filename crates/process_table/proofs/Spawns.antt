@@ -6,14 +6,11 @@ use Rattle.std.specs.Option.{option_map}
 use Rattle.page_words.specs.declared.addresses.Pid.{Pid}
 use Rattle.page_words.specs.FiniteMap as map
 use Rattle.page_words.specs.FiniteMap.{same, nat_order}
-use Rattle.page_words.specs.FiniteSet as set
-use Rattle.page_words.specs.FiniteSet.{Set}
-use Rattle.page_words.proofs.MapLemmas.{same_or_not, same_itself, same_set, get-insert}
-use Rattle.address_space.specs.Spaces.{Slot, Cell, Spaces, cost, cost_of, pages_of, at_page}
+use Rattle.page_words.proofs.MapLemmas.{same_or_not, same_itself, get-insert}
+use Rattle.address_space.specs.Spaces.{Slot, Cell, Spaces, cost, at_page}
 use Rattle.address_space.specs.Image.{Image, StandsFor, SlotStands, directory_at, page_word}
 use Rattle.address_space.specs.View as frames
 use Rattle.address_space.specs.View.{directory_of, live_cost, total_cost}
-use Rattle.address_space.proofs.costs.Costs.{contains-pages_of}
 use Rattle.quota_tree.specs.declared.QuotaFault.{QuotaFault}
 use Rattle.quota_tree.specs.declared.QuotaFault.TheVariants as quota
 use Rattle.quota_tree.specs.Book.{Book, Member, given, quota_of, next_number}
@@ -27,6 +24,8 @@ use Rattle.process_table.specs.declared.causes.Cause.{Cause}
 use Rattle.process_table.specs.declared.causes.Cause.TheVariants as cause
 use Rattle.process_table.proofs.Charged.{differ, room-for}
 use Rattle.process_table.proofs.Ranges.{found}
+use Rattle.std.proofs.lemmas.Bool.{not-true}
+use Rattle.process_table.proofs.Sizes.{cost-no_pages}
 
 room-is : (v : frames.View) (c : Containers) (o : Offers) (p : ℕ) → IsProcesses v c → IsLive c p → room_of c p ≡ room (state_of v c o) p
 room-is v c o p kept live = ap (λ u. quota_of c.book p - u - given c.book p) (kept.charged p live)
@@ -85,14 +84,10 @@ found-passes p (y ∷ xs) x h = by (λ e. found-passes p xs x e) (p y) refl h
     by rest true is e = let same : y ≡ x = cc in ap p (sym same) ∙ is
     by rest false is e = rest e
 
-of_not : (b : Bool) → not b ≡ true → b ≡ false
-of_not true h = cc
-of_not false h = refl
-
 -- it is not live
 pub child-absent : (c : Containers) (p asked child : ℕ) → split_answer c p asked ≡ Ok child → map.contains_key c.book child ≡ false
 child-absent c p asked child is =
-    of_not (map.contains_key c.book child) (found-passes (λ q. not (map.contains_key c.book q)) (range_with_len 0 64) child (next-of c p asked child is))
+    not-true (map.contains_key c.book child) (found-passes (λ q. not (map.contains_key c.book q)) (range_with_len 0 64) child (next-of c p asked child is))
 
 pub child-is : (v : frames.View) (c : Containers) (o : Offers) (p asked child : ℕ) → split_answer c p asked ≡ Ok child → child_of (state_of v c o) ≡ child
 child-is v c o p asked child is = ap (λ x. unwrap_or x 0) (next-of c p asked child is)
@@ -120,12 +115,8 @@ nothing-mapped image S p page stands none = by (map.get S slot) (subst (λ x. Sl
     by None h = refl
     by (Some cell) h = absurd h
 
--- a process with nothing mapped is charged for its directory
-cost-nothing : (S : Spaces) (p : ℕ) → ((page : ℕ) → map.contains_key S (at_page p page) ≡ false) → cost S p ≡ 1
-cost-nothing S p none = ap cost_of (same_set (pages_of S p) set.empty (λ page. contains-pages_of S p page ∙ none page))
-
 pub cost-child : (v : frames.View) (p : ℕ) → StandsFor (record { directories = v.directories; bytes = v.bytes; roles = v.roles }) v.spaces → directory_of v.directories p ≡ None → cost v.spaces p ≡ 1
-cost-child v p stands none = cost-nothing v.spaces p (λ page. nothing-mapped (record { directories = v.directories; bytes = v.bytes; roles = v.roles }) v.spaces p page stands none)
+cost-child v p stands none = cost-no_pages v.spaces p (λ page. nothing-mapped (record { directories = v.directories; bytes = v.bytes; roles = v.roles }) v.spaces p page stands none)
 
 root_not : (c : Containers) (child : ℕ) → IsLive c 0 → map.contains_key c.book child ≡ false → 0 ≢ child
 root_not c child live absent e = let a : map.contains_key c.book child ≡ true = ap (map.contains_key c.book) (sym e) ∙ live in cc

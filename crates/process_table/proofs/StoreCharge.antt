@@ -1,9 +1,9 @@
 -- A store is charged as a load is.
-use Rattle.std.proofs.Common.{◌≡◌, ℕ, Bool, true, false, List, refl, sym, ◌∙◌, Option, Some, None, is_some}
+use Rattle.std.proofs.Common.{◌≡◌, ℕ, Bool, true, false, List, refl, sym, ◌∙◌}
 use Rattle.page_words.specs.Addresses.{offset_number, byte_count}
 use Rattle.page_words.specs.declared.addresses.Size.{Size}
 use Rattle.page_words.specs.FiniteMap as map
-use Rattle.address_space.specs.Spaces.{Slot, Cell, slot_at, cost, accessed, stored, bytes_of}
+use Rattle.address_space.specs.Spaces.{Slot, slot_at, cost, accessed, stored, bytes_of}
 use Rattle.address_space.proofs.costs.AccessCosts.{cost-accessed_mapped, cost-accessed_new, cost-stored_mapped, cost-stored_new}
 use Rattle.process_table.specs.State.{State}
 use Rattle.process_table.specs.Calls.{after_load, after_store}

@@ -1,28 +1,21 @@
 -- Who is a child, and what one entry of the book more or less leaves of the others.
-use Rattle.std.proofs.Common.{◌≡◌, ◌≢◌, ℕ, ◌&&◌, ◌==◌, not, Bool, true, false, cond, refl, ap, ◌∙◌, None, is_some, inl, inr}
+use Rattle.std.proofs.Common.{◌≡◌, ◌≢◌, ℕ, ◌&&◌, ◌==◌, not, true, false, refl, ap, ◌∙◌, is_some, inl, inr}
 use Rattle.page_words.specs.FiniteMap as map
 use Rattle.page_words.specs.FiniteMap.{nat_order}
 use Rattle.page_words.proofs.MapLemmas.{get-insert}
-use Rattle.page_words.proofs.SetLemmas.{get-remove, same_cases}
+use Rattle.page_words.proofs.SetLemmas.{same_cases}
 use Rattle.quota_tree.specs.Book.{Book, Member, is_child}
-use borrow.Author.Tests.{eqb-true, eq-eqb}
+use borrow.Author.Tests.{eq-eqb}
 use Rattle.std.proofs.Math.Bool.{and-false}
-
--- a test of two numbers that are not the same
-pub eqb-false : (m n : ℕ) → m ≢ n → (m == n) ≡ false
-eqb-false m n other = by (m == n) refl
-  where
-    by : (b : Bool) → (m == n) ≡ b → b ≡ false
-    by true is = absurd (other (eqb-true m n is))
-    by false is = refl
+use Rattle.std.proofs.lemmas.Bool.{ne_eqb}
 
 -- a live process other than 0 is its parent's child
 pub child_yes : (p k q : ℕ) → k ≢ 0 → is_child p (k, record { parent = p; quota = q }) ≡ true
-child_yes p k q n = λ i. not (eqb-false k 0 n i) && eq-eqb p p refl i
+child_yes p k q n = λ i. not (ne_eqb k 0 n i) && eq-eqb p p refl i
 
 -- and nobody else's
 pub child_no : (p x k q : ℕ) → p ≢ x → is_child x (k, record { parent = p; quota = q }) ≡ false
-child_no p x k q n = ap (λ b. not (k == 0) && b) (eqb-false p x n) ∙ and-false (not (k == 0))
+child_no p x k q n = ap (λ b. not (k == 0) && b) (ne_eqb p x n) ∙ and-false (not (k == 0))
 
 -- one entry more leaves who is live
 pub contains_key-insert : (book : Book) (k : ℕ) (m : Member) (x : ℕ) → map.contains_key book x ≡ true → map.contains_key (map.insert book k m) x ≡ true
@@ -36,11 +29,4 @@ pub get-insert_other : (book : Book) (k : ℕ) (m : Member) (x : ℕ) → x ≢ 
 get-insert_other book k m x n = get-insert book k m x ∙ elim (same_cases nat_order x k) [
   | inl is ↦ absurd (n is.0)
   | inr other ↦ rw other.1 refl
-]
-
--- one entry less leaves the others
-pub get-remove_other : (book : Book) (k x : ℕ) → x ≢ k → map.get (map.remove book k) x ≡ map.get book x
-get-remove_other book k x n = get-remove book k x ∙ elim (same_cases nat_order x k) [
-  | inl is ↦ absurd (n is.0)
-  | inr other ↦ ap (λ b. cond b None (map.get book x)) other.1
 ]

@@ -1,5 +1,5 @@
 -- What a close leaves.
-use Rattle.std.proofs.Common.{◌≡◌, ◌≢◌, ℕ, ◌+◌, ◌-◌, ◌<◌, ◌≤◌, ◌⊎◌, inl, inr, true, false, List, length, get_or, is_some, refl, sym, ap, ◌∙◌, Option, Some, None, unwrap_or, arith, subst, length-set}
+use Rattle.std.proofs.Common.{◌≡◌, ◌≢◌, ℕ, ◌+◌, ◌<◌, ◌≤◌, ◌⊎◌, inl, inr, true, false, List, length, get_or, is_some, refl, sym, ap, ◌∙◌, Option, Some, None, unwrap_or, arith, subst, length-set}
 use Rattle.std.specs.Prelude.{slice_set}
 use Rattle.std.specs.Option.{option_map}
 use Rattle.page_words.specs.FiniteMap as map
@@ -13,9 +13,10 @@ use Rattle.quota_tree.specs.Kept.{member_of, seen_as, IsKept, IsQuotas}
 use Rattle.quota_tree.proofs.CollectedLemmas.{get-collected, collected-set, collected-unset}
 use Rattle.quota_tree.proofs.Sums.{given-remove, number-remove}
 use Rattle.quota_tree.proofs.Views.{get-member}
-use Rattle.quota_tree.proofs.BookFacts.{child_yes, child_no, get-remove_other}
+use Rattle.quota_tree.proofs.BookFacts.{child_yes, child_no}
 use Rattle.quota_tree.proofs.Writes.{after_set, insert_same, book-set, only_if}
 use Rattle.std.proofs.lemmas.Option.{same_Some}
+use Rattle.page_words.proofs.SetLemmas.{get-remove_other}
 
 -- ---- A close: a process without children goes, and its quota returns to its parent
 

@@ -11,9 +11,7 @@ use Rattle.page_words.specs.FiniteMap.{Map, nat_order, same}
 use Rattle.page_words.proofs.MapLemmas.{get-insert, same_itself, same_map}
 use Rattle.page_words.proofs.SetLemmas.{get-remove, same_cases}
 use Rattle.quota_tree.specs.Collected.{collected_from, collected}
-
-apart : (q k : ℕ) → q ≢ k → same nat_order q k ≡ false
-apart q k n = elim (same_cases nat_order q k) [ inl h ↦ absurd (n h.0) | inr h ↦ h.1 ]
+use Rattle.page_words.proofs.SetLemmas.{same_apart}
 
 module _ {C X : Type 0} (f : C → X) where
   get-before : (start : ℕ) (values : List (Option C)) (q : ℕ) → q < start → map.get (collected_from f start values) q ≡ None
@@ -22,7 +20,7 @@ module _ {C X : Type 0} (f : C → X) where
   get-before start (Some c ∷ values) q h =
       let other : q ≢ start = omega arith in
       get-insert (collected_from f (start + 1) values) start (f c) q
-      ∙ ap (λ b. cond b (Some (f c)) (map.get (collected_from f (start + 1) values) q)) (apart q start other)
+      ∙ ap (λ b. cond b (Some (f c)) (map.get (collected_from f (start + 1) values) q)) (same_apart nat_order q start other)
       ∙ get-before (start + 1) values q (omega arith)
 
   get-at : (start : ℕ) (values : List (Option C)) (i q : ℕ) → q ≡ start + i → map.get (collected_from f start values) q ≡ option_map f (get_or values i None)
@@ -36,7 +34,7 @@ module _ {C X : Type 0} (f : C → X) where
   get-at start (Some c ∷ values) (suc i) q e =
       let other : q ≢ start = omega arith in
       get-insert (collected_from f (start + 1) values) start (f c) q
-      ∙ ap (λ b. cond b (Some (f c)) (map.get (collected_from f (start + 1) values) q)) (apart q start other)
+      ∙ ap (λ b. cond b (Some (f c)) (map.get (collected_from f (start + 1) values) q)) (same_apart nat_order q start other)
       ∙ get-at (start + 1) values i q (omega arith)
 
   -- the map answers as the list does

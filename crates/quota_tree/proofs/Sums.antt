@@ -1,6 +1,6 @@
 -- Sums over the book: what one member more or less leaves of them, and that all processes together use
 -- at most the root's quota.
-use Rattle.std.proofs.Common.{◌≡◌, ℕ, ◌+◌, ◌≤◌, length, Bool, true, false, cond, not, ◌&&◌, ◌==◌, T, List, [], ◌∷◌, refl, sym, ap, subst, ◌∙◌, Some, None, unwrap_or, filter, sum_by, arith, inl, inr}
+use Rattle.std.proofs.Common.{◌≡◌, ℕ, ◌+◌, ◌≤◌, length, Bool, true, false, cond, not, ◌&&◌, ◌==◌, T, List, [], ◌∷◌, refl, sym, ap, subst, ◌∙◌, Some, None, filter, sum_by, arith}
 use Rattle.std.specs.declared.cmp.Ordering.{Ordering}
 use Rattle.std.specs.declared.cmp.Ordering.TheVariants.{Less, Equal, Greater}
 use Rattle.std.specs.Ordering.{nat_cmp, is_lt, is_eq}
@@ -9,11 +9,10 @@ use Rattle.std.specs.FinMap.Entries.{find, below_all, is_sorted, put, by_order}
 use Rattle.std.proofs.lemmas.List.Sums.{sum_by-cons}
 use Rattle.page_words.specs.FiniteMap as map
 use Rattle.page_words.specs.FiniteMap.{Map, nat_order}
-use Rattle.page_words.proofs.MapLemmas.{get-insert, same_map}
-use Rattle.page_words.proofs.SetLemmas.{get-remove, same_cases}
 use Rattle.quota_tree.specs.Book.{Member, Book, is_child, given, number_of_children}
 use borrow.Author.Tests.{eqb-true, eq-eqb}
 use Rattle.std.proofs.lemmas.Option.{same_Some}
+use Rattle.page_words.proofs.SetLemmas.{get-removed, put_back}
 
 first_of : (a b : Bool) → T (a && b) → T a
 first_of true b h = tt
@@ -23,7 +22,7 @@ second_of : (a b : Bool) → T (a && b) → T b
 second_of true b h = h
 second_of false b h = absurd h
 
-lt_not_eq : (r : Ordering) → T (is_lt r) → is_eq r ≡ false
+pub lt_not_eq : (r : Ordering) → T (is_lt r) → is_eq r ≡ false
 lt_not_eq Less h = refl
 lt_not_eq Equal h = absurd h
 lt_not_eq Greater h = refl
@@ -135,9 +134,6 @@ given_sum book parents =
         by true = omega arith
         by false = let s = sum_one v.parent (λ _. v.quota) book.entries m.0 book.sorted m.1 in omega arith
 
-eqb_sym : (m n : ℕ) → (m == n) ≡ (n == m)
-eqb_sym m n = nat_eq_equiv.symm m n
-
 -- where each process has room, all costs together are at most the root's quota
 pub costs_within : (book : Book) (cost : ℕ → ℕ) (root : Member) → map.get book 0 ≡ Some root → Parents book
     → ((p : ℕ) (member : Member) → map.get book p ≡ Some member → cost p + given book p ≤ member.quota)
@@ -152,7 +148,7 @@ costs_within book cost root found parents rooms =
     omega arith
   where
     parts : (k q : ℕ) → q ≡ cond (0 == k) q 0 + cond (k == 0) 0 q
-    parts k q = rw (eqb_sym 0 k) (by (k == 0))
+    parts k q = rw (nat_eq_equiv.symm 0 k) (by (k == 0))
       where
         by : (b : Bool) → q ≡ cond b q 0 + cond b 0 q
         by true = omega arith
@@ -200,25 +196,13 @@ module _ (book : Book) (k : ℕ) (v : Member) (none : map.get book k ≡ None) w
       ∙ sum-put (λ _. 1) (is_child p) k v book.entries none
       ∙ ap (λ n. cond (is_child p (k, v)) 1 0 + n) (sym (length_sum (filter (is_child p) book.entries)))
 
--- what was taken out, put back
-put_back : (book : Book) (k : ℕ) (v : Member) → map.get book k ≡ Some v → map.insert (map.remove book k) k v ≡ book
-put_back book k v h = same_map (map.insert (map.remove book k) k v) book (λ q.
-    get-insert (map.remove book k) k v q
-    ∙ elim (same_cases nat_order q k) [
-      | inl is ↦ rw is.1 (sym h ∙ ap (map.get book) (sym is.0))
-      | inr other ↦ rw other.1 (get-remove book k q ∙ ap (λ b. cond b None (map.get book q)) other.1)
-    ])
-
-removed : (book : Book) (k : ℕ) → map.get (map.remove book k) k ≡ None
-removed book k = get-remove book k k ∙ elim (same_cases nat_order k k) [ inl is ↦ ap (λ b. cond b None (map.get book k)) is.1 | inr other ↦ absurd (other.0 refl) ]
-
 module _ (book : Book) (k : ℕ) (v : Member) (h : map.get book k ≡ Some v) where
   -- one member less
   pub given-remove : (p : ℕ) → given book p ≡ cond (is_child p (k, v)) v.quota 0 + given (map.remove book k) p
-  given-remove p = ap (λ b. given b p) (sym (put_back book k v h)) ∙ given-insert (map.remove book k) k v (removed book k) p
+  given-remove p = ap (λ b. given b p) (sym (put_back book k v h)) ∙ given-insert (map.remove book k) k v (get-removed book k) p
 
   pub number-remove : (p : ℕ) → number_of_children book p ≡ cond (is_child p (k, v)) 1 0 + number_of_children (map.remove book k) p
-  number-remove p = ap (λ b. number_of_children b p) (sym (put_back book k v h)) ∙ number-insert (map.remove book k) k v (removed book k) p
+  number-remove p = ap (λ b. number_of_children b p) (sym (put_back book k v h)) ∙ number-insert (map.remove book k) k v (get-removed book k) p
 
 -- who isn't live is nobody's parent
 module _ (book : Book) (p : ℕ) (none : map.get book p ≡ None) (parents : Parents book) where

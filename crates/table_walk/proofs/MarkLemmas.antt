@@ -85,7 +85,7 @@ written_lt bytes a i w h l b j fits = elim (apart a i b j) [
   | inr n ↦ omega (arith, word_at-with_word_other bytes (word_place a i) (word_place b j) w h n)
 ]
 
-touched_lt : (access : Access) (w : ℕ) → w < 2 ^ 32 → touched_word access w < 2 ^ 32
+pub touched_lt : (access : Access) (w : ℕ) → w < 2 ^ 32 → touched_word access w < 2 ^ 32
 touched_lt Read w h = or_lt 32 w 32 h (omega arith)
 touched_lt Write w h = or_lt 32 (bit_or w 32) 64 (or_lt 32 w 32 h (omega arith)) (omega arith)
 

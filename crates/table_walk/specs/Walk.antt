@@ -1,5 +1,5 @@
 -- The walk of a two-level page map for a user-mode access, on any bytes.
-use Rattle.std.specs.Prelude.{◌≡◌, ◌↔◌, ℕ, ◌+◌, ◌*◌, Bool, true, false, not, ◌&&◌, nat_le, if◌then◌else◌, List, [], ◌∷◌, ◌<◌, length, Result, Ok, Err}
+use Rattle.std.specs.Prelude.{◌≡◌, ◌↔◌, ℕ, ◌*◌, Bool, true, false, not, ◌&&◌, nat_le, if◌then◌else◌, List, [], ◌∷◌, ◌<◌, length, Result, Ok, Err}
 use Rattle.page_words.specs.Addresses.{page_number, slot_number, index_number}
 use Rattle.page_words.specs.Words.{frame_number, is_present, is_writable, is_user}
 use Rattle.phys_memory.specs.Bytes.{word_at, word_place}

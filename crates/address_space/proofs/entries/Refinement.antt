@@ -14,7 +14,6 @@ use Rattle.phys_memory.specs.Bytes.{with_frame}
 use Rattle.address_space.specs.Cells.{Entries, names, nothing, holders_of, group_of, cell_of, spaces_of}
 use borrow.Author.Tests.{eqb-true, eq-eqb}
 use Rattle.std.proofs.Math.Bool.{and-false, and-true}
-use Rattle.std.proofs.lemmas.Option.{same_Some}
 
 contained : (slot : Slot) (x : Option PageEntry) (f : ℕ) → (is_some (option_map (nothing slot) x) && names f x) ≡ names f x
 contained slot None f = refl
@@ -62,8 +61,6 @@ spaces_insert entries bytes slot new rest own mine others =
 eqb_itself : (n : ℕ) → (n == n) ≡ true
 eqb_itself n = eq-eqb n n refl
 
-eqb_sym : (m n : ℕ) → (m == n) ≡ (n == m)
-eqb_sym m n = (nat_eq_equiv).symm m n
 
 -- ---- A store
 
@@ -159,7 +156,7 @@ join_refines entries bytes giver slot e right found real none =
     let own : Cell = record { write = right; may = right; accessed = false; dirty = false; bytes = cell.bytes; holders = holders } in
     let group : (q : Slot) (d : PageEntry) (b : Bool) → (d.frame == e.frame) ≡ b → cell_of entries' bytes q d ≡ (if b then with_holders (cell_of entries bytes q d) holders else cell_of entries bytes q d) = λ q d b. elim b as (λ b. (d.frame == e.frame) ≡ b → cell_of entries' bytes q d ≡ (if b then with_holders (cell_of entries bytes q d) holders else cell_of entries bytes q d)) [
       | true ↦ λ is. ap (with_holders (cell_of entries bytes q d)) (ap (group_of entries' q) (eqb-true d.frame e.frame is) ∙ group-real entries' q e.frame real ∙ more)
-      | false ↦ λ is. ap (with_holders (cell_of entries bytes q d)) (group-kept entries entries' q d.frame (λ _. holders-other entries slot new d.frame (ap (names d.frame) none) (eqb_sym e.frame d.frame ∙ is)))
+      | false ↦ λ is. ap (with_holders (cell_of entries bytes q d)) (group-kept entries entries' q d.frame (λ _. holders-other entries slot new d.frame (ap (names d.frame) none) (nat_eq_equiv.symm e.frame d.frame ∙ is)))
     ] in
     let held : (q : Slot) → set.contains cell.holders q ≡ names e.frame (map.get entries q) = λ q. ap (λ g. set.contains g q) same_group ∙ contains-holders_of entries e.frame q in
     let others : (q : Slot) (x : Option PageEntry) → map.get entries q ≡ x → option_map (cell_of entries' bytes q) x ≡ option_map (f q) (option_map (cell_of entries bytes q) x) = λ q x. elim x as (λ x. map.get entries q ≡ x → option_map (cell_of entries' bytes q) x ≡ option_map (f q) (option_map (cell_of entries bytes q) x)) [
@@ -256,7 +253,7 @@ lazy_refines entries bytes slot write none clean =
     let entries' : Entries = map.insert entries slot new in
     let others : (q : Slot) (x : Option PageEntry) → option_map (cell_of entries' bytes q) x ≡ option_map (cell_of entries bytes q) x = λ q x. elim x as (λ x. option_map (cell_of entries' bytes q) x ≡ option_map (cell_of entries bytes q) x) [
       | None ↦ refl
-      | Some d ↦ ap Some (cell_kept entries entries' bytes bytes q d (groups-stay entries slot new (λ f _. ap (names f) none) d (λ real. eqb_sym 0 d.frame ∙ real) q))
+      | Some d ↦ ap Some (cell_kept entries entries' bytes bytes q d (groups-stay entries slot new (λ f _. ap (names f) none) d (λ real. nat_eq_equiv.symm 0 d.frame ∙ real) q))
     ] in
     spaces_insert entries bytes slot new (spaces_of entries bytes) (fresh slot write)
     (λ i. record { write = write; may = true; accessed = false; dirty = false; bytes = clean i; holders = set.insert set.empty slot })
@@ -276,8 +273,8 @@ pub fill_refines : (entries : Entries) (bytes : ℕ → List ℕ) (slot : Slot) 
 fill_refines entries bytes slot e f found lazy unused real zero clean =
     let new : PageEntry = record e { frame = f; lazy = false } in
     let entries' : Entries = map.insert entries slot new in
-    let nowhere : (g : ℕ) → (g == 0) ≡ false → names g (map.get entries slot) ≡ false = λ g other. ap (names g) found ∙ ap (λ n. n == g) lazy ∙ eqb_sym 0 g ∙ other in
-    let apart : (q : Slot) (d : PageEntry) → map.get entries q ≡ Some d → (f == d.frame) ≡ false = λ q d is. eqb_sym f d.frame ∙ sym (ap (names f) is) ∙ unused q in
+    let nowhere : (g : ℕ) → (g == 0) ≡ false → names g (map.get entries slot) ≡ false = λ g other. ap (names g) found ∙ ap (λ n. n == g) lazy ∙ nat_eq_equiv.symm 0 g ∙ other in
+    let apart : (q : Slot) (d : PageEntry) → map.get entries q ≡ Some d → (f == d.frame) ≡ false = λ q d is. nat_eq_equiv.symm f d.frame ∙ sym (ap (names f) is) ∙ unused q in
     let others : (q : Slot) (x : Option PageEntry) → map.get entries q ≡ x → option_map (cell_of entries' bytes q) x ≡ option_map (cell_of entries bytes q) x = λ q x. elim x as (λ x. map.get entries q ≡ x → option_map (cell_of entries' bytes q) x ≡ option_map (cell_of entries bytes q) x) [
       | None ↦ λ _. refl
       | Some d ↦ λ is. ap Some (cell_kept entries entries' bytes bytes q d (groups-stay entries slot new nowhere d (λ _. apart q d is) q))

@@ -1,8 +1,6 @@
 -- Every slot of the user range is one of the user slots.
 use Rattle.std.proofs.Common.{◌≡◌, ℕ, zero, suc, ◌+◌, ◌<◌, ◌≤◌, Bool, true, false, ◌||◌, ◌&&◌, List, [], ◌∷◌, ◌++◌, map, refl, sym, ap, ◌∙◌, arith, inl, inr}
-use Rattle.std.specs.Ordering.{nat_cmp, is_eq, ordering_then}
-use Rattle.std.specs.declared.cmp.Ordering.{Ordering}
-use Rattle.std.specs.declared.cmp.Ordering.TheVariants.{Less, Equal, Greater}
+use Rattle.std.specs.Ordering.{nat_cmp}
 use Rattle.std.specs.List.{list_any, range_with_len}
 use Rattle.page_words.specs.FiniteMap.{same, nat_order}
 use Rattle.page_words.proofs.MapLemmas.{same_or_not, same_itself, list_any-map}

@@ -1,9 +1,8 @@
 -- How pages and their counts change with one entry, and what the bytes of pages give.
 use Rattle.std.proofs.Common.{◌≡◌, ◌≢◌, ℕ, ◌+◌, true, false, cond, List, refl, ap, sym, ◌∙◌, subst, arith, inl, inr, Option, Some, None}
-use Rattle.std.specs.Prelude.{◌⊎◌, ◌==◌}
+use Rattle.std.specs.Prelude.{◌⊎◌}
 use Rattle.std.specs.Option.{option_map}
 use Rattle.std.proofs.lemmas.Bool.{cases_eq}
-use Rattle.std.proofs.lemmas.Bool.Decides.{nat_tests}
 use Rattle.alloc_table.specs.declared.Role.TheVariants.{Reserved, Free, Directory, Table, Page}
 use Rattle.page_map.specs.declared.PageEntry.{PageEntry}
 use Rattle.page_words.specs.FiniteMap as map
@@ -17,6 +16,7 @@ use Rattle.address_space.specs.View.{Roles}
 use Rattle.address_space.specs.Sound.{Pages, HoldsPage}
 use Rattle.address_space.proofs.entries.Removal.{put_back, removed, kept_other}
 use Rattle.address_space.proofs.entries.Refinement.{contains-holders_of, same_holders, names-insert_same, holders-insert, holders-other, get-spaces_of, Unused}
+use Rattle.std.proofs.lemmas.Bool.{ne_eqb}
 
 -- the entry at a slot after one was put in: the new one, or one from before
 inserted : (E : Entries) (slot : Slot) (e : PageEntry) (q : Slot) (d : PageEntry) → map.get (map.insert E slot e) q ≡ Some d → (d ≡ e) ⊎ (map.get E q ≡ Some d)
@@ -25,8 +25,6 @@ inserted E slot e q d is = elim (same_or_not slot_order q slot) [
   | inr h ↦ inr (sym (get-insert E slot e q ∙ ap (λ b. cond b (Some e) (map.get E q)) h) ∙ is)
 ]
 
-pub not_same : (f g : ℕ) → f ≢ g → (f == g) ≡ false
-not_same f g n = grind (arith, nat_tests)
 
 -- a frame that an entry may name is no free frame, no table and no directory
 pub no_free : (R : Roles) (f g : ℕ) → HoldsPage (R f) → R g ≡ Some Free → f ≢ g
@@ -47,7 +45,7 @@ unused E R f P free q = by (map.get E q) refl
   where
     by : (x : Option PageEntry) → map.get E q ≡ x → names f x ≡ false
     by None is = refl
-    by (Some d) is = not_same d.frame f (no_free R d.frame f (P.pages q d is) free)
+    by (Some d) is = ne_eqb d.frame f (no_free R d.frame f (P.pages q d is) free)
 
 -- and so no slot holds it
 pub unused_count : (E : Entries) (R : Roles) (f : ℕ) → Pages E R → R f ≡ Some Free → 0 ≡ set.len (holders_of E f)
@@ -92,7 +90,7 @@ pages-more E R R' slot e n P none own count others = record {
         (omega arith, omega arith)
     | inr differ ↦
         let old = P.counts f c (sym (others f differ) ∙ is) in
-        (old.0, old.1 ∙ sym (ap set.len (holders-other E slot e f (none f c is) (not_same e.frame f (λ s. differ (sym s))))))
+        (old.0, old.1 ∙ sym (ap set.len (holders-other E slot e f (none f c is) (ne_eqb e.frame f (λ s. differ (sym s))))))
   ];
 }
 
@@ -125,7 +123,7 @@ pages-lazy E R slot e P none lazy zero = record {
     | inl same ↦ inl (ap R (ap (λ (x : PageEntry). x.frame) same ∙ lazy) ∙ zero)
     | inr was ↦ P.pages q d was
   ];
-  counts = λ f c is. let old = P.counts f c is in (old.0, old.1 ∙ sym (ap set.len (holders-other E slot e f (ap (names f) none) (not_same e.frame f (λ same. let k : R 0 ≡ R f = ap R (sym lazy ∙ same) in cc)))));
+  counts = λ f c is. let old = P.counts f c is in (old.0, old.1 ∙ sym (ap set.len (holders-other E slot e f (ap (names f) none) (ne_eqb e.frame f (λ same. let k : R 0 ≡ R f = ap R (sym lazy ∙ same) in cc)))));
 }
 
 -- there is one lazy page more
@@ -137,7 +135,7 @@ lazy-more E slot e none lazy =
 
 -- as many lazy pages, where an entry on another frame came
 pub lazy-real : (E : Entries) (slot : Slot) (e : PageEntry) → map.get E slot ≡ None → e.frame ≢ 0 → lazy_count (map.insert E slot e) ≡ lazy_count E
-lazy-real E slot e none real = ap set.len (holders-other E slot e 0 (ap (names 0) none) (not_same e.frame 0 real))
+lazy-real E slot e none real = ap set.len (holders-other E slot e 0 (ap (names 0) none) (ne_eqb e.frame 0 real))
 
 -- or where one keeps its frame
 pub lazy-same : (E : Entries) (slot : Slot) (old new : PageEntry) → map.get E slot ≡ Some old → new.frame ≡ old.frame → lazy_count (map.insert E slot new) ≡ lazy_count E
@@ -149,7 +147,7 @@ pub holders-less : (E : Entries) (slot : Slot) (e : PageEntry) → map.get E slo
 holders-less E slot e found = (
   ap (λ x. set.len (holders_of x e.frame)) (sym back) ∙ ap set.len (holders-insert E' slot e) ∙ len-insert (holders_of E' e.frame) slot tt
       ∙ ap (λ b. cond b (set.len (holders_of E' e.frame)) (set.len (holders_of E' e.frame) + 1)) (contains-holders_of E' e.frame slot ∙ ap (names e.frame) (removed E slot)),
-  λ f n. sym (ap (λ x. holders_of x f) (sym back) ∙ holders-other E' slot e f (ap (names f) (removed E slot)) (not_same e.frame f (λ s. n (sym s)))),
+  λ f n. sym (ap (λ x. holders_of x f) (sym back) ∙ holders-other E' slot e f (ap (names f) (removed E slot)) (ne_eqb e.frame f (λ s. n (sym s)))),
 )
   where
     E' : Entries
@@ -164,7 +162,7 @@ lazy-filled E slot old new found lazy real =
     let less = (holders-less E slot old found).0 in
     let same : holders_of (map.insert E slot new) 0 ≡ holders_of (map.remove E slot) 0 = same_holders (map.insert E slot new) (map.remove E slot) 0 (λ q.
     elim (same_or_not slot_order q slot) [
-      | inl h ↦ ap (names 0) (get-insert E slot new q ∙ ap (λ b. cond b (Some new) (map.get E q)) h.1) ∙ not_same new.frame 0 real ∙ sym (ap (names 0) (ap (map.get (map.remove E slot)) h.0 ∙ removed E slot))
+      | inl h ↦ ap (names 0) (get-insert E slot new q ∙ ap (λ b. cond b (Some new) (map.get E q)) h.1) ∙ ne_eqb new.frame 0 real ∙ sym (ap (names 0) (ap (map.get (map.remove E slot)) h.0 ∙ removed E slot))
       | inr h ↦ ap (names 0) (get-insert E slot new q ∙ ap (λ b. cond b (Some new) (map.get E q)) h) ∙ sym (ap (names 0) (kept_other E slot q (λ e. let b = same_itself slot_order slot in let c : same slot_order q slot ≡ true = ap (λ x. same slot_order x slot) e ∙ b in cc)))
     ]) in
     let l : set.len (holders_of (map.insert E slot new) 0) ≡ set.len (holders_of (map.remove E slot) old.frame) = ap set.len (same ∙ ap (holders_of (map.remove E slot)) (sym lazy)) in

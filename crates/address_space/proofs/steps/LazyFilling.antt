@@ -24,10 +24,11 @@ use Rattle.address_space.specs.Changes.{PageFilled}
 use Rattle.address_space.proofs.costs.Costed.{free_where_light}
 use Rattle.address_space.proofs.entries.EntrySteps.{entries-insert, entry_own, tables-entry, use_kept}
 use Rattle.address_space.proofs.frames.FrameSteps.{tables-role}
-use Rattle.address_space.proofs.frames.PageSteps.{same_bytes, pages-more, unused, unused_count, no_free, no_table, not_same, lazy-filled, holders-less}
+use Rattle.address_space.proofs.frames.PageSteps.{same_bytes, pages-more, unused, unused_count, no_free, no_table, lazy-filled, holders-less}
 use Rattle.address_space.proofs.entries.Refinement.{fill_refines}
 use Rattle.address_space.proofs.steps.Steps.{inside, live_small, table_by_word, role_own, role_other, free_loose, page_loose}
 use Rattle.address_space.proofs.steps.Stores.{found, get_user, entry_rules, frame_written}
+use Rattle.std.proofs.lemmas.Bool.{ne_eqb}
 
 -- a lazy page leaves room for its frame
 pub room_to_fill : (directories : List (Option ℕ)) (bytes : List ℕ) (roles : List Role) (p d page : ℕ) (e : PageEntry) → IsSpaces directories bytes roles → directory_of directories p ≡ Some d
@@ -80,7 +81,7 @@ page_filled directories bytes one two roles roles' p d page f e s live low high 
     let t_f : f ≢ t = λ same. (let k : R f ≡ R t = ap R same in cc) in
     let is : frame_bytes two ≡ m2 = is_two ∙ ap (λ g. with_entry m1 g page e') (table_by_word (dir_word m1 d (slot_number page)) t here.there) in
     let E2 : entries_in D (frame_bytes two) ≡ map.insert E slot e' = ap (entries_in D) is ∙ entries-insert D m1 R' Tb p d page t (entry_word e') live here.there (entry_word-lt e' small) e' (word_entry-entry_word e' small) few low high ∙ ap (λ x. map.insert x slot e') w.entries in
-    let nowhere : (g c : ℕ) → R' g ≡ Some (Page c) → names g (map.get E slot) ≡ false = λ g c role. ap (names g) there ∙ not_same e.frame g (λ same.
+    let nowhere : (g c : ℕ) → R' g ≡ Some (Page c) → names g (map.get E slot) ≡ false = λ g c role. ap (names g) there ∙ ne_eqb e.frame g (λ same.
     let z : 0 ≢ f = (λ i. omega (arith, i, up)) in let a : R' 0 ≡ Some Reserved = others 0 z ∙ T.zero_role in let k : R' 0 ≡ R' g = ap R' (sym zero ∙ same) in cc) in
     let P2 : Pages (map.insert E slot e') R' = pages-more E R R' slot e' 0 sound.pages nowhere own (unused_count E R f sound.pages free) others in
     let same_length : length roles' ≡ length roles = ap length taken.now ∙ length-set roles f (Page 1) in
@@ -90,7 +91,7 @@ page_filled directories bytes one two roles roles' p d page f e s live low high 
     let holds = sound.pages.pages q x was in
     with_frame-other m1 t x.frame _ (no_table R x.frame t p (slot_number page) holds role_t) ∙ (λ i. is_one i x.frame) ∙ with_frame-other m f x.frame _ (no_free R x.frame f holds free) in
     let spaces : spaces_of (entries_in D (frame_bytes two)) (frame_bytes two) ≡ spaces_of E m =
-    (λ i. spaces_of (E2 i) (is i)) ∙ fill_refines E m2 slot e f there zero (unused E R f sound.pages free) (not_same f 0 (λ z. omega (arith, z, up))) zeros_0 zeros_f ∙ same_bytes E m m2 page_kept in
+    (λ i. spaces_of (E2 i) (is i)) ∙ fill_refines E m2 slot e f there zero (unused E R f sound.pages free) (ne_eqb f 0 (λ z. omega (arith, z, up))) zeros_0 zeros_f ∙ same_bytes E m m2 page_kept in
     let total : total_cost directories (spaces_of (entries_in D (frame_bytes two)) (frame_bytes two)) ≡ total_cost directories (spaces_of E m) = ap (total_cost directories) spaces in
     let weight : frames_weight roles' ≡ frames_weight roles + 1 = weight-taken roles roles' f (Page 1) taken in
     let less : lazy_count (entries_in D (frame_bytes two)) + 1 ≡ lazy_count E = ap (λ x. lazy_count x + 1) E2 ∙ lazy-filled E slot e e' there zero (λ z. omega (arith, z, up)) in

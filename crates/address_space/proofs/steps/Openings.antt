@@ -4,7 +4,7 @@ use Rattle.std.specs.Prelude.{◌⊎◌, is_some, slice_get, slice_set, if◌the
 use Rattle.std.specs.Option.{option_and_then, option_map, unwrap_or}
 use Rattle.std.specs.List.{list_any, range_with_len}
 use Rattle.std.proofs.lemmas.Bool.{cases_eq}
-use Rattle.std.proofs.lemmas.List.{length-replicate, get_or-drop, ext_get_or}
+use Rattle.std.proofs.lemmas.List.{length-replicate, get_or-drop}
 use Rattle.std.proofs.lemmas.List.Sums.{sum_by-cons}
 use Rattle.std.proofs.lemmas.Option.{slice_get_within}
 use Rattle.page_words.specs.Words.{is_present}
@@ -14,7 +14,7 @@ use Rattle.page_words.specs.FiniteSet as set
 use Rattle.page_words.specs.Addresses.{slot_number, index_number}
 use Rattle.page_words.proofs.MapLemmas.{same_map, same_set, get-collect}
 use Rattle.phys_memory.specs.Bytes.{frame_bytes, blank_bytes, word_at, word_in, with_frame}
-use Rattle.phys_memory.proofs.Frames.{with_frame-same, with_frame-other, length-frame, byte-frame}
+use Rattle.phys_memory.proofs.Frames.{with_frame-same, with_frame-other}
 use Rattle.alloc_table.specs.declared.Role.{Role}
 use Rattle.alloc_table.specs.declared.Role.TheVariants.{Reserved, Free, Directory, Table, Page}
 use Rattle.alloc_table.specs.Roles.{frames_weight, weight, IsTaken, opening_roles, free_frames}
@@ -35,6 +35,7 @@ use Rattle.address_space.proofs.frames.FrameSteps.{loose-tables, loose-table, lo
 use Rattle.address_space.proofs.frames.PageSteps.{pages-role, same_bytes, no_free}
 use Rattle.address_space.proofs.entries.Refinement.{get-spaces_of}
 use Rattle.address_space.proofs.steps.Steps.{free_loose, live_small, role_own, role_other}
+use Rattle.phys_memory.proofs.Frames.{frame-blank}
 
 zero_byte : (n k : ℕ) → ◌≡◌ {A = ℕ} (get_or (replicate n 0) k 0) 0
 zero_byte zero k = refl
@@ -237,14 +238,6 @@ blank_length : (n : ℕ) → length (blank_bytes n) ≡ 4096 * n
 unfolding blank_bytes
 blank_length n = length-replicate {A = ℕ} (4096 * n) 0
 
--- each frame of a memory of zeros is zeros
-blank_frame : (n f : ℕ) → f < n → frame_bytes (blank_bytes n) f ≡ replicate 4096 0
-unfolding blank_bytes
-blank_frame n f l =
-    let whole : length (replicate (4096 * n) 0) ≡ 4096 * n = length-replicate {A = ℕ} (4096 * n) 0 in
-    let long : length (frame_bytes (replicate (4096 * n) 0) f) ≡ 4096 = length-frame (replicate (4096 * n) 0) f (omega (arith, whole)) in
-    ext_get_or 0 _ _ (long ∙ sym (length-replicate {A = ℕ} 4096 0)) (λ i b. byte-frame (replicate (4096 * n) 0) f i (omega (arith, long)) ∙ zero_byte (4096 * n) (4096 * f + i) ∙ sym (zero_byte 4096 i))
-
 nothing_costs : (D : Directories) (S : Spaces) (a n : ℕ) → ((p : ℕ) → D p ≡ None) → sum_by (live_cost D S) (range_with_len a n) ≡ 0
 nothing_costs D S a zero none = refl
 nothing_costs D S a (suc n) none =
@@ -280,7 +273,7 @@ opening_is_sound n low high =
         pids = refl;
         tables = record {
           zero_role = opening_reserved n (omega arith);
-          zero_bytes = blank_frame n 0 (omega arith);
+          zero_bytes = frame-blank n 0 (omega arith);
           reserved = λ f is. elim (opening_role n f Reserved is) [ inl h ↦ h.0 | inr h ↦ cc ];
           directory = λ p d is. let a = no_directory 64 p in cc;
           directory_back = λ p d is. elim (opening_role n d (Directory p) is) [ inl h ↦ let e = h.1 in cc | inr h ↦ cc ];
@@ -289,7 +282,7 @@ opening_is_sound n low high =
           dir_words = λ p d s is i. let a = no_directory 64 p in absurd (let b : Some d ≡ None = sym is ∙ a in cc);
           outside = λ p d s is i out. let a = no_directory 64 p in absurd (let b : Some d ≡ None = sym is ∙ a in cc);
           table_words = λ p s t i is l. let a : table_in D m p s ≡ None = ap (option_and_then (λ d. table_of m d s)) (no_directory 64 p) in absurd (let b : Some t ≡ None = sym is ∙ a in cc);
-          long = λ f r is. let w : f < length (opening_roles n) = slice_get_within (opening_roles n) f r is in ap length (blank_frame n f (omega (arith, w, long))) ∙ length-replicate {A = ℕ} 4096 0;
+          long = λ f r is. let w : f < length (opening_roles n) = slice_get_within (opening_roles n) f r is in ap length (frame-blank n f (omega (arith, w, long))) ∙ length-replicate {A = ℕ} 4096 0;
         };
         pages = record {
           pages = λ slot e found. let a : map.get (entries_in D m) slot ≡ None = ap (λ E. map.get E slot) (opening_entries m) in absurd (let b : Some e ≡ None = sym found ∙ a in cc);

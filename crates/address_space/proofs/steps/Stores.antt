@@ -1,7 +1,7 @@
 -- What goes through a mapped slot leaves: a store, a load and a change of the right.
 use Rattle.std.proofs.Common.{◌≡◌, ℕ, suc, ◌+◌, ◌*◌, ◌/◌, ◌%◌, ◌^◌, ◌<◌, ◌≤◌, Bool, true, false, cond, List, [], ◌∷◌, ◌++◌, length, take, drop, refl, ap, sym, ◌∙◌, subst, arith, inl, inr, Option, Some, None, length-set, append_assoc}
 use Rattle.std.specs.Prelude.{is_some, slice_get, slice_set, if◌then◌else◌}
-use Rattle.std.specs.Option.{option_and_then, option_map}
+use Rattle.std.specs.Option.{option_and_then}
 use Rattle.std.specs.List.{list_any}
 use Rattle.byteorder.specs.Endian.{little_bytes}
 use Rattle.page_words.specs.Addresses.{slot_number, index_number, byte_count}
@@ -30,11 +30,12 @@ use Rattle.address_space.specs.Changes.{Touched, flagged}
 use Rattle.address_space.proofs.costs.CostSteps.{total-kept}
 use Rattle.address_space.proofs.entries.EntrySteps.{Loose, get-entries_in, entries-insert, tables-entry, use_kept}
 use Rattle.address_space.proofs.frames.FrameSteps.{loose-entry, loose-entries, tables-loose, use_loose}
-use Rattle.address_space.proofs.frames.PageSteps.{same_bytes, pages-same, no_table, not_same, lazy-same}
+use Rattle.address_space.proofs.frames.PageSteps.{same_bytes, pages-same, no_table, lazy-same}
 use Rattle.address_space.proofs.entries.Refinement.{get-spaces_of, store_refines, flags_refine, cell_at}
 use Rattle.address_space.proofs.steps.Steps.{inside, holds_inside, live_small, page_loose, table_by_word}
 use Rattle.page_words.proofs.OptionLemmas.{is_some-map}
 use Rattle.page_words.proofs.OptionLemmas.{some_value}
+use Rattle.std.proofs.lemmas.Bool.{ne_eqb}
 
 -- ---- Bytes
 
@@ -201,7 +202,7 @@ page_stored directories bytes one two roles p d page at written e sound live low
     let E2 : entries_in D (frame_bytes two) ≡ map.insert E slot e' = h.entries ∙ ap (λ x. map.insert x slot e') w.entries in
     record {
       sound = h.sound;
-      spaces = h.spaces ∙ (λ i. spaces_of (map.insert (w.entries i) slot e') (is1 i)) ∙ store_refines E m slot e at written there (not_same e.frame 0 (λ z. omega (arith, z, up)));
+      spaces = h.spaces ∙ (λ i. spaces_of (map.insert (w.entries i) slot e') (is1 i)) ∙ store_refines E m slot e at written there (ne_eqb e.frame 0 (λ z. omega (arith, z, up)));
       cost = (λ i. total_cost directories (spaces_of (E2 i) (frame_bytes two))) ∙ total-kept directories E m (frame_bytes two) slot e e' there;
       in_use = λ before. h.in_use (w.in_use before);
       lazy = ap lazy_count E2 ∙ lazy-same E slot e e' there refl;

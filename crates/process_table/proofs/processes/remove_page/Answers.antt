@@ -3,10 +3,10 @@ use Rattle.address_space.specs.Spaces.{cost, without, is_slot, at_page}
 use Rattle.quota_tree.specs.Containers.{used_of}
 use Rattle.process_table.specs.View.{IsProcesses}
 use Rattle.address_space.proofs.steps.Departures.{slot_of_process}
-use Rattle.address_space.proofs.frames.PageSteps.{not_same}
 use Rattle.address_space.proofs.costs.Totals.{cost-without_other}
 use Rattle.process_table.proofs.Charged.{charged-one}
 use Rattle.process_table.proofs.processes.remove_page.Goals as goal
+use Rattle.std.proofs.lemmas.Bool.{ne_eqb}
 
 less : (u k n m : ℕ) → u ≡ n → m + k ≡ n → u - k ≡ m
 less u k n m a b = omega arith
@@ -20,4 +20,4 @@ returns-clause-kept c =
     subst (IsProcesses c.unmap.new.self) (sym c.refund.ensures)
     (charged-one v c.unmap.new.self q p (used_of q p - c.relief-relief.result) c.requires.kept c.unmap.ensures.directories c.unmap.ensures.frames
     (less (used_of q p) c.relief-relief.result (cost v.spaces p) (cost (without v.spaces (is_slot p page)) p) (c.requires.kept.charged p c.requires.live) c.relief-relief.ensures ∙ sym (ap (λ S. cost S p) c.unmap.ensures.spaces))
-    (λ other n. ap (λ S. cost S other) c.unmap.ensures.spaces ∙ cost-without_other v.spaces (is_slot p page) other (λ at. slot_of_process p page (at_page other at) (not_same other p n))))
+    (λ other n. ap (λ S. cost S other) c.unmap.ensures.spaces ∙ cost-without_other v.spaces (is_slot p page) other (λ at. slot_of_process p page (at_page other at) (ne_eqb other p n))))

@@ -1,4 +1,4 @@
-use Rattle.std.proofs.Common.{sym, ap, ◌∙◌, arith}
+use Rattle.std.proofs.Common.{sym, ap, ◌∙◌}
 use Rattle.page_words.specs.FiniteMap as map
 use Rattle.quota_tree.specs.Containers.{room_of}
 use Rattle.quota_tree.proofs.Views.{is_some-live, room_of-container}
