@@ -1,5 +1,5 @@
 -- Each event keeps states well formed and leaves the root's entry in the book, and so does every run.
-use Rattle.std.proofs.Common.{◌≡◌, ℕ, ◌+◌, ◌⊎◌, ◌&&◌, Bool, true, false, not, refl, sym, ap, subst, ◌∙◌, List, [], ◌∷◌, Option, Some, None, unwrap_or, inl, inr, arith}
+use Rattle.std.proofs.Common.{◌≡◌, ℕ, ◌+◌, ◌⊎◌, ◌&&◌, Bool, true, false, not, refl, sym, ap, subst, ◌∙◌, List, [], ◌∷◌, ◌++◌, Option, Some, None, unwrap_or, inl, inr, arith}
 use Rattle.std.specs.Prelude.{if◌then◌else◌}
 use Rattle.std.specs.Option.{option_map}
 use Rattle.page_words.specs.Addresses.{page_number, is_user_page}
@@ -23,7 +23,7 @@ use Rattle.fault_handler.specs.Plans.{plan_of, goes_on}
 use Rattle.fault_handler.specs.declared.plans.Plan.{Plan}
 use Rattle.fault_handler.specs.declared.plans.Plan.TheVariants as plan
 use Rattle.fault_handler.proofs.Settled.{reached}
-use Rattle.kernel_calls.specs.Machine.{answer, answer_of, after, next, end_of, completes, refused_or, planned_or}
+use Rattle.kernel_calls.specs.Machine.{answer, answer_of, answers, after, next, end_of, completes, refused_or, planned_or}
 use Rattle.kernel_calls.specs.Laws.{RunsStayWellFormed}
 use Rattle.kernel_calls.specs.declared.calls.Call.{Call}
 use Rattle.kernel_calls.specs.declared.calls.Call.TheVariants as call
@@ -32,6 +32,16 @@ use Rattle.kernel_calls.specs.declared.calls.Reply.{Reply}
 use Rattle.kernel_calls.specs.declared.calls.Reply.TheVariants as reply
 use Rattle.kernel_calls.proofs.Decided.{next-stays, next-goes}
 use Rattle.process_table.proofs.Keeping.{aligned_is}
+
+-- ---- Runs, one behind another
+
+pub answers-append : (s : State) (xs ys : List Event) → answers s (xs ++ ys) ≡ answers s xs ++ answers (end_of s xs) ys
+answers-append s [] ys = refl
+answers-append s (x ∷ xs) ys = ap (λ replies. answer s x ∷ replies) (answers-append (next s x) xs ys)
+
+pub end_of-append : (s : State) (xs ys : List Event) → end_of s (xs ++ ys) ≡ end_of (end_of s xs) ys
+end_of-append s [] ys = refl
+end_of-append s (x ∷ xs) ys = end_of-append (next s x) xs ys
 
 -- a call that completes has no cause to be refused
 not-refused : (x : Option Cause) (r : Reply) → completes (refused_or x r) ≡ true → x ≡ None

@@ -8,16 +8,9 @@ use Rattle.memory_report.specs.Histories.{event_of, events_of, replies_of, state
 use Rattle.memory_report.specs.Laws.{EmptyIsLegal, GrowsLegal, BeginsLegal}
 use Rattle.memory_report.specs.declared.entries.LogEntry.{LogEntry}
 use Rattle.process_table.specs.State.{State, open_with}
+use Rattle.kernel_calls.proofs.Runs.{answers-append, end_of-append}
 
 -- ---- Runs, one behind another
-
-ends : (s : State) (es fs : List Event) → end_of s (es ++ fs) ≡ end_of (end_of s es) fs
-ends s [] fs = refl
-ends s (e ∷ es) fs = ends (next s e) es fs
-
-answers-append : (s : State) (es fs : List Event) → answers s (es ++ fs) ≡ answers s es ++ answers (end_of s es) fs
-answers-append s [] fs = refl
-answers-append s (e ∷ es) fs = ap (λ l. answer s e ∷ l) (answers-append (next s e) es fs)
 
 length-answers : (s : State) (es : List Event) → length (answers s es) ≡ length es
 length-answers s [] = refl
@@ -41,7 +34,7 @@ length-replies (e ∷ log) = ap suc (length-replies log)
 
 -- the state after one more entry
 pub state-push : (frames : ℕ) (log : List LogEntry) (e : LogEntry) → state_after frames (log ++ e ∷ []) ≡ next (state_after frames log) (event_of e)
-state-push frames log e = ap (end_of (open_with frames)) (events-append log (e ∷ [])) ∙ ends (open_with frames) (events_of log) (event_of e ∷ [])
+state-push frames log e = ap (end_of (open_with frames)) (events-append log (e ∷ [])) ∙ end_of-append (open_with frames) (events_of log) (event_of e ∷ [])
 
 answers-push : (frames : ℕ) (log more : List LogEntry) → answers (open_with frames) (events_of (log ++ more)) ≡ answers (open_with frames) (events_of log) ++ answers (state_after frames log) (events_of more)
 answers-push frames log more = ap (answers (open_with frames)) (events-append log more) ∙ answers-append (open_with frames) (events_of log) (events_of more)

@@ -11,7 +11,7 @@ use Rattle.std.proofs.lemmas.List.{take_at, take_all}
 use Rattle.std.proofs.Math.Numerals.{one-add}
 use Rattle.std.proofs.Math.Seq.{take-append-add}
 use Rattle.process_table.specs.State.{State, open_with}
-use Rattle.kernel_calls.specs.Machine.{answer, answers, next, end_of}
+use Rattle.kernel_calls.specs.Machine.{answer, answers, end_of}
 use Rattle.kernel_calls.specs.declared.calls.Event.{Event}
 use Rattle.tower.specs.declared.faults.ScriptFault.{ScriptFault}
 use Rattle.tower.specs.declared.faults.ScriptFault.TheVariants.{Malformed, TooLong}
@@ -22,16 +22,9 @@ use Rattle.tower.specs.Replies.{reply_line, text_of}
 use Rattle.tower.specs.Script.{limit, closed_lines, open_line, judged_to, is_whole, judged, said_event, is_malformed, is_sound, events_in, events_of, fault_of, replies_text}
 use Rattle.tower.proofs.LineLemmas.{judged_whole, judged_cut}
 use Rattle.tower.specs.Progress.{state_after, text_after, Begins, Breaks}
+use Rattle.kernel_calls.proofs.Runs.{answers-append, end_of-append}
 
 -- ---- Runs
-
-pub answers-append : (s : State) (xs ys : List Event) → answers s (xs ++ ys) ≡ answers s xs ++ answers (end_of s xs) ys
-answers-append s [] ys = refl
-answers-append s (x ∷ xs) ys = ap (λ replies. answer s x ∷ replies) (answers-append (next s x) xs ys)
-
-pub end_of-append : (s : State) (xs ys : List Event) → end_of s (xs ++ ys) ≡ end_of (end_of s xs) ys
-end_of-append s [] ys = refl
-end_of-append s (x ∷ xs) ys = end_of-append (next s x) xs ys
 
 pub replies_text-append : (frames : ℕ) (xs ys : List Event) → replies_text frames (xs ++ ys) ≡ replies_text frames xs ++ text_of (answers (end_of (open_with frames) xs) ys)
 unfolding replies_text text_of
