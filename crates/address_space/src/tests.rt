@@ -1,3 +1,4 @@
+//! Spaces by their calls: what each leaves of pages, frames and costs.
 ghost use Rattle.std.specs.Prelude.{◌≡◌, ◌+◌, ◌≤◌, length};
 ghost use Rattle.page_words.specs.Addresses.{IsUserPage};
 ghost use Rattle.address_space.specs.View.{total_cost};

@@ -1,3 +1,4 @@
+//! Accesses, planned and settled.
 use super::*;
 use page_words::Page;
 use process_table::Processes;

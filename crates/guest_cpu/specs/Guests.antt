@@ -70,16 +70,16 @@ value_of (reply.Refused cause) = None
 
 -- ---- Effects
 
--- the registers after an instruction whose call, where it makes one, gave that value
-abbrev pub registers_after : View → Instruction → ℕ → View
-registers_after g (Set to value) given = with_register g to value
-registers_after g (Add to a b) given = with_register g to ((register_of g a + register_of g b) % 2 ^ 32)
-registers_after g (Load size to address) given = with_register g to given
-registers_after g (Sys to call) given = with_register g to given
-registers_after g (Store size address value) given = g
-registers_after g (JumpEq a b target) given = g
-registers_after g (Jump target) given = g
-registers_after g Halt given = g
+-- the guest with what an instruction writes to a register, whose call, where it makes one, gave that value
+abbrev pub guest_with_result : View → Instruction → ℕ → View
+guest_with_result g (Set to value) given = with_register g to value
+guest_with_result g (Add to a b) given = with_register g to ((register_of g a + register_of g b) % 2 ^ 32)
+guest_with_result g (Load size to address) given = with_register g to given
+guest_with_result g (Sys to call) given = with_register g to given
+guest_with_result g (Store size address value) given = g
+guest_with_result g (JumpEq a b target) given = g
+guest_with_result g (Jump target) given = g
+guest_with_result g Halt given = g
 
 -- where the counter stands after it
 abbrev pub place_after : View → Instruction → ℕ
@@ -93,4 +93,4 @@ place_after g (Store size address value) = g.counter + 1
 place_after g (Sys to call) = g.counter + 1
 
 abbrev pub after : View → Instruction → ℕ → View
-after g instruction given = with_counter (registers_after g instruction given) (place_after g instruction)
+after g instruction given = with_counter (guest_with_result g instruction given) (place_after g instruction)

@@ -1,3 +1,4 @@
+//! A guest: its registers, its program and its counter.
 ghost use Rattle.std.specs.Prelude.{◌≡◌, ◌<◌, ◌^◌};
 ghost use Rattle.guest_cpu.specs.Guests.{opening_guest, register_of, with_register, event_of, value_of, place_after, after};
 

@@ -1,3 +1,4 @@
+//! What a guest program is made of.
 ghost use Rattle.std.specs.Prelude.{◌≡◌, ◌<◌, ◌↔◌, IsSome, IfSome, IsTrue};
 ghost use Rattle.guest_cpu.specs.declared.instructions.Instruction.TheVariants.{Halt};
 

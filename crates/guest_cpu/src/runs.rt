@@ -1,3 +1,4 @@
+//! A guest's run over a port.
 ghost use Rattle.std.specs.Prelude.{◌≡◌, ◌<◌, ◌^◌, IfSome, slice_get};
 ghost use Rattle.guest_cpu.specs.Runs.{HasExecuted, HasRun};
 

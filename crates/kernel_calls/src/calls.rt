@@ -1,3 +1,4 @@
+//! Calls, events, replies and decisions.
 use fault_handler::Plan;
 use page_words::{Page, Pid, Size, Vaddr};
 use process_table::Cause;
@@ -106,8 +107,8 @@ pub enum Reply {
 #[derive(Clone, Copy, Debug, PartialEq, Eq)]
 pub struct Decision {
     pub event: Event,
-    /// What the call comes to: a call that is neither refused nor a fault is Complete, or MapZero where a
-    /// page is mapped first.
+    /// What the call comes to: that of a call which is neither refused nor a fault is Complete, and where
+    /// an access maps its page or gives it a frame first, MapZero or Fill.
     pub plan: Plan,
     pub reply: Reply,
     /// The charge of the event's process after it, in frames; 0 where it is not live then.

@@ -22,7 +22,6 @@ blank_word m d slot blank small = ap (λ l. word_in l slot) blank ∙ word_in-ze
 blank_table : (m : Frames) (d slot : ℕ) → m d ≡ replicate 4096 0 → slot < 1024 → table_of m d slot ≡ None
 blank_table m d slot blank small = ap word_table (blank_word m d slot blank small)
 
-
 pub blank_frames_are_maps : BlankFramesAreMaps
 blank_frames_are_maps bytes d inside blank = record {
   directory_inside = inside;

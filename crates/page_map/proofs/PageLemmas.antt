@@ -84,7 +84,6 @@ entries-remove m m' d page own is others = same_map _ _ (λ q.
       ] ∙ sym (ap (λ b. cond b None (map.get (entries_of m d) q)) h.1)
     ] ∙ sym (get-remove (entries_of m d) page q))
 
-
 pub count_range-zero : (p : ℕ → Bool) (first : ℕ) → count_range p first 0 ≡ 0
 unfolding count_range
 count_range-zero p first = refl

@@ -1,3 +1,4 @@
+//! Page maps by their calls.
 ghost use Rattle.std.specs.Prelude.{◌≡◌, IfOk, length};
 ghost use Rattle.phys_memory.specs.Bytes.{frame_bytes};
 ghost use Rattle.page_map.specs.Entries.{IsPageMap, IsFreshTable};

@@ -1,3 +1,4 @@
+//! Addresses, pages, frames, sizes and processes, and the parts of an address.
 ghost use Rattle.std.specs.Prelude.{◌≡◌, ◌<◌, ◌≤◌, ◌^◌, ◌↔◌, IsTrue, IsSome, IfSome};
 ghost use Rattle.page_words.specs.Addresses.{page_number, slot_number, index_number, offset_number, byte_count, IsUserPage};
 

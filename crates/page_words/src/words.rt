@@ -1,3 +1,4 @@
+//! The words of page directories and page tables.
 ghost use Rattle.std.specs.Prelude.{◌≡◌, ◌<◌, ◌^◌};
 ghost use Rattle.page_words.specs.Words.{flag, with_flag, frame_number, with_frame, is_present, is_writable, is_user, is_accessed, is_dirty, has_may, is_lazy, is_granted};
 ghost use Rattle.page_words.specs.Words.{DirWordsByFields, TableWordsByFields, FlagsStandAlone, FrameStandsAlone};

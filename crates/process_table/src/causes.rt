@@ -1,3 +1,5 @@
+//! Why a call is refused.
+
 /// Why a call is refused.
 #[derive(Clone, Copy, Debug, PartialEq, Eq)]
 pub enum Cause {

@@ -1,3 +1,4 @@
+//! Processes by their calls.
 use super::*;
 use address_space::Cell;
 use page_words::{Page, Pid, Size, Vaddr, in_user_range, page_of};

@@ -61,7 +61,6 @@ spaces_insert entries bytes slot new rest own mine others =
 eqb_itself : (n : ℕ) → (n == n) ≡ true
 eqb_itself n = eq-eqb n n refl
 
-
 -- ---- A store
 
 -- an entry after a store: its frame stays

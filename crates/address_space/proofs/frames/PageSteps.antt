@@ -25,7 +25,6 @@ inserted E slot e q d is = elim (same_or_not slot_order q slot) [
   | inr h ↦ inr (sym (get-insert E slot e q ∙ ap (λ b. cond b (Some e) (map.get E q)) h) ∙ is)
 ]
 
-
 -- a frame that an entry may name is no free frame, no table and no directory
 pub no_free : (R : Roles) (f g : ℕ) → HoldsPage (R f) → R g ≡ Some Free → f ≢ g
 no_free R f g (inl r) free same = let k : R f ≡ R g = ap R same in cc

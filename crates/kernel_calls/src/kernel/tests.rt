@@ -1,3 +1,4 @@
+//! Whole runs of the core.
 use super::*;
 use page_words::{Page, Size, Vaddr};
 use process_table::Cause;
