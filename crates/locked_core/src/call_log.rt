@@ -28,7 +28,7 @@ pub fn entry_of(decision: &Decision, nth: usize) -> LogEntry
 /// how many there is memory.
 #[derive(Drop)]
 pub struct CallLog {
-    entries: Vec<LogEntry>,
+    pub(crate) entries: Vec<LogEntry>,
     counts: [usize; 8],
 }
 

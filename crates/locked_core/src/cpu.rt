@@ -121,8 +121,11 @@ impl<N: Name> Cpu<N> {
         requires small { length seen < 2 ^ 64 }
         ensures { self.new ≡ maker self.old.number seen }
     {
-        self.calls += 1;
-        self.seen = seen;
+        *self = Cpu {
+            number: self.number,
+            calls: self.calls + 1,
+            seen,
+        };
     }
 
     /// Makes a call of a process: waits for the lock, decides, carries out, logs and publishes it.

@@ -3,8 +3,8 @@ use Rattle.locked_core.proofs.Entries.{calls_few}
 use Rattle.locked_core.proofs.cpu.Cpu.made.Goals as goal
 use Rattle.memory_report.specs.Histories.{calls_of}
 
-pub overflow_add-self : goal.overflow_add-self
-overflow_add-self g c =
+pub overflow_add-self-inside : goal.overflow_add-self-inside
+overflow_add-self-inside g c =
     let few = calls_few c.args.self.now.number c.args.seen in
     let more = c.requires.calls in
     let small = c.requires.small in
