@@ -116,15 +116,15 @@ impl<N: Name> Cpu<N> {
     }
 
     /// Takes in one more call of its own, which ends what it has seen now.
-    fn made(&mut self, seen: Front<N>)
-        requires calls { calls_of self.old.number seen ≡ calls_of self.old.number self.old.seen + 1 }
-        requires small { length seen < 2 ^ 64 }
-        ensures { self.new ≡ maker self.old.number seen }
+    fn made(&mut self, grown: Front<N>)
+        requires calls { calls_of self.old.number grown ≡ calls_of self.old.number self.old.seen + 1 }
+        requires small { length grown < 2 ^ 64 }
+        ensures { self.new ≡ maker self.old.number grown }
     {
         *self = Cpu {
             number: self.number,
             calls: self.calls + 1,
-            seen,
+            seen: grown,
         };
     }
 
