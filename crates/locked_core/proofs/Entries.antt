@@ -2,7 +2,7 @@
 use Rattle.std.proofs.Common.{◌≡◌, ℕ, ◌+◌, ◌≤◌, ◌==◌, List, [], ◌∷◌, ◌++◌, length, Bool, true, false, refl, sym, ap, ◌∙◌, subst, arith, length-append, eq-eqb, le_refl}
 use Rattle.std.specs.Prelude.{filter, cond}
 use Rattle.std.proofs.lemmas.List.Elements.{filter-append}
-use Rattle.kernel_calls.specs.Decisions.{charge_after}
+use Rattle.kernel_calls.specs.Decisions.{charge_after, decision_of}
 use Rattle.kernel_calls.specs.Machine.{answer, next}
 use Rattle.kernel_calls.specs.declared.calls.Call.{Call}
 use Rattle.kernel_calls.specs.declared.calls.Decision.{Decision}
@@ -13,6 +13,14 @@ use Rattle.memory_report.specs.Reports.{report_of, Absorbs}
 use Rattle.memory_report.specs.declared.entries.LogEntry.{LogEntry}
 use Rattle.memory_report.specs.declared.report.Report.{Report}
 use Rattle.process_table.specs.State.{State, open_with}
+use Rattle.process_table.specs.View.{View}
+use Rattle.kernel_calls.specs.declared.calls.Reply.{Reply}
+use Rattle.locked_core.proofs.Prefixes.{same_entries}
+use Rattle.locked_core.specs.Held.{Held}
+use Rattle.locked_core.specs.Makers.{Maker, maker, Makes, IsUnread, Prevents}
+use Rattle.locked_core.specs.declared.faults.Fault.{Fault}
+use Rattle.locked_core.specs.declared.faults.Fault.TheVariants.{NoMemory, Stale, Unread, Disagree}
+use Rattle.memory_report.specs.Histories.{StartsWith}
 
 -- no call was made yet
 pub legal_opening : (frames : ℕ) (log : List LogEntry) (core : State) → 16 ≤ frames → frames ≤ 4096 → log ≡ [] → core ≡ open_with frames → Legal frames log × (core ≡ state_after frames log)
@@ -28,14 +36,12 @@ calls_few cpu (e ∷ es) = by_case (e.cpu == cpu) (calls_few cpu es)
     by_case false h = omega arith
 
 -- what is logged of a call as it was decided
-pub entry_is : (frames : ℕ) (log : List LogEntry) (core : State) (cpu nth pid : ℕ) (call : Call) (decision : Decision) (e : LogEntry) → core ≡ state_after frames log → nth ≡ calls_of cpu log
-    → decision.reply ≡ answer core (record { cpu = cpu; pid = pid; call = call }) → decision.used_after ≡ charge_after core (record { cpu = cpu; pid = pid; call = call })
-    → e ≡ record { cpu = cpu; nth = nth; pid = pid; call = call; reply = decision.reply; used_after = decision.used_after } → e ≡ entry_after frames log cpu pid call
-entry_is frames log core cpu nth pid call decision e at count says uses is =
-    let event : Event = record { cpu = cpu; pid = pid; call = call } in
-    let r : decision.reply ≡ answer (state_after frames log) event = says ∙ ap (λ (s : State). answer s event) at in
-    let u : decision.used_after ≡ charge_after (state_after frames log) event = uses ∙ ap (λ (s : State). charge_after s event) at in
-    is ∙ (λ i. record { cpu = cpu; nth = count i; pid = pid; call = call; reply = r i; used_after = u i })
+pub entry_is : (frames : ℕ) (log : List LogEntry) (core : View) (nth : ℕ) (d : Decision) (e : LogEntry) → core.state ≡ state_after frames log → nth ≡ calls_of d.event.cpu log → d ≡ decision_of core d.event
+    → e ≡ record { cpu = d.event.cpu; nth = nth; pid = d.event.pid; call = d.event.call; reply = d.reply; used_after = d.used_after } → e ≡ entry_after frames log d.event.cpu d.event.pid d.event.call
+entry_is frames log core nth d e at count decided is =
+    let r : d.reply ≡ answer (state_after frames log) d.event = ap (λ (x : Decision). x.reply) decided ∙ ap (λ (s : State). answer s d.event) at in
+    let u : d.used_after ≡ charge_after (state_after frames log) d.event = ap (λ (x : Decision). x.used_after) decided ∙ ap (λ (s : State). charge_after s d.event) at in
+    is ∙ (λ i. record { cpu = d.event.cpu; nth = count i; pid = d.event.pid; call = d.event.call; reply = r i; used_after = u i })
 
 -- the entries of one CPU, with one more
 pub entries_push : (cpu : ℕ) (log : List LogEntry) (e : LogEntry) → e.cpu ≡ cpu → entries_of cpu (log ++ e ∷ []) ≡ entries_of cpu log ++ e ∷ []
@@ -75,3 +81,44 @@ shown_grown frames log new e report now count grown len at took legal = (
   subst (Legal frames) (sym grown) legal,
   took frames log legal at ∙ ap (λ l. report_of (state_after frames l)) (sym grown),
 )
+
+-- what a CPU has seen after a call that was judged on the log and carried out on it
+pub makes : (frames : ℕ) (before after : Maker) (pid : ℕ) (call : Call) (reply : Reply) (event : Event) (log new front : List LogEntry) → event ≡ record { cpu = before.number; pid = pid; call = call }
+    → StartsWith log before.seen × (calls_of before.number log ≡ calls_of before.number before.seen) → Legal frames new → new ≡ log ++ entry_after frames log event.cpu event.pid event.call ∷ []
+    → reply ≡ (entry_after frames log event.cpu event.pid event.call).reply → front ≡ new → after ≡ maker before.number front → Makes frames before pid call after reply
+makes frames before after pid call reply event log new front of fits legal grown told same is =
+    let cpu = before.number in
+    let e : LogEntry = entry_after frames log cpu pid call in
+    let seen : after.seen ≡ new = ap (λ (m : Maker). m.seen) is ∙ same in
+    let by : after.seen ≡ log ++ e ∷ [] = seen ∙ (grown ∙ ap (λ (x : Event). log ++ entry_after frames log x.cpu x.pid x.call ∷ []) of) in (
+      fits.0.0,
+      e,
+      record {
+        legal = subst (Legal frames) (sym seen) legal;
+        grown = by ∙ ap (λ l. l ++ e ∷ []) fits.0.1;
+        by_cpu = refl;
+        for_process = refl;
+        of_call = refl;
+        with_reply = sym (told ∙ ap (λ (x : Event). (entry_after frames log x.cpu x.pid x.call).reply) of);
+        own = ap (entries_of cpu) by ∙ (entries_push cpu log e refl ∙ ap (λ l. l ++ e ∷ []) (same_entries cpu log before.seen fits.0 fits.1));
+      },
+    )
+
+-- what keeps a judged call from being carried out is Unread only where the history is longer
+pub prevents_unread : (log : List LogEntry) (f : Fault) → Prevents log f → IsUnread log f
+prevents_unread log NoMemory h = tt
+prevents_unread log Unread h = h
+prevents_unread log (Stale front) h = tt
+prevents_unread log Disagree h = tt
+
+-- the core is in the state after the log, which is a legal history
+abbrev pub Stands : ℕ → Held → Type 0
+Stands frames h = Legal frames h.log × (h.core.state ≡ state_after frames h.log)
+
+-- the entry of a call that was judged ends a legal history
+pub judged : (frames : ℕ) (h : Held) (nth : ℕ) (d : Decision) (e : LogEntry) → Stands frames h → nth ≡ calls_of d.event.cpu h.log → d ≡ decision_of h.core d.event
+    → e ≡ record { cpu = d.event.cpu; nth = nth; pid = d.event.pid; call = d.event.call; reply = d.reply; used_after = d.used_after }
+    → (e ≡ entry_after frames h.log d.event.cpu d.event.pid d.event.call) × Legal frames (h.log ++ e ∷ [])
+judged frames h nth d e stands count decided is =
+    let same : e ≡ entry_after frames h.log d.event.cpu d.event.pid d.event.call = entry_is frames h.log h.core nth d e stands.1 count decided is in
+    (same, subst (λ (x : LogEntry). Legal frames (h.log ++ x ∷ [])) (sym same) (grows_legal frames h.log d.event.cpu d.event.pid d.event.call stands.0))

@@ -1,4 +1,6 @@
+pub mod Counts
 pub mod Faults
+pub mod Held
 pub mod Makers
 pub mod Pages
 pub mod Ports

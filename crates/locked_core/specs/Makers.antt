@@ -1,5 +1,5 @@
 -- What a contract sees of a CPU, what a call that is made leaves, and when one is refused.
-use Rattle.std.specs.Prelude.{◌≡◌, ◌≢◌, ◌⊎◌, ℕ, zero, suc, ◌<◌, List, [], ◌∷◌, ◌++◌, length}
+use Rattle.std.specs.Prelude.{◌≡◌, ◌≢◌, ◌⊎◌, ℕ, zero, suc, ◌<◌, List, [], ◌∷◌, ◌++◌, length, take, All, Any}
 use Rattle.kernel_calls.specs.declared.calls.Call.{Call}
 use Rattle.kernel_calls.specs.declared.calls.Reply.{Reply}
 use Rattle.locked_core.specs.declared.faults.Fault.{Fault}
@@ -52,3 +52,24 @@ IsUnread log Unread = GoesOn log
 IsUnread log (Stale front) = Unit {0}
 IsUnread log NoMemory = Unit {0}
 IsUnread log Disagree = Unit {0}
+
+-- what keeps a call that was judged from being carried out: no memory, or a history that is longer than the log
+abbrev pub Prevents : List LogEntry → Fault → Type 0
+Prevents log NoMemory = Unit {0}
+Prevents log Unread = GoesOn log
+Prevents log (Stale front) = ⊥
+Prevents log Disagree = ⊥
+
+-- what a CPU has seen begins the log, and it made the calls that the log has of it
+abbrev pub IsFit : List LogEntry → Maker → Type 0
+IsFit log c = (take (length c.seen) log ≡ c.seen) × (calls_of c.number log ≡ calls_of c.number c.seen)
+
+-- one of the CPUs has the number
+unfoldable pub IsOneOf : List Maker → ℕ → Type 0
+IsOneOf cpus number = Any (λ (c : Maker). c.number ≡ number) cpus
+
+-- all of so many CPUs, whose calls are the log
+pub record AreAll (count : ℕ) (log : List LogEntry) (cpus : List Maker) : Type 0 where
+  pub as_many : length cpus ≡ count
+  pub fit : All (λ c. IsFit log c) cpus
+  pub known : All (λ e. IsOneOf cpus e.cpu) log

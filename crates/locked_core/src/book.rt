@@ -109,7 +109,10 @@ pub struct Opened {
 }
 
 impl Opened {
-    pub fn new() -> Opened {
+    /// A new book.
+    pub fn new() -> Opened
+        ensures { result.seen.log ≡ [] }
+    {
         let (seen, mut first, _second) = Seen::open(Start::alone(), 0, 0);
         Opened {
             head: Word::tracked(0, &mut first),
@@ -118,8 +121,9 @@ impl Opened {
     }
 
     /// The book under a name.
-    pub fn named<N: Name>(self) -> Book<N>
+    pub(crate) fn named<N: Name>(self) -> Book<N>
         requires { self.seen.book ≡ N.book }
+        ensures { result.head ≡ head_of N.book }
     {
         let Opened { head, seen: _seen } = self;
         Book {
@@ -191,7 +195,7 @@ impl<N: Name> Front<N> {
     /// Whether it is no longer than the other front. The shorter of both begins the longer one.
     pub fn begins(&self, other: &Front<N>) -> bool
         ensures order { MatchBool result (StartsWith other.now self.now) (StartsWith self.now other.now × (length other.now < length self.now)) }
-        ensures legal { Legal N.frames self.now }
+        ensures legal { Legal N.frames self.now × Legal N.frames other.now }
     {
         let mut both = self.seen.again();
         both.learn(&other.seen);

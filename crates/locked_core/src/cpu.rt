@@ -1,17 +1,16 @@
 //! The CPUs, and what each has seen.
 
-ghost use Rattle.std.specs.Prelude.{◌≡◌, ◌+◌, [], IfOk, IfErr, OnErr, IsTrue, length, take, List};
-ghost use Rattle.locked_core.specs.Makers.{Maker, maker, Makes, IsStale, IsUnread};
-ghost use Rattle.memory_report.specs.Histories.{calls_of};
+ghost use Rattle.std.specs.Prelude.{◌≡◌, ◌≢◌, ◌+◌, ◌<◌, ◌^◌, ◌⊎◌, ◌↔◌, [], false, IfOk, IfErr, OnErr, IsTrue, length, List};
+ghost use Rattle.locked_core.specs.Makers.{Maker, maker, Makes, BeginOne, IsFit, IsStale, IsUnread};
+ghost use Rattle.memory_report.specs.Histories.{StartsWith, calls_of};
 ghost use Rattle.memory_report.specs.declared.entries.LogEntry.{LogEntry};
 
 use crate::book::{Front, Name};
+use crate::call_log::CallLog;
 use crate::faults::Fault;
-use crate::gate::Gate;
+use crate::gate::{Gate, Point};
 use crate::kernel::Kernel;
-use crate::locked::count_of;
 use kernel_calls::{Call, Reply};
-use memory_report::LogEntry;
 use page_words::Pid;
 use std::marker::Model;
 use std::sync::{MutexGuard, Wait};
@@ -57,7 +56,7 @@ pub struct Cpu<N: Name> {
 }
 
 impl<N: Name> Model for Cpu<N> {
-    ghost use Rattle.std.specs.Prelude.{◌≡◌};
+    ghost use Rattle.std.specs.Prelude.{◌≡◌, ◌<◌};
     ghost use Rattle.memory_report.specs.Histories.{calls_of};
     ghost use Rattle.locked_core.specs.Makers.{Maker};
 
@@ -65,13 +64,14 @@ impl<N: Name> Model for Cpu<N> {
 
     ghost view = { λ c. record { number = c.number; seen = c.seen } };
 
-    ghost invariant = { λ c. c.calls ≡ calls_of c.number c.seen };
+    ghost invariant = { λ c. (c.calls ≡ calls_of c.number c.seen) × (c.number < 8) };
 }
 
 impl<N: Name> Cpu<N> {
     /// The CPU's number, from 0 on.
     pub fn number(&self) -> u8
-        ensures { result ≡ self.now.number }
+        ensures number { result ≡ self.now.number }
+        ensures small { result < 8 }
     {
         self.number
     }
@@ -93,7 +93,8 @@ impl<N: Name> Cpu<N> {
     }
 
     pub(crate) fn new(number: u8, seen: Front<N>) -> Cpu<N>
-        requires { seen ≡ [] }
+        requires number { number < 8 }
+        requires seen { seen ≡ [] }
         ensures { result ≡ maker number [] }
     {
         Cpu {
@@ -105,11 +106,26 @@ impl<N: Name> Cpu<N> {
 
     /// Whether it made the calls that the log has of it, and has seen no more than the log. What it has
     /// seen then begins the log.
-    pub(crate) fn agrees(&self, log: &[LogEntry], front: &Front<N>) -> bool
-        requires { front.now ≡ log.now }
-        ensures { IsTrue result → (take (length self.now.seen) log.now ≡ self.now.seen) × (calls_of self.now.number log.now ≡ calls_of self.now.number self.now.seen) }
+    pub(crate) fn agrees(&self, log: &CallLog, front: &Front<N>) -> bool
+        requires { front.now ≡ log.now.entries }
+        ensures fit { IsTrue result ↔ IsFit log.now.entries self.now }
+        ensures begins { IsTrue result → StartsWith log.now.entries self.now.seen }
+        ensures differs { result ≡ false → BeginOne N.frames log.now.entries self.now.seen × ((length log.now.entries < length self.now.seen) ⊎ (calls_of self.now.number log.now.entries ≢ calls_of self.now.number self.now.seen)) }
     {
-        self.seen.begins(front) && self.calls == count_of(log, self.number)
+        self.seen.begins(front) && self.calls == log.calls_of(self.number)
+    }
+
+    /// Takes in one more call of its own, which ends what it has seen now.
+    fn made(&mut self, grown: Front<N>)
+        requires calls { calls_of self.old.number grown ≡ calls_of self.old.number self.old.seen + 1 }
+        requires small { length grown < 2 ^ 64 }
+        ensures { self.new ≡ maker self.old.number grown }
+    {
+        *self = Cpu {
+            number: self.number,
+            calls: self.calls + 1,
+            seen: grown,
+        };
     }
 
     /// Makes a call of a process: waits for the lock, decides, carries out, logs and publishes it.
@@ -132,8 +148,24 @@ impl<N: Name> Cpu<N> {
         ensures err { OnErr result (self.new ≡ self.old) }
     {
         let mut guard = kernel.state.lock(rt);
-        let answer = guard.call(rt, &kernel.gate, self, pid, call);
+        let ready = match guard.judge(self, pid, call) {
+            Ok(ready) => ready,
+            Err(fault) => {
+                MutexGuard::unlock(guard);
+                return Err(fault);
+            }
+        };
+        kernel.gate.reach(Point::Locked);
+        let (reply, seen) = match guard.carry_out(rt, ready) {
+            Ok(carried) => carried,
+            Err(fault) => {
+                MutexGuard::unlock(guard);
+                return Err(fault);
+            }
+        };
+        self.made(seen);
+        kernel.gate.reach(Point::Published);
         MutexGuard::unlock(guard);
-        answer
+        Ok(reply)
     }
 }

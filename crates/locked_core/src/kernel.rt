@@ -1,14 +1,16 @@
 //! The kernel: how it boots, is opened under a name, and is closed.
 
-ghost use Rattle.std.specs.Prelude.{◌≡◌, ◌≤◌, ◌↔◌, [], IfErr, IfOk, IsErrOf, All, Any, IsTrue, length, take, drop, replicate};
+ghost use Rattle.std.specs.Prelude.{◌≡◌, ◌≤◌, ◌↔◌, [], IfErr, IfOk, IsErrOf, All, Any, IsTrue, length, take, drop, replicate, List};
 ghost use Rattle.left_right.specs.Sides.{view};
-ghost use Rattle.locked_core.specs.Makers.{new_makers};
+ghost use Rattle.locked_core.specs.Makers.{AreAll, IsFit, IsOneOf, new_makers};
 ghost use Rattle.locked_core.specs.Pages.{page};
 ghost use Rattle.locked_core.specs.Published.{view_of};
 ghost use Rattle.memory_report.specs.Histories.{Legal, state_after, calls_of};
+ghost use Rattle.memory_report.specs.declared.entries.LogEntry.{LogEntry};
 ghost use Rattle.process_table.specs.State.{open_with};
 
 use crate::book::{Front, Name, Opened};
+use crate::call_log::CallLog;
 use crate::cpu::Cpu;
 use crate::faults::{BootFault, Fault};
 use crate::gate::Gate;
@@ -35,6 +37,7 @@ pub struct Blank<G: Gate + Drop> {
     /// Its history, which is empty.
     pub opened: Opened,
     writer: LogWriter,
+    ghost few: { cpus ≤ 8 },
     ghost size: { (16 ≤ frames) × (frames ≤ 4096) },
     ghost new: { core.state ≡ open_with frames },
     ghost shows: { (writer.desk.shown.value ≡ page frames opened.seen.book []) × (view writer.desk.place ≡ view_of frames opened.seen.book) × (drop writer.behind writer.log.items ≡ []) },
@@ -43,7 +46,8 @@ pub struct Blank<G: Gate + Drop> {
 /// A kernel: its core, log and writer under one lock. End it by `close`.
 pub struct Kernel<N: Name, G: Gate + Drop> {
     pub(crate) state: Mutex<Locked<N>>,
-    cpus: u8,
+    /// How many CPUs it has.
+    pub cpus: u8,
     pub(crate) gate: G,
 }
 
@@ -133,6 +137,7 @@ impl<N: Name, G: Gate + Drop> Kernel<N, G> {
         ensures begins { IfOk result (λ h. All (λ c. take (length c.seen) h.entries.items ≡ c.seen) cpus.items) }
         ensures calls { IfOk result (λ h. All (λ c. calls_of c.number h.entries.items ≡ calls_of c.number c.seen) cpus.items) }
         ensures all { IfOk result (λ h. All (λ e. Any (λ c. c.number ≡ e.cpu) cpus.items) h.entries.items) }
+        ensures disagree { IfErr result (λ f. (f ≡ Fault.Disagree) × ((log : List LogEntry) × Legal N.frames log × (AreAll self.cpus log cpus.items → ⊥))) }
     {
         let Kernel {
             state,
@@ -141,42 +146,52 @@ impl<N: Name, G: Gate + Drop> Kernel<N, G> {
         } = self;
         let (core, log, front, writer) = state.into_inner().into_parts();
         writer.take(rt);
-        if cpus.len() != usize::from(count)
-            || !agree(cpus.as_slice(), log.as_slice(), &front)
-            || !all_known(cpus.as_slice(), log.as_slice())
-        {
+        if !are_all(cpus.as_slice(), count, &log, &front) {
             return Err(Fault::Disagree);
         }
-        Ok(History { entries: log, core })
+        Ok(History {
+            entries: log.into_entries(),
+            core,
+        })
     }
 }
 
 /// Whether each CPU made the calls that the log has of it, and has seen no more than the log. What it
 /// has seen then begins the log.
-fn agree<N: Name>(cpus: &[Cpu<N>], log: &[LogEntry], front: &Front<N>) -> bool
-    requires { front.now ≡ log.now }
-    ensures { IsTrue result → All (λ c. (take (length c.seen) log.now ≡ c.seen) × (calls_of c.number log.now ≡ calls_of c.number c.seen)) cpus.now }
+fn agree<N: Name>(cpus: &[Cpu<N>], log: &CallLog, front: &Front<N>) -> bool
+    requires { front.now ≡ log.now.entries }
+    ensures { IsTrue result ↔ All (λ c. IsFit log.now.entries c) cpus.now }
 {
     cpus.iter().all(|c| c.agrees(log, front))
 }
 
 /// Whether the number is of one of these CPUs.
+#[tactic(auto, unfolding(crate::specs::Makers::IsOneOf))]
 fn is_one_of<N: Name>(cpus: &[Cpu<N>], number: u8) -> bool
-    ensures { IsTrue result → Any (λ c. c.number ≡ number) cpus.now }
+    ensures { IsTrue result ↔ IsOneOf cpus.now number }
 {
     cpus.iter().any(|c| c.number() == number)
 }
 
 /// Whether each entry is of one of these CPUs.
 fn all_known<N: Name>(cpus: &[Cpu<N>], log: &[LogEntry]) -> bool
-    ensures { IsTrue result → All (λ e. Any (λ c. c.number ≡ e.cpu) cpus.now) log.now }
+    ensures { IsTrue result ↔ All (λ e. IsOneOf cpus.now e.cpu) log.now }
 {
-    for e in log {
-        if !is_one_of(cpus, e.cpu) {
-            return false;
-        }
+    log.iter().all(|e| is_one_of(cpus, e.cpu))
+}
+
+/// Whether these are all of so many CPUs, whose calls are the log.
+fn are_all<N: Name>(cpus: &[Cpu<N>], count: u8, log: &CallLog, front: &Front<N>) -> bool
+    requires { front.now ≡ log.now.entries }
+    ensures { IsTrue result ↔ AreAll count log.now.entries cpus.now }
+{
+    if cpus.len() != usize::from(count) {
+        return false;
     }
-    true
+    if !agree(cpus, log, front) {
+        return false;
+    }
+    all_known(cpus, log.entries())
 }
 
 impl<G: Gate + Drop> Blank<G> {
@@ -185,6 +200,7 @@ impl<G: Gate + Drop> Blank<G> {
     /// NoMemory where there is none for them; nothing is handed out then.
     pub fn open<N: Name, R: Wait>(self, rt: &R) -> Result<Boot<N, G>, BootFault>
         requires { (self.frames ≡ N.frames) × (self.opened.seen.book ≡ N.book) }
+        ensures count { IfOk result (λ b. b.kernel.cpus ≡ self.cpus) }
         ensures cpus { IfOk result (λ b. b.cpus.items ≡ new_makers self.cpus) }
         ensures monitors { IfOk result (λ b. b.monitors.items ≡ replicate self.monitors []) }
         ensures memory { IfErr result (λ f. f ≡ BootFault.NoMemory) }
@@ -203,7 +219,7 @@ impl<G: Gate + Drop> Blank<G> {
             writer.take(rt);
             return Err(BootFault::NoMemory);
         };
-        let locked = Locked::new(core, Vec::new(alloc), opened.named::<N>(), writer);
+        let locked = Locked::new(core, CallLog::new(alloc), opened.named::<N>(), writer);
         Ok(Boot {
             kernel: Kernel {
                 state: Mutex::new(locked),
@@ -223,7 +239,8 @@ fn seats<N: Name>(
     count: u8,
     watchers: u8,
 ) -> Result<(Vec<Cpu<N>>, Vec<Monitor<N>>), AllocError>
-    requires { (writer.old.desk.shown.value ≡ page N.frames N.book []) × (view writer.old.desk.place ≡ view_of N.frames N.book) }
+    requires few { count ≤ 8 }
+    requires writer { (writer.old.desk.shown.value ≡ page N.frames N.book []) × (view writer.old.desk.place ≡ view_of N.frames N.book) }
     ensures writer { (view writer.new.desk.place ≡ view writer.old.desk.place) × (writer.new.desk.shown ≡ writer.old.desk.shown) × (drop writer.new.behind writer.new.log.items ≡ drop writer.old.behind writer.old.log.items) }
     ensures cpus { IfOk result (λ t. t.0.items ≡ new_makers count) }
     ensures monitors { IfOk result (λ t. t.1.items ≡ replicate watchers []) }

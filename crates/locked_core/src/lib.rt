@@ -7,6 +7,7 @@
 #![tactic(auto)]
 
 mod book;
+mod call_log;
 mod cpu;
 mod faults;
 mod gate;

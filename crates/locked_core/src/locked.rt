@@ -1,76 +1,66 @@
 //! The value under the lock.
 
-ghost use Rattle.std.specs.Prelude.{◌≡◌, ◌≤◌, ◌+◌, ◌++◌, [], ◌∷◌, IfOk, IfErr, OnErr, drop};
+ghost use Rattle.std.specs.Prelude.{◌≡◌, ◌≤◌, ◌<◌, ◌+◌, ◌^◌, ◌++◌, [], ◌∷◌, IfOk, IfErr, OnErr, drop, length};
+ghost use Rattle.kernel_calls.specs.Decisions.{decision_of};
 ghost use Rattle.left_right.specs.Sides.{view};
-ghost use Rattle.locked_core.specs.Makers.{IsStale, IsUnread};
+ghost use Rattle.locked_core.specs.Makers.{IsStale, IsUnread, Prevents};
 ghost use Rattle.locked_core.specs.Pages.{page};
 ghost use Rattle.locked_core.specs.Published.{view_of};
 ghost use Rattle.memory_report.specs.Histories.{Legal, StartsWith, state_after, calls_of, entry_after};
 ghost use Rattle.process_table.specs.State.{open_with};
 
 use crate::book::{Book, Front, Name};
+use crate::call_log::{CallLog, entry_of};
 use crate::cpu::Cpu;
 use crate::faults::Fault;
-use crate::gate::{Gate, Point};
 use crate::publish::publish;
 use crate::rule::LogWriter;
+use crate::shown::Shown;
 use kernel_calls::{Call, Core, Decision, Event, Reply};
-use memory_report::LogEntry;
 use page_words::Pid;
 use std::marker::Model;
 use std::sync::Wait;
 
-/// The core, the log of all calls, the history that it is, and what publishes it. Contracts see it as the
-/// log, which is a legal history: the core is in the state after it, and what is published reports on it.
+/// A call that was judged under the lock: what was published then, how many entries its CPU had, and what
+/// was decided. It can be carried out on what it was judged on alone.
+#[derive(Drop)]
+pub struct Ready {
+    page: Shown,
+    nth: usize,
+    decision: Decision,
+}
+
+/// The core, the log of all calls, the history that it is, and what publishes it. Contracts see the core
+/// and the log, which is a legal history: the core is in the state after it, and what is published
+/// reports on it.
 pub struct Locked<N: Name> {
     core: Core,
-    log: Vec<LogEntry>,
+    log: CallLog,
     book: Book<N>,
     writer: LogWriter,
 }
 
 impl<N: Name> Model for Locked<N> {
-    ghost use Rattle.std.specs.Prelude.{◌≡◌, List, [], drop};
+    ghost use Rattle.std.specs.Prelude.{◌≡◌, [], drop};
+    ghost use Rattle.locked_core.specs.Held.{Held};
     ghost use Rattle.locked_core.specs.Pages.{page};
     ghost use Rattle.locked_core.specs.Published.{view_of};
     ghost use Rattle.memory_report.specs.Histories.{Legal, state_after};
-    ghost use Rattle.memory_report.specs.declared.entries.LogEntry.{LogEntry};
 
-    ghost Value = { List LogEntry };
+    ghost Value = { Held };
 
-    ghost view = { λ l. l.log.items };
+    ghost view = { λ l. record { core = l.core; log = l.log.entries } };
 
-    ghost invariant = { λ l. Legal N.frames l.log.items × (l.core.state ≡ state_after N.frames l.log.items) × (l.writer.desk.shown.value ≡ page N.frames N.book l.log.items) × (l.writer.desk.place.me.0.client ≡ view_of N.frames N.book) × (drop l.writer.behind l.writer.log.items ≡ []) };
-}
-
-/// How many entries are of this CPU.
-pub fn count_of(log: &[LogEntry], cpu: u8) -> usize
-    ensures { result ≡ calls_of cpu log.now }
-{
-    log.iter().filter(|e| e.cpu == cpu).count()
-}
-
-/// What is logged of an event as it was decided, with that number of its CPU's entries before it.
-fn entry_of(event: &Event, nth: usize, decision: &Decision) -> LogEntry
-    ensures { result ≡ record { cpu = event.now.cpu; nth = nth; pid = event.now.pid; call = event.now.call; reply = decision.now.reply; used_after = decision.now.used_after } }
-{
-    LogEntry {
-        cpu: event.cpu,
-        nth,
-        pid: event.pid,
-        call: event.call,
-        reply: decision.reply,
-        used_after: decision.used_after,
-    }
+    ghost invariant = { λ l. Legal N.frames l.log.entries × (l.core.state ≡ state_after N.frames l.log.entries) × (l.writer.desk.shown.value ≡ page N.frames N.book l.log.entries) × (l.writer.desk.place.me.0.client ≡ view_of N.frames N.book) × (drop l.writer.behind l.writer.log.items ≡ []) };
 }
 
 impl<N: Name> Locked<N> {
-    pub(crate) fn new(core: Core, log: Vec<LogEntry>, book: Book<N>, writer: LogWriter) -> Locked<N>
+    pub(crate) fn new(core: Core, log: CallLog, book: Book<N>, writer: LogWriter) -> Locked<N>
         requires size { (16 ≤ N.frames) × (N.frames ≤ 4096) }
-        requires log { log.items ≡ [] }
+        requires log { log.entries ≡ [] }
         requires core { core.state ≡ open_with N.frames }
         requires writer { (writer.desk.shown.value ≡ page N.frames N.book []) × (view writer.desk.place ≡ view_of N.frames N.book) × (drop writer.behind writer.log.items ≡ []) }
-        ensures { result ≡ [] }
+        ensures { result.log ≡ [] }
     {
         Locked {
             core,
@@ -80,20 +70,67 @@ impl<N: Name> Locked<N> {
         }
     }
 
-    /// Carries out one call of this CPU. A refused call changes nothing.
-    pub(crate) fn call<G: Gate, R: Wait>(
+    /// What is published: the report on the log.
+    fn page(&self) -> Shown
+        ensures { result ≡ page N.frames N.book self.now.log }
+    {
+        self.writer.published().again()
+    }
+
+    /// Judges a call of this CPU, and decides it. Nothing changes.
+    ///
+    /// Unread where the kernel's history is longer than the log; Stale where the log is shorter than what
+    /// the CPU has seen, or has another number of its entries.
+    pub(crate) fn judge(&self, cpu: &Cpu<N>, pid: Pid, call: Call) -> Result<Ready, Fault>
+        ensures page { IfOk result (λ r. r.page ≡ page N.frames N.book self.now.log) }
+        ensures nth { IfOk result (λ r. (cpu.now.number < 8) × (r.nth ≡ calls_of cpu.now.number self.now.log)) }
+        ensures decided { IfOk result (λ r. r.decision ≡ decision_of self.now.core (record { cpu = cpu.now.number; pid = pid; call = call })) }
+        ensures fits { IfOk result (λ _. StartsWith self.now.log cpu.now.seen × (calls_of cpu.now.number self.now.log ≡ calls_of cpu.now.number cpu.now.seen)) }
+        ensures stale { IfErr result (IsStale N.frames self.now.log cpu.now.number cpu.now.seen) }
+        ensures unread { IfErr result (IsUnread self.now.log) }
+    {
+        let page = self.page();
+        if !page.is_all(&self.book) {
+            return Err(Fault::Unread);
+        }
+        if !cpu.agrees(&self.log, &page.front::<N>()) {
+            let front = self.log.len();
+            return Err(Fault::Stale { front });
+        }
+        let event = Event {
+            cpu: cpu.number(),
+            pid,
+            call,
+        };
+        let nth = self.log.calls_of(event.cpu);
+        let decision = self.core.decide(&event);
+        Ok(Ready {
+            page,
+            nth,
+            decision,
+        })
+    }
+
+    /// Carries out a call that was judged on this very core and log: makes room in the log, commits, logs
+    /// and publishes. Its reply, and the log with its entry.
+    ///
+    /// NoMemory where the log can't grow, Unread where the kernel's history is longer than the log; nothing
+    /// has changed then.
+    pub(crate) fn carry_out<R: Wait>(
         &mut self,
         rt: &R,
-        gate: &G,
-        cpu: &mut Cpu<N>,
-        pid: Pid,
-        call: Call,
-    ) -> Result<Reply, Fault>
-        ensures ok { IfOk result (λ r. (self.new ≡ self.old ++ entry_after N.frames self.old cpu.old.number pid call ∷ []) × (r ≡ (entry_after N.frames self.old cpu.old.number pid call).reply) × (cpu.new ≡ record { number = cpu.old.number; seen = self.new }) × StartsWith self.old cpu.old.seen × (calls_of cpu.old.number self.old ≡ calls_of cpu.old.number cpu.old.seen)) }
-        ensures legal { Legal N.frames self.new }
-        ensures stale { IfErr result (IsStale N.frames self.old cpu.old.number cpu.old.seen) }
-        ensures unread { IfErr result (IsUnread self.old) }
-        ensures err { OnErr result ((self.new ≡ self.old) × (cpu.new ≡ cpu.old)) }
+        ready: Ready,
+    ) -> Result<(Reply, Front<N>), Fault>
+        requires page { ready.page ≡ page N.frames N.book self.old.log }
+        requires nth { (ready.decision.event.cpu < 8) × (ready.nth ≡ calls_of ready.decision.event.cpu self.old.log) }
+        requires decided { ready.decision ≡ decision_of self.old.core ready.decision.event }
+        ensures log { IfOk result (λ _. self.new.log ≡ self.old.log ++ entry_after N.frames self.old.log ready.decision.event.cpu ready.decision.event.pid ready.decision.event.call ∷ []) }
+        ensures reply { IfOk result (λ r. r.0 ≡ (entry_after N.frames self.old.log ready.decision.event.cpu ready.decision.event.pid ready.decision.event.call).reply) }
+        ensures front { IfOk result (λ r. (r.1 ≡ self.new.log) × (length r.1 < 2 ^ 64)) }
+        ensures legal { IfOk result (λ _. Legal N.frames self.new.log) }
+        ensures calls { IfOk result (λ _. calls_of ready.decision.event.cpu self.new.log ≡ calls_of ready.decision.event.cpu self.old.log + 1) }
+        ensures prevented { IfErr result (Prevents self.old.log) }
+        ensures err { OnErr result (self.new ≡ self.old) }
     {
         let Locked {
             core,
@@ -101,49 +138,29 @@ impl<N: Name> Locked<N> {
             book,
             writer,
         } = self;
-        let Cpu {
-            number,
-            calls,
-            seen,
-        } = cpu;
-        let mut shown = writer.published().again();
-        if !shown.is_all(book) {
-            return Err(Fault::Unread);
-        }
-        let nth = count_of(log.as_slice(), *number);
-        if !seen.begins(&shown.front::<N>()) {
-            return Err(Fault::Stale { front: log.len() });
-        }
-        if nth != *calls {
-            return Err(Fault::Stale { front: log.len() });
-        }
-        let event = Event {
-            cpu: *number,
-            pid,
-            call,
-        };
-        let decision = core.decide(&event);
-        gate.reach(Point::Locked);
-        if log.reserve(1).is_err() {
+        let Ready {
+            mut page,
+            nth,
+            decision,
+        } = ready;
+        if log.reserve().is_err() {
             return Err(Fault::NoMemory);
         }
-        let entry = entry_of(&event, nth, &decision);
-        if !shown.add(book, &entry) {
+        let entry = entry_of(&decision, nth);
+        if !page.add(book, &entry) {
             return Err(Fault::Unread);
         }
         let reply = core.commit(decision);
-        log.push_reserved(entry);
-        publish(rt, writer, &shown);
-        *seen = shown.front::<N>();
-        *calls += 1;
-        gate.reach(Point::Published);
-        Ok(reply)
+        log.push(&entry);
+        let front = page.front::<N>();
+        publish(rt, writer, page);
+        Ok((reply, front))
     }
 
-    pub(crate) fn into_parts(self) -> (Core, Vec<LogEntry>, Front<N>, LogWriter)
-        ensures log { Legal N.frames result.1.items }
-        ensures core { result.0.state ≡ state_after N.frames result.1.items }
-        ensures front { result.2 ≡ result.1.items }
+    pub(crate) fn into_parts(self) -> (Core, CallLog, Front<N>, LogWriter)
+        ensures log { Legal N.frames result.1.entries }
+        ensures core { result.0.state ≡ state_after N.frames result.1.entries }
+        ensures front { result.2 ≡ result.1.entries }
     {
         let Locked {
             core,

@@ -91,11 +91,11 @@ fn queue<R: Wait>(rt: &R, writer: &mut LogWriter, shown: Shown)
     unreachable!()
 }
 
-fn show<R: Wait>(rt: &R, writer: LogWriter, shown: &Shown) -> LogWriter
-    requires kernel { view writer.desk.place ≡ view_of shown.now.frames shown.now.book }
-    requires pending { drop writer.behind writer.log.items ≡ shown.now ∷ [] }
+/// Shows what is in the queue, which is of the same kernel.
+fn show<R: Wait>(rt: &R, writer: LogWriter) -> LogWriter
+    requires { view writer.desk.place ≡ view_of (fold replaced writer.desk.shown.value (drop writer.behind writer.log.items)).frames (fold replaced writer.desk.shown.value (drop writer.behind writer.log.items)).book }
     ensures view { view result.desk.place ≡ view writer.desk.place }
-    ensures shown { result.desk.shown.value ≡ shown.now }
+    ensures shown { result.desk.shown.value ≡ fold replaced writer.desk.shown.value (drop writer.behind writer.log.items) }
     ensures pending { drop result.behind result.log.items ≡ [] }
 {
     let (writer, published) = writer.publish_as::<Later, R>(rt);
@@ -104,13 +104,13 @@ fn show<R: Wait>(rt: &R, writer: LogWriter, shown: &Shown) -> LogWriter
 }
 
 /// Publishes a later page of the same kernel.
-pub fn publish<R: Wait>(rt: &R, writer: &mut LogWriter, shown: &Shown)
-    requires kernel { view writer.old.desk.place ≡ view_of shown.now.frames shown.now.book }
+pub fn publish<R: Wait>(rt: &R, writer: &mut LogWriter, shown: Shown)
+    requires kernel { view writer.old.desk.place ≡ view_of shown.frames shown.book }
     requires pending { drop writer.old.behind writer.old.log.items ≡ [] }
     ensures view { view writer.new.desk.place ≡ view writer.old.desk.place }
-    ensures shown { writer.new.desk.shown.value ≡ shown.now }
+    ensures shown { writer.new.desk.shown.value ≡ shown }
     ensures pending { drop writer.new.behind writer.new.log.items ≡ [] }
 {
-    queue(rt, writer, shown.again());
-    replace_with(writer, shown, |writer, shown| (show(rt, writer, shown), ()))
+    queue(rt, writer, shown);
+    replace_with(writer, (), |writer, _| (show(rt, writer), ()))
 }

@@ -322,6 +322,51 @@ fn a_monitor_reports_each_call(rt: HostRuntime) -> Result<(), Fail> {
     Ok(())
 }
 
+/// One CPU calls a thousand times, while a monitor in another thread takes a thousand reports.
+fn beside<N: Name + Send + Sync, R: Threads + Wait + Abort + Sync>(
+    rt: &R,
+    blank: Blank<OpenGate>,
+    alloc: Global,
+)
+    requires { (blank.frames ≡ N.frames) × (blank.opened.seen.book ≡ N.book) }
+{
+    let Ok(boot) = blank.open::<N, R>(rt) else {
+        panic!(rt; "no memory")
+    };
+    let Boot {
+        kernel,
+        mut cpus,
+        mut monitors,
+    } = boot;
+    let cpu = cpus.pop().expect(rt, "one CPU");
+    let monitor = monitors.pop().expect(rt, "one monitor");
+    let shared = &kernel;
+    let pid = root(rt);
+    let (called, watched) = thread::join(
+        rt,
+        move || work(rt, shared, cpu, pid),
+        move || watch(monitor),
+    );
+    assert_eq!(rt; called.1, 1000);
+    assert_eq!(rt; (watched.1, watched.2), (1000, 0));
+    let mut back = Vec::new(alloc);
+    back.push(called.0).expect(rt, "memory");
+    let Ok(history) = kernel.close(rt, back) else {
+        panic!(rt; "not closed")
+    };
+    assert_eq!(rt; history.entries().len(), 1000);
+}
+
+#[test]
+fn a_monitor_reports_beside_the_calls(rt: HostRuntime) -> Result<(), Fail> {
+    let alloc = rt.alloc();
+    match Kernel::<Brand, OpenGate>::boot(&rt, alloc, 16, 1, 1, OpenGate) {
+        Ok(blank) => beside::<Brand, HostRuntime>(&rt, blank, alloc),
+        Err(_) => panic!(rt; "not booted"),
+    }
+    Ok(())
+}
+
 /// How often a flag is looked at before a test gives up.
 const LOOKS: u64 = 1_000_000;
 

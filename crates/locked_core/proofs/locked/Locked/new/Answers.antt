@@ -6,6 +6,6 @@ use Rattle.locked_core.proofs.locked.Locked.new.Goals as goal
 pub invariant_of-result : goal.invariant_of-result
 invariant_of-result g c =
     let none = c.requires.log in
-    let begun = legal_opening g.N.Name.frames c.args.log.items c.args.core.state c.requires.size.0 c.requires.size.1 none c.requires.core in
+    let begun = legal_opening g.N.Name.frames c.args.log.entries c.args.core.state c.requires.size.0 c.requires.size.1 none c.requires.core in
     let w = c.requires.writer in
     (begun.0, begun.1, w.0 ∙ ap (page g.N.Name.frames g.N.Name.book) (sym none), w.1, w.2)
