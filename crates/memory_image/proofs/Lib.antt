@@ -1,0 +1,8 @@
+pub mod References
+pub mod Standing
+pub mod MachineLemmas
+pub mod SpellingLemmas
+pub mod ImageReads
+pub mod PieceLemmas
+pub mod FieldLemmas
+pub mod WorkedRefusals

@@ -1,0 +1,8 @@
+pub mod Image
+pub mod Codes
+pub mod Words
+pub mod Sound
+pub mod Machine
+pub mod Spelling
+pub mod Tests
+pub mod Refusals

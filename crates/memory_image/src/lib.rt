@@ -1,0 +1,15 @@
+//! Images of a machine: what they hold, when they are sound, which state they stand for, and how they are
+//! spelled in bytes.
+#![tactic(auto)]
+
+mod faults;
+mod fields;
+mod images;
+mod laws;
+mod processes;
+
+pub use faults::{ImageFault, NoMemory, WriteFailed};
+pub use fields::fault_in;
+pub use images::Image;
+pub use laws::{images_have_one_spelling, images_of_machines_stand, images_stand_for_one};
+pub use processes::Process;
