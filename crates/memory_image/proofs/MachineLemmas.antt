@@ -1,12 +1,11 @@
 -- The image of a machine stands for the machine's state.
-use Rattle.std.proofs.Common.{◌≡◌, ◌≢◌, ℕ, ◌+◌, ◌≤◌, ◌&&◌, Bool, true, false, List, map as list_map, refl, sym, ap, subst, ◌∙◌, Option, Some, None, is_some, sum_by, length, arith}
-use Rattle.std.specs.Prelude.{slice_get, ◌==◌, not, IsTrue, if◌then◌else◌, ◌↔◌}
+use Rattle.std.proofs.Common.{◌≡◌, ◌≢◌, ℕ, ◌+◌, Bool, true, false, List, refl, sym, ap, subst, ◌∙◌, Option, Some, None, is_some, sum_by, arith}
+use Rattle.std.specs.Prelude.{slice_get, ◌↔◌}
 use Rattle.std.specs.Option.{option_and_then, option_map, unwrap_or}
 use Rattle.std.specs.List.{range_with_len}
 use Rattle.page_words.specs.Addresses.{slot_number, index_number}
 use Rattle.page_words.specs.Words.{is_lazy}
 use Rattle.page_words.specs.FiniteMap as map
-use Rattle.page_words.specs.FiniteSet as set
 use Rattle.alloc_table.specs.declared.Role.{Role}
 use Rattle.address_space.specs.Spaces.{Slot, Cell, Spaces, at_page, cost}
 use Rattle.address_space.specs.View.{directory_of}
@@ -20,7 +19,6 @@ use Rattle.process_table.specs.Image as machine
 use Rattle.process_table.proofs.Ranges.{sum-same}
 use Rattle.memory_image.specs.declared.processes.Process.{Process}
 use Rattle.memory_image.specs.Image.{Image, frames, process_at, directory_from, memory_of}
-use Rattle.memory_image.specs.Words.{is_lazy_word}
 use Rattle.memory_image.specs.Sound.{frame_at, quota_from, IsSoundMemory, IsOneGroup, SlotStands, StandsFor, member_of}
 use Rattle.memory_image.specs.Machine.{process_from, ImagesStand}
 use Rattle.memory_image.proofs.References.{same_some, directory-is}

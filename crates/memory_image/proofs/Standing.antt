@@ -2,7 +2,6 @@
 use Rattle.std.proofs.Common.{◌≡◌, Bool, ℕ, refl, sym, ◌∙◌, Option, Some, None}
 use Rattle.std.specs.Prelude.{◌↔◌, IsTrue}
 use Rattle.std.specs.Cmp.{both_ways}
-use Rattle.page_words.specs.FiniteMap as map
 use Rattle.page_words.proofs.MapLemmas.{same_map, same_set}
 use Rattle.address_space.specs.Spaces.{Slot, Cell}
 use Rattle.address_space.specs.Image.{page_word}

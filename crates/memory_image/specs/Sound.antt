@@ -1,5 +1,5 @@
 -- When an image is sound, and which state it stands for.
-use Rattle.std.specs.Prelude.{◌≡◌, ◌≢◌, ℕ, ◌+◌, ◌<◌, ◌≤◌, Bool, true, false, ◌&&◌, ◌==◌, not, ◌↔◌, if◌then◌else◌, IsTrue, MatchBool, Option, Some, None, is_some, sum_by}
+use Rattle.std.specs.Prelude.{◌≡◌, ◌≢◌, ℕ, ◌+◌, ◌<◌, ◌≤◌, true, false, ◌&&◌, ◌==◌, not, ◌↔◌, if◌then◌else◌, IsTrue, MatchBool, Option, Some, None, is_some, sum_by}
 use Rattle.std.specs.Option.{option_and_then, option_map}
 use Rattle.std.specs.List.{range_with_len}
 use Rattle.page_words.specs.Words.{frame_number, is_present, is_accessed, is_dirty, has_may, IsKernelDirWord}
