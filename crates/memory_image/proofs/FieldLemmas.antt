@@ -1,6 +1,7 @@
 -- The first of several lists of tests that fails.
-use Rattle.std.proofs.Common.{◌≡◌, ℕ, suc, ◌+◌, ◌-◌, ◌<◌, ◌≤◌, Bool, true, false, List, [], ◌∷◌, ◌++◌, refl, sym, ap, ◌∙◌, arith, Option, Some, None}
+use Rattle.std.proofs.Common.{◌≡◌, ℕ, zero, suc, ◌+◌, ◌-◌, ◌<◌, ◌≤◌, Bool, true, false, List, [], ◌∷◌, ◌++◌, refl, sym, ap, ◌∙◌, arith, inl, inr, Option, Some, None}
 use Rattle.std.specs.Prelude.{if◌then◌else◌, is_some}
+use Rattle.std.proofs.lemmas.Bool.{cases_eq}
 use Rattle.std.specs.List.{flat_map, range_with_len}
 use Rattle.memory_image.specs.Tests.{first_failing}
 
@@ -54,3 +55,29 @@ two_some xs ys (Some c) is h = sym (append_some xs ys c (sym is))
 
 pub two_none : {C : Type 0} (xs ys : List (Bool × C)) (x y : Option C) → x ≡ first_failing xs → is_some x ≡ false → y ≡ first_failing ys → y ≡ first_failing (xs ++ ys)
 two_none xs ys x y is h also = also ∙ sym (append_none xs ys (sym is ∙ no_first x h))
+
+-- where none of two lists fails, neither does
+pub none_both : {C : Type 0} (xs ys : List (Bool × C)) → first_failing (xs ++ ys) ≡ None → (first_failing xs ≡ None) × (first_failing ys ≡ None)
+none_both xs ys h = by (first_failing xs) refl
+  where
+    by : (x : Option _) → first_failing xs ≡ x → (first_failing xs ≡ None) × (first_failing ys ≡ None)
+    by None e = (e, sym (append_none xs ys e) ∙ h)
+    by (Some c) e = let k = sym (append_some xs ys c e) ∙ h in cc
+
+-- nor does any of a range
+pub none_each : {C : Type 0} (g : ℕ → List (Bool × C)) (first count : ℕ) → first_failing (flat_map g (range_with_len first count)) ≡ None
+    → (k : ℕ) → first ≤ k → k < first + count → first_failing (g k) ≡ None
+none_each g first zero h k low high = absurd (omega arith)
+none_each g first (suc count) h k low high =
+    let a = none_both (g first) (flat_map g (range_with_len (first + 1) count)) h in
+    elim (cases_eq k first) [
+      | inl e ↦ ap (λ k. first_failing (g k)) e ∙ a.0
+      | inr n ↦ none_each g (first + 1) count a.1 k (omega arith) (omega arith)
+    ]
+
+pub each_none : {C : Type 0} (g : ℕ → List (Bool × C)) (first count : ℕ) → ((k : ℕ) → first ≤ k → k < first + count → first_failing (g k) ≡ None)
+    → first_failing (flat_map g (range_with_len first count)) ≡ None
+each_none g first zero h = refl
+each_none g first (suc count) h =
+    append_none (g first) (flat_map g (range_with_len (first + 1) count)) (h first (omega arith) (omega arith))
+    ∙ each_none g (first + 1) count (λ k low high. h k (omega arith) (omega arith))

@@ -6,3 +6,5 @@ pub mod ImageReads
 pub mod PieceLemmas
 pub mod FieldLemmas
 pub mod WorkedRefusals
+pub mod ReadingLemmas
+pub mod RespellLemmas

@@ -9,7 +9,7 @@ use Rattle.std.proofs.lemmas.Nat.{le_bytes_4}
 use Rattle.phys_memory.specs.Bytes.{word_at}
 use Rattle.memory_image.specs.Spelling.{number}
 
-four : (xs : List ℕ) → 4 ≤ length xs → slice_index xs 0 + 256 * (slice_index xs 1 + 256 * (slice_index xs 2 + 256 * (slice_index xs 3 + 256 * 0))) ≡ from_le_bytes w32 (take 4 xs)
+pub four : (xs : List ℕ) → 4 ≤ length xs → slice_index xs 0 + 256 * (slice_index xs 1 + 256 * (slice_index xs 2 + 256 * (slice_index xs 3 + 256 * 0))) ≡ from_le_bytes w32 (take 4 xs)
 four [] h = absurd (omega arith)
 four (a ∷ []) h = absurd (omega arith)
 four (a ∷ b ∷ []) h = absurd (omega arith)
@@ -43,7 +43,7 @@ take-nil : (n : ℕ) → take {A = ℕ} n [] ≡ []
 take-nil zero = refl
 take-nil (suc n) = refl
 
-take-more : (i j : ℕ) (xs : List ℕ) → take i xs ++ take j (drop i xs) ≡ take (i + j) xs
+pub take-more : (i j : ℕ) (xs : List ℕ) → take i xs ++ take j (drop i xs) ≡ take (i + j) xs
 take-more zero j xs = ap (λ n. take n xs) (let e : j ≡ 0 + j = omega arith in e)
 take-more (suc i) j [] = take-nil j ∙ sym (take-nil (suc i + j))
 take-more (suc i) j (x ∷ xs) = ap (λ ys. x ∷ ys) (take-more i j xs) ∙ ap (λ n. take n (x ∷ xs)) (let e : suc (i + j) ≡ suc i + j = omega arith in e)
@@ -58,3 +58,6 @@ pieces xs width start first (suc count) =
     ap (λ ys. take width (drop (start + width * first) xs) ++ ys) (pieces xs width start (first + 1) count ∙ ap (λ p. take (width * count) (drop p xs)) a ∙ ap (take (width * count)) (sym (drop-drop width (start + width * first) xs)))
     ∙ take-more width (width * count) (drop (start + width * first) xs)
     ∙ ap (λ n. take n (drop (start + width * first) xs)) (sym b)
+
+pub small-drop : (xs : List ℕ) (place : ℕ) → ((i : ℕ) → slice_index xs i < 256) → (i : ℕ) → slice_index (drop place xs) i < 256
+small-drop xs place small i = rw get_or-drop (small (place + i))

@@ -56,7 +56,7 @@ abbrev Fits : Option Process → Type 0
 Fits None = Unit {0}
 Fits (Some r) = IsWide r
 
-process_wide : (x : Option Process) → length (process_bytes x) ≡ 24
+pub process_wide : (x : Option Process) → length (process_bytes x) ≡ 24
 process_wide None = refl
 process_wide (Some r) = refl
 
@@ -75,7 +75,7 @@ process_exact (Some r) (Some s) p q h =
 
 -- ---- Roles
 
-role_wide : (r : Role) → length (role_bytes r) ≡ 16
+pub role_wide : (r : Role) → length (role_bytes r) ≡ 16
 role_wide Reserved = refl
 role_wide Free = refl
 role_wide (Directory p) = refl
@@ -131,7 +131,7 @@ fields_fit image I i (Some r) h =
     let b = k.directory in
     record { parent = omega arith; quota = k.quota; used = k.used; given = k.given; directory = omega arith }
 
-version_small : (v : ℕ) → (v ≡ 1) ⊎ (v ≡ 2) → IsWord v
+pub version_small : (v : ℕ) → (v ≡ 1) ⊎ (v ≡ 2) → IsWord v
 version_small v (inl e) = omega arith
 version_small v (inr e) = omega arith
 
@@ -156,7 +156,7 @@ spelling_is_exact = record {
 
 -- ---- Lengths
 
-pieces_long : {X : Type 0} (f : X → List ℕ) (width : ℕ) → ((x : X) → length (f x) ≡ width) → (xs : List X) → length (flat_map f xs) ≡ width * length xs
+pub pieces_long : {X : Type 0} (f : X → List ℕ) (width : ℕ) → ((x : X) → length (f x) ≡ width) → (xs : List X) → length (flat_map f xs) ≡ width * length xs
 pieces_long f width wide [] = omega arith
 pieces_long f width wide (x ∷ xs) =
     let a = length-append (f x) (flat_map f xs) in

@@ -6,3 +6,4 @@ pub mod Machine
 pub mod Spelling
 pub mod Tests
 pub mod Refusals
+pub mod Reading

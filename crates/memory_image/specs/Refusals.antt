@@ -18,30 +18,47 @@ begins _ = false
 abbrev pub Field : Type 0
 Field = Bool × ℕ
 
--- live, parent, quota, used, given, directory
+-- the fields of the record of process p at a place, which has these numbers, in an image of n frames: where it
+-- isn't live all others are 0, and process 0 is its own parent
+abbrev pub process_tests : ℕ → ℕ → ℕ → ℕ → ℕ → ℕ → ℕ → ℕ → ℕ → List Field
+process_tests n p place live parent quota used given directory =
+    let is_live = live == 1 in
+    (is_live || live == 0, place)
+    ∷ ((if is_live then nat_lt parent 64 && (not (p == 0) || parent == 0) else parent == 0), place + 4)
+    ∷ (is_live || quota == 0, place + 8)
+    ∷ (is_live || used == 0, place + 12)
+    ∷ (is_live || given == 0, place + 16)
+    ∷ ((if is_live then nat_lt directory n else directory == 0), place + 20)
+    ∷ []
+
+-- the fields of the record of a frame at a place, which has these numbers: those without use are 0
+abbrev pub role_tests : ℕ → ℕ → ℕ → ℕ → ℕ → List Field
+role_tests place role pid slot count =
+    (nat_le role 4, place)
+    ∷ ((if role == 2 || role == 3 then nat_lt pid 64 else pid == 0), place + 4)
+    ∷ ((if role == 3 then nat_lt slot 1024 else slot == 0), place + 8)
+    ∷ (role == 4 || count == 0, place + 12)
+    ∷ []
+
+-- where the record of a process begins
+abbrev pub process_place : ℕ → ℕ
+process_place p = 12 + 24 * p
+
+-- where the record of a frame begins
+abbrev pub role_place : ℕ → ℕ
+role_place f = 1548 + 16 * f
+
 abbrev pub process_fields : List ℕ → ℕ → ℕ → List Field
 process_fields bytes n p =
-    let place = 12 + 24 * p in
-    let live = word_at bytes place == 1 in
-    (live || word_at bytes place == 0, place)
-    ∷ ((if live then nat_lt (word_at bytes (place + 4)) 64 && (not (p == 0) || word_at bytes (place + 4) == 0) else word_at bytes (place + 4) == 0), place + 4)
-    ∷ (live || word_at bytes (place + 8) == 0, place + 8)
-    ∷ (live || word_at bytes (place + 12) == 0, place + 12)
-    ∷ (live || word_at bytes (place + 16) == 0, place + 16)
-    ∷ ((if live then nat_lt (word_at bytes (place + 20)) n else word_at bytes (place + 20) == 0), place + 20)
-    ∷ []
+    let at = process_place p in
+    process_tests n p at (word_at bytes at) (word_at bytes (at + 4)) (word_at bytes (at + 8)) (word_at bytes (at + 12)) (word_at bytes (at + 16)) (word_at bytes (at + 20))
 
--- role, pid, slot, count
 abbrev pub role_fields : List ℕ → ℕ → List Field
 role_fields bytes f =
-    let place = 1548 + 16 * f in
-    let role = word_at bytes place in
-    (nat_le role 4, place)
-    ∷ ((if role == 2 || role == 3 then nat_lt (word_at bytes (place + 4)) 64 else word_at bytes (place + 4) == 0), place + 4)
-    ∷ ((if role == 3 then nat_lt (word_at bytes (place + 8)) 1024 else word_at bytes (place + 8) == 0), place + 8)
-    ∷ (role == 4 || word_at bytes (place + 12) == 0, place + 12)
-    ∷ []
+    let at = role_place f in
+    role_tests at (word_at bytes at) (word_at bytes (at + 4)) (word_at bytes (at + 8)) (word_at bytes (at + 12))
 
+-- all fields, from the front to the back
 unfoldable pub fields : List ℕ → ℕ → List Field
 fields bytes n = flat_map (process_fields bytes n) (range_with_len 0 64) ++ flat_map (role_fields bytes) (range_with_len 0 n)
 

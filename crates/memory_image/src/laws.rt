@@ -1,6 +1,7 @@
 //! Laws of images. Each is the contract of a function that computes nothing.
 
 ghost use Rattle.memory_image.specs.Machine.{ImagesStand};
+ghost use Rattle.memory_image.specs.Refusals.{RefusedWhereNotSpelled};
 ghost use Rattle.memory_image.specs.Sound.{StandsForOne};
 ghost use Rattle.memory_image.specs.Spelling.{SpellingIsExact, SpellingsAreLong};
 
@@ -19,4 +20,9 @@ pub fn images_have_one_spelling()
 /// nothing.
 pub fn images_of_machines_stand()
     ensures { ImagesStand }
+{}
+
+/// There is a reason against bytes exactly where they spell no image. It computes nothing.
+pub fn bytes_are_refused_where_they_spell_none()
+    ensures { RefusedWhereNotSpelled }
 {}

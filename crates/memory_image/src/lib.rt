@@ -11,5 +11,8 @@ mod processes;
 pub use faults::{ImageFault, NoMemory, WriteFailed};
 pub use fields::fault_in;
 pub use images::Image;
-pub use laws::{images_have_one_spelling, images_of_machines_stand, images_stand_for_one};
+pub use laws::{
+    bytes_are_refused_where_they_spell_none, images_have_one_spelling, images_of_machines_stand,
+    images_stand_for_one,
+};
 pub use processes::Process;
