@@ -8,3 +8,4 @@ pub mod FieldLemmas
 pub mod WorkedRefusals
 pub mod ReadingLemmas
 pub mod RespellLemmas
+pub mod FillLemmas

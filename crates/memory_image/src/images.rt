@@ -37,6 +37,24 @@ impl Model for Image {
 }
 
 impl Image {
+    /// The image with these fields.
+    pub(crate) fn with_parts(
+        version: u32,
+        processes: [Option<Process>; 64],
+        roles: Vec<Role>,
+        bytes: Vec<u8>,
+    ) -> Image
+        requires { IsImage (record { version = version; processes = processes; roles = roles.items; bytes = bytes.items }) }
+        ensures { result ≡ record { version = version; processes = processes; roles = roles.items; bytes = bytes.items } }
+    {
+        Image {
+            version,
+            processes,
+            roles,
+            bytes,
+        }
+    }
+
     /// That its fields keep their rules. It computes nothing.
     pub fn within(&self)
         ensures { IsImage self.now }

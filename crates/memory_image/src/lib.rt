@@ -7,6 +7,7 @@ mod fields;
 mod images;
 mod laws;
 mod processes;
+mod reading;
 
 pub use faults::{ImageFault, NoMemory, WriteFailed};
 pub use fields::fault_in;
@@ -16,3 +17,4 @@ pub use laws::{
     images_stand_for_one,
 };
 pub use processes::Process;
+pub use reading::read_image;
