@@ -25,8 +25,8 @@ use Rattle.integrity_checker.specs.WordTests.{names_table, names_page}
 use Rattle.integrity_checker.specs.Verdict.{NothingFails, is_blank_and_reserved, clause_of, clause_by_role, serves, is_unnamed, is_unmapped, is_reserved, is_directory_of, is_table_of, is_page, links_table, links_tables, maps_page, maps_pages, table_is_right, quotas_from}
 use Rattle.integrity_checker.proofs.RangeLemmas.{all-at, count-some, this-true}
 use Rattle.integrity_checker.proofs.WordLemmas.{tests_decide}
-use Rattle.memory_image.proofs.References.{directory-of, live-of, pid-small}
-use Rattle.integrity_checker.proofs.Linked.{linked, mapped, user_range, maps-counts, charge-counts}
+use Rattle.memory_image.proofs.References.{user_range, directory-of, live-of, pid-small}
+use Rattle.integrity_checker.proofs.Linked.{linked, mapped, maps-counts, charge-counts}
 use Rattle.integrity_checker.proofs.ClauseLemmas.{passes_first, Passes, all_pass, directory_role, table_role, page_role, reserved_role, zeros_from, quotas_listed}
 
 module _ (image : Image) (I : IsImage image) (N : NothingFails image) where

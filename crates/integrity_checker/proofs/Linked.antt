@@ -17,20 +17,12 @@ use Rattle.memory_image.specs.declared.processes.Process.{Process}
 use Rattle.memory_image.specs.Image.{Image, frames, process_at, memory_of}
 use Rattle.memory_image.specs.Words.{is_lazy_word, own_frame}
 use Rattle.memory_image.specs.Sound.{frame_at}
-use Rattle.memory_image.proofs.References.{is_there, same_some, directory-of, live-of, pid-small}
+use Rattle.memory_image.proofs.References.{is_there, same_some, chosen_some, then_some, user_range, directory-of, live-of, pid-small}
 use Rattle.integrity_checker.specs.Counts.{is_this, frame_of, names_by, maps_by, tables_by, pages_by, names, maps}
 use Rattle.integrity_checker.proofs.RangeLemmas.{sum-none, sum-one, count-none, count-one, this-true, this-is}
 use Rattle.integrity_checker.proofs.Sizes.{number_count, number_count_is, slot_count, slot_count_is}
 
 -- ---- Options and tests
-
-chosen_some : {A : Type 0} (b : Bool) (x y : A) → (if b then Some x else None) ≡ Some y → (b ≡ true) × (x ≡ y)
-chosen_some true x y h = (refl, cc)
-chosen_some false x y h = cc
-
-then_some : {A B : Type 0} (f : A → Option B) (x : Option A) (y : B) → option_and_then f x ≡ Some y → (a : A) × (x ≡ Some a) × (f a ≡ Some y)
-then_some f None y h = cc
-then_some f (Some a) y h = (a, refl, h)
 
 pub own_real : (version word f : ℕ) → own_frame version word ≡ Some f → (is_lazy_word version word ≡ false) × (frame_number word ≡ f)
 own_real version word f h = by (is_lazy_word version word) h
@@ -45,9 +37,6 @@ real_own version word e = λ i. if e i then None else Some (frame_number word)
 pub false_from : (b : Bool) → (b ≡ true → ⊥) → b ≡ false
 false_from true h = absurd (h refl)
 false_from false h = refl
-
-pub user_range : (s : ℕ) → is_user_slot s ≡ true → (256 ≤ s) × (s < 960)
-user_range s h = let a = and_parts (nat_le 256 s) (nat_lt s 960) h in (leb-true 256 s a.0, ltb-true s 960 a.1)
 
 pub user_from : (s : ℕ) → 256 ≤ s → s < 960 → is_user_slot s ≡ true
 user_from s low high = and_from (nat_le 256 s) (nat_lt s 960) (le-leb 256 s low) (lt-ltb s 960 high)

@@ -9,3 +9,4 @@ pub mod WorkedRefusals
 pub mod ReadingLemmas
 pub mod RespellLemmas
 pub mod FillLemmas
+pub mod OutputLemmas

@@ -1,27 +1,31 @@
 -- The image of a machine stands for the machine's state.
-use Rattle.std.proofs.Common.{◌≡◌, ◌≢◌, ℕ, ◌+◌, Bool, true, false, List, refl, sym, ap, subst, ◌∙◌, Option, Some, None, is_some, sum_by, arith}
-use Rattle.std.specs.Prelude.{slice_get, ◌↔◌}
+use Rattle.std.proofs.Common.{◌≡◌, ◌≢◌, ℕ, ◌+◌, ◌<◌, ◌≤◌, ◌*◌, ◌&&◌, inl, inr, Bool, true, false, List, refl, sym, ap, subst, ◌∙◌, Option, Some, None, is_some, sum_by, length, arith}
+use Rattle.std.proofs.lemmas.Bool.{cases_lt, and_parts}
+use Rattle.std.proofs.lemmas.Option.{slice_get_within, slice_get_past}
+use Rattle.std.specs.Prelude.{slice_get, slice_index, IfSome, ◌↔◌}
 use Rattle.std.specs.Option.{option_and_then, option_map, unwrap_or}
 use Rattle.std.specs.List.{range_with_len}
 use Rattle.page_words.specs.Addresses.{slot_number, index_number}
-use Rattle.page_words.specs.Words.{is_lazy}
+use Rattle.page_words.specs.Words.{is_lazy, is_present, frame_number}
 use Rattle.page_words.specs.FiniteMap as map
 use Rattle.alloc_table.specs.declared.Role.{Role}
+use Rattle.alloc_table.specs.declared.Role.TheVariants.{Reserved, Free, Directory, Table, Page}
 use Rattle.address_space.specs.Spaces.{Slot, Cell, Spaces, at_page, cost}
 use Rattle.address_space.specs.View.{directory_of}
 use Rattle.address_space.specs.Image as memory
-use Rattle.address_space.specs.Image.{directory_at, word_of, named_by, table_at, present_word, page_word, page_frame}
+use Rattle.address_space.specs.Image.{directory_at, word_of, is_user_slot, named_by, table_at, present_word, page_word, page_frame}
 use Rattle.quota_tree.specs.declared.Container.{Container}
 use Rattle.quota_tree.specs.Book.{Member, given}
 use Rattle.process_table.specs.State.{State, shown as shown_member, container_of}
 use Rattle.process_table.specs.View.{View}
+use Rattle.process_table.specs.WellFormed.{IsWellFormed}
 use Rattle.process_table.specs.Image as machine
 use Rattle.process_table.proofs.Ranges.{sum-same}
 use Rattle.memory_image.specs.declared.processes.Process.{Process}
-use Rattle.memory_image.specs.Image.{Image, frames, process_at, directory_from, memory_of}
+use Rattle.memory_image.specs.Image.{Image, frames, process_at, directory_from, memory_of, IsProcess, IsRole, IsImage}
 use Rattle.memory_image.specs.Sound.{frame_at, quota_from, IsSoundMemory, IsOneGroup, SlotStands, StandsFor, member_of}
-use Rattle.memory_image.specs.Machine.{process_from, ImagesStand}
-use Rattle.memory_image.proofs.References.{same_some, directory-is}
+use Rattle.memory_image.specs.Machine.{process_from, told, IsWide, IsToldWide, HaveWords, ImagesStand}
+use Rattle.memory_image.proofs.References.{same_some, from_map, then_some, chosen_some, user_range, directory-is, directory-of, live-of, pid-small}
 
 -- ---- Memory whose directories answer alike
 
@@ -211,3 +215,83 @@ pub images_stand : ImagesStand
 images_stand v image of S =
     let path : ◌≡◌ {A = Image} (record { version = 2; processes = image.processes; roles = v.roles; bytes = v.bytes }) image = sym (λ i. record { version = of.version i; processes = image.processes; roles = of.roles i; bytes = of.bytes i }) in
     subst (λ (i : Image). StandsFor i v.state) path (literal-stands v image.processes of.processes S)
+
+-- ---- The fields of the image of a machine
+
+dead-past : {X : Type 0} (x : Option X) → is_some x ≡ false → x ≡ None
+dead-past None h = refl
+dead-past (Some a) h = cc
+
+not-live : (b : Bool) → (b ≡ true → ⊥) → b ≡ false
+not-live true h = absurd (h refl)
+not-live false h = refl
+
+module _ (v : View) (W : IsWellFormed v.state) where
+  member-there : (p : ℕ) (c : Container) → container_of v.state p ≡ Some c → (m : Member) × (map.get v.state.book p ≡ Some m) × (shown_member v.state p m ≡ c)
+  member-there p c h = from_map (λ m. shown_member v.state p m) (map.get v.state.book p) c h
+
+  told-past : (p : ℕ) → 64 ≤ p → told v p ≡ None
+  told-past p past = by (container_of v.state p) refl
+    where
+      by : (x : Option Container) → container_of v.state p ≡ x → process_from x (directory_of v.directories p) ≡ None
+      by None e = refl
+      by (Some c) e = absurd (let m = member-there p c e in let k = (W.processes p m.0 m.1).0 in omega arith)
+
+  pub told_all : (ps : List (Option Process)) → length ps ≡ 64 → ((p : ℕ) → p < 64 → slice_get ps p ≡ Some (told v p)) → (p : ℕ) → unwrap_or (slice_get ps p) None ≡ told v p
+  told_all ps long each p = elim (cases_lt p 64) [
+    | inl low ↦ ap (λ o. unwrap_or o None) (each p low)
+    | inr past ↦ ap (λ o. unwrap_or o None) (slice_get_past ps p (omega arith)) ∙ sym (told-past p past)
+  ]
+
+  wide_of : (x : Option Process) (r : Process) → x ≡ Some r → IfSome x IsWide → IsWide r
+  wide_of None r h k = cc
+  wide_of (Some y) r h k = subst IsWide (same_some y r h) k
+
+  root_parent : (c : Container) → container_of v.state 0 ≡ Some c → c.parent ≡ 0
+  root_parent c h = let m = member-there 0 c h in ap (λ (c : Container). c.parent) (sym m.2) ∙ W.root_parent m.0 m.1
+
+  pub machine_fits : (ps : List (Option Process)) (n : ℕ) → length ps ≡ 64 → ((p : ℕ) → p < 64 → slice_get ps p ≡ Some (told v p)) → ((p : ℕ) → p < 64 → IsToldWide v p)
+      → HaveWords v.roles (length v.roles) → length v.bytes ≡ 4096 * n → length v.roles ≡ n → 16 ≤ n → n ≤ 4096 → ((i : ℕ) → slice_index v.bytes i < 256)
+      → machine.StandsFor (machine.image_of v) v.state → IsImage (record { version = 2; processes = ps; roles = v.roles; bytes = v.bytes })
+  machine_fits ps n long each wide words size few low high small S =
+      let all = told_all ps long each in
+      let stands = literal-stands v ps all S in
+      record {
+        version = inr refl;
+        most = omega (arith, few, high);
+        fewest = omega (arith, few, low);
+        pids = long;
+        processes = process-fits all stands;
+        roles = role-fits stands;
+        size = size ∙ ap (λ k. 4096 * k) (sym few);
+        small = small;
+      }
+    where
+      shows : Image
+      shows = record { version = 2; processes = ps; roles = v.roles; bytes = v.bytes }
+
+      process-fits : ((p : ℕ) → unwrap_or (slice_get ps p) None ≡ told v p) → StandsFor shows v.state → (p : ℕ) (r : Process) → process_at shows p ≡ Some r → IsProcess (length v.roles) p r
+      process-fits all stands p r h =
+          let k = wide_of (told v p) r (sym (all p) ∙ h) (wide p (pid-small shows long p r h)) in
+          let parts = parts_of (container_of v.state p) (directory_of v.directories p) r (sym (all p) ∙ h) in
+          record {
+            parent = k.parent;
+            root = λ e. parts.parent ∙ root_parent parts.container (ap (container_of v.state) (sym e) ∙ parts.is);
+            quota = k.quota;
+            used = k.used;
+            given = k.given;
+            directory = slice_get_within v.roles r.directory (Directory p) ((stands.sound.memory.directories r.directory p).1 (directory-of shows p r h));
+          }
+
+      role-fits : StandsFor shows v.state → (f : ℕ) (role : Role) → slice_get v.roles f ≡ Some role → IsRole role
+      role-fits stands f Reserved h = tt
+      role-fits stands f Free h = tt
+      role-fits stands f (Directory p) h = let r = live-of shows p f ((stands.sound.memory.directories f p).0 h) in pid-small shows long p r.0 r.1
+      role-fits stands f (Table p s) h =
+          let t = then_some (λ d. named_by s (word_of (memory_of shows) d s)) (directory_at (memory_of shows) p) f ((stands.sound.memory.tables f p s).0 h) in
+          let r = live-of shows p t.0 t.1 in
+          let u = chosen_some (is_user_slot s && is_present (word_of (memory_of shows) t.0 s)) (frame_number (word_of (memory_of shows) t.0 s)) f t.2 in
+          let b = user_range s (and_parts (is_user_slot s) (is_present (word_of (memory_of shows) t.0 s)) u.0).0 in
+          let high = b.1 in
+          (pid-small shows long p r.0 r.1, omega arith)
+      role-fits stands f (Page c) h = words f (Page c) (slice_get_within v.roles f (Page c) h) h c refl

@@ -7,3 +7,4 @@ pub mod Spelling
 pub mod Tests
 pub mod Refusals
 pub mod Reading
+pub mod Output

@@ -6,8 +6,10 @@ mod faults;
 mod fields;
 mod images;
 mod laws;
+mod making;
 mod processes;
 mod reading;
+mod writing;
 
 pub use faults::{ImageFault, NoMemory, WriteFailed};
 pub use fields::fault_in;
