@@ -10,3 +10,4 @@ pub mod ReadingLemmas
 pub mod RespellLemmas
 pub mod FillLemmas
 pub mod OutputLemmas
+pub mod WritingLemmas

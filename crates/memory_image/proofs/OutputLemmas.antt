@@ -1,6 +1,6 @@
 -- Pieces of a text that are written one behind another.
-use Rattle.std.proofs.Common.{◌≡◌, ℕ, ◌+◌, ◌-◌, ◌<◌, ◌≤◌, List, [], ◌++◌, Option, length, take, drop, subst, sym, ap, ◌∙◌, append_assoc, take-append-drop, arith, get_or, drop-cons, add-one, append-nil, Result, Ok, Err}
-use Rattle.std.specs.Prelude.{OnErr}
+use Rattle.std.proofs.Common.{◌≡◌, ℕ, ◌+◌, ◌-◌, ◌<◌, ◌≤◌, List, [], ◌++◌, Option, length, take, drop, subst, sym, ap, ◌∙◌, append_assoc, take-append-drop, get_or, drop-cons, add-one, append-nil, Result, Ok, Err}
+use Rattle.std.specs.Prelude.{OnOk, OnErr}
 use Rattle.std.specs.List.{flat_map}
 use Rattle.std.specs.Io.KnownBytes.{Appends}
 use Rattle.std.proofs.KnownBytes.{Appends-trans}
@@ -56,3 +56,21 @@ module _ {X : Type 0} (f : X → List ℕ) (xs : List X) where
   -- where none is left, all are written
   pub wrote_all : (a b : Option (List ℕ)) (n : ℕ) → length xs ≤ n → LeavesUnwritten a b (flat_map f xs) (flat_map f (drop n xs)) → Appends a b (flat_map f xs)
   wrote_all a b n all before = subst (Appends a b) (sym (before.whole ∙ ap (λ l. before.written ++ flat_map f l) (drop_all n xs all) ∙ append-nil before.written)) before.grown
+
+-- ---- Four parts of a text
+
+pub wrote_first : (a b : Option (List ℕ)) (text piece rest : List ℕ) → text ≡ piece ++ rest → Appends a b piece → LeavesUnwritten a b text rest
+wrote_first a b text piece rest whole grown = record { written = piece; whole = whole; grown = grown }
+
+pub cut_first : (a b : Option (List ℕ)) (text piece rest : List ℕ) → text ≡ piece ++ rest → AppendsFront a b piece → AppendsFront a b text
+cut_first a b text piece rest whole front =
+    let part = front.1 in
+    (front.0 ++ rest, record { written = part.written; whole = whole ∙ ap (λ l. l ++ rest) part.whole ∙ append_assoc part.written front.0 rest; grown = part.grown })
+
+pub wrote_last : {T E : Type 0} (a b c : Option (List ℕ)) (text rest : List ℕ) (r : Result T E) → LeavesUnwritten a b text rest → OnOk r (Appends b c rest) → OnOk r (Appends a c text)
+wrote_last a b c text rest (Ok x) before more = subst (Appends a c) (sym before.whole) (Appends-trans a b c before.written rest before.grown more)
+wrote_last a b c text rest (Err e) before more = tt
+
+pub cut_last : {T E : Type 0} (a b c : Option (List ℕ)) (text rest : List ℕ) (r : Result T E) → LeavesUnwritten a b text rest → OnErr r (AppendsFront b c rest) → OnErr r (AppendsFront a c text)
+cut_last a b c text rest (Ok x) before failed = tt
+cut_last a b c text rest (Err e) before failed = cut_piece a b c text rest [] (subst (LeavesUnwritten a b text) (sym (append-nil rest)) before) failed

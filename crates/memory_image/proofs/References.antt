@@ -1,5 +1,5 @@
 -- What an image's directories name.
-use Rattle.std.proofs.Common.{◌≡◌, ℕ, ◌<◌, ◌≤◌, Bool, true, false, ◌&&◌, length, refl, sym, ap, ◌∙◌, arith, Option, Some, None, is_some}
+use Rattle.std.proofs.Common.{◌≡◌, ℕ, ◌<◌, ◌≤◌, Bool, true, false, length, refl, sym, ap, ◌∙◌, arith, Option, Some, None, is_some}
 use Rattle.std.specs.Prelude.{slice_get, nat_le, nat_lt, if◌then◌else◌}
 use Rattle.std.specs.Option.{option_and_then, option_map, unwrap_or}
 use Rattle.std.proofs.lemmas.Bool.{and_parts, leb-true, ltb-true}

@@ -101,6 +101,20 @@ impl Image {
         word_or_zero(&self.bytes, self.roles.len() as u32, frame.0, index)
     }
 
+    /// What each process has, by number.
+    pub(crate) fn processes(&self) -> &[Option<Process>]
+        ensures { result.now ≡ self.now.processes }
+    {
+        &self.processes
+    }
+
+    /// What each frame serves.
+    pub(crate) fn roles(&self) -> &[Role]
+        ensures { result.now ≡ self.now.roles }
+    {
+        self.roles.as_slice()
+    }
+
     /// All bytes of all frames, from place 0 of frame 0 on.
     pub fn bytes(&self) -> &[u8]
         ensures { result.now ≡ self.now.bytes }

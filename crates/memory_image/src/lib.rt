@@ -20,3 +20,4 @@ pub use laws::{
 };
 pub use processes::Process;
 pub use reading::read_image;
+pub use writing::{write_image, write_whole};

@@ -21,14 +21,23 @@ const MAGIC: u32 = 0x4932_436d;
 /// The bytes of up to six numbers.
 type Record = ArrayVec<u8, 24>;
 
-/// The bytes of numbers, the lowest of each first.
+/// Puts the bytes of a number behind a record, the lowest first.
+fn push_number(bytes: &mut Record, n: u32)
+    requires { array_vec_len bytes.old + 4 ≤ 24 }
+    ensures items { bytes.new.items ≡ bytes.old.items ++ number n }
+    ensures len { array_vec_len bytes.new ≡ array_vec_len bytes.old + 4 }
+{
+    bytes.try_extend_from_slice(&n.to_le_bytes()).unwrap();
+}
+
+/// The bytes of numbers, one after the other.
 fn record_of(numbers: &[u32]) -> Record
     requires { length numbers.now ≤ 6 }
     ensures { result.items ≡ flat_map number numbers.now }
 {
     let mut record = ArrayVec::new();
     for n in numbers {
-        record.try_extend_from_slice(&n.to_le_bytes()).unwrap();
+        push_number(&mut record, *n);
     }
     record
 }
@@ -72,7 +81,7 @@ fn role_numbers(role: Role) -> [u32; 4]
 
 /// Writes all of the bytes, in as many writes as it takes. A write that answers an error, of any kind,
 /// is not tried again.
-fn write_whole<W: Write>(writer: &mut W, bytes: &[u8]) -> Result<(), WriteFailed>
+pub fn write_whole<W: Write>(writer: &mut W, bytes: &[u8]) -> Result<(), WriteFailed>
     ensures ok { OnOk result (Appends (W.contents writer.old) (W.contents writer.new) bytes.now) }
     ensures err { OnErr result (AppendsFront (W.contents writer.old) (W.contents writer.new) bytes.now) }
 {
@@ -100,7 +109,10 @@ fn write_role<W: Write>(role: Role, writer: &mut W) -> Result<(), WriteFailed>
     write_whole(writer, &record_of(&role_numbers(role)))
 }
 
-fn write_processes<W: Write>(processes: &[Option<Process>], writer: &mut W) -> Result<(), WriteFailed>
+fn write_processes<W: Write>(
+    processes: &[Option<Process>],
+    writer: &mut W,
+) -> Result<(), WriteFailed>
     ensures ok { OnOk result (Appends (W.contents writer.old) (W.contents writer.new) (flat_map process_bytes processes.now)) }
     ensures err { OnErr result (AppendsFront (W.contents writer.old) (W.contents writer.new) (flat_map process_bytes processes.now)) }
 {
@@ -118,4 +130,28 @@ fn write_roles<W: Write>(roles: &[Role], writer: &mut W) -> Result<(), WriteFail
         write_role(roles[place], writer)?;
     }
     Ok(())
+}
+
+/// Writes what an image begins with: the four bytes, the version and the number of frames.
+fn write_front<W: Write>(image: &Image, writer: &mut W) -> Result<(), WriteFailed>
+    ensures ok { OnOk result (Appends (W.contents writer.old) (W.contents writer.new) (magic ++ (number image.now.version ++ number (frames image.now)))) }
+    ensures err { OnErr result (AppendsFront (W.contents writer.old) (W.contents writer.new) (magic ++ (number image.now.version ++ number (frames image.now)))) }
+{
+    write_whole(
+        writer,
+        &record_of(&first_numbers(image.version(), image.frames())),
+    )
+}
+
+/// Writes an image: the bytes that spell it, which `read_image` reads back.
+///
+/// WriteFailed where a write fails; what was written is then a front of them.
+pub fn write_image<W: Write>(image: &Image, writer: &mut W) -> Result<(), WriteFailed>
+    ensures ok { OnOk result (Appends (W.contents writer.old) (W.contents writer.new) (spelling image.now)) }
+    ensures err { OnErr result (AppendsFront (W.contents writer.old) (W.contents writer.new) (spelling image.now)) }
+{
+    write_front(image, writer)?;
+    write_processes(image.processes(), writer)?;
+    write_roles(image.roles(), writer)?;
+    write_whole(writer, image.bytes())
 }
