@@ -1,0 +1,19 @@
+//! The check of an image of a machine: for each process and each frame the first clause that fails, none
+//! exactly where the image is sound.
+#![tactic(auto)]
+
+mod clauses;
+mod counting;
+mod judging;
+mod laws;
+mod serving;
+mod verdicts;
+mod words;
+
+pub use clauses::{FrameClause, ProcessClause};
+pub use laws::{draws_add_up, sound_where_nothing_fails, tests_decide};
+pub use memory_image::{
+    Image, ImageFault, NoMemory, Process, WriteFailed, fault_in, images_have_one_spelling,
+    images_of_machines_stand, images_stand_for_one,
+};
+pub use verdicts::{Verdict, check};

@@ -1,0 +1,13 @@
+pub mod References
+pub mod Standing
+pub mod MachineLemmas
+pub mod SpellingLemmas
+pub mod ImageReads
+pub mod PieceLemmas
+pub mod FieldLemmas
+pub mod WorkedRefusals
+pub mod ReadingLemmas
+pub mod RespellLemmas
+pub mod FillLemmas
+pub mod OutputLemmas
+pub mod WritingLemmas

@@ -1,0 +1,10 @@
+-- What was written so far and the rest are the bytes.
+use Rattle.std.proofs.Common.{length}
+use Rattle.memory_image.specs.Output.{LeavesUnwritten}
+use Rattle.memory_image.proofs.writing.write_whole.Given as goal
+
+abbrev pub invariant-loop-rest : goal.invariant-loop-rest
+invariant-loop-rest g l = LeavesUnwritten (g.W.Write.contents l.fn.writer) (g.W.Write.contents l.writer) l.fn.bytes l.rest
+
+abbrev pub decreases-loop-rest : goal.decreases-loop-rest
+decreases-loop-rest g l = length l.rest

@@ -1,0 +1,66 @@
+-- An image: what a machine shows of itself at one moment, apart from offers and the log.
+use Rattle.std.specs.Prelude.{◌≡◌, ℕ, ◌*◌, ◌<◌, ◌≤◌, ◌^◌, ◌⊎◌, List, length, map, Option, Some, None, slice_get, slice_index}
+use Rattle.std.specs.Option.{option_map, unwrap_or}
+use Rattle.alloc_table.specs.declared.Role.{Role}
+use Rattle.alloc_table.specs.declared.Role.TheVariants.{Reserved, Free, Directory, Table, Page}
+use Rattle.address_space.specs.Image as memory
+use Rattle.memory_image.specs.declared.processes.Process.{Process}
+
+pub record Image : Type 0 where
+  -- which words its tables hold: 1, or 2 where pages can be lazy
+  pub version : ℕ
+  -- one for each of the 64 numbers, where it is live
+  pub processes : List (Option Process)
+  -- one for each frame
+  pub roles : List Role
+  -- 4,096 bytes for each frame
+  pub bytes : List ℕ
+
+abbrev pub frames : Image → ℕ
+frames image = length image.roles
+
+abbrev pub process_at : Image → ℕ → Option Process
+process_at image p = unwrap_or (slice_get image.processes p) None
+
+abbrev pub role_at : Image → ℕ → Option Role
+role_at image f = slice_get image.roles f
+
+abbrev pub directory_from : Option Process → Option ℕ
+directory_from process = option_map (λ r. r.directory) process
+
+-- directories, bytes and roles: what the processor's walk and the frame table see
+abbrev pub memory_of : Image → memory.Image
+memory_of image = record { directories = map directory_from image.processes; bytes = image.bytes; roles = image.roles }
+
+-- ---- The rules of the fields
+
+-- a number of 32 bits
+abbrev pub IsWord : ℕ → Type 0
+IsWord k = k < 2 ^ 32
+
+-- the record of process p in an image of n frames
+pub record IsProcess (n p : ℕ) (r : Process) : Type 0 where
+  pub parent : r.parent < 64
+  -- process 0 is its own parent
+  pub root : p ≡ 0 → r.parent ≡ 0
+  pub quota : IsWord r.quota
+  pub used : IsWord r.used
+  pub given : IsWord r.given
+  pub directory : r.directory < n
+
+abbrev pub IsRole : Role → Type 0
+IsRole Reserved = Unit {0}
+IsRole Free = Unit {0}
+IsRole (Directory p) = p < 64
+IsRole (Table p s) = (p < 64) × (s < 1024)
+IsRole (Page count) = IsWord count
+
+pub record IsImage (image : Image) : Type 0 where
+  pub version : (image.version ≡ 1) ⊎ (image.version ≡ 2)
+  pub most : frames image ≤ 4096
+  pub fewest : 16 ≤ frames image
+  pub pids : length image.processes ≡ 64
+  pub processes : (p : ℕ) (r : Process) → process_at image p ≡ Some r → IsProcess (frames image) p r
+  pub roles : (f : ℕ) (r : Role) → role_at image f ≡ Some r → IsRole r
+  pub size : length image.bytes ≡ 4096 * frames image
+  pub small : (i : ℕ) → slice_index image.bytes i < 256

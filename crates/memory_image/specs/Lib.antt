@@ -1,0 +1,10 @@
+pub mod Image
+pub mod Codes
+pub mod Words
+pub mod Sound
+pub mod Machine
+pub mod Spelling
+pub mod Tests
+pub mod Refusals
+pub mod Reading
+pub mod Output

@@ -1,0 +1,51 @@
+-- The image of a machine.
+use Rattle.std.specs.Prelude.{◌≡◌, ℕ, ◌<◌, List, Option, Some, None, IfSome, slice_get}
+use Rattle.alloc_table.specs.declared.Role.{Role}
+use Rattle.alloc_table.specs.declared.Role.TheVariants.{Page}
+use Rattle.address_space.specs.View.{directory_of}
+use Rattle.quota_tree.specs.declared.Container.{Container}
+use Rattle.process_table.specs.State.{container_of}
+use Rattle.process_table.specs.View.{View}
+use Rattle.process_table.specs.Image as machine
+use Rattle.memory_image.specs.declared.processes.Process.{Process}
+use Rattle.memory_image.specs.Image.{Image, process_at, IsWord}
+use Rattle.memory_image.specs.Sound.{StandsFor}
+
+-- what is known of a process, and its directory
+abbrev pub process_from : Option Container → Option ℕ → Option Process
+process_from None d = None
+process_from (Some c) None = None
+process_from (Some c) (Some d) = Some (record { parent = c.parent; quota = c.quota; used = c.used; given = c.given; directory = d })
+
+-- the image shows what the machine does
+pub record IsImageOf (v : View) (image : Image) : Type 0 where
+  pub version : image.version ≡ 2
+  pub roles : image.roles ≡ v.roles
+  pub bytes : image.bytes ≡ v.bytes
+  pub processes : (p : ℕ) → process_at image p ≡ process_from (container_of v.state p) (directory_of v.directories p)
+
+-- the image of a machine stands for the state that the machine's own memory stands for
+abbrev pub ImagesStand : Type 0
+ImagesStand = (v : View) (image : Image) → IsImageOf v image → machine.StandsFor (machine.image_of v) v.state → StandsFor image v.state
+
+-- ---- What the types of the numbers say of them
+
+pub record IsWide (r : Process) : Type 0 where
+  pub parent : r.parent < 64
+  pub quota : IsWord r.quota
+  pub used : IsWord r.used
+  pub given : IsWord r.given
+
+-- what the machine tells of process p
+abbrev pub told : View → ℕ → Option Process
+told v p = process_from (container_of v.state p) (directory_of v.directories p)
+
+abbrev pub IsToldWide : View → ℕ → Type 0
+IsToldWide v p = IfSome (told v p) IsWide
+
+-- a page's count is a number of 32 bits
+abbrev pub HasWord : Role → Type 0
+HasWord role = (count : ℕ) → role ≡ Page count → IsWord count
+
+abbrev pub HaveWords : List Role → ℕ → Type 0
+HaveWords roles n = (f : ℕ) (role : Role) → f < n → slice_get roles f ≡ Some role → HasWord role

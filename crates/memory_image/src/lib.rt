@@ -1,0 +1,23 @@
+//! Images of a machine: what they hold, when they are sound, which state they stand for, and how they are
+//! spelled in bytes.
+#![tactic(auto)]
+
+mod faults;
+mod fields;
+mod images;
+mod laws;
+mod making;
+mod processes;
+mod reading;
+mod writing;
+
+pub use faults::{ImageFault, NoMemory, WriteFailed};
+pub use fields::fault_in;
+pub use images::Image;
+pub use laws::{
+    bytes_are_refused_where_they_spell_none, images_have_one_spelling, images_of_machines_stand,
+    images_stand_for_one,
+};
+pub use processes::Process;
+pub use reading::read_image;
+pub use writing::{write_image, write_whole};
