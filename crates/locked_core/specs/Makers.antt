@@ -5,7 +5,9 @@ use Rattle.kernel_calls.specs.declared.calls.Reply.{Reply}
 use Rattle.locked_core.specs.declared.faults.Fault.{Fault}
 use Rattle.locked_core.specs.declared.faults.Fault.TheVariants.{NoMemory, Stale, Unread, Disagree}
 use Rattle.locked_core.specs.Rules.{GoesOn}
-use Rattle.memory_report.specs.Histories.{Legal, StartsWith, calls_of, entries_of}
+use Rattle.memory_image.specs.Image.{Image}
+use Rattle.memory_image.specs.Sound.{StandsFor}
+use Rattle.memory_report.specs.Histories.{Legal, StartsWith, calls_of, entries_of, state_after}
 use Rattle.memory_report.specs.declared.entries.LogEntry.{LogEntry}
 
 -- its number, and the entries that it has seen
@@ -59,6 +61,13 @@ Prevents log NoMemory = Unit {0}
 Prevents log Unread = GoesOn log
 Prevents log (Stale front) = ⊥
 Prevents log Disagree = ⊥
+
+-- Where an image was taken for a CPU: it stands for the state after a legal history, which begins with what the CPU has seen and has the calls that it made.
+pub record IsTaken (frames : ℕ) (cpu : Maker) (image : Image) (history : List LogEntry) : Type 0 where
+  pub legal : Legal frames history
+  pub begins : StartsWith history cpu.seen
+  pub own : calls_of cpu.number history ≡ calls_of cpu.number cpu.seen
+  pub stands : StandsFor image (state_after frames history)
 
 -- what a CPU has seen begins the log, and it made the calls that the log has of it
 abbrev pub IsFit : List LogEntry → Maker → Type 0

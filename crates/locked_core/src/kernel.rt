@@ -2,7 +2,7 @@
 
 ghost use Rattle.std.specs.Prelude.{◌≡◌, ◌≤◌, ◌↔◌, [], IfErr, IfOk, IsErrOf, All, Any, IsTrue, length, take, drop, replicate, List};
 ghost use Rattle.left_right.specs.Sides.{view};
-ghost use Rattle.locked_core.specs.Makers.{AreAll, IsFit, IsOneOf, new_makers};
+ghost use Rattle.locked_core.specs.Makers.{AreAll, IsFit, IsOneOf, IsStale, IsTaken, IsUnread, new_makers};
 ghost use Rattle.locked_core.specs.Pages.{page};
 ghost use Rattle.locked_core.specs.Published.{view_of};
 ghost use Rattle.memory_report.specs.Histories.{Legal, state_after, calls_of};
@@ -19,9 +19,10 @@ use crate::monitor::Monitor;
 use crate::publish::{reader_of, writer_of};
 use crate::rule::LogWriter;
 use kernel_calls::Core;
+use memory_image::Image;
 use memory_report::LogEntry;
 use std::alloc::{AllocError, Global};
-use std::sync::{Mutex, Wait};
+use std::sync::{Mutex, MutexGuard, Wait};
 
 /// A kernel that has booted, and that no type names yet. End it by `open`.
 pub struct Blank<G: Gate + Drop> {
@@ -125,6 +126,24 @@ impl<N: Name, G: Gate + Drop> Kernel<N, G> {
             opened,
             writer,
         })
+    }
+
+    /// Takes the image of the kernel's memory, of one moment between calls: waits for the lock. The CPU has
+    /// the calls and has seen what it had.
+    ///
+    /// In this order: Unread where the kernel's history is longer than the log; Stale where the log is
+    /// shorter than what this CPU has seen, or has another number of its entries; NoMemory where there is
+    /// no memory for the image.
+    pub fn snapshot<R: Wait>(&self, rt: &R, cpu: &mut Cpu<N>) -> Result<Image, Fault>
+        ensures taken { IfOk result (λ image. (history : List LogEntry) × IsTaken N.frames cpu.old image history) }
+        ensures kept { cpu.new ≡ cpu.old }
+        ensures stale { IfErr result (λ f. (log : List LogEntry) × IsStale N.frames log cpu.old.number cpu.old.seen f) }
+        ensures unread { IfErr result (λ f. (log : List LogEntry) × IsUnread log f) }
+    {
+        let guard = self.state.lock(rt);
+        let image = guard.snapshot(cpu);
+        MutexGuard::unlock(guard);
+        image
     }
 
     /// Ends the kernel, and hands out its history, where each CPU came back once and agrees with the log.

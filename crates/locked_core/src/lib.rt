@@ -19,6 +19,8 @@ mod publish;
 mod rule;
 mod shown;
 #[cfg(test)]
+mod snapshot_tests;
+#[cfg(test)]
 mod tests;
 
 pub use book::{Front, Name, Opened};

@@ -6,6 +6,7 @@ ghost use Rattle.left_right.specs.Sides.{view};
 ghost use Rattle.locked_core.specs.Makers.{IsStale, IsUnread, Prevents};
 ghost use Rattle.locked_core.specs.Pages.{page};
 ghost use Rattle.locked_core.specs.Published.{view_of};
+ghost use Rattle.memory_image.specs.Sound.{StandsFor};
 ghost use Rattle.memory_report.specs.Histories.{Legal, StartsWith, state_after, calls_of, entry_after};
 ghost use Rattle.process_table.specs.State.{open_with};
 
@@ -17,6 +18,7 @@ use crate::publish::publish;
 use crate::rule::LogWriter;
 use crate::shown::Shown;
 use kernel_calls::{Call, Core, Decision, Event, Reply};
+use memory_image::Image;
 use page_words::Pid;
 use std::marker::Model;
 use std::sync::Wait;
@@ -77,14 +79,12 @@ impl<N: Name> Locked<N> {
         self.writer.published().again()
     }
 
-    /// Judges a call of this CPU, and decides it. Nothing changes.
+    /// What is published, where this CPU fits the log.
     ///
     /// Unread where the kernel's history is longer than the log; Stale where the log is shorter than what
     /// the CPU has seen, or has another number of its entries.
-    pub(crate) fn judge(&self, cpu: &Cpu<N>, pid: Pid, call: Call) -> Result<Ready, Fault>
-        ensures page { IfOk result (λ r. r.page ≡ page N.frames N.book self.now.log) }
-        ensures nth { IfOk result (λ r. (cpu.now.number < 8) × (r.nth ≡ calls_of cpu.now.number self.now.log)) }
-        ensures decided { IfOk result (λ r. r.decision ≡ decision_of self.now.core (record { cpu = cpu.now.number; pid = pid; call = call })) }
+    fn page_for(&self, cpu: &Cpu<N>) -> Result<Shown, Fault>
+        ensures page { IfOk result (λ p. p ≡ page N.frames N.book self.now.log) }
         ensures fits { IfOk result (λ _. StartsWith self.now.log cpu.now.seen × (calls_of cpu.now.number self.now.log ≡ calls_of cpu.now.number cpu.now.seen)) }
         ensures stale { IfErr result (IsStale N.frames self.now.log cpu.now.number cpu.now.seen) }
         ensures unread { IfErr result (IsUnread self.now.log) }
@@ -97,6 +97,41 @@ impl<N: Name> Locked<N> {
             let front = self.log.len();
             return Err(Fault::Stale { front });
         }
+        Ok(page)
+    }
+
+    /// The image of the core, where this CPU fits the log.
+    ///
+    /// Unread and Stale as for a call; NoMemory where there is no memory for the image.
+    pub(crate) fn snapshot(&self, cpu: &Cpu<N>) -> Result<Image, Fault>
+        ensures legal { IfOk result (λ _. Legal N.frames self.now.log) }
+        ensures stands { IfOk result (λ image. StandsFor image (state_after N.frames self.now.log)) }
+        ensures fits { IfOk result (λ _. StartsWith self.now.log cpu.now.seen × (calls_of cpu.now.number self.now.log ≡ calls_of cpu.now.number cpu.now.seen)) }
+        ensures stale { IfErr result (IsStale N.frames self.now.log cpu.now.number cpu.now.seen) }
+        ensures unread { IfErr result (IsUnread self.now.log) }
+    {
+        match self.page_for(cpu) {
+            Ok(_) => match Image::of(self.log.allocator(), &self.core) {
+                Ok(image) => Ok(image),
+                Err(_) => Err(Fault::NoMemory),
+            },
+            Err(fault) => Err(fault),
+        }
+    }
+
+    /// Judges a call of this CPU, and decides it. Nothing changes.
+    ///
+    /// Unread where the kernel's history is longer than the log; Stale where the log is shorter than what
+    /// the CPU has seen, or has another number of its entries.
+    pub(crate) fn judge(&self, cpu: &Cpu<N>, pid: Pid, call: Call) -> Result<Ready, Fault>
+        ensures page { IfOk result (λ r. r.page ≡ page N.frames N.book self.now.log) }
+        ensures nth { IfOk result (λ r. (cpu.now.number < 8) × (r.nth ≡ calls_of cpu.now.number self.now.log)) }
+        ensures decided { IfOk result (λ r. r.decision ≡ decision_of self.now.core (record { cpu = cpu.now.number; pid = pid; call = call })) }
+        ensures fits { IfOk result (λ _. StartsWith self.now.log cpu.now.seen × (calls_of cpu.now.number self.now.log ≡ calls_of cpu.now.number cpu.now.seen)) }
+        ensures stale { IfErr result (IsStale N.frames self.now.log cpu.now.number cpu.now.seen) }
+        ensures unread { IfErr result (IsUnread self.now.log) }
+    {
+        let page = self.page_for(cpu)?;
         let event = Event {
             cpu: cpu.number(),
             pid,
