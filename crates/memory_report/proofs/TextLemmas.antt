@@ -47,8 +47,9 @@ wrote_line a b c text line rest before more = record {
 -- a line of the rest is cut short
 pub cut_line : (a b c : Option (List ℕ)) (text line rest : List ℕ) → LeavesUnwritten a b text (line ++ rest) → AppendsFront b c line → AppendsFront a c text
 cut_line a b c text line rest before front =
-    let part = front.1 in (
+    let part = front.2 in (
       front.0 ++ rest,
+      (let some = front.1 in omega (arith, length-append front.0 rest)),
       record {
         written = before.written ++ part.written;
         whole = before.whole ∙ ap (λ l. before.written ++ (l ++ rest)) part.whole ∙ ap (λ l. before.written ++ l) (append_assoc part.written front.0 rest) ∙ sym (append_assoc before.written part.written (front.0 ++ rest));

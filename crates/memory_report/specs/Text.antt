@@ -1,5 +1,5 @@
 -- The text of a report.
-use Rattle.std.specs.Prelude.{◌≡◌, ℕ, ◌+◌, List, [], ◌∷◌, ◌++◌, Option, Some, None, codes, decimal}
+use Rattle.std.specs.Prelude.{◌≡◌, ℕ, ◌+◌, ◌<◌, List, [], ◌∷◌, ◌++◌, length, Option, Some, None, codes, decimal}
 use Rattle.std.specs.Io.KnownBytes.{Appends}
 use Rattle.memory_report.specs.Reports.{total_of}
 use Rattle.memory_report.specs.declared.rows.Row.{Row}
@@ -30,6 +30,6 @@ pub record LeavesUnwritten (old new : Option (List ℕ)) (text rest : List ℕ) 
   pub whole : text ≡ written ++ rest
   pub grown : Appends old new written
 
--- Known bytes grew by a front of the text.
+-- Known bytes grew by a front of the text, which is not the whole of it.
 abbrev pub AppendsFront : Option (List ℕ) → Option (List ℕ) → List ℕ → Type 0
-AppendsFront old new text = (rest : List ℕ) × LeavesUnwritten old new text rest
+AppendsFront old new text = (rest : List ℕ) × (0 < length rest) × LeavesUnwritten old new text rest
