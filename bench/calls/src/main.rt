@@ -19,8 +19,8 @@ use std::time::Instant;
 /// How many calls are made in each measurement, by all CPUs together.
 const CALLS: u64 = 400_000;
 
-/// How often each is measured; the best counts.
-const RUNS: u64 = 5;
+/// How often each is measured, in turn; the best counts.
+const RUNS: u64 = 15;
 
 /// A store into a page that is there after the first.
 fn call() -> Call {
@@ -64,7 +64,9 @@ fn work<N: Name, R: Wait + Abort>(
     calls: u64,
 ) -> Cpu<N> {
     for _ in 0..calls {
-        cpu.call(rt, kernel, root(rt), call()).ok().expect(rt, "a call");
+        cpu.call(rt, kernel, root(rt), call())
+            .ok()
+            .expect(rt, "a call");
     }
     cpu
 }
@@ -106,7 +108,7 @@ fn calls<N: Name + Send + Sync, R: Clock + Threads + Wait + Abort + Sync>(
         let two = cpus.pop().expect(rt, "a CPU");
         let three = cpus.pop().expect(rt, "a CPU");
         let four = cpus.pop().expect(rt, "a CPU");
-        let done = thread::join(
+        let (left, right) = thread::join(
             rt,
             move || {
                 thread::join(
@@ -123,10 +125,12 @@ fn calls<N: Name + Send + Sync, R: Clock + Threads + Wait + Abort + Sync>(
                 )
             },
         );
-        back.push(done.0.0).expect(rt, "memory");
-        back.push(done.0.1).expect(rt, "memory");
-        back.push(done.1.0).expect(rt, "memory");
-        back.push(done.1.1).expect(rt, "memory");
+        let (one, two) = left;
+        let (three, four) = right;
+        back.push(one).expect(rt, "memory");
+        back.push(two).expect(rt, "memory");
+        back.push(three).expect(rt, "memory");
+        back.push(four).expect(rt, "memory");
     }
     let took = since(rt, &start);
     let Ok(history) = kernel.close(rt, back) else {
@@ -136,22 +140,28 @@ fn calls<N: Name + Send + Sync, R: Clock + Threads + Wait + Abort + Sync>(
     took
 }
 
+/// Boots a kernel for so many CPUs, and makes all calls by them: how long they took.
+fn measured<R: Clock + Threads + Wait + Abort + Sync>(rt: &R, alloc: Global, cpus: u8) -> u64 {
+    match Kernel::<Brand, OpenGate>::boot(rt, alloc, 64, cpus, 0, OpenGate) {
+        Ok(blank) => calls::<Brand, R>(rt, blank, alloc),
+        Err(_) => panic!(rt; "not booted"),
+    }
+}
+
 fn main(rt: HostRuntime) {
     let alloc = rt.alloc();
-    let mut alone = u64::MAX;
+    let mut step = u64::MAX;
+    let mut one = u64::MAX;
+    let mut two = u64::MAX;
+    let mut four = u64::MAX;
     for _ in 0..RUNS {
-        alone = alone.min(steps(&rt, alloc));
+        step = step.min(steps(&rt, alloc));
+        one = one.min(measured(&rt, alloc, 1));
+        two = two.min(measured(&rt, alloc, 2));
+        four = four.min(measured(&rt, alloc, 4));
     }
-    println!(rt; "step {}", alone).ok();
-    for cpus in [1, 2, 4] {
-        let mut best = u64::MAX;
-        for _ in 0..RUNS {
-            let took = match Kernel::<Brand, OpenGate>::boot(&rt, alloc, 64, cpus, 0, OpenGate) {
-                Ok(blank) => calls::<Brand, HostRuntime>(&rt, blank, alloc),
-                Err(_) => panic!(rt; "not booted"),
-            };
-            best = best.min(took);
-        }
-        println!(rt; "cpus {} {}", cpus, best).ok();
-    }
+    println!(rt; "step {}", step).ok();
+    println!(rt; "cpus 1 {}", one).ok();
+    println!(rt; "cpus 2 {}", two).ok();
+    println!(rt; "cpus 4 {}", four).ok();
 }
