@@ -7,6 +7,8 @@ mod counting;
 mod judging;
 mod laws;
 mod serving;
+#[cfg(test)]
+mod tests;
 mod text;
 mod verdicts;
 mod words;

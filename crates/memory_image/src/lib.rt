@@ -9,6 +9,8 @@ mod laws;
 mod making;
 mod processes;
 mod reading;
+#[cfg(test)]
+mod tests;
 mod writing;
 
 pub use faults::{ImageFault, NoMemory, WriteFailed};
