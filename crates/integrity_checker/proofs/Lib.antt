@@ -9,7 +9,8 @@ pub mod Forward
 pub mod Agreement
 pub mod SlotLemmas
 pub mod AddLemmas
-pub mod FillLemmas
 pub mod WorkedImages
 pub mod DrawLemmas
 pub mod ToldLemmas
+pub mod TextLemmas
+pub mod VerdictTexts

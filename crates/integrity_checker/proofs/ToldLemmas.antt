@@ -1,15 +1,17 @@
 -- A verdict tells of no clause exactly where the image is sound.
-use Rattle.std.proofs.Common.{◌≡◌, ℕ, zero, suc, ◌<◌, true, List, [], ◌∷◌, length, refl, sym, ap, ◌∙◌, arith, Option, Some, None, Result, Ok, Err}
-use Rattle.std.specs.Prelude.{slice_get, is_none, IfOk}
+use Rattle.std.proofs.Common.{◌≡◌, ℕ, zero, suc, ◌<◌, true, List, [], ◌∷◌, length, map, refl, sym, ap, ◌∙◌, arith, Option, Some, None}
+use Rattle.std.specs.Prelude.{slice_get, is_none}
 use Rattle.std.specs.Option.{unwrap_or}
 use Rattle.std.specs.List.{list_all}
 use Rattle.std.specs.Bool.{Decides}
 use Rattle.std.proofs.lemmas.Bool.{and_parts, and_from}
-use Rattle.integrity_checker.specs.declared.clauses.ProcessClause.{ProcessClause}
-use Rattle.integrity_checker.specs.declared.clauses.FrameClause.{FrameClause}
 use Rattle.memory_image.specs.Image.{Image, frames, IsImage}
 use Rattle.memory_image.specs.Sound.{IsSound}
-use Rattle.integrity_checker.specs.Told.{fails_nothing, IsVerdict}
+use Rattle.integrity_checker.specs.Told.{fails_nothing, verdict_on}
+use Rattle.integrity_checker.specs.Verdict.{process_clause, frame_clause}
+use Rattle.std.specs.List.{range_with_len}
+use Rattle.std.proofs.lemmas.List.FromFn.{length-map-range_with_len, get_or-map-range_with_len}
+use Rattle.std.proofs.lemmas.Option.{slice_get-get_or}
 use Rattle.integrity_checker.proofs.Agreement.{sound_where_nothing_fails}
 
 none-is : {A : Type 0} (x : Option A) → is_none x ≡ true → x ≡ None
@@ -28,19 +30,21 @@ none-all : {A : Type 0} (xs : List (Option A)) → ((i : ℕ) → i < length xs 
 none-all [] h = refl
 none-all (x ∷ xs) h = and_from (is_none x) (list_all is_none xs) (ap is_none (same_some x None (h 0 (omega arith)))) (none-all xs (λ i inside. h (suc i) (omega arith)))
 
-pub sound_is_told : (image : Image) (told : List (Option ProcessClause)) (clauses : List (Option FrameClause)) → IsImage image → IsVerdict image told clauses → Decides (fails_nothing told clauses) (IsSound image)
-sound_is_told image told clauses I v = (
-  λ h. let a = and_parts (list_all is_none told) (list_all is_none clauses) h in
+-- each item of a list over a range
+map-get : {X : Type 0} (f : ℕ → X) (n p : ℕ) → p < n → slice_get (map f (range_with_len 0 n)) p ≡ Some (f p)
+map-get f n p low =
+    slice_get-get_or (map f (range_with_len 0 n)) p (f p) (let l = length-map-range_with_len f 0 n in omega arith)
+    ∙ ap Some (get_or-map-range_with_len f 0 n p p (f p) low (omega arith))
+
+pub sound_is_told : (image : Image) → IsImage image → Decides (fails_nothing (verdict_on image)) (IsSound image)
+sound_is_told image I = (
+  λ h. let a = and_parts (list_all is_none (verdict_on image).processes) (list_all is_none (verdict_on image).frames) h in
       (sound_where_nothing_fails image I).1 (record {
-        processes = λ p small. same_some _ _ (sym (v.processes p small) ∙ all-none told a.0 p (let k = v.pids in omega arith));
-        frames = λ f inside. same_some _ _ (sym (v.frames f inside) ∙ all-none clauses a.1 f (let k = v.places in omega arith));
+        processes = λ p small. same_some _ _ (sym (map-get (process_clause image) 64 p small) ∙ all-none (verdict_on image).processes a.0 p (let l = length-map-range_with_len (process_clause image) 0 64 in omega arith));
+        frames = λ f inside. same_some _ _ (sym (map-get (frame_clause image) (frames image) f inside) ∙ all-none (verdict_on image).frames a.1 f (let l = length-map-range_with_len (frame_clause image) 0 (frames image) in omega arith));
       }),
   λ s. let n = (sound_where_nothing_fails image I).0 s in
-      and_from (list_all is_none told) (list_all is_none clauses)
-      (none-all told (λ p small. let k : p < 64 = (let l = v.pids in omega arith) in v.processes p k ∙ ap Some (n.processes p k)))
-      (none-all clauses (λ f inside. let k : f < frames image = (let l = v.places in omega arith) in v.frames f k ∙ ap Some (n.frames f k))),
+      and_from (list_all is_none (verdict_on image).processes) (list_all is_none (verdict_on image).frames)
+      (none-all (verdict_on image).processes (λ p small. let k : p < 64 = (let l = length-map-range_with_len (process_clause image) 0 64 in omega arith) in map-get (process_clause image) 64 p k ∙ ap Some (n.processes p k)))
+      (none-all (verdict_on image).frames (λ f inside. let k : f < frames image = (let l = length-map-range_with_len (frame_clause image) 0 (frames image) in omega arith) in map-get (frame_clause image) (frames image) f k ∙ ap Some (n.frames f k))),
 )
-
-pub if_ok_then : {A E : Type 0} {P Q : A → Type 0} (r : Result A E) → IfOk r P → ((a : A) → P a → Q a) → IfOk r Q
-if_ok_then (Ok a) h f = f a h
-if_ok_then (Err e) h f = tt

@@ -4,3 +4,5 @@ pub mod Verdict
 pub mod Adds
 pub mod Draws
 pub mod Told
+pub mod Codes
+pub mod Text

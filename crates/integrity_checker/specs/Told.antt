@@ -1,18 +1,31 @@
 -- What a verdict tells.
-use Rattle.std.specs.Prelude.{◌≡◌, ℕ, ◌<◌, Bool, ◌&&◌, List, length, Option, Some, is_none, slice_get}
-use Rattle.std.specs.List.{list_all}
+use Rattle.std.specs.Prelude.{ℕ, Bool, ◌&&◌, List, map, Option, None, is_none, slice_get}
+use Rattle.std.specs.Option.{unwrap_or}
+use Rattle.std.specs.List.{list_all, range_with_len}
 use Rattle.integrity_checker.specs.declared.clauses.ProcessClause.{ProcessClause}
 use Rattle.integrity_checker.specs.declared.clauses.FrameClause.{FrameClause}
 use Rattle.memory_image.specs.Image.{Image, frames}
 use Rattle.integrity_checker.specs.Verdict.{process_clause, frame_clause}
 
--- no clause fails
-abbrev pub fails_nothing : List (Option ProcessClause) → List (Option FrameClause) → Bool
-fails_nothing processes frames = list_all is_none processes && list_all is_none frames
+pub record Told : Type 0 where
+  -- for each of the 64 processes the first clause that it fails
+  pub processes : List (Option ProcessClause)
+  -- for each frame the first clause that it fails
+  pub frames : List (Option FrameClause)
 
--- the first clause that fails, of each process and each frame
-pub record IsVerdict (image : Image) (told : List (Option ProcessClause)) (clauses : List (Option FrameClause)) : Type 0 where
-  pub pids : length told ≡ 64
-  pub places : length clauses ≡ frames image
-  pub processes : (p : ℕ) → p < 64 → slice_get told p ≡ Some (process_clause image p)
-  pub frames : (f : ℕ) → f < frames image → slice_get clauses f ≡ Some (frame_clause image f)
+-- the verdict on an image
+abbrev pub verdict_on : Image → Told
+verdict_on image = record {
+  processes = map (process_clause image) (range_with_len 0 64);
+  frames = map (frame_clause image) (range_with_len 0 (frames image));
+}
+
+-- no clause fails
+abbrev pub fails_nothing : Told → Bool
+fails_nothing told = list_all is_none told.processes && list_all is_none told.frames
+
+abbrev pub process_told : Told → ℕ → Option ProcessClause
+process_told told p = unwrap_or (slice_get told.processes p) None
+
+abbrev pub frame_told : Told → ℕ → Option FrameClause
+frame_told told f = unwrap_or (slice_get told.frames f) None

@@ -1,33 +1,48 @@
 //! The check of an image.
 
-ghost use Rattle.std.specs.Prelude.{◌≡◌, ◌<◌, ◌↔◌, ℕ, IfOk, IsTrue, is_none, length, slice_get, Some};
+ghost use Rattle.std.specs.Prelude.{◌≡◌, ◌≤◌, IfOk, IfSome, is_none, length, map};
 ghost use Rattle.memory_image.specs.Image.{frames};
 ghost use Rattle.integrity_checker.specs.Counts as counts;
 ghost use Rattle.std.specs.Bool.{Decides};
-ghost use Rattle.std.specs.List.{list_all};
+ghost use Rattle.std.specs.List.{list_all, range_with_len};
 ghost use Rattle.memory_image.specs.Sound.{IsSound};
-ghost use Rattle.integrity_checker.specs.Told.{fails_nothing, IsVerdict};
+ghost use Rattle.integrity_checker.specs.Told.{fails_nothing, verdict_on, process_told, frame_told};
 ghost use Rattle.integrity_checker.specs.Adds.{Counts};
-ghost use Rattle.integrity_checker.specs.Verdict.{process_clause, frame_clause, NothingFails};
+ghost use Rattle.integrity_checker.specs.Verdict.{process_clause, frame_clause};
 
 use crate::clauses::{FrameClause, ProcessClause};
 use crate::counting::{count_all, pid_of};
 use crate::judging::process_clause;
 use crate::serving::frame_clause;
 use memory_image::{Image, NoMemory};
-use page_words::Frame;
+use page_words::{Frame, Pid};
 use std::alloc::Global;
+use std::marker::Model;
 
 /// For each process and each frame the first clause that it fails.
 #[derive(Drop)]
 pub struct Verdict {
-    pub processes: [Option<ProcessClause>; 64],
-    pub frames: Vec<Option<FrameClause>>,
+    processes: [Option<ProcessClause>; 64],
+    frames: Vec<Option<FrameClause>>,
+}
+
+impl Model for Verdict {
+    ghost use Rattle.std.specs.Prelude.{◌≡◌, ◌≤◌, length};
+    ghost use Rattle.integrity_checker.specs.Told.{Told};
+    ghost use Rattle.integrity_checker.specs.Codes.{told_code};
+
+    ghost Value = { Told };
+
+    ghost coded = { told_code };
+
+    ghost view = { λ v. record { processes = v.processes; frames = v.frames.items } };
+
+    ghost invariant = { λ v. (length v.processes ≡ 64) × (length v.frames.items ≤ 4096) };
 }
 
 fn judge_processes(image: &Image) -> [Option<ProcessClause>; 64]
+    ensures clauses { result ≡ map (process_clause image.now) (range_with_len 0 64) }
     ensures length { length result ≡ 64 }
-    ensures clauses { (p : ℕ) → p < 64 → slice_get result p ≡ Some (process_clause image.now p) }
 {
     let mut clauses = [None; 64];
     for number in 0..64 {
@@ -40,8 +55,8 @@ fn judge_frames(image: &Image, names: &[u32], maps: &[u32], clauses: &mut [Optio
     requires length { length clauses.old ≡ frames image.now }
     requires names { Counts names.now (frames image.now) (λ f. counts.names image.now f) }
     requires maps { Counts maps.now (frames image.now) (λ f. counts.maps image.now f) }
+    ensures clauses { clauses.new ≡ map (frame_clause image.now) (range_with_len 0 (frames image.now)) }
     ensures length { length clauses.new ≡ length clauses.old }
-    ensures clauses { (f : ℕ) → f < frames image.now → slice_get clauses.new f ≡ Some (frame_clause image.now f) }
 {
     let frames = image.frames();
     for frame in 0..frames {
@@ -65,28 +80,62 @@ fn no_frame_fails(clauses: &[Option<FrameClause>]) -> bool
 impl Verdict {
     /// Whether no clause fails.
     pub fn sound(&self) -> bool
-        ensures { result ≡ fails_nothing self.now.processes self.now.frames.items }
+        ensures { result ≡ fails_nothing self.now }
     {
         no_process_fails(&self.processes) && no_frame_fails(&self.frames)
     }
+
+    /// The first clause that a process fails.
+    pub fn process(&self, pid: Pid) -> Option<ProcessClause>
+        ensures { result ≡ process_told self.now pid }
+    {
+        self.processes[pid.number() as usize]
+    }
+
+    /// The first clause that a frame fails; None where the frame is past the end.
+    pub fn frame(&self, frame: Frame) -> Option<FrameClause>
+        ensures { result ≡ frame_told self.now frame }
+    {
+        match self.frames.get(frame.0 as usize) {
+            Some(clause) => *clause,
+            None => None,
+        }
+    }
+
+    /// What each process fails, by number.
+    pub(crate) fn processes(&self) -> &[Option<ProcessClause>]
+        ensures clauses { result.now ≡ self.now.processes }
+        ensures length { length result.now ≡ 64 }
+    {
+        &self.processes
+    }
+
+    /// What each frame fails.
+    pub(crate) fn frames(&self) -> &[Option<FrameClause>]
+        ensures clauses { result.now ≡ self.now.frames }
+        ensures few { length result.now ≤ 4096 }
+    {
+        self.frames.as_slice()
+    }
 }
 
-fn judged(alloc: Global, image: &Image) -> Result<Verdict, NoMemory>
-    ensures { IfOk result (λ v. IsVerdict image.now v.processes v.frames.items) }
+/// The verdict on an image.
+fn judged(alloc: Global, image: &Image) -> Option<Verdict>
+    ensures { IfSome result (λ v. v ≡ verdict_on image.now) }
 {
     let frames = image.frames() as usize;
     let Ok(mut names) = vec![in alloc; 0u32; frames] else {
-        return Err(NoMemory);
+        return None;
     };
     let Ok(mut maps) = vec![in alloc; 0u32; frames] else {
-        return Err(NoMemory);
+        return None;
     };
     let Ok(mut clauses) = vec![in alloc; None; frames] else {
-        return Err(NoMemory);
+        return None;
     };
     count_all(image, &mut names, &mut maps);
     judge_frames(image, &names, &maps, &mut clauses);
-    Ok(Verdict {
+    Some(Verdict {
         processes: judge_processes(image),
         frames: clauses,
     })
@@ -94,10 +143,15 @@ fn judged(alloc: Global, image: &Image) -> Result<Verdict, NoMemory>
 
 /// What fails of an image: of each process and each frame the first clause. None fails exactly where
 /// the image is sound.
+///
+/// NoMemory where there is no memory for the counts and the verdict.
 pub fn check(alloc: Global, image: &Image) -> Result<Verdict, NoMemory>
-    ensures verdict { IfOk result (λ v. IsVerdict image.now v.processes v.frames.items) }
-    ensures sound { IfOk result (λ v. Decides (fails_nothing v.processes v.frames.items) (IsSound image.now)) }
+    ensures verdict { IfOk result (λ v. v ≡ verdict_on image.now) }
+    ensures sound { IfOk result (λ v. Decides (fails_nothing v) (IsSound image.now)) }
 {
     image.within();
-    judged(alloc, image)
+    match judged(alloc, image) {
+        Some(verdict) => Ok(verdict),
+        None => Err(NoMemory),
+    }
 }

@@ -11,3 +11,4 @@ pub mod RespellLemmas
 pub mod FillLemmas
 pub mod OutputLemmas
 pub mod WritingLemmas
+pub mod MachineSound

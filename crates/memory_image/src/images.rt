@@ -98,7 +98,7 @@ impl Image {
         requires { index < 1024 }
         ensures { result ≡ word_of (memory_of self.now) frame index }
     {
-        word_or_zero(&self.bytes, self.roles.len() as u32, frame.0, index)
+        word_or_zero(&self.bytes, self.frames(), frame.0, index)
     }
 
     /// What each process has, by number.

@@ -9,14 +9,16 @@ mod laws;
 mod making;
 mod processes;
 mod reading;
+#[cfg(test)]
+mod tests;
 mod writing;
 
 pub use faults::{ImageFault, NoMemory, WriteFailed};
 pub use fields::fault_in;
 pub use images::Image;
 pub use laws::{
-    bytes_are_refused_where_they_spell_none, images_have_one_spelling, images_of_machines_stand,
-    images_stand_for_one,
+    bytes_are_refused_where_they_spell_none, images_are_judged_as_machines,
+    images_have_one_spelling, images_of_machines_stand, images_stand_for_one,
 };
 pub use processes::Process;
 pub use reading::read_image;
