@@ -10,12 +10,17 @@ mod jobs;
 mod lines;
 mod numbers;
 mod output;
+mod race;
+#[cfg(test)]
+mod race_tests;
 mod replies;
+mod rounds;
 mod script;
 mod session;
 #[cfg(test)]
 mod tests;
 mod tokens;
+mod tools;
 mod words;
 #[cfg(test)]
 mod worked;
