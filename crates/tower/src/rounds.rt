@@ -264,7 +264,7 @@ fn told_cause(a: Option<RoundFault>, b: Option<RoundFault>) -> Option<RoundFault
     }
 }
 
-/// Plays both guests, the second one in a thread of its own where one can be made, until both have ended.
+/// Plays both guests, in two threads, until both have ended.
 fn play_guests<N: Name + Send + Sync, R: Threads + Wait + Sync>(
     rt: &R,
     kernel: &Kernel<N, OpenGate>,
