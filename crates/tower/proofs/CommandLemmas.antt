@@ -1,8 +1,9 @@
 -- Which subcommand a command line enters, and that it has a job.
-use Rattle.std.proofs.Common.{◌≡◌, ◌∙◌, ℕ, Bool, ◌||◌, cond, not, true, false, List, [], ◌∷◌, Option, Some, None, IfSome, refl, sym, ap, subst, codes}
+use Rattle.std.proofs.Common.{◌≡◌, ◌∙◌, ◌≤◌, ◌⊎◌, inl, inr, arith, ℕ, Bool, ◌||◌, cond, not, true, false, List, [], ◌∷◌, Option, Some, None, IfSome, refl, sym, subst, codes}
 use Rattle.std.specs.Box.{box_value}
 use Rattle.std.specs.Option.{option_map_or}
-use Rattle.std.specs.Prelude.{⊤, Box, find, fold, option_map}
+use Rattle.std.specs.Prelude.{⊤, Box, IsSome, find, fold, option_map}
+use Rattle.std.proofs.lemmas.Bool.{le-leb}
 use Rattle.std.specs.Str.{bytes_eq}
 use Rattle.std.proofs.lemmas.Slice.Eq.{bytes_eq-Decides}
 use Rattle.clap.specs.Faults.{entered_fault, fault_of, level_fault, other_fault, turn_fault, walk_fault, word_fault}
@@ -14,11 +15,9 @@ use Rattle.clap.specs.declared.parser.matches.ArgMatches.{ArgMatches}
 use Rattle.clap.specs.declared.parser.matches.ArgMatches.TheViews.{out-ArgMatches, out-SubCommand}
 use Rattle.clap.specs.declared.parser.matches.SubCommand.{SubCommand}
 use Rattle.clap.proofs.OnLiterals.{clap_on_literals}
-use Rattle.tower.specs.declared.jobs.Job.{Job}
-use Rattle.tower.specs.declared.jobs.Job.TheVariants.{Run}
-use Rattle.tower.specs.Jobs.{tower_app, run_app, frames_option, number_named, frames_in, job_named}
+use Rattle.tower.specs.Jobs.{tower_app, run_app, race_app, frames_option, rounds_option, number_named, job_named}
 use Rattle.tower.proofs.JobLemmas.{first_none, second_none}
-use Rattle.tower.proofs.ValueLemmas.{IsNamed, run_is_named}
+use Rattle.tower.proofs.ValueLemmas.{IsHelp, IsNumbered, IsOption, RaceNumbered, run_is_named, race_is_named}
 
 -- ---- `help` is never entered
 
@@ -106,53 +105,80 @@ walk_stops s names w [] on none before = before
 walk_stops s names w (word ∷ words) on none before =
     walk_stops s names (walked s.rules names w word) words on (second_none _ _ none) (turn_stops s names w word on (first_none _ _ none) before)
 
--- ---- The program's only subcommand is `run`
+-- ---- The program's subcommands
 
 same_either_way : (a b : Text) → bytes_eq a b ≡ true → bytes_eq b a ≡ true
 same_either_way a b same = (bytes_eq-Decides b a).1 (sym ((bytes_eq-Decides a b).0 same))
 
--- the subcommand is `run`, and the option's text names a number where there is one
-abbrev IsRun : Option (Text × List Row) → Type 0
-IsRun found = IfSome found (λ p. (bytes_eq p.0 (codes "run") ≡ true) × IsNamed (one_of (codes "frames") p.1))
+abbrev IsRun : Text × List Row → Type 0
+IsRun p = (p.0 ≡ codes "run") × IsNumbered 0 4294967295 (one_of (codes "frames") p.1)
+
+abbrev IsRace : Text × List Row → Type 0
+IsRace p = (p.0 ≡ codes "race") × RaceNumbered p.1
+
+-- the subcommand is `run` or `race`, and each option's text names a number within its bounds
+abbrev IsKnown : Option (Text × List Row) → Type 0
+IsKnown found = IfSome found (λ p. IsRun p ⊎ IsRace p)
 
 or_false : (b : Bool) → (b || false) ≡ true → b ≡ true
 or_false true is = refl
 or_false false is = is
 
--- of two subcommands, the second of which is `help`
-enters_first : (a : App) (run help : Shape) → a.subs ≡ run ∷ help ∷ [] → run.name ≡ codes "run" → help.name ≡ codes "help" → help.aliases ≡ []
-    → ((words : List Text) → level_fault run [] nothing_held words false [] ≡ [] → IsNamed (one_of (codes "frames") (rows_after run.rules [] words)))
-    → (stop : Option (Text × List Text)) → StopsNotAtHelp stop → entered_fault a stop ≡ [] → IsRun (entered a stop)
-enters_first a run help subs run_name help_name aliases names None stops none = tt
-enters_first a run help subs run_name help_name aliases names (Some p) stops none =
-    rw subs (first (answers_to p.0 (label_of run)) (answers_to p.0 (label_of help)) refl
+abbrev NoFault : Shape → List Text → Type 0
+NoFault s words = level_fault s [] nothing_held words false [] ≡ []
+
+-- of three subcommands, the last of which is `help`
+enters_first : (a : App) (run race help : Shape) → a.subs ≡ run ∷ race ∷ help ∷ [] → run.name ≡ codes "run" → race.name ≡ codes "race" → help.name ≡ codes "help" → help.aliases ≡ []
+    → ((words : List Text) → NoFault run words → IsNumbered 0 4294967295 (one_of (codes "frames") (rows_after run.rules [] words)))
+    → ((words : List Text) → NoFault race words → RaceNumbered (rows_after race.rules [] words))
+    → (stop : Option (Text × List Text)) → StopsNotAtHelp stop → entered_fault a stop ≡ [] → IsKnown (entered a stop)
+enters_first a run race help subs run_name race_name help_name aliases runs races None stops none = tt
+enters_first a run race help subs run_name race_name help_name aliases runs races (Some p) stops none =
+    rw subs (first (answers_to p.0 (label_of run)) (answers_to p.0 (label_of race)) (answers_to p.0 (label_of help)) refl
     (subst (λ (ss : List Shape). option_map_or (λ s. level_fault s [] nothing_held p.1 false []) (find (λ s. answers_to p.0 (label_of s)) ss) [] ≡ []) subs none))
   where
-    first : (is_run is_help : Bool) → answers_to p.0 (label_of help) ≡ is_help
-        → option_map_or (λ s. level_fault s [] nothing_held p.1 false []) (cond is_run (Some run) (cond is_help (Some help) None)) [] ≡ []
-        → IsRun (option_map (λ s. rows_at s p.1) (cond is_run (Some run) (cond is_help (Some help) None)))
-    first true is_help is fault = (rw run_name refl, names p.1 fault)
-    first false false is fault = tt
-    first false true is fault =
+    first : (is_run is_race is_help : Bool) → answers_to p.0 (label_of help) ≡ is_help
+        → option_map_or (λ s. level_fault s [] nothing_held p.1 false []) (cond is_run (Some run) (cond is_race (Some race) (cond is_help (Some help) None))) [] ≡ []
+        → IsKnown (option_map (λ s. rows_at s p.1) (cond is_run (Some run) (cond is_race (Some race) (cond is_help (Some help) None))))
+    first true is_race is_help is fault = inl (run_name, runs p.1 fault)
+    first false true is_help is fault = inr (race_name, races p.1 fault)
+    first false false false is fault = tt
+    first false false true is fault =
         let named : (bytes_eq (codes "help") p.0 || false) ≡ true = rw (help_name, aliases) at is in
         let same : bytes_eq p.0 (codes "help") ≡ true = same_either_way (codes "help") p.0 (or_false _ named) in
         let bad = rw same at stops in
         cc
 
--- `run` as `clap` builds it
+-- `run` and `race` as `clap` builds them
 abbrev built_run : Shape
 built_run = built_leaf (inherited (on_top with_leaf_noted (on_top marked_built tower_app)).top run_app.top)
 
-enters_run : (stop : Option (Text × List Text)) → StopsNotAtHelp stop → entered_fault (built tower_app) stop ≡ [] → IsRun (entered (built tower_app) stop)
-unfolding clap_on_literals
-enters_run stop stops none =
-    enters_first (built tower_app) built_run (built_leaf help_shape) refl refl refl refl
-    (run_is_named built_run (with_index 1 (filled frames_option)) (with_index 1 (filled help_rule)) refl refl refl refl refl refl refl refl) stop stops none
+abbrev built_race : Shape
+built_race = built_leaf (inherited (on_top with_leaf_noted (on_top marked_built tower_app)).top race_app.top)
 
-pub only_run : (words : List Text) → fault_of tower_app words ≡ [] → IsRun (subcommand_of tower_app words)
-only_run words none =
+frames_is : IsOption (codes "frames") 0 4294967295 (with_index 1 (filled frames_option))
+unfolding clap_on_literals
+frames_is = record { id_is = refl; action = refl; parses = refl; case = refl; bare = refl }
+
+rounds_is : IsOption (codes "rounds") 1 1000 (with_index 1 (filled rounds_option))
+unfolding clap_on_literals
+rounds_is = record { id_is = refl; action = refl; parses = refl; case = refl; bare = refl }
+
+help_is : IsHelp (with_index 1 (filled help_rule))
+unfolding clap_on_literals
+help_is = record { action = refl; bare = refl }
+
+enters_known : (stop : Option (Text × List Text)) → StopsNotAtHelp stop → entered_fault (built tower_app) stop ≡ [] → IsKnown (entered (built tower_app) stop)
+unfolding clap_on_literals
+enters_known stop stops none =
+    enters_first (built tower_app) built_run built_race (built_leaf help_shape) refl refl refl refl refl
+    (run_is_named built_run (with_index 1 (filled frames_option)) (with_index 1 (filled help_rule)) refl frames_is help_is)
+    (race_is_named built_race (with_index 1 (filled frames_option)) (with_index 1 (filled rounds_option)) (with_index 1 (filled help_rule)) refl frames_is rounds_is help_is) stop stops none
+
+pub only_known : (words : List Text) → fault_of tower_app words ≡ [] → IsKnown (subcommand_of tower_app words)
+only_known words none =
     let walks = walk_stops (built tower_app).top (names_of (built tower_app)) (walk_from nothing_held) (argument_words tower_app words) refl (first_none _ _ none) tt in
-    enters_run _ walks (first_none _ _ (second_none _ _ none))
+    enters_known _ walks (first_none _ _ (second_none _ _ none))
 
 -- ---- What the parse answers
 
@@ -174,15 +200,33 @@ pub found_is : (m : ArgMatches) (words : List Text) (name : Text) (rows : List R
 found_is m words name rows same named found =
     sym same ∙ both_parts (subcommand_rows_of m) name rows (named ∙ name_in_rows (out-ArgMatches m).subcommand) found
 
-some_job : (job : Job) → Some job ≡ None → ⊥
-some_job job none = cc
+-- ---- The job of what was found
 
-a_job : (text : Option Text) → IsNamed text → option_map (λ frames. Run frames) (option_map_or number_named text (Some 16)) ≡ None → ⊥
-a_job None named none = some_job (Run 16) none
-a_job (Some t) named none = some_job (Run named.0) (sym (ap (option_map (λ frames. Run frames)) named.1) ∙ none)
+-- an option that names a number within bounds, or is absent
+number_is : (low high absent : ℕ) (text : Option Text) → low ≤ absent → absent ≤ high → IsNumbered low high text → (n : ℕ) × (option_map_or number_named text (Some absent) ≡ Some n) × (low ≤ n) × (n ≤ high)
+number_is low high absent None least most named = (absent, refl, least, most)
+number_is low high absent (Some t) least most named = named
+
+run_job : (rows : List Row) → IsNumbered 0 4294967295 (one_of (codes "frames") rows) → IsSome (job_named (codes "run") rows)
+run_job rows named =
+    let frames = number_is 0 4294967295 16 (one_of (codes "frames") rows) (omega arith) (omega arith) named in
+    rw frames.1 refl
+
+race_job : (rows : List Row) → RaceNumbered rows → IsSome (job_named (codes "race") rows)
+race_job rows named =
+    let frames = number_is 0 4294967295 16 (one_of (codes "frames") rows) (omega arith) (omega arith) named.0 in
+    let rounds = number_is 1 1000 100 (one_of (codes "rounds") rows) (omega arith) (omega arith) named.1 in
+    rw (frames.1, rounds.1, le-leb 1 rounds.0 rounds.2, le-leb rounds.0 1000 rounds.3) refl
+
+no_job : (name : Text) (rows : List Row) → IsSome (job_named name rows) → job_named name rows ≡ None → ⊥
+no_job name rows some none =
+    let bad = rw none at some in
+    cc
 
 -- words without a fault have a job
 pub never_none : (words : List Text) (name : Text) (rows : List Row) → fault_of tower_app words ≡ [] → subcommand_of tower_app words ≡ Some (name, rows) → job_named name rows ≡ None → ⊥
-never_none words name rows none is asked =
-    let run : (bytes_eq name (codes "run") ≡ true) × IsNamed (one_of (codes "frames") rows) = subst IsRun is (only_run words none) in
-    a_job (one_of (codes "frames") rows) run.1 (sym (ap (λ b. cond b (option_map (λ frames. Run frames) (frames_in rows)) None) run.0) ∙ asked)
+never_none words name rows none is asked = go (subst IsKnown is (only_known words none))
+  where
+    go : IsRun (name, rows) ⊎ IsRace (name, rows) → ⊥
+    go (inl run) = no_job name rows (subst (λ (n : Text). IsSome (job_named n rows)) (sym run.0) (run_job rows run.1)) asked
+    go (inr race) = no_job name rows (subst (λ (n : Text). IsSome (job_named n rows)) (sym race.0) (race_job rows race.1)) asked

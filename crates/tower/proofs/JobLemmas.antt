@@ -1,5 +1,5 @@
 -- Which subcommands a command line may name.
-use Rattle.std.proofs.Common.{◌≡◌, ◌∙◌, ℕ, Bool, ◌&&◌, true, false, List, [], ◌∷◌, Option, Some, None, refl, sym, ap, codes}
+use Rattle.std.proofs.Common.{◌≡◌, ◌∙◌, ℕ, Bool, ◌&&◌, true, false, List, [], ◌∷◌, Option, Some, None, refl, sym, ap}
 use Rattle.std.specs.Char.{digit_value}
 use Rattle.std.specs.List.{list_all}
 use Rattle.std.specs.Prelude.{◌^◌, length, nat_lt, Result, Ok, Err}
@@ -16,7 +16,7 @@ use Rattle.clap.specs.ValueTests.{is_numeral}
 use Rattle.clap.specs.Words.{one_of}
 use Rattle.clap.proofs.OnLiterals.{clap_on_literals}
 use Rattle.clap.proofs.WalkLemmas.{both}
-use Rattle.tower.specs.Jobs.{tower_app, number_named, frames_in}
+use Rattle.tower.specs.Jobs.{tower_app, number_named, number_in}
 
 pub tower_is_simple : is_simple tower_app ≡ true
 unfolding clap_on_literals
@@ -26,7 +26,7 @@ pub tower_is_free : is_simple_and_free tower_app ≡ true
 unfolding clap_on_literals
 tower_is_free = refl
 
--- ---- The number of frames
+-- ---- The number of an option
 
 pub digits_pass : (ds : List ℕ) → AllDigits 10 ds → list_all (λ d. nat_lt (digit_value d) 10) ds ≡ true
 digits_pass [] are = refl
@@ -52,36 +52,36 @@ number_read {E} text (Err e) h = go (is_numeral (without_leading_plus text) && n
         let inner = both _ _ outer.0 in
         absurd (h ((ltb-true _ _ inner.0, digits_are (without_leading_plus text) inner.1), ltb-true _ _ outer.1))
 
--- the number that was read, or 16 where there is none
-abbrev pub or_16 : {E : Type 0} → Result (Option ℕ) E → Option ℕ
-or_16 (Ok (Some n)) = Some n
-or_16 (Ok None) = Some 16
-or_16 (Err e) = None
+-- the number that was read, or another where there is none
+abbrev pub or_absent : {E : Type 0} → ℕ → Result (Option ℕ) E → Option ℕ
+or_absent absent (Ok (Some n)) = Some n
+or_absent absent (Ok None) = Some absent
+or_absent absent (Err e) = None
 
 -- what the getter of a number answers, by the text that it reads
-pub frames_read : {E : Type 0} (G : List ℕ → Result ℕ E → Type 0) (rows : List Row) (text : Option Text) (r : Result (Option ℕ) E) → text ≡ one_of (codes "frames") rows
-    → ((u : List ℕ) (x : Result ℕ E) → G u x → ParsesUnsigned 32 10 u x) → (text ≡ None → r ≡ Ok None) → ((t : Text) → text ≡ Some t → TriesOne G t r) → or_16 r ≡ frames_in rows
-frames_read {E} G rows text r is parses none reads = go text refl ∙ ap (λ o. option_map_or number_named o (Some 16)) is
+pub option_read : {E : Type 0} (G : List ℕ → Result ℕ E → Type 0) (id : Text) (absent : ℕ) (rows : List Row) (text : Option Text) (r : Result (Option ℕ) E) → text ≡ one_of id rows
+    → ((u : List ℕ) (x : Result ℕ E) → G u x → ParsesUnsigned 32 10 u x) → (text ≡ None → r ≡ Ok None) → ((t : Text) → text ≡ Some t → TriesOne G t r) → or_absent absent r ≡ number_in id absent rows
+option_read {E} G id absent rows text r is parses none reads = go text refl ∙ ap (λ o. option_map_or number_named o (Some absent)) is
   where
-    tried : (t : Text) (o : Result (Option ℕ) E) → TriesOne G t o → or_16 o ≡ number_named t
+    tried : (t : Text) (o : Result (Option ℕ) E) → TriesOne G t o → or_absent absent o ≡ number_named t
     tried t (Ok (Some n)) found =
         let read : Result ℕ E = Ok n in
         sym (number_read t read (parses t read found))
     tried t (Ok None) found = absurd found
     tried t (Err e) found = sym (number_read t (Err e) (parses t (Err e) found))
 
-    go : (o : Option Text) → text ≡ o → or_16 r ≡ option_map_or number_named o (Some 16)
-    go None e = ap or_16 (none e)
+    go : (o : Option Text) → text ≡ o → or_absent absent r ≡ option_map_or number_named o (Some absent)
+    go None e = ap (or_absent absent) (none e)
     go (Some t) e = tried t r (reads t e)
 
-pub found_some : {E : Type 0} (r : Result (Option ℕ) E) (o : Option ℕ) (n : ℕ) → r ≡ Ok o → o ≡ Some n → or_16 r ≡ Some n
-found_some r o n is some = rw (is, some) refl
+pub found_some : {E : Type 0} (absent : ℕ) (r : Result (Option ℕ) E) (o : Option ℕ) (n : ℕ) → r ≡ Ok o → o ≡ Some n → or_absent absent r ≡ Some n
+found_some absent r o n is some = rw (is, some) refl
 
-pub found_none : {E : Type 0} (r : Result (Option ℕ) E) (o : Option ℕ) → r ≡ Ok o → o ≡ None → or_16 r ≡ Some 16
-found_none r o is none = rw (is, none) refl
+pub found_none : {E : Type 0} (absent : ℕ) (r : Result (Option ℕ) E) (o : Option ℕ) → r ≡ Ok o → o ≡ None → or_absent absent r ≡ Some absent
+found_none absent r o is none = rw (is, none) refl
 
-pub found_other : {E : Type 0} (r : Result (Option ℕ) E) (e : E) → r ≡ Err e → or_16 r ≡ None
-found_other r e is = rw is refl
+pub found_other : {E : Type 0} (absent : ℕ) (r : Result (Option ℕ) E) (e : E) → r ≡ Err e → or_absent absent r ≡ None
+found_other absent r e is = rw is refl
 
 -- ---- No fault in either part
 

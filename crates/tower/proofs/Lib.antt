@@ -9,3 +9,8 @@ pub mod RunLemmas
 pub mod JobLemmas
 pub mod ValueLemmas
 pub mod CommandLemmas
+pub mod ChainLemmas
+pub mod SameLemmas
+pub mod RaceLemmas
+pub mod HaltLemmas
+pub mod RoundLemmas

@@ -1,11 +1,12 @@
--- The values of `--frames` that a parse keeps are numbers of 32 bits.
-use Rattle.std.proofs.Common.{◌≡◌, ◌∙◌, ◌<◌, ℕ, Bool, ◌&&◌, cond, true, false, zero, suc, List, [], ◌∷◌, ◌++◌, Option, Some, None, IfSome, refl, sym, ap, subst, codes, arith, drop}
+-- The values of `--frames` and `--rounds` that a parse keeps are numbers within their bounds.
+use Rattle.std.proofs.Common.{◌≡◌, ◌∙◌, ◌<◌, ◌≤◌, ℕ, Bool, ◌&&◌, cond, true, false, zero, suc, List, [], ◌∷◌, ◌++◌, Option, Some, None, IfSome, refl, sym, ap, subst, codes, arith, drop}
 use Rattle.std.specs.List.{list_all}
 use Rattle.std.specs.Prelude.{⊤, is_some, ◌^◌, encode_utf8, find, fold, length, nat_lt, option_and_then, option_map, pos, slice_get}
 use Rattle.std.specs.Option.{option_map_or}
 use Rattle.std.specs.Str.{bytes_eq, chars}
 use Rattle.std.specs.Str.Parse.{IsNumeral, ParsesUnsigned, digits_value, without_leading_plus}
 use Rattle.std.proofs.lemmas.Bool.{lt-ltb, ltb-true, false≢true}
+use Rattle.std.proofs.lemmas.Slice.Eq.{bytes_eq-Decides}
 use Rattle.clap.specs.Facts.{parser_of_value}
 use Rattle.clap.specs.Faults.{action_fault, bundle_fault, bundle_step_fault, flags_fault, flag_word_fault, level_fault, long_fault, option_fault, other_fault, positional_fault, react_fault, settle_fault, short_fault, step_fault, stray_fault, turn_fault, use_fault, values_fault, walk_fault, word_fault}
 use Rattle.clap.specs.Kinds.{Kinds, or_else, values_kinds}
@@ -31,12 +32,12 @@ use Rattle.tower.proofs.JobLemmas.{digits_are, digits_pass, first_none, second_n
 
 -- ---- A value
 
--- the parser of a number of 32 bits
-abbrev of_32_bits : ValueParser
-of_32_bits = parser.Signed (pos 0) (pos 4294967295)
+-- the parser of a number within bounds
+abbrev pub within : ℕ → ℕ → ValueParser
+within low high = parser.Signed (pos low) (pos high)
 
-abbrev are_accepted : List Text → Bool
-are_accepted values = list_all (accepts false of_32_bits) values
+abbrev are_accepted : ValueParser → List Text → Bool
+are_accepted p values = list_all (accepts false p) values
 
 abbrev is_named : Text → Bool
 is_named text = is_numeral (without_leading_plus text) && nat_lt (digits_value 10 (without_leading_plus text)) (2 ^ 32)
@@ -54,16 +55,28 @@ named_as_read text = go (is_named text) refl
         (((ltb-true _ _ inner.0, digits_are (without_leading_plus text) inner.1), ltb-true _ _ outer.1), refl)
     go false is = (tt, λ p. false≢true (sym is ∙ named text p))
 
+-- a text names a number within bounds
+abbrev pub IsNumeralIn : ℕ → ℕ → Text → Type 0
+IsNumeralIn low high text = (n : ℕ) × (number_named text ≡ Some n) × (low ≤ n) × (n ≤ high)
+
 -- a value that passed its parser is read as a number
-accepted_is_named : (v : Text) → accepts false of_32_bits v ≡ true → (n : ℕ) × (number_named (without_minus v) ≡ Some n)
-accepted_is_named v passes =
-    let read = signed_reads (Unit {0}) (λ u r. ParsesUnsigned 32 10 u r) 32 0 4294967295 v (number_named (without_minus v)) (named_as_read (without_minus v)) (λ u x gives. gives) (omega arith) (accepts-Accepts false of_32_bits v passes) in
-    (read.0, read.1)
+accepted_is_named : (low high : ℕ) → high < 2 ^ 32 → (v : Text) → accepts false (within low high) v ≡ true → IsNumeralIn low high (without_minus v)
+accepted_is_named low high fits v passes =
+    signed_reads (Unit {0}) (λ u r. ParsesUnsigned 32 10 u r) 32 low high v (number_named (without_minus v)) (named_as_read (without_minus v)) (λ u x gives. gives) fits (accepts-Accepts false (within low high) v passes)
 
 -- ---- Rows
 
+abbrev IsKept : Text → ValueParser → Row → Type 0
+IsKept id p row = bytes_eq row.id id ≡ true → (row.reading ≡ reading.WithoutMinus) × (are_accepted p row.values ≡ true)
+
+abbrev pub of_frames : ValueParser
+of_frames = within 0 4294967295
+
+abbrev pub of_rounds : ValueParser
+of_rounds = within 1 1000
+
 abbrev GoodRow : Row → Type 0
-GoodRow row = bytes_eq row.id (codes "frames") ≡ true → (row.reading ≡ reading.WithoutMinus) × (are_accepted row.values ≡ true)
+GoodRow row = IsKept (codes "frames") of_frames row × IsKept (codes "rounds") of_rounds row
 
 abbrev Good : List Row → Type 0
 Good [] = ⊤
@@ -84,26 +97,36 @@ good_at id change missing (row ∷ rows) changes misses good = go (bytes_eq row.
 good_without : (id : Text) (rows : List Row) → Good rows → Good (without id rows)
 good_without id rows good = good_at id (λ _. []) [] rows (λ _ _ _. tt) tt good
 
-both_accepted : (values more : List Text) → are_accepted values ≡ true → are_accepted more ≡ true → are_accepted (values ++ more) ≡ true
-both_accepted [] more are all = all
-both_accepted (v ∷ values) more are all =
-    let parts = both (accepts false of_32_bits v) (are_accepted values) are in
-    ap (λ b. b && are_accepted (values ++ more)) parts.0 ∙ both_accepted values more parts.1 all
+both_accepted : (p : ValueParser) (values more : List Text) → are_accepted p values ≡ true → are_accepted p more ≡ true → are_accepted p (values ++ more) ≡ true
+both_accepted p [] more are all = all
+both_accepted p (v ∷ values) more are all =
+    let parts = both (accepts false p v) (are_accepted p values) are in
+    ap (λ b. b && are_accepted p (values ++ more)) parts.0 ∙ both_accepted p values more parts.1 all
 
-good_with : (source : ValueSource) (values : List Text) (rows : List Row) → are_accepted values ≡ true → Good rows → Good (with_values (codes "frames") reading.WithoutMinus source values rows)
-good_with source values rows are good =
+-- an option's name is not another one's
+not_both : {A : Type 0} (id one other : Text) → bytes_eq one other ≡ false → bytes_eq id one ≡ true → bytes_eq id other ≡ true → A
+not_both id one other differ is too = absurd (false≢true (sym differ ∙ ap (λ t. bytes_eq t other) (sym ((bytes_eq-Decides id one).0 is)) ∙ too))
+
+good_frames : (source : ValueSource) (values : List Text) (rows : List Row) → are_accepted of_frames values ≡ true → Good rows → Good (with_values (codes "frames") reading.WithoutMinus source values rows)
+good_frames source values rows are good =
     good_at (codes "frames") (more_values source values) _ rows
-    (λ row is own. (λ named. ((own named).0, both_accepted row.values values (own named).1 are), tt))
-    (λ named. (refl, are), tt) good
+    (λ row is own. ((λ named. ((own.0 named).0, both_accepted of_frames row.values values (own.0 named).1 are), λ named. not_both row.id (codes "frames") (codes "rounds") refl is named), tt))
+    ((λ named. (refl, are), λ named. absurd (false≢true named)), tt) good
+
+good_rounds : (source : ValueSource) (values : List Text) (rows : List Row) → are_accepted of_rounds values ≡ true → Good rows → Good (with_values (codes "rounds") reading.WithoutMinus source values rows)
+good_rounds source values rows are good =
+    good_at (codes "rounds") (more_values source values) _ rows
+    (λ row is own. ((λ named. not_both row.id (codes "rounds") (codes "frames") refl is named, λ named. ((own.1 named).0, both_accepted of_rounds row.values values (own.1 named).1 are)), tt))
+    ((λ named. absurd (false≢true named), λ named. (refl, are)), tt) good
 
 -- ---- A use of an argument
 
-values_passed : (values : List Text) → values_kinds false of_32_bits values ≡ [] → are_accepted values ≡ true
-values_passed [] none = refl
-values_passed (v ∷ values) none = go (accepts false of_32_bits v) refl (first_none _ _ none) (values_passed values (second_none _ _ none))
+values_passed : (low high : ℕ) (values : List Text) → values_kinds false (within low high) values ≡ [] → are_accepted (within low high) values ≡ true
+values_passed low high [] none = refl
+values_passed low high (v ∷ values) none = go (accepts false (within low high) v) refl (first_none _ _ none) (values_passed low high values (second_none _ _ none))
   where
-    go : (b : Bool) → accepts false of_32_bits v ≡ b → cond b [] (refused_kind of_32_bits ∷ []) ≡ [] → are_accepted values ≡ true → are_accepted (v ∷ values) ≡ true
-    go true is passes rest = ap (λ a. a && are_accepted values) is ∙ rest
+    go : (b : Bool) → accepts false (within low high) v ≡ b → cond b [] (refused_kind (within low high) ∷ []) ≡ [] → are_accepted (within low high) values ≡ true → are_accepted (within low high) (v ∷ values) ≡ true
+    go true is passes rest = ap (λ a. a && are_accepted (within low high) values) is ∙ rest
     go false is passes rest = cc
 
 -- a use of the argument without a fault keeps rows good
@@ -276,35 +299,60 @@ level_well s words all bare none =
 
 -- ---- What is read of the rows
 
-abbrev pub IsNamed : Option Text → Type 0
-IsNamed text = IfSome text (λ t. (n : ℕ) × (number_named t ≡ Some n))
+abbrev pub IsNumbered : ℕ → ℕ → Option Text → Type 0
+IsNumbered low high text = IfSome text (IsNumeralIn low high)
 
-row_named : (row : Row) → row.reading ≡ reading.WithoutMinus → are_accepted row.values ≡ true → IsNamed (row_text row)
-row_named row read are = rw read (go row.values are)
+row_named : (low high : ℕ) → high < 2 ^ 32 → (row : Row) → row.reading ≡ reading.WithoutMinus → are_accepted (within low high) row.values ≡ true → IsNumbered low high (row_text row)
+row_named low high fits row read are = rw read (go row.values are)
   where
-    go : (values : List Text) → are_accepted values ≡ true → IsNamed (option_map (read_as reading.WithoutMinus) (slice_get values 0))
+    go : (values : List Text) → are_accepted (within low high) values ≡ true → IsNumbered low high (option_map (read_as reading.WithoutMinus) (slice_get values 0))
     go [] passes = tt
-    go (v ∷ values) passes = accepted_is_named v (both (accepts false of_32_bits v) (are_accepted values) passes).0
+    go (v ∷ values) passes = accepted_is_named low high fits v (both (accepts false (within low high) v) (are_accepted (within low high) values) passes).0
 
-reads_named : (rows : List Row) → Good rows → IsNamed (one_of (codes "frames") rows)
-reads_named [] good = tt
-reads_named (row ∷ rows) good = go (bytes_eq row.id (codes "frames")) refl (reads_named rows good.1)
+frames_named : (rows : List Row) → Good rows → IsNumbered 0 4294967295 (one_of (codes "frames") rows)
+frames_named [] good = tt
+frames_named (row ∷ rows) good = go (bytes_eq row.id (codes "frames")) refl (frames_named rows good.1)
   where
-    go : (b : Bool) → bytes_eq row.id (codes "frames") ≡ b → IsNamed (one_of (codes "frames") rows) → IsNamed (option_and_then row_text (cond b (Some row) (find (λ r. bytes_eq r.id (codes "frames")) rows)))
-    go true is later = row_named row (good.0 is).0 (good.0 is).1
+    go : (b : Bool) → bytes_eq row.id (codes "frames") ≡ b → IsNumbered 0 4294967295 (one_of (codes "frames") rows) → IsNumbered 0 4294967295 (option_and_then row_text (cond b (Some row) (find (λ r. bytes_eq r.id (codes "frames")) rows)))
+    go true is later = row_named 0 4294967295 (omega arith) row (good.0.0 is).0 (good.0.0 is).1
     go false is later = later
 
--- ---- The rules of `run`
+rounds_named : (rows : List Row) → Good rows → IsNumbered 1 1000 (one_of (codes "rounds") rows)
+rounds_named [] good = tt
+rounds_named (row ∷ rows) good = go (bytes_eq row.id (codes "rounds")) refl (rounds_named rows good.1)
+  where
+    go : (b : Bool) → bytes_eq row.id (codes "rounds") ≡ b → IsNumbered 1 1000 (one_of (codes "rounds") rows) → IsNumbered 1 1000 (option_and_then row_text (cond b (Some row) (find (λ r. bytes_eq r.id (codes "rounds")) rows)))
+    go true is later = row_named 1 1000 (omega arith) row (good.0.1 is).0 (good.0.1 is).1
+    go false is later = later
 
-frames_well : (again : Bool) (a : Rule) → a.id ≡ codes "frames" → action_of a ≡ Set → parser_of_value a.parser ≡ of_32_bits → a.ignore_case ≡ false → UsesWell again a
-frames_well again a id action parses case values rows none good =
+-- ---- The rules of the options
+
+-- an option of this name, of numbers within these bounds
+pub record IsOption (id : Text) (low high : ℕ) (a : Rule) : Type 0 where
+  pub id_is : a.id ≡ id
+  pub action : action_of a ≡ Set
+  pub parses : parser_of_value a.parser ≡ within low high
+  pub case : a.ignore_case ≡ false
+  pub bare : a.defaults ≡ []
+
+option_passes : (id : Text) (low high : ℕ) (again : Bool) (a : Rule) → IsOption id low high a → (values : List Text) (rows : List Row) → use_fault again a values rows ≡ [] → are_accepted (within low high) (values_or_missing a values) ≡ true
+option_passes id low high again a is values rows none =
     let all = values_or_missing a values in
     let uses : action_fault (action_of a) again a all rows ≡ [] = second_none _ _ none in
-    let sets : action_fault Set again a all rows ≡ [] = subst (λ (act : ArgAction). action_fault act again a all rows ≡ []) action uses in
+    let sets : action_fault Set again a all rows ≡ [] = subst (λ (act : ArgAction). action_fault act again a all rows ≡ []) is.action uses in
     let passes : values_fault a all ≡ [] = second_none _ _ sets in
-    let same_case : values_kinds false (parser_of_value a.parser) all ≡ [] = subst (λ (i : Bool). values_kinds i (parser_of_value a.parser) all ≡ []) case passes in
-    let numbers : values_kinds false of_32_bits all ≡ [] = subst (λ (p : ValueParser). values_kinds false p all ≡ []) parses same_case in
-    rw (action, id, parses) (good_with CommandLine all (without (codes "frames") rows) (values_passed all numbers) (good_without (codes "frames") rows good))
+    let same_case : values_kinds false (parser_of_value a.parser) all ≡ [] = subst (λ (i : Bool). values_kinds i (parser_of_value a.parser) all ≡ []) is.case passes in
+    values_passed low high all (subst (λ (p : ValueParser). values_kinds false p all ≡ []) is.parses same_case)
+
+frames_well : (again : Bool) (a : Rule) → IsOption (codes "frames") 0 4294967295 a → UsesWell again a
+frames_well again a is values rows none good =
+    let passed = option_passes (codes "frames") 0 4294967295 again a is values rows none in
+    rw (is.action, is.id_is, is.parses) (good_frames CommandLine (values_or_missing a values) (without (codes "frames") rows) passed (good_without (codes "frames") rows good))
+
+rounds_well : (again : Bool) (a : Rule) → IsOption (codes "rounds") 1 1000 a → UsesWell again a
+rounds_well again a is values rows none good =
+    let passed = option_passes (codes "rounds") 1 1000 again a is values rows none in
+    rw (is.action, is.id_is, is.parses) (good_rounds CommandLine (values_or_missing a values) (without (codes "rounds") rows) passed (good_without (codes "rounds") rows good))
 
 no_request : {A : Type 0} → DisplayHelp ∷ [] ≡ [] → A
 no_request {A} none = absurd (no_kind none) where
@@ -316,10 +364,27 @@ help_well again a action values rows none good =
     let uses : action_fault (action_of a) again a (values_or_missing a values) rows ≡ [] = second_none _ _ none in
     no_request (subst (λ (act : ArgAction). action_fault act again a (values_or_missing a values) rows ≡ []) action uses)
 
+-- a call for help
+pub record IsHelp (a : Rule) : Type 0 where
+  pub action : action_of a ≡ Help
+  pub bare : a.defaults ≡ []
+
 -- a subcommand whose arguments are `--frames` and a call for help
-pub run_is_named : (s : Shape) (frames help : Rule) → s.rules ≡ frames ∷ help ∷ [] → frames.id ≡ codes "frames" → action_of frames ≡ Set → parser_of_value frames.parser ≡ of_32_bits → frames.ignore_case ≡ false → frames.defaults ≡ []
-    → action_of help ≡ Help → help.defaults ≡ [] → (words : List Text) → level_fault s [] nothing_held words false [] ≡ [] → IsNamed (one_of (codes "frames") (rows_after s.rules [] words))
-run_is_named s frames help rules id action parses case bare asks help_bare words none =
-    let all : AllUseWell s.args_override_self (frames ∷ help ∷ []) = (frames_well _ frames id action parses case, (help_well _ help asks, tt)) in
-    let no_defaults : AllBare (frames ∷ help ∷ []) = (bare, (help_bare, tt)) in
-    reads_named _ (level_well s words (subst (AllUseWell s.args_override_self) (sym rules) all) (subst AllBare (sym rules) no_defaults) none)
+pub run_is_named : (s : Shape) (frames help : Rule) → s.rules ≡ frames ∷ help ∷ [] → IsOption (codes "frames") 0 4294967295 frames → IsHelp help
+    → (words : List Text) → level_fault s [] nothing_held words false [] ≡ [] → IsNumbered 0 4294967295 (one_of (codes "frames") (rows_after s.rules [] words))
+run_is_named s frames help rules is asks words none =
+    let all : AllUseWell s.args_override_self (frames ∷ help ∷ []) = (frames_well _ frames is, (help_well _ help asks.action, tt)) in
+    let no_defaults : AllBare (frames ∷ help ∷ []) = (is.bare, (asks.bare, tt)) in
+    frames_named _ (level_well s words (subst (AllUseWell s.args_override_self) (sym rules) all) (subst AllBare (sym rules) no_defaults) none)
+
+abbrev pub RaceNumbered : List Row → Type 0
+RaceNumbered rows = IsNumbered 0 4294967295 (one_of (codes "frames") rows) × IsNumbered 1 1000 (one_of (codes "rounds") rows)
+
+-- a subcommand whose arguments are `--frames`, `--rounds` and a call for help
+pub race_is_named : (s : Shape) (frames rounds help : Rule) → s.rules ≡ frames ∷ rounds ∷ help ∷ [] → IsOption (codes "frames") 0 4294967295 frames → IsOption (codes "rounds") 1 1000 rounds → IsHelp help
+    → (words : List Text) → level_fault s [] nothing_held words false [] ≡ [] → RaceNumbered (rows_after s.rules [] words)
+race_is_named s frames rounds help rules is too asks words none =
+    let all : AllUseWell s.args_override_self (frames ∷ rounds ∷ help ∷ []) = (frames_well _ frames is, (rounds_well _ rounds too, (help_well _ help asks.action, tt))) in
+    let no_defaults : AllBare (frames ∷ rounds ∷ help ∷ []) = (is.bare, (too.bare, (asks.bare, tt))) in
+    let good = level_well s words (subst (AllUseWell s.args_override_self) (sym rules) all) (subst AllBare (sym rules) no_defaults) none in
+    (frames_named _ good, rounds_named _ good)

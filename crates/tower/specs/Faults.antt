@@ -3,6 +3,10 @@ use Rattle.std.specs.Prelude.{◌≡◌, ℕ, List, ◌++◌, codes, decimal}
 use Rattle.kernel_calls.specs.declared.kernel.BootFault.{BootFault}
 use Rattle.kernel_calls.specs.declared.kernel.BootFault.TheVariants as boot
 use Rattle.tower.specs.declared.faults.ScriptFault.{ScriptFault}
+use Rattle.tower.specs.declared.rounds.RoundFault.{RoundFault}
+use Rattle.tower.specs.declared.rounds.RoundFault.TheVariants as round
+use Rattle.tower.specs.declared.tools.ToolFault.{ToolFault}
+use Rattle.tower.specs.declared.tools.ToolFault.TheVariants as tool
 use Rattle.tower.specs.declared.words.WordsFault.{WordsFault}
 use Rattle.tower.specs.declared.words.WordsFault.TheVariants as words
 use Rattle.tower.specs.declared.faults.ScriptFault.TheVariants.{BadSize, NoMemory, Malformed, TooLong, ReadFailed, WriteFailed}
@@ -28,6 +32,31 @@ status_of (Malformed line) = 2
 status_of TooLong = 2
 status_of ReadFailed = 1
 status_of WriteFailed = 1
+
+-- ---- Other commands
+
+abbrev pub tool_text : ToolFault → List ℕ
+tool_text tool.BadSize = codes "tower: frames must be 16 to 4096"
+tool_text tool.NoMemory = codes "tower: out of memory"
+tool_text tool.WriteFailed = codes "tower: write failed"
+tool_text tool.RaceTurns = codes "tower: race ran out of turns"
+tool_text tool.RaceFailed = codes "tower: race failed"
+
+-- what ends a round early ends the race
+abbrev pub tool_fault : RoundFault → ToolFault
+tool_fault round.NoMemory = tool.NoMemory
+tool_fault round.Turns = tool.RaceTurns
+tool_fault round.Failed = tool.RaceFailed
+
+-- 2 for a refused size, and 1 for all else
+abbrev pub status_of_tool : ToolFault → ℕ
+status_of_tool tool.BadSize = 2
+status_of_tool tool.NoMemory = 1
+status_of_tool tool.WriteFailed = 1
+status_of_tool tool.RaceTurns = 1
+status_of_tool tool.RaceFailed = 1
+
+-- ---- Words of the command line
 
 abbrev pub words_text : WordsFault → List ℕ
 words_text words.NoMemory = codes "tower: out of memory"

@@ -1,7 +1,7 @@
 -- What a command line asks for.
 --     tower_app      the program's commands, as `clap` reads them
 --     job_asked found      the job of the subcommand that the words name, and of what was found behind it
-use Rattle.std.specs.Prelude.{ℕ, ◌^◌, ◌&&◌, true, nat_lt, List, Option, Some, None, pos, codes, option_map, if◌then◌else◌}
+use Rattle.std.specs.Prelude.{ℕ, ◌^◌, ◌&&◌, ◌≤◌, true, nat_le, nat_lt, List, Option, Some, None, pos, codes, option_map, option_and_then, if◌then◌else◌}
 use Rattle.std.specs.Option.{option_map_or}
 use Rattle.std.specs.Str.{bytes_eq}
 use Rattle.std.specs.Str.Parse.{digits_value, without_leading_plus}
@@ -9,7 +9,7 @@ use Rattle.clap.specs.ValueTests.{is_numeral}
 use Rattle.clap.specs.Words.{App, Row, Rule, Text, new_app, new_rule, one_of, with_rule, with_subcommand}
 use Rattle.clap.specs.declared.builder.value_parser.ValueParser.TheVariants as parser
 use Rattle.tower.specs.declared.jobs.Job.{Job}
-use Rattle.tower.specs.declared.jobs.Job.TheVariants.{Run}
+use Rattle.tower.specs.declared.jobs.Job.TheVariants.{Run, Race}
 
 -- --frames N, a number of 32 bits
 abbrev pub frames_option : Rule
@@ -23,8 +23,20 @@ frames_option = record (new_rule (codes "frames")) {
 abbrev pub run_app : App
 run_app = with_rule (new_app (codes "run")) frames_option
 
+-- --rounds N, 1 to 1000
+abbrev pub rounds_option : Rule
+rounds_option = record (new_rule (codes "rounds")) {
+  long = Some (codes "rounds");
+  value_names = 1;
+  parser = Some (parser.Signed (pos 1) (pos 1000));
+}
+
+-- tower race [--frames N] [--rounds N]
+abbrev pub race_app : App
+race_app = with_rule (with_rule (new_app (codes "race")) frames_option) rounds_option
+
 abbrev pub tower_app : App
-tower_app = let app = with_subcommand (new_app (codes "tower")) run_app.top in record app { top = record app.top { subcommand_required = true } }
+tower_app = let app = with_subcommand (with_subcommand (new_app (codes "tower")) run_app.top) race_app.top in record app { top = record app.top { subcommand_required = true } }
 
 -- the number of 32 bits that the text writes in decimal digits, behind a plus or not
 abbrev pub number_named : Text → Option ℕ
@@ -32,14 +44,36 @@ number_named text =
     let digits = without_leading_plus text in
     if is_numeral digits && nat_lt (digits_value 10 digits) (2 ^ 32) then Some (digits_value 10 digits) else None
 
--- the number of frames, by the option's text as it is read (`-0` is read as `0`): 16 where it is absent
+-- the number of an option, by its text as it is read (`-0` is read as `0`), and another number where it is absent
+abbrev pub number_in : Text → ℕ → List Row → Option ℕ
+number_in id absent rows = option_map_or number_named (one_of id rows) (Some absent)
+
 abbrev pub frames_in : List Row → Option ℕ
-frames_in rows = option_map_or number_named (one_of (codes "frames") rows) (Some 16)
+frames_in rows = number_in (codes "frames") 16 rows
+
+-- a number of rounds that may be played
+abbrev pub playable : ℕ → Option ℕ
+playable rounds = if nat_le 1 rounds && nat_le rounds 1000 then Some rounds else None
+
+abbrev pub rounds_in : List Row → Option ℕ
+rounds_in rows = option_and_then playable (number_in (codes "rounds") 100 rows)
+
+-- a race of so many frames, where the rounds can be played
+abbrev pub race_in : List Row → Option Job
+race_in rows = option_and_then (λ frames. option_map (λ rounds. Race frames rounds) (rounds_in rows)) (frames_in rows)
 
 -- the job of a subcommand's name, and of what was found behind it
 abbrev pub job_named : Text → List Row → Option Job
-job_named name rows = if bytes_eq name (codes "run") then option_map (λ frames. Run frames) (frames_in rows) else None
+job_named name rows =
+    if bytes_eq name (codes "run") then option_map (λ frames. Run frames) (frames_in rows) else
+    if bytes_eq name (codes "race") then race_in rows else
+    None
 
 abbrev pub job_asked : Option (Text × List Row) → Option Job
 job_asked None = None
 job_asked (Some found) = job_named found.0 found.1
+
+-- a race has at least one round
+abbrev pub HasRounds : Job → Type 0
+HasRounds (Run frames) = Unit {0}
+HasRounds (Race frames rounds) = (1 ≤ rounds) × (rounds ≤ 1000)

@@ -7,4 +7,5 @@ pub mod Faults
 pub mod Script
 pub mod Progress
 pub mod Jobs
+pub mod Races
 pub mod WorkedScripts

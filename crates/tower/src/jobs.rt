@@ -1,9 +1,9 @@
 //! The program's command line.
 
-ghost use Rattle.std.specs.Prelude.{◌≡◌, true, false, map, codes, Some, IfOk, IfErr};
-ghost use Rattle.clap.specs.Words.{app_of, fault_of, found_of, kind_of, rows_of, subcommand_of, takes, FailsBy};
+ghost use Rattle.std.specs.Prelude.{◌≡◌, ◌≤◌, true, false, map, codes, Some, IfOk, IfErr, IfSome};
+ghost use Rattle.clap.specs.Words.{app_of, fault_of, found_of, kind_of, rows_of, rule_of, subcommand_of, takes, FailsBy};
 ghost use Rattle.clap.specs.declared.builder.command.Command.TheViews.{out-Command as fields_of};
-ghost use Rattle.tower.specs.Jobs.{tower_app, run_app, frames_in, job_named, job_asked};
+ghost use Rattle.tower.specs.Jobs.{tower_app, run_app, race_app, frames_option, rounds_option, number_in, playable, rounds_in, race_in, job_named, job_asked, HasRounds};
 
 use clap::error::ErrorKind;
 use clap::{Arg, ArgMatches, Command, Error};
@@ -13,11 +13,40 @@ use std::convert::AsStr;
 /// How many frames a machine has where the command line does not say.
 const FRAMES: u32 = 16;
 
+/// How many rounds a race has where the command line does not say.
+const ROUNDS: u32 = 100;
+
 /// What the command line asks for.
 #[derive(Clone, Copy, Debug, PartialEq, Eq)]
 pub enum Job {
     /// To run a script on a machine of so many frames.
     Run { frames: u32 },
+    /// To play so many rounds of a race, 1 to 1000, each on a machine of so many frames.
+    Race { frames: u32, rounds: u32 },
+}
+
+/// `--frames N`.
+fn frames_option<'a>(alloc: Global) -> Arg<'a>
+    ensures rule { rule_of result ≡ frames_option }
+    ensures local { result.global ≡ false }
+{
+    Arg::new(alloc, "frames")
+        .long("frames")
+        .value_name("N")
+        .value_parser(clap::value_parser!(u32))
+        .help("The frames of a machine's memory, 16 to 4096; 16 where it is absent")
+}
+
+/// `--rounds N`.
+fn rounds_option<'a>(alloc: Global) -> Arg<'a>
+    ensures rule { rule_of result ≡ rounds_option }
+    ensures local { result.global ≡ false }
+{
+    Arg::new(alloc, "rounds")
+        .long("rounds")
+        .value_name("N")
+        .value_parser(clap::value_parser!(u32).range(1..=1000))
+        .help("The rounds of a race, 1 to 1000; 100 where it is absent")
 }
 
 /// `run [--frames N]`.
@@ -25,47 +54,81 @@ fn run_command<'a>(alloc: Global) -> Result<Command<'a>, AllocError>
     ensures app { IfOk result (λ command. app_of command ≡ run_app) }
     ensures globals { IfOk result (λ command. (fields_of command).has_globals ≡ false) }
 {
-    let frames = Arg::new(alloc, "frames")
-        .long("frames")
-        .value_name("N")
-        .value_parser(clap::value_parser!(u32))
-        .help("The frames of the machine's memory, 16 to 4096; 16 where it is absent");
     Command::new(alloc, "run")
         .about("Runs a script from standard input, and writes a line for each reply")
-        .arg(frames)
+        .arg(frames_option(alloc))
 }
 
-/// `tower run [--frames N]`.
+/// `race [--frames N] [--rounds N]`.
+fn race_command<'a>(alloc: Global) -> Result<Command<'a>, AllocError>
+    ensures app { IfOk result (λ command. app_of command ≡ race_app) }
+    ensures globals { IfOk result (λ command. (fields_of command).has_globals ≡ false) }
+{
+    Command::new(alloc, "race")
+        .about("Plays rounds of two guests in two threads, and writes the last report")
+        .arg(frames_option(alloc))?
+        .arg(rounds_option(alloc))
+}
+
+/// `tower run [--frames N]` and `tower race [--frames N] [--rounds N]`.
 fn tower_command<'a>(alloc: Global) -> Result<Command<'a>, AllocError>
     ensures app { IfOk result (λ command. app_of command ≡ tower_app) }
     ensures globals { IfOk result (λ command. (fields_of command).has_globals ≡ false) }
     ensures required { IfOk result (λ command. (fields_of command).subcommand_required ≡ true) }
 {
     let run = run_command(alloc)?;
-    let tower = Command::new(alloc, "tower").subcommand(run)?;
+    let race = race_command(alloc)?;
+    let tower = Command::new(alloc, "tower")
+        .subcommand(run)?
+        .subcommand(race)?;
     Ok(tower.subcommand_required(true))
 }
 
-/// The number of frames that was asked for; None where what stands there is no number.
-fn frames_of(matches: &ArgMatches<'_>) -> Option<u32>
-    ensures { result ≡ frames_in (rows_of (found_of matches.now)) }
+/// The number that was asked for by the option of that name, or the other one where it was not; None
+/// where what stands there is no number.
+fn number_in(matches: &ArgMatches<'_>, name: &str, absent: u32) -> Option<u32>
+    ensures { result ≡ number_in name.now absent (rows_of (found_of matches.now)) }
 {
-    match matches.try_get_one::<u32>("frames") {
-        Ok(Some(frames)) => Some(frames),
-        Ok(None) => Some(FRAMES),
+    match matches.try_get_one::<u32>(name) {
+        Ok(Some(number)) => Some(number),
+        Ok(None) => Some(absent),
         Err(_) => None,
     }
 }
 
+/// A number of rounds that may be played; None for any other.
+fn playable(rounds: u32) -> Option<u32>
+    ensures value { result ≡ playable rounds }
+    ensures bounds { IfSome result (λ n. (1 ≤ n) × (n ≤ 1000)) }
+{
+    if 1 <= rounds && rounds <= 1000 {
+        Some(rounds)
+    } else {
+        None
+    }
+}
+
+/// The race that was asked for.
+fn race_in(matches: &ArgMatches<'_>) -> Option<Job>
+    ensures job { result ≡ race_in (rows_of (found_of matches.now)) }
+    ensures rounds { IfSome result HasRounds }
+{
+    let frames = number_in(matches, "frames", FRAMES)?;
+    let rounds = playable(number_in(matches, "rounds", ROUNDS)?)?;
+    Some(Job::Race { frames, rounds })
+}
+
 /// The job of the subcommand of that name, by what was found behind it.
 fn job_named(name: &str, matches: &ArgMatches<'_>) -> Option<Job>
-    ensures { result ≡ job_named name.now (rows_of (found_of matches.now)) }
+    ensures job { result ≡ job_named name.now (rows_of (found_of matches.now)) }
+    ensures rounds { IfSome result HasRounds }
 {
     match name {
         "run" => {
-            let frames = frames_of(matches)?;
+            let frames = number_in(matches, "frames", FRAMES)?;
             Some(Job::Run { frames })
         }
+        "race" => race_in(matches),
         _ => None,
     }
 }
@@ -77,6 +140,7 @@ pub fn job_of<'a, S: AsStr>(alloc: Global, words: &'a [S]) -> Result<Job, Error>
     // a kind that `clap` finds.
     ensures fails { FailsBy (fault_of tower_app (map S.text words.now)) result }
     ensures job { IfOk result (λ job. job_asked (subcommand_of tower_app (map S.text words.now)) ≡ Some job) }
+    ensures rounds { IfOk result HasRounds }
     // Where `clap` takes the words, want of memory alone refuses them.
     ensures taken { IfErr result (λ error. takes tower_app (map S.text words.now) ≡ true → kind_of error ≡ ErrorKind.OutOfMemory) }
 {

@@ -1,21 +1,27 @@
 //! `tower run [--frames N]`: runs a script of kernel calls from standard input on a freshly booted
-//! machine, and writes a line for each reply on standard output.
+//! machine, and writes a line for each reply on standard output. `tower race [--frames N] [--rounds N]`:
+//! plays rounds of two guests in two threads, and writes the report of the last one.
 #![tactic(auto)]
 
-ghost use Rattle.std.specs.Prelude.{◌≡◌};
-ghost use Rattle.tower.specs.Faults.{status_of, status_of_words};
+ghost use Rattle.std.specs.Prelude.{◌≡◌, ◌≤◌};
+ghost use Rattle.tower.specs.Faults.{status_of, status_of_tool, status_of_words};
 
 mod faults;
 mod jobs;
 mod lines;
 mod numbers;
 mod output;
+mod race;
+#[cfg(test)]
+mod race_tests;
 mod replies;
+mod rounds;
 mod script;
 mod session;
 #[cfg(test)]
 mod tests;
 mod tokens;
+mod tools;
 mod words;
 #[cfg(test)]
 mod worked;
@@ -23,9 +29,13 @@ mod worked;
 use clap::error::ErrorKind;
 use faults::ScriptFault;
 use jobs::{Job, job_of};
+use race::race;
 use script::run_script;
 use std::io;
 use std::process::ExitCode;
+use std::sync::Wait;
+use std::thread::Threads;
+use tools::ToolFault;
 use words::{WordsFault, words};
 
 /// The exit status where the command line is refused.
@@ -38,6 +48,19 @@ fn status_of(fault: ScriptFault) -> u8
     match fault {
         ScriptFault::NoMemory | ScriptFault::ReadFailed | ScriptFault::WriteFailed => 1,
         ScriptFault::BadSize | ScriptFault::Malformed { .. } | ScriptFault::TooLong => 2,
+    }
+}
+
+/// The exit status of a command's fault: 2 for a refused size, 1 for any other.
+fn status_of_tool(fault: ToolFault) -> u8
+    ensures { result ≡ status_of_tool fault }
+{
+    match fault {
+        ToolFault::BadSize => 2,
+        ToolFault::NoMemory
+        | ToolFault::WriteFailed
+        | ToolFault::RaceTurns
+        | ToolFault::RaceFailed => 1,
     }
 }
 
@@ -56,17 +79,42 @@ fn refuse(rt: &impl Eprint, error: &clap::Error) -> u8 {
     REFUSED
 }
 
-/// Does what the words ask for, of which the first is the program's name.
-fn run<R: AllocGlobal + Input + Print + Eprint>(rt: &R, words: &[String]) -> u8 {
-    match job_of(rt.alloc(), words) {
-        Ok(Job::Run { frames }) => {
-            let mut reader = rt.reader();
-            let mut writer = io::writer(rt);
-            match run_script(rt.alloc(), &mut reader, &mut writer, frames) {
-                Ok(_) => 0,
-                Err(fault) => report(rt, fault),
-            }
+/// Runs a script from standard input, and gives the exit status.
+fn run_job<R: AllocGlobal + Input + Print + Eprint>(rt: &R, frames: u32) -> u8 {
+    let mut reader = rt.reader();
+    let mut writer = io::writer(rt);
+    match run_script(rt.alloc(), &mut reader, &mut writer, frames) {
+        Ok(_) => 0,
+        Err(fault) => report(rt, fault),
+    }
+}
+
+/// Plays a race, and gives the exit status.
+fn race_job<R: AllocGlobal + Print + Eprint + Threads + Wait + Sync>(
+    rt: &R,
+    frames: u32,
+    rounds: u32,
+) -> u8
+    requires { 1 ≤ rounds }
+{
+    let mut writer = io::writer(rt);
+    match race(rt, rt.alloc(), &mut writer, frames, rounds) {
+        Ok(()) => 0,
+        Err(fault) => {
+            let _ = rt.eprintln(fault);
+            status_of_tool(fault)
         }
+    }
+}
+
+/// Does what the words ask for, of which the first is the program's name.
+fn run<R: AllocGlobal + Input + Print + Eprint + Threads + Wait + Sync>(
+    rt: &R,
+    words: &[String],
+) -> u8 {
+    match job_of(rt.alloc(), words) {
+        Ok(Job::Run { frames }) => run_job(rt, frames),
+        Ok(Job::Race { frames, rounds }) => race_job(rt, frames, rounds),
         Err(error) => refuse(rt, &error),
     }
 }

@@ -73,7 +73,7 @@ impl Output {
 
 /// Writes all of the bytes, in as many writes as it takes. A write that answers an error, of any
 /// kind, is not tried again.
-fn write_whole<W: Write>(writer: &mut W, bytes: &[u8]) -> Result<(), WriteFailed>
+pub fn write_whole<W: Write>(writer: &mut W, bytes: &[u8]) -> Result<(), WriteFailed>
     ensures ok { OnOk result (Appends (W.contents writer.old) (W.contents writer.new) bytes.now) }
     ensures err { OnErr result (AppendsFront (W.contents writer.old) (W.contents writer.new) bytes.now) }
     ensures some { OnErr result (0 < length bytes.now) }

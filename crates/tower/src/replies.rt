@@ -12,9 +12,10 @@ use kernel_calls::{Cause, Reply};
 const ROOM: usize = 64;
 
 /// A reply's line.
-type ReplyLine = ArrayVec<u8, ROOM>;
+pub type ReplyLine = ArrayVec<u8, ROOM>;
 
-fn push_word(line: &mut ReplyLine, word: &str)
+/// Puts a word behind what stands there.
+pub fn push_word(line: &mut ReplyLine, word: &str)
     requires { array_vec_len line.old + length word.now ≤ 64 }
     ensures items { line.new.items ≡ line.old.items ++ word.now }
     ensures len { array_vec_len line.new ≡ array_vec_len line.old + length word.now }
@@ -56,7 +57,7 @@ fn push_eight_digits(line: &mut ReplyLine, n: u32)
 
 /// A number in decimal.
 #[tactic(auto, using(crate::proofs::ReplyLemmas::decimal_steps))]
-fn push_decimal(line: &mut ReplyLine, n: u32)
+pub fn push_decimal(line: &mut ReplyLine, n: u32)
     requires { array_vec_len line.old + length (decimal n) ≤ 64 }
     ensures items { line.new.items ≡ line.old.items ++ decimal n }
     ensures len { array_vec_len line.new ≡ array_vec_len line.old + length (decimal n) }

@@ -326,27 +326,32 @@ fn goes_on_after_want_of_memory(rt: HostRuntime) -> Result<(), Fail> {
     Ok(())
 }
 
-/// What `tower` and these words ask for: the number of frames, or why it is refused.
-fn asked(alloc: Global, words: &[&str]) -> Result<Result<u32, ErrorKind>, AllocError> {
+/// What `tower` and these words ask for, or why they are refused.
+fn asked(alloc: Global, words: &[&str]) -> Result<Result<Job, ErrorKind>, AllocError> {
     let mut line = Vec::new(alloc);
     line.push("tower")?;
     line.extend_from_slice(words)?;
     let job = job_of(alloc, line.as_slice());
     Ok(match job {
-        Ok(Job::Run { frames }) => Ok(frames),
+        Ok(job) => Ok(job),
         Err(error) => Err(error.kind()),
     })
 }
 
 #[test]
 fn reads_command_lines_as_clap_does(rt: HostRuntime) -> Result<(), Fail> {
+    let run = |frames| Job::Run { frames };
+    let race = |frames, rounds| Job::Race { frames, rounds };
     for (words, want) in [
-        (["run"].as_slice(), Ok(16)),
-        (["run", "--frames", "64"].as_slice(), Ok(64)),
-        (["run", "--frames=0064"].as_slice(), Ok(64)),
-        (["run", "--frames=+64"].as_slice(), Ok(64)),
-        (["run", "--frames=-0"].as_slice(), Ok(0)),
-        (["run", "--frames=4294967295"].as_slice(), Ok(4_294_967_295)),
+        (["run"].as_slice(), Ok(run(16))),
+        (["run", "--frames", "64"].as_slice(), Ok(run(64))),
+        (["run", "--frames=0064"].as_slice(), Ok(run(64))),
+        (["run", "--frames=+64"].as_slice(), Ok(run(64))),
+        (["run", "--frames=-0"].as_slice(), Ok(run(0))),
+        (
+            ["run", "--frames=4294967295"].as_slice(),
+            Ok(run(4_294_967_295)),
+        ),
         (
             ["run", "--frames=4294967296"].as_slice(),
             Err(ErrorKind::ValueValidation),
@@ -371,6 +376,38 @@ fn reads_command_lines_as_clap_does(rt: HostRuntime) -> Result<(), Fail> {
         (["run", "--help"].as_slice(), Err(ErrorKind::DisplayHelp)),
         (["help"].as_slice(), Err(ErrorKind::DisplayHelp)),
         (["walk"].as_slice(), Err(ErrorKind::InvalidSubcommand)),
+        (["race"].as_slice(), Ok(race(16, 100))),
+        (["race", "--rounds", "1"].as_slice(), Ok(race(16, 1))),
+        (
+            ["race", "--rounds=1000", "--frames=4097"].as_slice(),
+            Ok(race(4097, 1000)),
+        ),
+        (["race", "--rounds=+7"].as_slice(), Ok(race(16, 7))),
+        (
+            ["race", "--rounds", "0"].as_slice(),
+            Err(ErrorKind::ValueValidation),
+        ),
+        (
+            ["race", "--rounds=1001"].as_slice(),
+            Err(ErrorKind::ValueValidation),
+        ),
+        (
+            ["race", "--rounds=-0"].as_slice(),
+            Err(ErrorKind::ValueValidation),
+        ),
+        (
+            ["race", "--rounds", "all"].as_slice(),
+            Err(ErrorKind::ValueValidation),
+        ),
+        (
+            ["race", "--rounds", "2", "--rounds", "2"].as_slice(),
+            Err(ErrorKind::ArgumentConflict),
+        ),
+        (
+            ["run", "--rounds", "2"].as_slice(),
+            Err(ErrorKind::UnknownArgument),
+        ),
+        (["race", "--help"].as_slice(), Err(ErrorKind::DisplayHelp)),
         ([].as_slice(), Err(ErrorKind::MissingSubcommand)),
     ] {
         assert_eq!(rt; asked(rt.alloc(), words)?, want, "{words:?}");

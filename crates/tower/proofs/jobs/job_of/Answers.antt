@@ -24,4 +24,4 @@ unreachable-requires-in_default-job_named g c =
     let none = sym (ap (λ (a : App). fault_of a words) app) ∙ c.in_ok-matches.ensures.kinds (ap is_simple_and_free app ∙ tower_is_free) in
     let met = (c.in_ok-matches.ensures.matches (ap is_simple app ∙ tower_is_simple)).1 ∙ ap (λ (a : App). subcommand_of a words) app in
     let is = found_is c.in_ok-matches.matches words c.in-Some.name.now (rows_of (found_of c.in-Some.found.now)) met c.in-Some.ensures.name c.in-Some.ensures.rows in
-    never_none words c.in-Some.name.now (rows_of (found_of c.in-Some.found.now)) none is (sym c.job_named.ensures ∙ c.in_default-job_named.is)
+    never_none words c.in-Some.name.now (rows_of (found_of c.in-Some.found.now)) none is (sym c.job_named.ensures.job ∙ c.in_default-job_named.is)

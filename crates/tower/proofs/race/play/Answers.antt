@@ -1,0 +1,14 @@
+use Rattle.std.proofs.Common.{◌∷◌, [], ◌++◌, arith, length-append}
+use Rattle.std.proofs.lemmas.List.Elements.{All-push}
+use Rattle.tower.specs.Races.{IsReported}
+use Rattle.tower.proofs.race.play.Goals as goal
+
+pub loop-played-preserved : goal.loop-played-preserved
+loop-played-preserved g c =
+    let before = c.loop-played.invariant in
+    record {
+      earlier = before.earlier ++ c.loop-played.report ∷ [];
+      count = omega (arith, before.count, length-append before.earlier (c.loop-played.report ∷ []));
+      each = All-push (IsReported c.args.frames) before.earlier c.loop-played.report before.each before.last;
+      last = c.in_ok-report-2.ensures;
+    }

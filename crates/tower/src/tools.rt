@@ -1,0 +1,67 @@
+//! Why a command of the program ends early.
+
+use super::output::WriteFailed;
+use super::rounds::RoundFault;
+use std::error::Error;
+use std::fmt;
+
+/// Why a command of the program ends early.
+#[derive(Clone, Copy, Debug, PartialEq, Eq)]
+pub enum ToolFault {
+    /// The number of frames is not 16 to 4,096.
+    BadSize,
+    /// There is not enough memory.
+    NoMemory,
+    /// A write answered an error, or took no byte.
+    WriteFailed,
+    /// A guest of a race ran out of turns.
+    RaceTurns,
+    /// A guest of a race ended otherwise, a kernel of it refused a call or was not closed, or a report
+    /// was not there or differs.
+    RaceFailed,
+}
+
+impl fmt::Display for ToolFault {
+    ghost use Rattle.std.specs.Prelude.{Some};
+    ghost use Rattle.tower.specs.Faults.{tool_text};
+
+    ghost output = { λ fault. Some (tool_text fault) };
+
+    fn fmt<W: fmt::Write>(&self, f: &mut fmt::Formatter<W>) -> fmt::Result {
+        match self {
+            ToolFault::BadSize => write!(f, "tower: frames must be 16 to 4096"),
+            ToolFault::NoMemory => write!(f, "tower: out of memory"),
+            ToolFault::WriteFailed => write!(f, "tower: write failed"),
+            ToolFault::RaceTurns => write!(f, "tower: race ran out of turns"),
+            ToolFault::RaceFailed => write!(f, "tower: race failed"),
+        }
+    }
+}
+
+impl Error for ToolFault {}
+
+impl From<WriteFailed> for ToolFault {
+    ghost use Rattle.std.specs.Prelude.{◌≡◌};
+    ghost use Rattle.tower.specs.declared.tools.ToolFault.TheVariants as fault;
+
+    ghost from_gives = { λ _ e. e ≡ fault.WriteFailed };
+
+    fn from(_failed: WriteFailed) -> ToolFault {
+        ToolFault::WriteFailed
+    }
+}
+
+impl From<RoundFault> for ToolFault {
+    ghost use Rattle.std.specs.Prelude.{◌≡◌};
+    ghost use Rattle.tower.specs.Faults.{tool_fault};
+
+    ghost from_gives = { λ fault e. e ≡ tool_fault fault };
+
+    fn from(fault: RoundFault) -> ToolFault {
+        match fault {
+            RoundFault::NoMemory => ToolFault::NoMemory,
+            RoundFault::Turns => ToolFault::RaceTurns,
+            RoundFault::Failed => ToolFault::RaceFailed,
+        }
+    }
+}
