@@ -11,6 +11,6 @@ returns g c =
         events = run.events;
         answers = run.answers;
         chain = chain_through (λ port. port.cpu) (IsGuestStep g.N.Name.frames) run.chain;
-        run = rw (sym c.number.ensures, sym c.new-guest.ensures) run.run;
+        run = rw (sym c.number.ensures.number, sym c.new-guest.ensures) run.run;
       },
     )
