@@ -89,7 +89,10 @@ impl Verdict {
     pub fn process(&self, pid: Pid) -> Option<ProcessClause>
         ensures { result ≡ process_told self.now pid }
     {
-        self.processes[pid.number() as usize]
+        match self.processes.get(pid.number() as usize) {
+            Some(clause) => *clause,
+            None => None,
+        }
     }
 
     /// The first clause that a frame fails; None where the frame is past the end.
@@ -97,7 +100,7 @@ impl Verdict {
         ensures { result ≡ frame_told self.now frame }
     {
         match self.frames.get(frame.0 as usize) {
-            Some(clause) => *clause,
+            Some(failed) => *failed,
             None => None,
         }
     }
