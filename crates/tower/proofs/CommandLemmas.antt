@@ -15,7 +15,7 @@ use Rattle.clap.specs.declared.parser.matches.ArgMatches.{ArgMatches}
 use Rattle.clap.specs.declared.parser.matches.ArgMatches.TheViews.{out-ArgMatches, out-SubCommand}
 use Rattle.clap.specs.declared.parser.matches.SubCommand.{SubCommand}
 use Rattle.clap.proofs.OnLiterals.{clap_on_literals}
-use Rattle.tower.specs.Jobs.{tower_app, run_app, race_app, frames_option, rounds_option, number_named, job_named}
+use Rattle.tower.specs.Jobs.{tower_app, run_app, race_app, image_app, check_app, frames_option, rounds_option, number_named, job_named}
 use Rattle.tower.proofs.JobLemmas.{first_none, second_none}
 use Rattle.tower.proofs.ValueLemmas.{IsHelp, IsNumbered, IsOption, RaceNumbered, run_is_named, race_is_named}
 
@@ -116,9 +116,15 @@ IsRun p = (p.0 ≡ codes "run") × IsNumbered 0 4294967295 (one_of (codes "frame
 abbrev IsRace : Text × List Row → Type 0
 IsRace p = (p.0 ≡ codes "race") × RaceNumbered p.1
 
--- the subcommand is `run` or `race`, and each option's text names a number within its bounds
+abbrev IsImage : Text × List Row → Type 0
+IsImage p = (p.0 ≡ codes "image") × IsNumbered 0 4294967295 (one_of (codes "frames") p.1)
+
+abbrev IsCheck : Text × List Row → Type 0
+IsCheck p = p.0 ≡ codes "check"
+
+-- the subcommand is one of four, and each option's text names a number within its bounds
 abbrev IsKnown : Option (Text × List Row) → Type 0
-IsKnown found = IfSome found (λ p. IsRun p ⊎ IsRace p)
+IsKnown found = IfSome found (λ p. (IsRun p ⊎ IsRace p) ⊎ (IsImage p ⊎ IsCheck p))
 
 or_false : (b : Bool) → (b || false) ≡ true → b ≡ true
 or_false true is = refl
@@ -127,34 +133,52 @@ or_false false is = is
 abbrev NoFault : Shape → List Text → Type 0
 NoFault s words = level_fault s [] nothing_held words false [] ≡ []
 
--- of three subcommands, the last of which is `help`
-enters_first : (a : App) (run race help : Shape) → a.subs ≡ run ∷ race ∷ help ∷ [] → run.name ≡ codes "run" → race.name ≡ codes "race" → help.name ≡ codes "help" → help.aliases ≡ []
-    → ((words : List Text) → NoFault run words → IsNumbered 0 4294967295 (one_of (codes "frames") (rows_after run.rules [] words)))
-    → ((words : List Text) → NoFault race words → RaceNumbered (rows_after race.rules [] words))
+-- The program's subcommands, as they are built, of which the last is `help`.
+record AreCommands (run race image check help : Shape) : Type 0 where
+  pub run_name : run.name ≡ codes "run"
+  pub race_name : race.name ≡ codes "race"
+  pub image_name : image.name ≡ codes "image"
+  pub check_name : check.name ≡ codes "check"
+  pub help_name : help.name ≡ codes "help"
+  pub aliases : help.aliases ≡ []
+  pub runs : (words : List Text) → NoFault run words → IsNumbered 0 4294967295 (one_of (codes "frames") (rows_after run.rules [] words))
+  pub races : (words : List Text) → NoFault race words → RaceNumbered (rows_after race.rules [] words)
+  pub images : (words : List Text) → NoFault image words → IsNumbered 0 4294967295 (one_of (codes "frames") (rows_after image.rules [] words))
+
+-- of five subcommands, the last of which is `help`
+enters_first : (a : App) (run race image check help : Shape) → a.subs ≡ run ∷ race ∷ image ∷ check ∷ help ∷ [] → AreCommands run race image check help
     → (stop : Option (Text × List Text)) → StopsNotAtHelp stop → entered_fault a stop ≡ [] → IsKnown (entered a stop)
-enters_first a run race help subs run_name race_name help_name aliases runs races None stops none = tt
-enters_first a run race help subs run_name race_name help_name aliases runs races (Some p) stops none =
-    rw subs (first (answers_to p.0 (label_of run)) (answers_to p.0 (label_of race)) (answers_to p.0 (label_of help)) refl
+enters_first a run race image check help subs are None stops none = tt
+enters_first a run race image check help subs are (Some p) stops none =
+    rw subs (first (answers_to p.0 (label_of run)) (answers_to p.0 (label_of race)) (answers_to p.0 (label_of image)) (answers_to p.0 (label_of check)) (answers_to p.0 (label_of help)) refl
     (subst (λ (ss : List Shape). option_map_or (λ s. level_fault s [] nothing_held p.1 false []) (find (λ s. answers_to p.0 (label_of s)) ss) [] ≡ []) subs none))
   where
-    first : (is_run is_race is_help : Bool) → answers_to p.0 (label_of help) ≡ is_help
-        → option_map_or (λ s. level_fault s [] nothing_held p.1 false []) (cond is_run (Some run) (cond is_race (Some race) (cond is_help (Some help) None))) [] ≡ []
-        → IsKnown (option_map (λ s. rows_at s p.1) (cond is_run (Some run) (cond is_race (Some race) (cond is_help (Some help) None))))
-    first true is_race is_help is fault = inl (run_name, runs p.1 fault)
-    first false true is_help is fault = inr (race_name, races p.1 fault)
-    first false false false is fault = tt
-    first false false true is fault =
-        let named : (bytes_eq (codes "help") p.0 || false) ≡ true = rw (help_name, aliases) at is in
+    first : (is_run is_race is_image is_check is_help : Bool) → answers_to p.0 (label_of help) ≡ is_help
+        → option_map_or (λ s. level_fault s [] nothing_held p.1 false []) (cond is_run (Some run) (cond is_race (Some race) (cond is_image (Some image) (cond is_check (Some check) (cond is_help (Some help) None))))) [] ≡ []
+        → IsKnown (option_map (λ s. rows_at s p.1) (cond is_run (Some run) (cond is_race (Some race) (cond is_image (Some image) (cond is_check (Some check) (cond is_help (Some help) None))))))
+    first true is_race is_image is_check is_help is fault = inl (inl (are.run_name, are.runs p.1 fault))
+    first false true is_image is_check is_help is fault = inl (inr (are.race_name, are.races p.1 fault))
+    first false false true is_check is_help is fault = inr (inl (are.image_name, are.images p.1 fault))
+    first false false false true is_help is fault = inr (inr are.check_name)
+    first false false false false false is fault = tt
+    first false false false false true is fault =
+        let named : (bytes_eq (codes "help") p.0 || false) ≡ true = rw (are.help_name, are.aliases) at is in
         let same : bytes_eq p.0 (codes "help") ≡ true = same_either_way (codes "help") p.0 (or_false _ named) in
         let bad = rw same at stops in
         cc
 
--- `run` and `race` as `clap` builds them
+-- the commands as `clap` builds them
 abbrev built_run : Shape
 built_run = built_leaf (inherited (on_top with_leaf_noted (on_top marked_built tower_app)).top run_app.top)
 
 abbrev built_race : Shape
 built_race = built_leaf (inherited (on_top with_leaf_noted (on_top marked_built tower_app)).top race_app.top)
+
+abbrev built_image : Shape
+built_image = built_leaf (inherited (on_top with_leaf_noted (on_top marked_built tower_app)).top image_app.top)
+
+abbrev built_check : Shape
+built_check = built_leaf (inherited (on_top with_leaf_noted (on_top marked_built tower_app)).top check_app.top)
 
 frames_is : IsOption (codes "frames") 0 4294967295 (with_index 1 (filled frames_option))
 unfolding clap_on_literals
@@ -171,9 +195,17 @@ help_is = record { action = refl; bare = refl }
 enters_known : (stop : Option (Text × List Text)) → StopsNotAtHelp stop → entered_fault (built tower_app) stop ≡ [] → IsKnown (entered (built tower_app) stop)
 unfolding clap_on_literals
 enters_known stop stops none =
-    enters_first (built tower_app) built_run built_race (built_leaf help_shape) refl refl refl refl refl
-    (run_is_named built_run (with_index 1 (filled frames_option)) (with_index 1 (filled help_rule)) refl frames_is help_is)
-    (race_is_named built_race (with_index 1 (filled frames_option)) (with_index 1 (filled rounds_option)) (with_index 1 (filled help_rule)) refl frames_is rounds_is help_is) stop stops none
+    enters_first (built tower_app) built_run built_race built_image built_check (built_leaf help_shape) refl (record {
+      run_name = refl;
+      race_name = refl;
+      image_name = refl;
+      check_name = refl;
+      help_name = refl;
+      aliases = refl;
+      runs = run_is_named built_run (with_index 1 (filled frames_option)) (with_index 1 (filled help_rule)) refl frames_is help_is;
+      races = race_is_named built_race (with_index 1 (filled frames_option)) (with_index 1 (filled rounds_option)) (with_index 1 (filled help_rule)) refl frames_is rounds_is help_is;
+      images = run_is_named built_image (with_index 1 (filled frames_option)) (with_index 1 (filled help_rule)) refl frames_is help_is;
+    }) stop stops none
 
 pub only_known : (words : List Text) → fault_of tower_app words ≡ [] → IsKnown (subcommand_of tower_app words)
 only_known words none =
@@ -218,6 +250,11 @@ race_job rows named =
     let rounds = number_is 1 1000 100 (one_of (codes "rounds") rows) (omega arith) (omega arith) named.1 in
     rw (frames.1, rounds.1, le-leb 1 rounds.0 rounds.2, le-leb rounds.0 1000 rounds.3) refl
 
+image_job : (rows : List Row) → IsNumbered 0 4294967295 (one_of (codes "frames") rows) → IsSome (job_named (codes "image") rows)
+image_job rows named =
+    let frames = number_is 0 4294967295 16 (one_of (codes "frames") rows) (omega arith) (omega arith) named in
+    rw frames.1 refl
+
 no_job : (name : Text) (rows : List Row) → IsSome (job_named name rows) → job_named name rows ≡ None → ⊥
 no_job name rows some none =
     let bad = rw none at some in
@@ -227,6 +264,11 @@ no_job name rows some none =
 pub never_none : (words : List Text) (name : Text) (rows : List Row) → fault_of tower_app words ≡ [] → subcommand_of tower_app words ≡ Some (name, rows) → job_named name rows ≡ None → ⊥
 never_none words name rows none is asked = go (subst IsKnown is (only_known words none))
   where
-    go : IsRun (name, rows) ⊎ IsRace (name, rows) → ⊥
-    go (inl run) = no_job name rows (subst (λ (n : Text). IsSome (job_named n rows)) (sym run.0) (run_job rows run.1)) asked
-    go (inr race) = no_job name rows (subst (λ (n : Text). IsSome (job_named n rows)) (sym race.0) (race_job rows race.1)) asked
+    named : (known : Text) → name ≡ known → IsSome (job_named known rows) → ⊥
+    named known is_known some = no_job name rows (subst (λ (n : Text). IsSome (job_named n rows)) (sym is_known) some) asked
+
+    go : (IsRun (name, rows) ⊎ IsRace (name, rows)) ⊎ (IsImage (name, rows) ⊎ IsCheck (name, rows)) → ⊥
+    go (inl (inl run)) = named (codes "run") run.0 (run_job rows run.1)
+    go (inl (inr race)) = named (codes "race") race.0 (race_job rows race.1)
+    go (inr (inl image)) = named (codes "image") image.0 (image_job rows image.1)
+    go (inr (inr check)) = named (codes "check") check refl

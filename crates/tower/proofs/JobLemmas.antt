@@ -2,20 +2,23 @@
 use Rattle.std.proofs.Common.{◌≡◌, ◌∙◌, ℕ, Bool, ◌&&◌, true, false, List, [], ◌∷◌, Option, Some, None, refl, sym, ap}
 use Rattle.std.specs.Char.{digit_value}
 use Rattle.std.specs.List.{list_all}
-use Rattle.std.specs.Prelude.{◌^◌, length, nat_lt, Result, Ok, Err}
+use Rattle.std.specs.Prelude.{◌^◌, length, map, nat_lt, option_and_then, option_map, slice_get, Result, Ok, Err}
 use Rattle.std.specs.Option.{option_map_or}
 use Rattle.std.specs.Result.{result_ok}
 use Rattle.std.specs.Str.Parse.{AllDigits, ParsesUnsigned, digits_value, without_leading_plus}
 use Rattle.std.proofs.lemmas.Bool.{lt-ltb, ltb-true}
 use Rattle.clap.specs.Kinds.{Kinds, or_else}
-use Rattle.clap.specs.Walk.{Row, Text}
+use Rattle.clap.specs.Walk.{Row, Text, all_of, rows_of}
 use Rattle.clap.specs.Simple.{is_simple}
 use Rattle.clap.specs.Faults.{is_simple_and_free}
-use Rattle.clap.specs.Matches.{TriesOne}
+use Rattle.clap.specs.Matches.{TriesOne, first_value, matched_of, raw_values}
 use Rattle.clap.specs.ValueTests.{is_numeral}
 use Rattle.clap.specs.Words.{one_of}
 use Rattle.clap.proofs.OnLiterals.{clap_on_literals}
-use Rattle.clap.proofs.WalkLemmas.{both}
+use Rattle.clap.proofs.WalkLemmas.{both, raw_values-rows}
+use Rattle.clap.specs.declared.parser.matches.Found.{Found}
+use Rattle.clap.specs.declared.parser.matches.MatchedArg.{MatchedArg}
+use Rattle.std.specs.Borrow.{Bor}
 use Rattle.tower.specs.Jobs.{tower_app, number_named, number_in}
 
 pub tower_is_simple : is_simple tower_app ≡ true
@@ -92,3 +95,16 @@ first_none (k ∷ ks) b none = cc
 pub second_none : (a b : Kinds) → or_else a b ≡ [] → b ≡ []
 second_none [] b none = none
 second_none (k ∷ ks) b none = cc
+
+-- ---- The first value of an argument, as it was given
+
+pub first_is : (f : Found) (id : Text) → first_value f id ≡ option_and_then (λ (values : List Text). slice_get values 0) (all_of id (rows_of f))
+first_is f id = go (matched_of f id) ∙ ap (option_and_then (λ (values : List Text). slice_get values 0)) (raw_values-rows f id)
+  where
+    first : (vs : List (Bor Text)) → option_map (λ s. s.now) (slice_get vs 0) ≡ slice_get (map (λ s. s.now) vs) 0
+    first [] = refl
+    first (v ∷ vs) = refl
+
+    go : (o : Option MatchedArg) → option_and_then (λ (a : MatchedArg). option_map (λ s. s.now) (slice_get a.vals.items 0)) o ≡ option_and_then (λ (values : List Text). slice_get values 0) (option_map raw_values o)
+    go None = refl
+    go (Some a) = first a.vals.items

@@ -2,6 +2,8 @@
 use Rattle.std.specs.Prelude.{◌≡◌, ℕ, List, ◌++◌, codes, decimal}
 use Rattle.kernel_calls.specs.declared.kernel.BootFault.{BootFault}
 use Rattle.kernel_calls.specs.declared.kernel.BootFault.TheVariants as boot
+use Rattle.memory_image.specs.declared.faults.ImageFault.{ImageFault}
+use Rattle.memory_image.specs.declared.faults.ImageFault.TheVariants as image
 use Rattle.tower.specs.declared.faults.ScriptFault.{ScriptFault}
 use Rattle.tower.specs.declared.rounds.RoundFault.{RoundFault}
 use Rattle.tower.specs.declared.rounds.RoundFault.TheVariants as round
@@ -38,7 +40,12 @@ status_of WriteFailed = 1
 abbrev pub tool_text : ToolFault → List ℕ
 tool_text tool.BadSize = codes "tower: frames must be 16 to 4096"
 tool_text tool.NoMemory = codes "tower: out of memory"
+tool_text tool.ReadFailed = codes "tower: read failed"
 tool_text tool.WriteFailed = codes "tower: write failed"
+tool_text tool.NotImage = codes "tower: not an image"
+tool_text tool.BadVersion = codes "tower: unknown image version"
+tool_text tool.BadLength = codes "tower: wrong image length"
+tool_text (tool.BadField offset) = codes "tower: bad field at byte " ++ decimal offset
 tool_text tool.RaceTurns = codes "tower: race ran out of turns"
 tool_text tool.RaceFailed = codes "tower: race failed"
 
@@ -48,11 +55,24 @@ tool_fault round.NoMemory = tool.NoMemory
 tool_fault round.Turns = tool.RaceTurns
 tool_fault round.Failed = tool.RaceFailed
 
--- 2 for a refused size, and 1 for all else
+-- what refuses an image
+abbrev pub tool_of_image : ImageFault → ToolFault
+tool_of_image image.NotImage = tool.NotImage
+tool_of_image image.BadLength = tool.BadLength
+tool_of_image image.BadVersion = tool.BadVersion
+tool_of_image (image.BadField offset) = tool.BadField offset
+tool_of_image image.NoMemory = tool.NoMemory
+
+-- 2 for a refused size or image, and 1 for all else
 abbrev pub status_of_tool : ToolFault → ℕ
 status_of_tool tool.BadSize = 2
 status_of_tool tool.NoMemory = 1
+status_of_tool tool.ReadFailed = 1
 status_of_tool tool.WriteFailed = 1
+status_of_tool tool.NotImage = 2
+status_of_tool tool.BadVersion = 2
+status_of_tool tool.BadLength = 2
+status_of_tool (tool.BadField offset) = 2
 status_of_tool tool.RaceTurns = 1
 status_of_tool tool.RaceFailed = 1
 

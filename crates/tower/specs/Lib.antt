@@ -4,6 +4,7 @@ pub mod Output
 pub mod Lines
 pub mod Replies
 pub mod Faults
+pub mod Images
 pub mod Script
 pub mod Progress
 pub mod Jobs

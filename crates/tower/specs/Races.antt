@@ -188,6 +188,11 @@ LeavesFront held holds text = (rest : List ℕ) × LeavesUnwritten held holds te
 abbrev pub EndsRace : ℕ → ℕ → ToolFault → Option (List ℕ) → Option (List ℕ) → Type 0
 EndsRace frames rounds tool.WriteFailed held holds = (rows : List (Option Row)) × Raced frames rounds rows × LeavesFront held holds (race_text rounds rows)
 EndsRace frames rounds tool.BadSize held holds = Keeps held holds
+EndsRace frames rounds tool.ReadFailed held holds = ⊥
+EndsRace frames rounds tool.NotImage held holds = ⊥
+EndsRace frames rounds tool.BadVersion held holds = ⊥
+EndsRace frames rounds tool.BadLength held holds = ⊥
+EndsRace frames rounds (tool.BadField offset) held holds = ⊥
 EndsRace frames rounds tool.NoMemory held holds = Keeps held holds
 EndsRace frames rounds tool.RaceTurns held holds = Keeps held holds
 EndsRace frames rounds tool.RaceFailed held holds = Keeps held holds

@@ -1,12 +1,15 @@
 //! `tower run [--frames N]`: runs a script of kernel calls from standard input on a freshly booted
 //! machine, and writes a line for each reply on standard output. `tower race [--frames N] [--rounds N]`:
-//! plays rounds of two guests in two threads, and writes the report of the last one.
+//! plays rounds of two guests in two threads, and writes the report of the last one. `tower image
+//! [--frames N]`: runs a script, and writes the image of its last state. `tower check FILE`: writes what
+//! fails of an image.
 #![tactic(auto)]
 
 ghost use Rattle.std.specs.Prelude.{◌≡◌, ◌≤◌};
 ghost use Rattle.tower.specs.Faults.{status_of, status_of_tool, status_of_words};
 
 mod faults;
+mod images;
 mod jobs;
 mod lines;
 mod numbers;
@@ -28,18 +31,27 @@ mod worked;
 
 use clap::error::ErrorKind;
 use faults::ScriptFault;
+use images::{check_bytes, write_script_image};
 use jobs::{Job, job_of};
 use race::race;
 use script::run_script;
-use std::io;
+use std::fs::Files;
+use std::io::Read;
 use std::process::ExitCode;
 use std::sync::Wait;
 use std::thread::Threads;
+use std::{fs, io};
 use tools::ToolFault;
 use words::{WordsFault, words};
 
 /// The exit status where the command line is refused.
 const REFUSED: u8 = 2;
+
+/// The exit status where an image is not sound.
+const NOT_SOUND: u8 = 3;
+
+/// One byte more than an image of 4,096 frames has.
+const FILE_BYTES: u64 = 16_844_301;
 
 /// The exit status of a fault: 1 for want of memory or a device's fault, 2 for a refused script.
 fn status_of(fault: ScriptFault) -> u8
@@ -51,13 +63,18 @@ fn status_of(fault: ScriptFault) -> u8
     }
 }
 
-/// The exit status of a command's fault: 2 for a refused size, 1 for any other.
+/// The exit status of a command's fault: 2 for a refused size or image, 1 for any other.
 fn status_of_tool(fault: ToolFault) -> u8
     ensures { result ≡ status_of_tool fault }
 {
     match fault {
-        ToolFault::BadSize => 2,
+        ToolFault::BadSize
+        | ToolFault::NotImage
+        | ToolFault::BadVersion
+        | ToolFault::BadLength
+        | ToolFault::BadField { .. } => 2,
         ToolFault::NoMemory
+        | ToolFault::ReadFailed
         | ToolFault::WriteFailed
         | ToolFault::RaceTurns
         | ToolFault::RaceFailed => 1,
@@ -89,6 +106,46 @@ fn run_job<R: AllocGlobal + Input + Print + Eprint>(rt: &R, frames: u32) -> u8 {
     }
 }
 
+/// Runs a script from standard input for the image of its last state, and gives the exit status.
+fn image_job<R: AllocGlobal + Input + Print + Eprint>(rt: &R, frames: u32) -> u8 {
+    let mut reader = rt.reader();
+    let mut writer = io::writer(rt);
+    match write_script_image(rt.alloc(), &mut reader, &mut writer, frames) {
+        Ok(()) => 0,
+        Err(fault) => report(rt, fault),
+    }
+}
+
+/// The bytes of a file, of which no more are read than one more than the largest image has.
+fn bytes_of<R: AllocGlobal + Files>(rt: &R, file: &str) -> Result<Vec<u8>, ToolFault> {
+    let Ok(file) = fs::open(rt, file) else {
+        return Err(ToolFault::ReadFailed);
+    };
+    let mut bytes = Vec::new(rt.alloc());
+    match file.take(FILE_BYTES).read_to_end(&mut bytes) {
+        Ok(_) => Ok(bytes),
+        Err(error) if error.kind() == io::ErrorKind::OutOfMemory => Err(ToolFault::NoMemory),
+        Err(_) => Err(ToolFault::ReadFailed),
+    }
+}
+
+/// Checks the image in a file, and gives the exit status.
+fn check_job<R: AllocGlobal + Files + Print + Eprint>(rt: &R, file: &str) -> u8 {
+    let mut writer = io::writer(rt);
+    let checked = match bytes_of(rt, file) {
+        Ok(bytes) => check_bytes(rt.alloc(), bytes.as_slice(), &mut writer),
+        Err(fault) => Err(fault),
+    };
+    match checked {
+        Ok(true) => 0,
+        Ok(false) => NOT_SOUND,
+        Err(fault) => {
+            let _ = rt.eprintln(fault);
+            status_of_tool(fault)
+        }
+    }
+}
+
 /// Plays a race, and gives the exit status.
 fn race_job<R: AllocGlobal + Print + Eprint + Threads + Wait + Sync>(
     rt: &R,
@@ -108,12 +165,14 @@ fn race_job<R: AllocGlobal + Print + Eprint + Threads + Wait + Sync>(
 }
 
 /// Does what the words ask for, of which the first is the program's name.
-fn run<R: AllocGlobal + Input + Print + Eprint + Threads + Wait + Sync>(
+fn run<R: AllocGlobal + Files + Input + Print + Eprint + Threads + Wait + Sync>(
     rt: &R,
     words: &[String],
 ) -> u8 {
     match job_of(rt.alloc(), words) {
         Ok(Job::Run { frames }) => run_job(rt, frames),
+        Ok(Job::Image { frames }) => image_job(rt, frames),
+        Ok(Job::Check { file }) => check_job(rt, file),
         Ok(Job::Race { frames, rounds }) => race_job(rt, frames, rounds),
         Err(error) => refuse(rt, &error),
     }

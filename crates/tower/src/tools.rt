@@ -12,8 +12,21 @@ pub enum ToolFault {
     BadSize,
     /// There is not enough memory.
     NoMemory,
+    /// A file could not be opened, or a read answered an error.
+    ReadFailed,
     /// A write answered an error, or took no byte.
     WriteFailed,
+    /// A file does not begin as an image does.
+    NotImage,
+    /// An image is of a version other than 1 and 2.
+    BadVersion,
+    /// An image has another length than its number of frames asks for.
+    BadLength,
+    /// A field of an image breaks its rule.
+    BadField {
+        /// The place of its first byte.
+        offset: u32,
+    },
     /// A guest of a race ran out of turns.
     RaceTurns,
     /// A guest of a race ended otherwise, a kernel of it refused a call or was not closed, or a report
@@ -31,7 +44,12 @@ impl fmt::Display for ToolFault {
         match self {
             ToolFault::BadSize => write!(f, "tower: frames must be 16 to 4096"),
             ToolFault::NoMemory => write!(f, "tower: out of memory"),
+            ToolFault::ReadFailed => write!(f, "tower: read failed"),
             ToolFault::WriteFailed => write!(f, "tower: write failed"),
+            ToolFault::NotImage => write!(f, "tower: not an image"),
+            ToolFault::BadVersion => write!(f, "tower: unknown image version"),
+            ToolFault::BadLength => write!(f, "tower: wrong image length"),
+            ToolFault::BadField { offset } => write!(f, "tower: bad field at byte {offset}"),
             ToolFault::RaceTurns => write!(f, "tower: race ran out of turns"),
             ToolFault::RaceFailed => write!(f, "tower: race failed"),
         }

@@ -3,6 +3,8 @@ use Rattle.std.proofs.lemmas.Result.{err_from_is_err_and}
 use Rattle.clap.specs.Words.{App, fault_of, found_of, is_simple, is_simple_and_free, rows_of, subcommand_of, takes}
 use Rattle.tower.proofs.CommandLemmas.{found_is, never_none}
 use Rattle.tower.proofs.JobLemmas.{tower_is_simple, tower_is_free}
+use Rattle.std.specs.Option.{option_map}
+use Rattle.tower.specs.Jobs.{told}
 use Rattle.tower.proofs.jobs.job_of.Goals as goal
 
 pub returns-in_err-matches-clause-taken : goal.returns-in_err-matches-clause-taken
@@ -24,4 +26,4 @@ unreachable-requires-in_default-job_named g c =
     let none = sym (ap (λ (a : App). fault_of a words) app) ∙ c.in_ok-matches.ensures.kinds (ap is_simple_and_free app ∙ tower_is_free) in
     let met = (c.in_ok-matches.ensures.matches (ap is_simple app ∙ tower_is_simple)).1 ∙ ap (λ (a : App). subcommand_of a words) app in
     let is = found_is c.in_ok-matches.matches words c.in-Some.name.now (rows_of (found_of c.in-Some.found.now)) met c.in-Some.ensures.name c.in-Some.ensures.rows in
-    never_none words c.in-Some.name.now (rows_of (found_of c.in-Some.found.now)) none is (sym c.job_named.ensures.job ∙ c.in_default-job_named.is)
+    never_none words c.in-Some.name.now (rows_of (found_of c.in-Some.found.now)) none is (sym c.job_named.ensures.job ∙ ap (option_map told) c.in_default-job_named.is)
