@@ -1,8 +1,8 @@
 //! Verdicts on the images of cores, on images that were changed, and on those of another kernel.
 
 use crate::{
-    FrameClause, Image, ImageFault, ProcessClause, Verdict, WriteFailed, check, read_image,
-    write_image,
+    FrameClause, Image, ImageFault, NoMemory, ProcessClause, Verdict, WriteFailed, check,
+    read_image, write_image,
 };
 use arrayvec::ArrayVec;
 use kernel_calls::{Call, Core, Event, Reply};
@@ -418,5 +418,37 @@ fn a_verdict_stops_where_a_write_fails(rt: HostRuntime) -> Result<(), Fail> {
         writer.written.as_slice(),
         b"process 0 P6\nprocess".as_slice()
     );
+    Ok(())
+}
+
+/// `rt try --test --fail-alloc N` refuses the Nth allocation of this test alone. The first three are those
+/// of the core; then come two of `Image::of`, one of the bytes, two of `read_image` and three of `check`.
+/// Each of these calls that meets a refusal answers NoMemory, the same call with memory then succeeds, and
+/// a line is printed that says so.
+#[test]
+fn goes_on_after_want_of_memory(rt: HostRuntime) -> Result<(), Fail> {
+    let core = Core::boot(rt.alloc(), 16)?;
+    let mut made = Image::of(rt.alloc(), &core);
+    if made.is_err() {
+        assert_eq!(rt; made.err(), Some(NoMemory));
+        made = Image::of(rt.alloc(), &core);
+        println!(rt; "NoMemory, and then an image of a core")?;
+    }
+    let mut bytes = Vec::with_capacity(rt.alloc(), 67_340)?;
+    write_image(&made?, &mut bytes)?;
+    let mut read = read_image(rt.alloc(), &bytes);
+    if read.is_err() {
+        assert_eq!(rt; read.err(), Some(ImageFault::NoMemory));
+        read = read_image(rt.alloc(), &bytes);
+        println!(rt; "NoMemory, and then an image of bytes")?;
+    }
+    let image = read?;
+    let mut told = check(rt.alloc(), &image);
+    if told.is_err() {
+        assert_eq!(rt; told.err(), Some(NoMemory));
+        told = check(rt.alloc(), &image);
+        println!(rt; "NoMemory, and then a verdict")?;
+    }
+    assert!(rt; told?.sound());
     Ok(())
 }

@@ -12,3 +12,4 @@ pub mod FillLemmas
 pub mod OutputLemmas
 pub mod WritingLemmas
 pub mod MachineSound
+pub mod WorkedSpelling

@@ -218,3 +218,22 @@ fn stops_where_a_write_fails(rt: HostRuntime) -> Result<(), Fail> {
     assert_eq!(rt; Some(writer.written.as_slice()), booted(&rt)?.get(..40));
     Ok(())
 }
+
+#[test]
+fn faults_have_their_texts(rt: HostRuntime) -> Result<(), Fail> {
+    let texts = [
+        (ImageFault::NotImage, "not an image"),
+        (ImageFault::BadLength, "wrong image length"),
+        (ImageFault::BadVersion, "unknown image version"),
+        (
+            ImageFault::BadField { offset: 140 },
+            "bad field at byte 140",
+        ),
+        (ImageFault::NoMemory, "out of memory"),
+    ];
+    for (fault, expected) in texts {
+        let text = format!(in rt.alloc(); "{fault}")?;
+        assert_eq!(rt; text.as_str(), expected);
+    }
+    Ok(())
+}
