@@ -19,8 +19,10 @@ pub struct CpuPort<'a, N: Name, G: Gate + Drop, R: Wait> {
 }
 
 impl<'a, N: Name, G: Gate + Drop, R: Wait> CpuPort<'a, N, G, R> {
+    /// The port over that CPU.
     pub fn new(rt: &'a R, cpu: &'a mut Cpu<N>, kernel: &'a Kernel<N, G>) -> CpuPort<'a, N, G, R>
-        ensures { result.cpu.now ≡ cpu.entry.now }
+        ensures cpu { result.cpu.now ≡ cpu.entry.now }
+        ensures same_reference { result.cpu.ghost_name ≡ cpu.entry.ghost_name }
     {
         CpuPort { rt, cpu, kernel }
     }
@@ -29,9 +31,10 @@ impl<'a, N: Name, G: Gate + Drop, R: Wait> CpuPort<'a, N, G, R> {
 /// Each call is one call of the CPU, whose fault is told by its number. An event of another CPU is
 /// answered by 6, and nothing is called.
 impl<'a, N: Name, G: Gate + Drop, R: Wait> Port for CpuPort<'a, N, G, R> {
+    ghost use Rattle.std.specs.Prelude.{◌≡◌};
     ghost use Rattle.locked_core.specs.Ports.{IsCpuStep};
 
-    ghost step = { λ before event answer after. IsCpuStep N.frames before.cpu.now event answer after.cpu.now };
+    ghost step = { λ before event answer after. IsCpuStep N.frames before.cpu.now event answer after.cpu.now × (after.cpu.ghost_name ≡ before.cpu.ghost_name) };
 
     fn call(&mut self, event: Event) -> Result<Reply, PortFault> {
         if event.cpu != self.cpu.number() {

@@ -11,7 +11,7 @@ ghost use Rattle.memory_report.specs.Reports.{report_of};
 use guest_cpu::{End, Guest, Instruction, Port, PortFault, Reg, run};
 use kernel_calls::{Call, Event, Reply};
 use locked_core::{
-    Blank, Boot, BootFault, Cpu, Fault, History, Kernel, Monitor, Name, OpenGate, Seen,
+    Blank, Boot, BootFault, Cpu, CpuPort, Fault, History, Kernel, Monitor, Name, OpenGate, Seen,
 };
 use memory_report::{Report, report_of};
 use page_words::{Page, Pid, Size, Vaddr};
@@ -192,10 +192,8 @@ impl<N: Name, R: Wait> Port for GuestPort<'_, N, R> {
     ghost step = { λ before event answer after. IsGuestStep N.frames before.cpu event answer after.cpu };
 
     fn call(&mut self, event: Event) -> Result<Reply, PortFault> {
-        match self.cpu.call(self.rt, self.kernel, event.pid, event.call) {
-            Ok(reply) => Ok(reply),
-            Err(fault) => Err(PortFault(fault.number())),
-        }
+        let mut port = CpuPort::new(self.rt, &mut self.cpu, self.kernel);
+        port.call(event)
     }
 }
 
