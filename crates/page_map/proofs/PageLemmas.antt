@@ -84,6 +84,15 @@ entries-remove m m' d page own is others = same_map _ _ (λ q.
       ] ∙ sym (ap (λ b. cond b None (map.get (entries_of m d) q)) h.1)
     ] ∙ sym (get-remove (entries_of m d) page q))
 
+counted-le : (b : Bool) → counted b ≤ 1
+counted-le true = omega arith
+counted-le false = omega arith
+
+pub count_range-le : (p : ℕ → Bool) (first count : ℕ) → count_range p first count ≤ count
+unfolding count_range
+count_range-le p first zero = omega arith
+count_range-le p first (suc count) = omega (arith, counted-le (p first), count_range-le p (first + 1) count)
+
 pub count_range-zero : (p : ℕ → Bool) (first : ℕ) → count_range p first 0 ≡ 0
 unfolding count_range
 count_range-zero p first = refl
