@@ -1,6 +1,6 @@
 //! Audits by 1 to 8 helpers, in turn and in threads, against the check by one.
 
-ghost use Rattle.std.specs.Prelude.{All, IfOk};
+ghost use Rattle.std.specs.Prelude.{All, IfOk, IfSome};
 ghost use Rattle.parallel_audit.specs.Steps.{IsOf};
 
 use crate::{Audit, AuditFault, Helper, Step};
@@ -8,7 +8,10 @@ use integrity_checker::{Verdict, check};
 use memory_image::{Image, read_image};
 use page_words::{Frame, Pid};
 use std::alloc::Global;
+use std::process::Abort;
 use std::test::Fail;
+use std::thread;
+use std::thread::Threads;
 
 /// The words, other than 0, of an image of 16 frames in which two processes share a page.
 const SHARED: [(usize, u32); 37] = [
@@ -195,6 +198,84 @@ fn helpers_in_turn_find_what_one_finds(rt: HostRuntime) -> Result<(), Fail> {
             assert_eq!(rt; (answers.times, answers.wrong), ([1; 64], 0));
             assert!(rt; agree(&told, &verdict), "{count} helpers, {place}");
         }
+    }
+    Ok(())
+}
+
+/// Takes the last helper.
+fn taken(audit: &Audit, helpers: &mut Vec<Helper>) -> Option<Helper>
+    requires { All (λ h. IsOf audit.now h) helpers.old.items }
+    ensures left { All (λ h. IsOf audit.now h) helpers.new.items }
+    ensures taken { IfSome result (λ h. IsOf audit.now h) }
+{
+    helpers.pop()
+}
+
+/// Two helpers, handed back.
+fn handed_back(alloc: Global, audit: &Audit, one: Helper, two: Helper) -> Result<Vec<Helper>, Fail>
+    requires { IsOf audit.now one × IsOf audit.now two }
+    ensures { IfOk result (λ v. All (λ h. IsOf audit.now h) v.items) }
+{
+    let mut back = Vec::new(alloc);
+    back.push(one)?;
+    back.push(two)?;
+    Ok(back)
+}
+
+/// All steps of a helper, and what it answered.
+fn all_steps(audit: &Audit, helper: Helper, told: &Verdict) -> (Helper, Answers)
+    requires { IsOf audit.now helper }
+    ensures { IsOf audit.now result.0 }
+{
+    let mut answers = Answers {
+        times: [0; 64],
+        wrong: 0,
+    };
+    let helper = steps(audit, helper, told, 65, &mut answers);
+    (helper, answers)
+}
+
+/// How often two helpers answered each number.
+fn both(one: &Answers, two: &Answers) -> [u64; 64] {
+    let mut times = [0; 64];
+    for number in 0..64usize {
+        times[number] = one.times[number].wrapping_add(two.times[number]);
+    }
+    times
+}
+
+/// Two helpers judge an image in two threads.
+fn in_threads<R: Threads + Abort + Sync>(rt: &R, alloc: Global, image: Image) -> Result<(), Fail> {
+    let told = check(alloc, &image)?;
+    let (audit, mut helpers) = Audit::new(alloc, image, 2)?;
+    let two = taken(&audit, &mut helpers).ok_or("two helpers")?;
+    let one = taken(&audit, &mut helpers).ok_or("two helpers")?;
+    let shared = &audit;
+    let verdict = &told;
+    let ((one, first), (two, second)) = thread::join(
+        rt,
+        move || -> (Helper, Answers)
+            requires { IsOf shared.now one }
+            ensures { IsOf shared.entry.now result.0 }
+        { all_steps(shared, one, verdict) },
+        move || -> (Helper, Answers)
+            requires { IsOf shared.now two }
+            ensures { IsOf shared.entry.now result.0 }
+        { all_steps(shared, two, verdict) },
+    );
+    let back = handed_back(alloc, &audit, one, two)?;
+    let found = audit.finish(back)?;
+    assert_eq!(rt; both(&first, &second), [1; 64]);
+    assert_eq!(rt; (first.wrong, second.wrong), (0, 0));
+    assert!(rt; agree(&told, &found));
+    Ok(())
+}
+
+#[test]
+fn helpers_in_threads_find_what_one_finds(rt: HostRuntime) -> Result<(), Fail> {
+    for (place, word, _) in DAMAGES {
+        let image = image_with(rt.alloc(), place, word)?;
+        in_threads(&rt, rt.alloc(), image)?;
     }
     Ok(())
 }
