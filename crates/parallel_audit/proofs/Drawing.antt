@@ -1,5 +1,5 @@
 -- Each step keeps the rule.
-use Rattle.std.proofs.Common.{◌≡◌, ◌≢◌, ◌⊎◌, ℕ, zero, suc, ◌+◌, ◌-◌, ◌<◌, ◌≤◌, ◌==◌, ◌%◌, ◌^◌, min, List, [], ◌∷◌, ◌++◌, length, set, Bool, true, false, true≢false, cond, refl, sym, ap, ◌∙◌, subst, ⊎_elim, arith}
+use Rattle.std.proofs.Common.{◌≡◌, ◌≢◌, ℕ, ◌+◌, ◌-◌, ◌<◌, ◌≤◌, ◌==◌, ◌%◌, ◌^◌, min, List, [], ◌∷◌, ◌++◌, set, true, false, true≢false, refl, sym, ap, ◌∙◌, subst, ⊎_elim, arith}
 use Rattle.std.specs.Prelude.{slice_index}
 use Rattle.std.proofs.Math.Nat.{mod-eq_of_lt}
 use mathlib.Core.Option.{some, none, some-ne-none}
@@ -7,13 +7,13 @@ use Rattle.std.proofs.lemmas.Bool.{le-ltb}
 use mathlib.Core.Logic.{dite}
 use native.Mathlib.Decide.{dec_le}
 use lib.ListN.{get_elem?}
-use Rattle.atomic_table.specs.Table.{State, Me, Step, step, Act, keeps, Allows, Splits, Joins, opening}
+use Rattle.atomic_table.specs.Table.{step, keeps, Allows, Splits, Joins, opening}
 use Rattle.atomic_table.proofs.Lists.{at_set, at_snoc, set_again}
 use Rattle.page_map.specs.Pages.{counted}
 use Rattle.memory_image.specs.Image.{Image}
 use Rattle.integrity_checker.specs.Draws.{times}
 use Rattle.parallel_audit.specs.declared.draw.Drawer.{Drawer}
-use Rattle.parallel_audit.specs.Drawn.{drawer, total, once_below, share_of, spent_of, where_so, times_of, FitsSeat, Held, Given, Drew, Totals, gathered, spent}
+use Rattle.parallel_audit.specs.Drawn.{drawer, once_below, share_of, spent_of, where_so, times_of, FitsSeat, Held, Given, Drew, Totals, gathered, spent}
 use Rattle.parallel_audit.proofs.Sums.{total_set, total_push, total_least, total_one, times_append, times_nil, times_one, once_more, none_yet, full, spent_share, total_single, first_set}
 
 abbrev AllFit : ℕ → List Drawer → Type 0

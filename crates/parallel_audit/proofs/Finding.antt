@@ -1,9 +1,8 @@
 -- What is found of one number more, and of two lists of numbers.
-use Rattle.std.proofs.Common.{◌≡◌, ◌≢◌, ℕ, zero, suc, ◌+◌, ◌*◌, ◌<◌, ◌≤◌, ◌==◌, Bool, true, false, cond, List, [], ◌∷◌, ◌++◌, length, length-set, map, replicate, sum_by, refl, sym, ap, subst, ◌∙◌, arith, inl, inr, get_or, Option, Some, None}
-use Rattle.std.specs.Prelude.{slice_index, slice_get, slice_set}
-use Rattle.std.specs.Option.{unwrap_or}
+use Rattle.std.proofs.Common.{◌≡◌, ◌≢◌, ℕ, zero, suc, ◌+◌, ◌*◌, ◌<◌, ◌≤◌, ◌==◌, cond, List, [], ◌∷◌, ◌++◌, length, length-set, map, replicate, sum_by, refl, sym, ap, ◌∙◌, arith, inl, inr, get_or, Option, Some, None}
+use Rattle.std.specs.Prelude.{slice_index, slice_set}
 use Rattle.std.specs.List.{range_with_len}
-use Rattle.std.proofs.lemmas.Bool.{cases_eq, eq-eqb, ne_eqb, cases_lt}
+use Rattle.std.proofs.lemmas.Bool.{cases_eq, eq-eqb, ne_eqb}
 use Rattle.std.proofs.lemmas.Option.{unwrap_or-slice_get, slice_get-get_or}
 use Rattle.std.proofs.lemmas.List.{get_or-set_same, get_or-set_other}
 use Rattle.std.proofs.lemmas.List.Sums.{sum_by-append, sum_by-cons}
@@ -13,14 +12,14 @@ use Rattle.address_space.specs.Image.{table_at}
 use Rattle.memory_image.specs.Image.{Image, frames, memory_of}
 use Rattle.memory_image.proofs.FillLemmas.{filled_to}
 use Rattle.integrity_checker.specs.declared.clauses.ProcessClause.{ProcessClause}
-use Rattle.integrity_checker.specs.Counts.{is_this, frame_of, names_by, maps_by, names, maps, sum_range}
+use Rattle.integrity_checker.specs.Counts.{is_this, frame_of, names_by, maps_by, names, maps}
 use Rattle.integrity_checker.specs.Verdict.{process_clause}
 use Rattle.integrity_checker.specs.Adds.{Adds, Counts, HaveRoom}
 use Rattle.integrity_checker.specs.Draws.{times, AreDrawn, AreSomeDrawn}
 use Rattle.integrity_checker.proofs.AddLemmas.{count_range-le, sum_bound}
 use Rattle.integrity_checker.proofs.DrawLemmas.{draws_add_up, draws_stay_below}
 use Rattle.parallel_audit.specs.Drawn.{once_below}
-use Rattle.parallel_audit.specs.Found.{IsFound, HaveRoomFor, clause_at, clause_found, either}
+use Rattle.parallel_audit.specs.Found.{IsFound, HaveRoomFor, clause_at, either}
 use Rattle.parallel_audit.proofs.Sums.{times_append, times_one, once_in, once_out}
 
 names-most : (image : Image) (f p : ℕ) → names_by image p f ≤ 720896

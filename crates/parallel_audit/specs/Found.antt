@@ -1,5 +1,5 @@
 -- What was found of the processes that were drawn.
-use Rattle.std.specs.Prelude.{◌≡◌, ◌==◌, ℕ, ◌+◌, ◌<◌, ◌^◌, List, length, map, sum_by, slice_index, slice_get, Option, Some, None, if◌then◌else◌}
+use Rattle.std.specs.Prelude.{◌≡◌, ◌==◌, ℕ, ◌+◌, ◌<◌, ◌^◌, List, length, sum_by, slice_index, slice_get, Option, Some, None, if◌then◌else◌}
 use Rattle.std.specs.Option.{unwrap_or}
 use Rattle.memory_image.specs.Image.{Image, frames}
 use Rattle.integrity_checker.specs.declared.clauses.ProcessClause.{ProcessClause}

@@ -1,5 +1,5 @@
 -- What the calls of an audit say.
-use Rattle.std.specs.Prelude.{◌≡◌, ◌≢◌, ◌⊎◌, ℕ, ◌+◌, ◌<◌, ◌≤◌, List, [], ◌∷◌, ◌++◌, false, sum_by, length}
+use Rattle.std.specs.Prelude.{◌≡◌, ◌≢◌, ◌⊎◌, ℕ, ◌<◌, ◌≤◌, List, [], ◌∷◌, ◌++◌, false, sum_by, length}
 use Rattle.std.specs.List.{list_all}
 use Rattle.memory_image.specs.Image.{Image}
 use Rattle.integrity_checker.specs.Draws.{times}

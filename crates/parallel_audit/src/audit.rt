@@ -2,12 +2,10 @@
 
 ghost use Rattle.std.specs.Prelude.{◌≡◌, ◌<◌, ◌≤◌, ◌+◌, ◌++◌, ◌∷◌, [], ℕ, All, IfOk, IfErr, IfSome, length, map, sum_by, true, vec_len};
 ghost use Rattle.std.specs.List.{list_all, range_with_len};
-ghost use Rattle.std.specs.Bool.{Decides};
 ghost use Rattle.memory_image.specs.Image.{frames};
-ghost use Rattle.memory_image.specs.Sound.{IsSound};
 ghost use Rattle.integrity_checker.specs.Counts as counts;
 ghost use Rattle.integrity_checker.specs.Adds.{Counts};
-ghost use Rattle.integrity_checker.specs.Told.{fails_nothing, verdict_on};
+ghost use Rattle.integrity_checker.specs.Told.{verdict_on};
 ghost use Rattle.integrity_checker.specs.Verdict.{process_clause};
 ghost use Rattle.integrity_checker.specs.Draws.{times};
 ghost use Rattle.parallel_audit.specs.Drawn.{once_below};

@@ -1,4 +1,4 @@
-use Rattle.std.proofs.Common.{rules, ◌≡◌, ℕ, ◌+◌, ◌<◌, ◌≤◌, ◌∷◌, [], ◌++◌, List, All, true, length, sum_by, ap, ◌∙◌, sym, subst, arith, length-append}
+use Rattle.std.proofs.Common.{rules, ◌≡◌, ℕ, ◌+◌, ◌≤◌, ◌∷◌, [], ◌++◌, List, All, true, length, sum_by, ap, ◌∙◌, sym, subst, arith, length-append}
 use Rattle.std.specs.Option.{option_to_list}
 use Rattle.memory_image.specs.Image.{Image}
 use Rattle.integrity_checker.specs.Draws.{times}

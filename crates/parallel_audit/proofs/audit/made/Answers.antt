@@ -1,4 +1,4 @@
-use Rattle.std.proofs.Common.{rules, ◌≡◌, ℕ, ◌+◌, ◌-◌, ◌<◌, ◌≤◌, [], ◌∷◌, ◌++◌, List, All, length, length-append, false, ap, ◌∙◌, sym, subst, arith}
+use Rattle.std.proofs.Common.{rules, ◌≡◌, ℕ, ◌+◌, ◌-◌, ◌<◌, [], ◌∷◌, ◌++◌, List, All, length, length-append, false, ap, ◌∙◌, sym, subst, arith}
 use Rattle.parallel_audit.specs.declared.draw.Drawer.{Drawer}
 use Rattle.parallel_audit.specs.declared.parts.Helper.{Helper}
 use Rattle.parallel_audit.specs.Drawn.{drawer}

@@ -1,4 +1,4 @@
-use Rattle.std.proofs.Common.{rules, ◌≡◌, ℕ, ◌<◌, refl, arith}
+use Rattle.std.proofs.Common.{refl}
 use Rattle.parallel_audit.proofs.Finding.{nothing_found, none_at}
 use Rattle.parallel_audit.proofs.findings.nothing.Goals as goal
 

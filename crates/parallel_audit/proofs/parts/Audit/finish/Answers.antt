@@ -1,4 +1,4 @@
-use Rattle.std.proofs.Common.{rules, ◌≡◌, ℕ, ◌∷◌, [], ◌++◌, List, true, ap, ◌∙◌, sym, subst, All, sum_by, ◌+◌, arith}
+use Rattle.std.proofs.Common.{rules, ◌≡◌, ℕ, ◌∷◌, [], ◌++◌, List, true, ap, ◌∙◌, subst, All, sum_by, ◌+◌, arith}
 use Rattle.std.specs.Option.{option_to_list}
 use Rattle.parallel_audit.specs.Drawn.{once_below}
 use Rattle.integrity_checker.specs.Draws.{times}
