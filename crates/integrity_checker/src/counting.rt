@@ -83,7 +83,8 @@ pub fn count_maps(image: &Image, pid: Pid, maps: &mut [u32])
     }
 }
 
-/// Adds what one process names and maps.
+/// Adds how often one process's directory names each frame, and how many of its pages are mapped to each,
+/// to counts of frames by their number. Each count must have room for as many more.
 pub fn count_process(image: &Image, pid: Pid, names: &mut [u32], maps: &mut [u32])
     requires names { HaveRoom names.old 704 }
     requires maps { HaveRoom maps.old 720896 }

@@ -315,7 +315,7 @@ fn live_clause(image: &Image, pid: Pid, process: &Process) -> Option<ProcessClau
     }
 }
 
-/// The first clause that a process fails.
+/// The first clause that a process fails; None where it fails none.
 pub fn process_clause(image: &Image, pid: Pid) -> Option<ProcessClause>
     ensures { result ≡ process_clause image.now pid }
 {

@@ -14,6 +14,8 @@ mod verdicts;
 mod words;
 
 pub use clauses::{FrameClause, ProcessClause};
+pub use counting::{count_process, pid_of};
+pub use judging::process_clause;
 pub use laws::{draws_add_up, sound_where_nothing_fails, tests_decide};
 pub use memory_image::{
     Image, ImageFault, NoMemory, Process, WriteFailed, bytes_are_refused_where_they_spell_none,

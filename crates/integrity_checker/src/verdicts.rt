@@ -78,6 +78,30 @@ fn no_frame_fails(clauses: &[Option<FrameClause>]) -> bool
 }
 
 impl Verdict {
+    /// The verdict on an image, of what its 64 processes fail and of how often its frames are named and
+    /// mapped. It takes no memory: `room` has a place for each frame, whatever it holds.
+    pub fn of_counts(
+        image: &Image,
+        processes: [Option<ProcessClause>; 64],
+        names: &[u32],
+        maps: &[u32],
+        room: Vec<Option<FrameClause>>,
+    ) -> Verdict
+        requires processes { processes ≡ map (process_clause image.now) (range_with_len 0 64) }
+        requires names { Counts names.now (frames image.now) (λ f. counts.names image.now f) }
+        requires maps { Counts maps.now (frames image.now) (λ f. counts.maps image.now f) }
+        requires room { length room.items ≡ frames image.now }
+        ensures verdict { result ≡ verdict_on image.now }
+    {
+        image.within();
+        let mut clauses = room;
+        judge_frames(image, names, maps, &mut clauses);
+        Verdict {
+            processes,
+            frames: clauses,
+        }
+    }
+
     /// Whether no clause fails.
     pub fn sound(&self) -> bool
         ensures { result ≡ fails_nothing self.now }
@@ -137,11 +161,8 @@ fn judged(alloc: Global, image: &Image) -> Option<Verdict>
         return None;
     };
     count_all(image, &mut names, &mut maps);
-    judge_frames(image, &names, &maps, &mut clauses);
-    Some(Verdict {
-        processes: judge_processes(image),
-        frames: clauses,
-    })
+    let processes = judge_processes(image);
+    Some(Verdict::of_counts(image, processes, &names, &maps, clauses))
 }
 
 /// What fails of an image: of each process and each frame the first clause. None fails exactly where

@@ -1,0 +1,54 @@
+use Rattle.std.proofs.Common.{rules, ◌≡◌, ℕ, ◌+◌, ◌-◌, ◌<◌, [], ◌∷◌, ◌++◌, List, All, length, length-append, false, ap, ◌∙◌, sym, subst, arith}
+use Rattle.parallel_audit.specs.declared.draw.Drawer.{Drawer}
+use Rattle.parallel_audit.specs.declared.parts.Helper.{Helper}
+use Rattle.parallel_audit.specs.Drawn.{drawer}
+use Rattle.parallel_audit.specs.Steps.{answered}
+use Rattle.parallel_audit.proofs.Sums.{every_push}
+use Rattle.parallel_audit.proofs.Drawing.{begins, cuts}
+use Rattle.parallel_audit.proofs.audit.made.Goals as goal
+
+pub of_words-opened-requires : goal.of_words-opened-requires
+of_words-opened-requires c = begins _ _ c.requires.1
+
+pub split_seat-seat-requires : goal.split_seat-seat-requires
+split_seat-seat-requires c =
+    let kept = c.loop-number.invariant in
+    let share : ℕ = c.loop-number.rest.me.0.share in
+    let is = ap (λ (v : Drawer). v.share) kept.1 in
+    let some_share : 0 < share = (let lt = c.loop-number-test.true in omega arith) in
+    (kept.0, search rules, cuts _ _ _ some_share (ap (λ (v : Drawer). v.drawn) kept.1) (ap (λ (v : Drawer). v.done) kept.1))
+
+pub loop-number-preserved : goal.loop-number-preserved
+loop-number-preserved c =
+    let kept = c.loop-number.invariant in
+    let split = c.split_seat-seat.ensures in
+    let P : Helper → Type 0 = λ h. (h.seat.table_id ≡ c.in-Ok-opened.table.shared.table_id) × (h.seat.me.0.image ≡ c.args.image) in
+    let Q : Helper → Type 0 = λ h. answered h ≡ [] in
+    let helper = c.new-in-loop-number.result in
+    let seat = c.new-in-loop-number.ensures in
+    let grown : c.push.new.seats.items ≡ c.loop-number.seats.items ++ helper ∷ [] = c.in_ok-push.ensures in
+    let long : length c.push.new.seats.items ≡ length c.loop-number.seats.items + 1 = ap length grown ∙ length-append c.loop-number.seats.items (helper ∷ []) in
+    let share : c.loop-number.rest.me.0.share ≡ c.args.helpers + 1 - c.loop-number.number = ap (λ (v : Drawer). v.share) kept.1 in
+    let image = ap (λ (v : Drawer). v.image) kept.1 in
+    let less : c.loop-number.rest.me.0.share - 1 ≡ c.args.helpers + 1 - (c.loop-number.number + 1) = omega (arith, share) in (
+      split.0 ∙ kept.0,
+      ap (λ m. m.0) split.2 ∙ (λ i. drawer (image i) (less i) [] false),
+      ap (λ m. m.1) split.2 ∙ kept.2,
+      (let k = kept.3 in omega (arith, k, long)),
+      subst (λ (hs : List Helper). All P hs) (sym grown) (every_push P c.loop-number.seats.items helper kept.4 (ap (λ s. s.table_id) seat ∙ split.3 ∙ kept.0, ap (λ s. s.me.0.image) seat ∙ ap (λ m. m.0.image) split.4 ∙ image)),
+      subst (λ (hs : List Helper). All Q hs) (sym grown) (every_push Q c.loop-number.seats.items helper kept.5 (ap (λ s. s.me.0.drawn) seat ∙ ap (λ m. m.0.drawn) split.4)),
+    )
+
+pub returns-clause-own : goal.returns-clause-own
+returns-clause-own c =
+    let kept = c.loop-number.invariant in
+    let P : Helper → Type 0 = λ h. (h.seat.table_id ≡ c.in-Ok-opened.table.shared.table_id) × (h.seat.me.0.image ≡ c.args.image) in
+    let grown : c.push-2.new.seats.items ≡ c.loop-number.seats.items ++ c.new-3.result ∷ [] = c.in_ok-push-2.ensures in
+    subst (λ (hs : List Helper). All P hs) (sym grown) (every_push P c.loop-number.seats.items c.new-3.result kept.4 (ap (λ s. s.table_id) c.new-3.ensures ∙ kept.0, ap (λ s. s.me.0.image) c.new-3.ensures ∙ ap (λ (v : Drawer). v.image) kept.1))
+
+pub returns-clause-empty : goal.returns-clause-empty
+returns-clause-empty c =
+    let kept = c.loop-number.invariant in
+    let Q : Helper → Type 0 = λ h. answered h ≡ [] in
+    let grown : c.push-2.new.seats.items ≡ c.loop-number.seats.items ++ c.new-3.result ∷ [] = c.in_ok-push-2.ensures in
+    subst (λ (hs : List Helper). All Q hs) (sym grown) (every_push Q c.loop-number.seats.items c.new-3.result kept.5 (ap (λ s. s.me.0.drawn) c.new-3.ensures ∙ ap (λ (v : Drawer). v.drawn) kept.1))
