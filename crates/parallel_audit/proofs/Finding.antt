@@ -16,7 +16,8 @@ use Rattle.integrity_checker.specs.Counts.{is_this, frame_of, names_by, maps_by,
 use Rattle.integrity_checker.specs.Verdict.{process_clause}
 use Rattle.integrity_checker.specs.Adds.{Adds, Counts, HaveRoom}
 use Rattle.integrity_checker.specs.Draws.{times, AreDrawn, AreSomeDrawn}
-use Rattle.integrity_checker.proofs.AddLemmas.{count_range-le, sum_bound}
+use Rattle.integrity_checker.proofs.AddLemmas.{sum_bound}
+use Rattle.page_map.proofs.PageLemmas.{count_range-le}
 use Rattle.integrity_checker.proofs.DrawLemmas.{draws_add_up, draws_stay_below}
 use Rattle.parallel_audit.specs.Drawn.{once_below}
 use Rattle.parallel_audit.specs.Found.{IsFound, HaveRoomFor, clause_at, either}
