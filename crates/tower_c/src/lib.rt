@@ -92,7 +92,7 @@ pub extern "C" fn tower_step(
     match take(alloc, tower) {
         Some(mut core) => {
             *reply = step(&mut core, event);
-            put(tower, core);
+            put(tower, core); // after a step
             true
         }
         None => false,
