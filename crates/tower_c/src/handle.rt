@@ -1,4 +1,5 @@
 //! A core in a handle of C's.
+
 ghost use Rattle.std.specs.Prelude.{◌≡◌, None, Some, true, false};
 ghost use Rattle.std.specs.Option.{option_map};
 ghost use Rattle.tower_c.specs.Handle.{IsTower};
@@ -16,7 +17,7 @@ pub struct Tower {
     pub hold: Hold,
 }
 
-/// Takes the core out.
+/// Takes the core out, if there is one.
 pub fn take(alloc: Global, tower: &mut Tower) -> Option<Box<Core>>
     requires { IsTower tower.old }
     ensures core { option_map (λ b. b.value) result ≡ tower.old.hold.core }
@@ -32,7 +33,7 @@ pub fn take(alloc: Global, tower: &mut Tower) -> Option<Box<Core>>
     }
 }
 
-/// Puts a core in.
+/// Puts a core into a handle that has none.
 pub fn put(tower: &mut Tower, core: Box<Core>)
     ensures core { tower.new.hold.core ≡ Some core.value }
     ensures live { tower.new.live ≡ true }

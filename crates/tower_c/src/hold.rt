@@ -1,4 +1,5 @@
-//! The handle: a core's pointer, or none.
+//! The pointer in the handle, and the core that it owns.
+
 ghost use Rattle.std.specs.Prelude.{◌≡◌, None, Some, IsSome};
 ghost use Rattle.std.specs.declared.option.Option.{Option};
 ghost use Rattle.std.specs.Coded.{coded_option};
@@ -10,6 +11,7 @@ use kernel_calls::Core;
 use std::alloc::Global;
 use std::marker::Model;
 
+/// A core's pointer, or null. C sees the pointer alone: an allocator takes no bytes.
 #[repr(C)]
 #[derive(Drop)]
 pub struct Hold {
@@ -23,6 +25,7 @@ impl Model for Hold {
 }
 
 impl Hold {
+    /// One that holds no core.
     pub fn none(alloc: Global) -> Hold
         ensures { result.core ≡ None }
     {
@@ -32,6 +35,7 @@ impl Hold {
         }
     }
 
+    /// Holds a core.
     pub fn of(core: Loose<Core, Global>) -> Hold
         ensures { result.core ≡ Some core.value }
     {
@@ -42,6 +46,7 @@ impl Hold {
         }
     }
 
+    /// The core that it holds.
     pub fn into_loose(self) -> Loose<Core, Global>
         requires { IsSome self.core }
         ensures { self.core ≡ Some result.value }

@@ -10,38 +10,45 @@ use quota_tree::Container;
 
 /// An event, as C gives it.
 #[repr(C)]
-#[derive(Clone, Copy, Debug, PartialEq, Eq)]
+#[derive(Clone, Copy)]
 pub struct TowerEvent {
+    /// The CPU, any number.
     pub cpu: u8,
+    /// The process, 0 to 63.
     pub pid: u8,
     /// 0 Load, 1 Store, 2 Map, 3 Unmap, 4 Protect, 5 Info, 6 Offer, 7 Withdraw, 8 Accept, 9 Spawn,
     /// 10 Exit, 11 Quota.
     pub call: u8,
     /// The size of Load and Store, 1 or 4; the right of Map, Protect and Offer, 0 or 1.
     pub flag: u8,
-    /// The address, the page or the quota.
+    /// The address, the page (the giver's for Accept) or the quota.
     pub first: u32,
     /// The value of Store, the target of Offer and Withdraw, the giver of Accept.
     pub second: u32,
-    /// The page of Accept.
+    /// The own page of Accept.
     pub third: u32,
 }
 
 /// A reply, as C reads it.
 #[repr(C)]
-#[derive(Clone, Copy, Debug, PartialEq, Eq)]
+#[derive(Clone, Copy)]
 pub struct TowerReply {
     /// 0 Done, 1 Value, 2 Child, 3 Info, 4 Quota, 5 Fault, 6 Refused, 7 no event.
     pub kind: u32,
+    /// The value, the child, the holders, the quota, the address or the cause.
     pub first: u32,
+    /// The frames used, or the fault's code.
     pub second: u32,
+    /// The frames given.
     pub third: u32,
+    /// The flags of Info, with the next three.
     pub write: bool,
     pub may: bool,
     pub accessed: bool,
     pub dirty: bool,
 }
 
+/// The size of an access: 1 or 4.
 fn size_from(n: u8) -> Option<Size>
     ensures { result ≡ size_of n }
 {
@@ -52,6 +59,7 @@ fn size_from(n: u8) -> Option<Size>
     }
 }
 
+/// A right: 0 to read, 1 to write too.
 fn right_from(n: u8) -> Option<bool>
     ensures { result ≡ right_of n }
 {
@@ -62,12 +70,14 @@ fn right_from(n: u8) -> Option<bool>
     }
 }
 
+/// A process: 0 to 63.
 pub fn pid_from(n: u32) -> Option<Pid>
     ensures { result ≡ pid_of n }
 {
     if n < 64 { Pid::new(n as u8) } else { None }
 }
 
+/// The call that the numbers say; None where they say none.
 fn call_from(e: &TowerEvent) -> Option<Call>
     ensures { result ≡ call_of e.now }
 {
@@ -126,6 +136,7 @@ pub fn event_from(e: &TowerEvent) -> Option<Event>
     })
 }
 
+/// The number of a cause.
 fn number_from(cause: Cause) -> u32
     ensures { result ≡ cause_number cause }
 {
@@ -149,6 +160,7 @@ fn number_from(cause: Cause) -> u32
     }
 }
 
+/// A reply with no flags.
 fn numbers_from(kind: u32, first: u32, second: u32, third: u32) -> TowerReply
     ensures { result ≡ numbers kind first second third }
 {
@@ -203,7 +215,7 @@ pub fn told_from(reply: &Reply) -> TowerReply
 
 /// What a frame serves: kind 0 Reserved, 1 Free, 2 Directory, 3 Table, 4 Page.
 #[repr(C)]
-#[derive(Clone, Copy, Debug, PartialEq, Eq)]
+#[derive(Clone, Copy)]
 pub struct TowerRole {
     pub kind: u32,
     /// The process of a directory or a table.
@@ -216,8 +228,9 @@ pub struct TowerRole {
 
 /// What a process may use, uses and gives, in frames.
 #[repr(C)]
-#[derive(Clone, Copy, Debug, PartialEq, Eq)]
+#[derive(Clone, Copy)]
 pub struct TowerContainer {
+    /// The process that gave the quota.
     pub parent: u32,
     pub quota: u32,
     pub used: u32,
@@ -225,6 +238,7 @@ pub struct TowerContainer {
     pub children: u32,
 }
 
+/// A frame's role as numbers.
 pub fn role_from(role: Role) -> TowerRole
     ensures { result ≡ role_numbers role }
 {
@@ -243,6 +257,7 @@ pub fn role_from(role: Role) -> TowerRole
     }
 }
 
+/// A container as numbers.
 pub fn container_from(container: &Container) -> TowerContainer
     ensures { result ≡ container_numbers container.now }
 {
