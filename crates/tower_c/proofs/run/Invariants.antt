@@ -1,0 +1,10 @@
+use Rattle.std.proofs.Common.{◌≡◌, ◌++◌, take, drop}
+use Rattle.tower_c.specs.Border.{replies_in, end_after}
+use Rattle.tower_c.proofs.run.Given as goal
+
+-- the replies so far and those to what is left are those to all
+abbrev pub invariant-loop-i : goal.invariant-loop-i
+invariant-loop-i l = record {
+  told : take l.i l.replies ++ replies_in l.core.state (drop l.i l.events) ≡ replies_in l.fn.core.state l.events;
+  rest : end_after l.core.state (drop l.i l.events) ≡ end_after l.fn.core.state l.events;
+}

@@ -1,0 +1,200 @@
+-- Events and replies as numbers.
+use Rattle.std.specs.Prelude.{ℕ, Bool, true, false, ◌==◌, ◌&&◌, nat_lt, Option, None, Some, if◌then◌else◌, List, [], ◌∷◌, length, slice_get}
+use Rattle.std.specs.Option.{option_map}
+use Rattle.page_words.specs.declared.addresses.Size.{Size}
+use Rattle.page_words.specs.declared.addresses.Size.TheVariants.{One, Four}
+use Rattle.phys_memory.specs.Bytes.{frame_bytes}
+use Rattle.address_space.specs.View.{directory_of}
+use Rattle.process_table.specs.State.{State, container_of}
+use Rattle.process_table.specs.View.{View}
+use Rattle.process_table.specs.declared.causes.Cause.{Cause}
+use Rattle.process_table.specs.declared.causes.Cause.TheVariants as cause
+use Rattle.kernel_calls.specs.Machine.{answer, next, completes}
+use Rattle.kernel_calls.specs.declared.calls.Call.{Call}
+use Rattle.kernel_calls.specs.declared.calls.Call.TheVariants as call
+use Rattle.kernel_calls.specs.declared.calls.Event.{Event}
+use Rattle.kernel_calls.specs.declared.calls.Reply.{Reply}
+use Rattle.kernel_calls.specs.declared.calls.Reply.TheVariants as reply
+use Rattle.alloc_table.specs.declared.Role.{Role}
+use Rattle.alloc_table.specs.declared.Role.TheVariants as role
+use Rattle.quota_tree.specs.declared.Container.{Container}
+use Rattle.tower_c.specs.declared.words.TowerContainer.{TowerContainer}
+use Rattle.tower_c.specs.declared.words.TowerRole.{TowerRole}
+use Rattle.tower_c.specs.declared.words.TowerEvent.{TowerEvent}
+use Rattle.tower_c.specs.declared.words.TowerReply.{TowerReply}
+
+-- ---- Events
+
+abbrev pub size_of : ℕ → Option Size
+size_of n = if n == 1 then Some One else if n == 4 then Some Four else None
+
+abbrev pub right_of : ℕ → Option Bool
+right_of n = if n == 0 then Some false else if n == 1 then Some true else None
+
+abbrev pub pid_of : ℕ → Option ℕ
+pid_of n = if nat_lt n 64 then Some n else None
+
+abbrev pub load_of : ℕ → Option Size → Option Call
+load_of addr (Some size) = Some (call.Load addr size)
+load_of addr None = None
+
+abbrev pub store_of : ℕ → ℕ → Option Size → Option Call
+store_of addr value (Some size) = Some (call.Store addr size value)
+store_of addr value None = None
+
+abbrev pub map_of : ℕ → Option Bool → Option Call
+map_of page (Some write) = Some (call.Map page write)
+map_of page None = None
+
+abbrev pub protect_of : ℕ → Option Bool → Option Call
+protect_of page (Some write) = Some (call.Protect page write)
+protect_of page None = None
+
+abbrev pub offer_of : ℕ → Option ℕ → Option Bool → Option Call
+offer_of page (Some target) (Some write) = Some (call.Offer page target write)
+offer_of page (Some target) None = None
+offer_of page None write = None
+
+abbrev pub withdraw_of : ℕ → Option ℕ → Option Call
+withdraw_of page (Some target) = Some (call.Withdraw page target)
+withdraw_of page None = None
+
+abbrev pub accept_of : Option ℕ → ℕ → ℕ → Option Call
+accept_of (Some giver) giver_page page = Some (call.Accept giver giver_page page)
+accept_of None giver_page page = None
+
+-- the call of a number
+abbrev pub call_of : TowerEvent → Option Call
+call_of e =
+    if e.call == 0 then load_of e.first (size_of e.flag) else
+    if e.call == 1 then store_of e.first e.second (size_of e.flag) else
+    if e.call == 2 then map_of e.first (right_of e.flag) else
+    if e.call == 3 then Some (call.Unmap e.first) else
+    if e.call == 4 then protect_of e.first (right_of e.flag) else
+    if e.call == 5 then Some (call.Info e.first) else
+    if e.call == 6 then offer_of e.first (pid_of e.second) (right_of e.flag) else
+    if e.call == 7 then withdraw_of e.first (pid_of e.second) else
+    if e.call == 8 then accept_of (pid_of e.second) e.first e.third else
+    if e.call == 9 then Some (call.Spawn e.first) else
+    if e.call == 10 then Some call.Exit else
+    if e.call == 11 then Some call.Quota else None
+
+abbrev pub event_by : TowerEvent → Option ℕ → Option Call → Option Event
+event_by e (Some pid) (Some call) = Some (record { cpu = e.cpu; pid = pid; call = call })
+event_by e (Some pid) None = None
+event_by e None call = None
+
+-- the event of these numbers, where they are one
+abbrev pub event_of : TowerEvent → Option Event
+event_of e = event_by e (pid_of e.pid) (call_of e)
+
+-- ---- Replies
+
+abbrev pub cause_number : Cause → ℕ
+cause_number cause.NoProcess = 1
+cause_number cause.BadPage = 2
+cause_number cause.Misaligned = 3
+cause_number cause.NotMapped = 4
+cause_number cause.Mapped = 5
+cause_number cause.Quota = 6
+cause_number cause.Rights = 7
+cause_number cause.SelfOffer = 8
+cause_number cause.NoTarget = 9
+cause_number cause.OfferPending = 10
+cause_number cause.TooManyOffers = 11
+cause_number cause.NoOffer = 12
+cause_number cause.TableFull = 13
+cause_number cause.BadQuota = 14
+cause_number cause.HasChildren = 15
+cause_number cause.RootExit = 16
+
+abbrev pub numbers : ℕ → ℕ → ℕ → ℕ → TowerReply
+numbers kind first second third = record { kind = kind; first = first; second = second; third = third; write = false; may = false; accessed = false; dirty = false }
+
+-- a reply's numbers
+abbrev pub told : Reply → TowerReply
+told reply.Done = numbers 0 0 0 0
+told (reply.Value value) = numbers 1 value 0 0
+told (reply.Child pid) = numbers 2 pid 0 0
+told (reply.Info write may accessed dirty holders) = record { kind = 3; first = holders; second = 0; third = 0; write = write; may = may; accessed = accessed; dirty = dirty }
+told (reply.Quota quota used given) = numbers 4 quota used given
+told (reply.Fault addr code) = numbers 5 addr code 0
+told (reply.Refused cause) = numbers 6 (cause_number cause) 0 0
+
+-- numbers that are no event
+abbrev pub no_event : TowerReply
+no_event = numbers 7 0 0 0
+
+-- the reply to these numbers in a state
+abbrev pub reply_in : State → Option Event → TowerReply
+reply_in s (Some event) = told (answer s event)
+reply_in s None = no_event
+
+-- the state after them
+abbrev pub state_after : State → Option Event → State
+state_after s (Some event) = next s event
+state_after s None = s
+
+-- whether they are carried out: they are an event, and neither refused nor a fault
+abbrev pub is_carried_out : State → Option Event → Bool
+is_carried_out s (Some event) = completes (answer s event)
+is_carried_out s None = false
+
+-- the replies to a list of numbers, in order
+abbrev pub replies_in : State → List TowerEvent → List TowerReply
+replies_in s [] = []
+replies_in s (e ∷ events) = reply_in s (event_of e) ∷ replies_in (state_after s (event_of e)) events
+
+-- the state after all of them
+abbrev pub end_after : State → List TowerEvent → State
+end_after s [] = s
+end_after s (e ∷ events) = end_after (state_after s (event_of e)) events
+
+-- ---- Queries
+
+abbrev pub role_numbers : Role → TowerRole
+role_numbers role.Reserved = record { kind = 0; pid = 0; slot = 0; count = 0 }
+role_numbers role.Free = record { kind = 1; pid = 0; slot = 0; count = 0 }
+role_numbers (role.Directory pid) = record { kind = 2; pid = pid; slot = 0; count = 0 }
+role_numbers (role.Table pid slot) = record { kind = 3; pid = pid; slot = slot; count = 0 }
+role_numbers (role.Page count) = record { kind = 4; pid = 0; slot = 0; count = count }
+
+abbrev pub container_numbers : Container → TowerContainer
+container_numbers c = record { parent = c.parent; quota = c.quota; used = c.used; given = c.given; children = c.children }
+
+-- what a query that answers true wrote, and nothing where it answers false
+abbrev pub given : {A : Type 0} → Bool → A → Option A
+given true written = Some written
+given false written = None
+
+abbrev pub frames_in : Option View → ℕ
+frames_in (Some core) = length core.roles
+frames_in None = 0
+
+abbrev pub directory_at : View → Option ℕ → Option ℕ
+directory_at core (Some pid) = directory_of core.directories pid
+directory_at core None = None
+
+-- the frame of a process's directory, where there are a core and such a process
+abbrev pub directory_in : Option View → ℕ → Option ℕ
+directory_in (Some core) pid = directory_at core (pid_of pid)
+directory_in None pid = None
+
+abbrev pub container_at : View → Option ℕ → Option TowerContainer
+container_at core (Some pid) = option_map container_numbers (container_of core.state pid)
+container_at core None = None
+
+-- what a process may use, uses and gives, where there are a core and such a process
+abbrev pub container_in : Option View → ℕ → Option TowerContainer
+container_in (Some core) pid = container_at core (pid_of pid)
+container_in None pid = None
+
+-- what a frame serves, where there are a core and such a frame
+abbrev pub role_in : Option View → ℕ → Option TowerRole
+role_in (Some core) frame = option_map role_numbers (slice_get core.roles frame)
+role_in None frame = None
+
+-- a frame's bytes, where there are a core, such a frame and room for it
+abbrev pub copy_in : Option View → ℕ → ℕ → Option (List ℕ)
+copy_in (Some core) frame room = if nat_lt frame (length core.roles) && (room == 4096) then Some (frame_bytes core.bytes frame) else None
+copy_in None frame room = None

@@ -1,0 +1,51 @@
+//! A core in a handle of C's.
+
+ghost use Rattle.std.specs.Prelude.{◌≡◌, None, Some, true, false};
+ghost use Rattle.std.specs.Option.{option_map};
+ghost use Rattle.tower_c.specs.Handle.{IsTower};
+
+use crate::hold::Hold;
+use crate::loose::Loose;
+use kernel_calls::Core;
+use std::alloc::Global;
+
+/// C's handle: whether a core is booted, and its pointer. All zeros at first.
+#[repr(C)]
+#[derive(Drop)]
+pub struct Tower {
+    pub live: bool,
+    pub hold: Hold,
+}
+
+/// Takes the core out, if there is one.
+pub fn take(alloc: Global, tower: &mut Tower) -> Option<Box<Core>>
+    requires { IsTower tower.old }
+    ensures core { option_map (λ b. b.value) result ≡ tower.old.hold.core }
+    ensures none { tower.new.hold.core ≡ None }
+    ensures live { tower.new.live ≡ false }
+{
+    if tower.live {
+        tower.live = false;
+        let held = std::mem::replace(&mut tower.hold, Hold::none(alloc));
+        Some(held.into_loose().into_box())
+    } else {
+        None
+    }
+}
+
+/// Puts a core into a handle that has none.
+pub fn put(tower: &mut Tower, core: Box<Core>)
+    ensures core { tower.new.hold.core ≡ Some core.value }
+    ensures live { tower.new.live ≡ true }
+{
+    tower.hold = Hold::of(Loose::of(core));
+    tower.live = true;
+}
+
+/// Asks of a type that its values may pass to another thread.
+fn asks_send<T: Send>() {}
+
+/// That a handle may pass to another thread. It computes nothing.
+pub fn handle_sends() {
+    asks_send::<Tower>();
+}

@@ -1,0 +1,308 @@
+//! The kernel's core for C: one call for each event.
+//!
+//! C holds a `Tower` in storage of its own, all zeros at first, and passes it to these functions alone,
+//! to one at a time. Each function says what it does of the core in it; docs/C-LIBRARY.md has the numbers
+//! of events and replies, and what C owes.
+#![tactic(auto)]
+
+ghost use Rattle.std.specs.Prelude.{◌≡◌, ◌≢◌, ◌↔◌, ◌≤◌, ◌<◌, ◌*◌, ◌++◌, None, Some, IfSome, length, take, drop, true, false};
+ghost use Rattle.process_table.specs.State.{open_with};
+ghost use Rattle.process_table.specs.Image.{StandsFor, image_of};
+ghost use Rattle.phys_memory.specs.Bytes.{frame_bytes};
+ghost use Rattle.tower_c.specs.Border.{event_of, reply_in, state_after, is_carried_out, replies_in, end_after, given, frames_in, directory_in, container_in, role_in, copy_in};
+ghost use Rattle.tower_c.specs.Handle.{IsTower};
+
+mod handle;
+mod hold;
+mod loose;
+mod words;
+
+pub use handle::{Tower, handle_sends};
+use handle::{put, take};
+use kernel_calls::{BootFault, Core};
+use page_words::Frame;
+use std::alloc::Global;
+use words::{container_from, event_from, no_event, pid_from, role_from, told_from};
+pub use words::{TowerContainer, TowerEvent, TowerReply, TowerRole};
+
+/// Boots a core of that many frames: 0; or 1 where that is not 16 to 4,096, 2 where there is no memory,
+/// and 3 where the handle has a core already. All but 0 leave the handle as it was.
+#[unsafe(no_mangle)]
+pub extern "C" fn tower_boot(alloc: Global, frames: u32, tower: &mut Tower) -> u32
+    requires { IsTower tower.old }
+    ensures kept { IsTower tower.new }
+    ensures statuses { result ≤ 3 }
+    ensures live { result ≡ 0 → tower.new.live ≡ true }
+    ensures opening { result ≡ 0 → IfSome tower.new.hold.core (λ core. core.state ≡ open_with frames) }
+    ensures stands { result ≡ 0 → IfSome tower.new.hold.core (λ core. StandsFor (image_of core) core.state) }
+    ensures size { result ≡ 1 ↔ (tower.old.live ≡ false) × (16 ≤ frames → frames ≤ 4096 → ⊥) }
+    ensures busy { result ≡ 3 ↔ tower.old.live ≡ true }
+    ensures otherwise { result ≢ 0 → tower.new ≡ tower.old }
+{
+    if tower.live {
+        return 3;
+    }
+    match Core::boot(alloc, frames) {
+        Ok(core) => match Box::new(alloc, core) {
+            Ok(core) => {
+                put(tower, core);
+                0
+            }
+            Err(_) => 2,
+        },
+        Err(BootFault::BadSize) => 1,
+        Err(BootFault::NoMemory) => 2,
+    }
+}
+
+/// What an event comes to on a core.
+fn step(core: &mut Core, event: &TowerEvent) -> TowerReply
+    ensures reply { result ≡ reply_in core.old.state (event_of event.now) }
+    ensures state { core.new.state ≡ state_after core.old.state (event_of event.now) }
+    ensures stands { StandsFor (image_of core.new) core.new.state }
+    ensures refused { is_carried_out core.old.state (event_of event.now) ≡ false → core.new ≡ core.old }
+{
+    match event_from(event) {
+        Some(event) => told_from(&core.step(&event)),
+        None => {
+            core.stands();
+            no_event()
+        }
+    }
+}
+
+/// Carries out one event: false where the handle has no core. Numbers that are no event change nothing,
+/// and their reply is of kind 7; a refusal or a fault changes nothing either.
+#[unsafe(no_mangle)]
+pub extern "C" fn tower_step(
+    alloc: Global,
+    tower: &mut Tower,
+    event: &TowerEvent,
+    reply: &mut TowerReply,
+) -> bool
+    requires { IsTower tower.old }
+    ensures kept { IsTower tower.new }
+    ensures live { (result ≡ tower.old.live) × (tower.new.live ≡ tower.old.live) }
+    ensures reply { IfSome tower.old.hold.core (λ core. reply.new ≡ reply_in core.state (event_of event.now)) }
+    ensures state { IfSome tower.old.hold.core (λ core. IfSome tower.new.hold.core (λ next. next.state ≡ state_after core.state (event_of event.now))) }
+    ensures stands { IfSome tower.new.hold.core (λ core. StandsFor (image_of core) core.state) }
+    ensures refused { IfSome tower.old.hold.core (λ core. is_carried_out core.state (event_of event.now) ≡ false → tower.new.hold.core ≡ Some core) }
+    ensures none { result ≡ false → reply.new ≡ reply.old }
+{
+    match take(alloc, tower) {
+        Some(mut core) => {
+            *reply = step(&mut core, event);
+            put(tower, core); // after a step
+            true
+        }
+        None => false,
+    }
+}
+
+/// Carries out events in order, and writes the reply to each in its place.
+fn run(core: &mut Core, events: &[TowerEvent], replies: &mut [TowerReply])
+    requires { length events.now ≡ length replies.old }
+    ensures replies { replies.new ≡ replies_in core.old.state events.now }
+    ensures state { core.new.state ≡ end_after core.old.state events.now }
+    ensures stands { StandsFor (image_of core.new) core.new.state }
+{
+    for (i, event) in events.iter().enumerate() {
+        replies[i] = step(core, event);
+    }
+    core.stands();
+}
+
+/// Carries out events in order, and writes the reply to each in its place: false where the handle has no
+/// core or the two lengths differ, and then nothing changes.
+#[unsafe(no_mangle)]
+pub extern "C" fn tower_run(
+    alloc: Global,
+    tower: &mut Tower,
+    events: &[TowerEvent],
+    replies: &mut [TowerReply],
+) -> bool
+    requires { IsTower tower.old }
+    ensures kept { IsTower tower.new }
+    ensures live { tower.new.live ≡ tower.old.live }
+    ensures ran { result ≡ true ↔ (tower.old.live ≡ true) × (length events.now ≡ length replies.old) }
+    ensures replies { result ≡ true → IfSome tower.old.hold.core (λ core. replies.new ≡ replies_in core.state events.now) }
+    ensures state { result ≡ true → IfSome tower.old.hold.core (λ core. IfSome tower.new.hold.core (λ next. next.state ≡ end_after core.state events.now)) }
+    ensures stands { result ≡ true → IfSome tower.new.hold.core (λ core. StandsFor (image_of core) core.state) }
+    ensures none { result ≡ false → replies.new ≡ replies.old }
+    ensures same { result ≡ false → tower.new.hold.core ≡ tower.old.hold.core }
+{
+    if events.len() != replies.len() {
+        return false;
+    }
+    match take(alloc, tower) {
+        Some(mut core) => {
+            run(&mut core, events, replies);
+            put(tower, core);
+            true
+        }
+        None => false,
+    }
+}
+
+/// Frees the core, if the handle has one.
+#[unsafe(no_mangle)]
+pub extern "C" fn tower_free(alloc: Global, tower: &mut Tower)
+    requires { IsTower tower.old }
+    ensures none { tower.new.hold.core ≡ None }
+    ensures dead { tower.new.live ≡ false }
+{
+    if let Some(core) = take(alloc, tower) {
+        drop(core);
+    }
+}
+
+/// How many frames the core has: 0 where the handle has none.
+#[unsafe(no_mangle)]
+pub extern "C" fn tower_frames(alloc: Global, tower: &mut Tower) -> u32
+    requires { IsTower tower.old }
+    ensures kept { IsTower tower.new }
+    ensures same { tower.new.hold.core ≡ tower.old.hold.core }
+    ensures frames { result ≡ frames_in tower.old.hold.core }
+{
+    match take(alloc, tower) {
+        Some(core) => {
+            let frames = core.frames();
+            put(tower, core);
+            frames
+        }
+        None => 0,
+    }
+}
+
+/// The frame of a process's directory: false where there is no core or the process is not live.
+#[unsafe(no_mangle)]
+pub extern "C" fn tower_directory(
+    alloc: Global,
+    tower: &mut Tower,
+    pid: u32,
+    frame: &mut u32,
+) -> bool
+    requires { IsTower tower.old }
+    ensures kept { IsTower tower.new }
+    ensures same { tower.new.hold.core ≡ tower.old.hold.core }
+    ensures directory { given result frame.new ≡ directory_in tower.old.hold.core pid }
+    ensures none { result ≡ false → frame.new ≡ frame.old }
+{
+    match take(alloc, tower) {
+        Some(core) => {
+            let found = match pid_from(pid) {
+                Some(pid) => core.directory(pid),
+                None => None,
+            };
+            put(tower, core);
+            match found {
+                Some(Frame(at)) => {
+                    *frame = at;
+                    true
+                }
+                None => false,
+            }
+        }
+        None => false,
+    }
+}
+
+/// What a frame serves: false where there is no core or no such frame.
+#[unsafe(no_mangle)]
+pub extern "C" fn tower_role(
+    alloc: Global,
+    tower: &mut Tower,
+    frame: u32,
+    role: &mut TowerRole,
+) -> bool
+    requires { IsTower tower.old }
+    ensures kept { IsTower tower.new }
+    ensures same { tower.new.hold.core ≡ tower.old.hold.core }
+    ensures role { given result role.new ≡ role_in tower.old.hold.core frame }
+    ensures none { result ≡ false → role.new ≡ role.old }
+{
+    match take(alloc, tower) {
+        Some(core) => {
+            let is_frame = frame < core.frames();
+            if is_frame {
+                *role = role_from(core.role(Frame(frame)));
+            }
+            put(tower, core);
+            is_frame
+        }
+        None => false,
+    }
+}
+
+/// What a process may use, uses and gives: false where there is no core or the process is not live.
+#[unsafe(no_mangle)]
+pub extern "C" fn tower_container(
+    alloc: Global,
+    tower: &mut Tower,
+    pid: u32,
+    container: &mut TowerContainer,
+) -> bool
+    requires { IsTower tower.old }
+    ensures kept { IsTower tower.new }
+    ensures same { tower.new.hold.core ≡ tower.old.hold.core }
+    ensures container { given result container.new ≡ container_in tower.old.hold.core pid }
+    ensures none { result ≡ false → container.new ≡ container.old }
+{
+    match take(alloc, tower) {
+        Some(core) => {
+            let found = match pid_from(pid) {
+                Some(pid) => core.container(pid),
+                None => None,
+            };
+            put(tower, core);
+            match found {
+                Some(found) => {
+                    *container = container_from(&found);
+                    true
+                }
+                None => false,
+            }
+        }
+        None => false,
+    }
+}
+
+/// Copies a frame's 4,096 bytes out.
+#[tactic(auto, unfolding(phys_memory::specs::Bytes::frame_bytes))]
+fn copy_out(core: &Core, frame: u32, out: &mut [u8])
+    requires frame { frame < length core.now.roles }
+    requires room { length out.old ≡ 4096 }
+    ensures { out.new ≡ frame_bytes core.now.bytes frame }
+{
+    let _ = core.frames();
+    let at = 4096 * frame as usize;
+    out.copy_from_slice(&core.memory().bytes()[at..at + 4096]);
+}
+
+/// Copies a frame's 4,096 bytes out: false where there is no core or no such frame, or where the room is
+/// not 4,096 bytes.
+#[unsafe(no_mangle)]
+pub extern "C" fn tower_copy_frame(
+    alloc: Global,
+    tower: &mut Tower,
+    frame: u32,
+    out: &mut [u8],
+) -> bool
+    requires { IsTower tower.old }
+    ensures kept { IsTower tower.new }
+    ensures same { tower.new.hold.core ≡ tower.old.hold.core }
+    ensures bytes { given result out.new ≡ copy_in tower.old.hold.core frame (length out.old) }
+    ensures none { result ≡ false → out.new ≡ out.old }
+{
+    match take(alloc, tower) {
+        Some(core) => {
+            let fits = frame < core.frames() && out.len() == 4096;
+            if fits {
+                copy_out(&core, frame, out);
+            }
+            put(tower, core);
+            fits
+        }
+        None => false,
+    }
+}

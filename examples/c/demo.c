@@ -1,0 +1,143 @@
+/* Boots a core, maps, stores, loads and shares, and reads the page tables as a processor does, over frames
+ * that it copied out. It ends with status 1 at the first answer that is not the expected one. */
+#include <stdio.h>
+#include <stdlib.h>
+#include <string.h>
+
+#include "tower.h"
+
+enum { PAGE = 0x40000, ADDRESS = PAGE << 12, OTHER_PAGE = 0x50000, WORD = 0x11223344 };
+
+static struct tower tower = TOWER_NONE;
+
+static void expect(bool holds, const char *what) {
+    printf("%s: %s\n", what, holds ? "yes" : "NO");
+    if (!holds) {
+        exit(1);
+    }
+}
+
+static void need(bool holds, const char *what) {
+    if (!holds) {
+        expect(false, what);
+    }
+}
+
+static struct tower_reply call(struct tower_event event) {
+    struct tower_reply reply = {0};
+    need(tower_step(&tower, &event, &reply), "a call is answered");
+    return reply;
+}
+
+static bool is_done(struct tower_event event) {
+    return call(event).kind == TOWER_DONE;
+}
+
+static bool is_refused(struct tower_event event, enum tower_cause cause) {
+    struct tower_reply reply = call(event);
+    return reply.kind == TOWER_REFUSED && reply.first == cause;
+}
+
+static bool faults(struct tower_event event, uint32_t code) {
+    struct tower_reply reply = call(event);
+    return reply.kind == TOWER_FAULT && reply.first == event.first && reply.second == code;
+}
+
+static bool loads(struct tower_event event, uint32_t value) {
+    struct tower_reply reply = call(event);
+    return reply.kind == TOWER_VALUE && reply.first == value;
+}
+
+/* The word at an offset of a frame, from a copy. */
+static uint32_t word_of(uint32_t frame, uint32_t offset) {
+    static uint8_t bytes[4096];
+    uint32_t word;
+    need(tower_copy_frame(&tower, frame, bytes, sizeof bytes), "a frame is copied");
+    memcpy(&word, bytes + offset, sizeof word);
+    return word;
+}
+
+/* The word at an address of a process, by its directory and its table alone. */
+static uint32_t walked(uint32_t pid, uint32_t address) {
+    uint32_t directory = 0;
+    need(tower_directory(&tower, pid, &directory), "a process has a directory");
+    uint32_t table = word_of(directory, 4 * (address >> 22));
+    uint32_t page = word_of(table >> 12, 4 * (address >> 12 & 1023));
+    need((table & 1) && (page & 1), "both entries are present");
+    return word_of(page >> 12, address & 4095);
+}
+
+static void boots(void) {
+    struct tower_event quota = {.call = TOWER_QUOTA};
+    struct tower_reply reply = {.kind = 99};
+    expect(!tower_step(&tower, &quota, &reply) && reply.kind == 99, "no core, no reply");
+    expect(tower_boot(15, &tower) == TOWER_BAD_SIZE && !tower.live, "15 frames are too few");
+    expect(tower_boot(64, &tower) == TOWER_BOOTED && tower_frames(&tower) == 64, "64 frames boot");
+    expect(tower_boot(64, &tower) == TOWER_HAS_CORE, "a second core is refused");
+}
+
+static void maps_and_loads(void) {
+    expect(is_done((struct tower_event){.call = TOWER_MAP, .flag = 1, .first = PAGE}), "a page is mapped");
+    expect(is_done((struct tower_event){.call = TOWER_STORE, .flag = 4, .first = ADDRESS + 8, .second = WORD}),
+           "a word is stored");
+    expect(loads((struct tower_event){.call = TOWER_LOAD, .flag = 4, .first = ADDRESS + 8}, WORD), "and loaded");
+    expect(loads((struct tower_event){.call = TOWER_LOAD, .flag = 1, .first = ADDRESS + 9}, 0x33),
+           "its second byte too");
+    expect(faults((struct tower_event){.call = TOWER_LOAD, .flag = 4, .first = 0x1000}, 4),
+           "below the user range it faults");
+    expect(is_refused((struct tower_event){.call = TOWER_LOAD, .flag = 4, .first = ADDRESS + 2}, TOWER_MISALIGNED),
+           "at an odd place it is refused");
+}
+
+static void shares(void) {
+    struct tower_reply child = call((struct tower_event){.call = TOWER_SPAWN, .first = 10});
+    uint8_t pid = (uint8_t)child.first;
+    expect(child.kind == TOWER_CHILD && pid == 1, "process 1 is spawned");
+    expect(is_done((struct tower_event){.call = TOWER_OFFER, .first = PAGE, .second = pid}), "the page is offered");
+    expect(is_done((struct tower_event){
+               .pid = pid, .call = TOWER_ACCEPT, .first = PAGE, .second = 0, .third = OTHER_PAGE}),
+           "and accepted");
+    expect(loads((struct tower_event){.pid = pid, .call = TOWER_LOAD, .flag = 4, .first = (OTHER_PAGE << 12) + 8}, WORD),
+           "process 1 reads the word");
+    expect(faults((struct tower_event){.pid = pid, .call = TOWER_STORE, .flag = 4, .first = OTHER_PAGE << 12}, 7),
+           "and may not write");
+    expect(walked(0, ADDRESS + 8) == WORD, "process 0's tables lead to it");
+    expect(walked(pid, (OTHER_PAGE << 12) + 8) == WORD, "process 1's tables too");
+}
+
+static void asks(void) {
+    struct tower_container container = {0};
+    struct tower_role role = {0};
+    uint32_t directory = 0;
+    uint8_t little[100];
+    expect(tower_container(&tower, 1, &container) && container.quota == 10 && container.parent == 0, "its quota is 10");
+    expect(!tower_container(&tower, 2, &container) && !tower_container(&tower, 64, &container), "no process 2 or 64");
+    expect(tower_directory(&tower, 0, &directory) && tower_role(&tower, directory, &role), "a directory has a role");
+    expect(role.kind == TOWER_FRAME_DIRECTORY && role.pid == 0, "and it is process 0's");
+    expect(!tower_role(&tower, 64, &role) && !tower_directory(&tower, 64, &directory), "no frame or process 64");
+    expect(!tower_copy_frame(&tower, 0, little, sizeof little), "100 bytes are no room for a frame");
+}
+
+static void runs(void) {
+    struct tower_event events[3] = {
+        {.call = TOWER_LOAD, .flag = 4, .first = ADDRESS + 8}, {.call = 12}, {.pid = 64, .call = TOWER_QUOTA}};
+    struct tower_reply replies[3] = {{0}};
+    expect(!tower_run(&tower, events, 3, replies, 2), "three events want three replies");
+    expect(tower_run(&tower, events, 3, replies, 3), "three events are run");
+    expect(replies[0].kind == TOWER_VALUE && replies[0].first == WORD, "the first loads the word");
+    expect(replies[1].kind == TOWER_NO_EVENT && replies[2].kind == TOWER_NO_EVENT, "the others are no events");
+}
+
+int main(void) {
+    boots();
+    maps_and_loads();
+    shares();
+    asks();
+    runs();
+    tower_free(&tower);
+    tower_free(&tower);
+    expect(!tower.live && tower_frames(&tower) == 0, "freed");
+    expect(tower_boot(16, &tower) == TOWER_BOOTED, "and booted again");
+    tower_free(&tower);
+    return 0;
+}

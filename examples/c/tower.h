@@ -1,0 +1,162 @@
+/* The kernel's core, for C. docs/C-LIBRARY.md says what is proved of each function, and what C owes:
+ *
+ *  - The handle is a `struct tower` in storage of the caller's own. Fill it with zeros (or with
+ *    TOWER_NONE) once, and from then on give it to these functions alone: write none of its fields, and
+ *    make no copy of it, since two copies would own one core.
+ *  - One call at a time for each handle. It may come from any thread or CPU, under a lock of the
+ *    caller's own; another handle needs no lock beside it.
+ *  - Each pointer is to memory that is valid, aligned and, where it is not const, writable, and that no
+ *    other argument of the same call shares. A slice is a pointer and its length; the pointer is valid,
+ *    and not null, where the length is 0 too. Each `bool` is 0 or 1.
+ *  - memset and memmove do what the C library's do, and rattle_alloc and rattle_dealloc what heap.c says.
+ *    No call is made from a signal handler.
+ */
+#ifndef TOWER_H
+#define TOWER_H
+
+#include <stdbool.h>
+#include <stddef.h>
+#include <stdint.h>
+
+#ifdef __cplusplus
+extern "C" {
+#endif
+
+struct tower {
+    bool live;
+    void *core;
+};
+#define TOWER_NONE {false, 0}
+
+/* What tower_boot answers. All but the first leave the handle as it was. */
+enum tower_status {
+    TOWER_BOOTED = 0,
+    TOWER_BAD_SIZE = 1,     /* the number of frames is not 16 to 4,096 */
+    TOWER_NO_MEMORY = 2,
+    TOWER_HAS_CORE = 3,     /* the handle has a core already */
+};
+
+/* The calls, and what each takes:    flag                first          second    third  */
+enum tower_call {
+    TOWER_LOAD = 0,                /* size, 1 or 4        address                         */
+    TOWER_STORE = 1,               /* size, 1 or 4        address        value            */
+    TOWER_MAP = 2,                 /* may write, 0 or 1   page                            */
+    TOWER_UNMAP = 3,               /*                     page                            */
+    TOWER_PROTECT = 4,             /* may write, 0 or 1   page                            */
+    TOWER_INFO = 5,                /*                     page                            */
+    TOWER_OFFER = 6,               /* may write, 0 or 1   page           target           */
+    TOWER_WITHDRAW = 7,            /*                     page           target           */
+    TOWER_ACCEPT = 8,              /*                     giver's page   giver     page   */
+    TOWER_SPAWN = 9,               /*                     quota                           */
+    TOWER_EXIT = 10,
+    TOWER_QUOTA = 11,
+};
+
+/* One event. A page is an address without its last 12 bits, a process 0 to 63. What a call does not take
+ * is not read. Any other number of a call, process, size or right is no event. */
+struct tower_event {
+    uint8_t cpu;
+    uint8_t pid;
+    uint8_t call;
+    uint8_t flag;
+    uint32_t first;
+    uint32_t second;
+    uint32_t third;
+};
+
+/* The kinds of replies, and what each tells:   first      second   third  */
+enum tower_kind {
+    TOWER_DONE = 0,
+    TOWER_VALUE = 1,                         /* value                      */
+    TOWER_CHILD = 2,                         /* process                    */
+    TOWER_FLAGS = 3,                         /* holders, and the four bools */
+    TOWER_USAGE = 4,                         /* quota      used     given  */
+    TOWER_FAULT = 5,                         /* address    code            */
+    TOWER_REFUSED = 6,                       /* cause                      */
+    TOWER_NO_EVENT = 7,                      /* the numbers were no event  */
+};
+
+enum tower_cause {
+    TOWER_NO_PROCESS = 1,
+    TOWER_BAD_PAGE = 2,
+    TOWER_MISALIGNED = 3,
+    TOWER_NOT_MAPPED = 4,
+    TOWER_MAPPED = 5,
+    TOWER_OVER_QUOTA = 6,
+    TOWER_RIGHTS = 7,
+    TOWER_SELF_OFFER = 8,
+    TOWER_NO_TARGET = 9,
+    TOWER_OFFER_PENDING = 10,
+    TOWER_TOO_MANY_OFFERS = 11,
+    TOWER_NO_OFFER = 12,
+    TOWER_TABLE_FULL = 13,
+    TOWER_BAD_QUOTA = 14,
+    TOWER_HAS_CHILDREN = 15,
+    TOWER_ROOT_EXIT = 16,
+};
+
+/* One reply. What its kind does not tell is 0. */
+struct tower_reply {
+    uint32_t kind;
+    uint32_t first;
+    uint32_t second;
+    uint32_t third;
+    bool write;
+    bool may;
+    bool accessed;
+    bool dirty;
+};
+
+/* What a frame serves. */
+enum tower_service {
+    TOWER_FRAME_RESERVED = 0,
+    TOWER_FRAME_FREE = 1,
+    TOWER_FRAME_DIRECTORY = 2,  /* of process pid */
+    TOWER_FRAME_TABLE = 3,      /* of process pid, in its directory's slot */
+    TOWER_FRAME_PAGE = 4,       /* that count pages share */
+};
+
+struct tower_role {
+    uint32_t kind;
+    uint32_t pid;
+    uint32_t slot;
+    uint32_t count;
+};
+
+/* What a process may use, uses and gives to children, in frames. */
+struct tower_container {
+    uint32_t parent;
+    uint32_t quota;
+    uint32_t used;
+    uint32_t given;
+    uint32_t children;
+};
+
+/* A status. Only this function asks for memory, and only tower_free and a boot that fails give it back. */
+uint32_t tower_boot(uint32_t frames, struct tower *tower);
+
+/* Carries out one event. False where the handle has no core: nothing is written then. */
+bool tower_step(struct tower *tower, const struct tower_event *event, struct tower_reply *reply);
+
+/* Carries out events in order. False where the handle has no core or the lengths differ: nothing is
+ * written then. */
+bool tower_run(struct tower *tower, const struct tower_event *events, size_t event_count,
+               struct tower_reply *replies, size_t reply_count);
+
+/* How many frames the core has, and 0 where the handle has none. */
+uint32_t tower_frames(struct tower *tower);
+
+/* These change nothing of the core, and write where they answer true alone: that is exactly where there
+ * is a core and a live process of that number, or such a frame. A copy asks for 4,096 bytes of room. */
+bool tower_directory(struct tower *tower, uint32_t pid, uint32_t *frame);
+bool tower_container(struct tower *tower, uint32_t pid, struct tower_container *container);
+bool tower_role(struct tower *tower, uint32_t frame, struct tower_role *role);
+bool tower_copy_frame(struct tower *tower, uint32_t frame, uint8_t *bytes, size_t byte_count);
+
+/* Frees the core, if the handle has one. The handle may be booted again. */
+void tower_free(struct tower *tower);
+
+#ifdef __cplusplus
+}
+#endif
+#endif
