@@ -9,12 +9,13 @@ use Rattle.page_map.specs.Pages.{count_range}
 use Rattle.page_map.proofs.PageLemmas.{count_range-same, count_range-none}
 use Rattle.address_space.specs.Slots.{at_pid}
 use Rattle.address_space.specs.Image as memory
-use Rattle.address_space.specs.Image.{table_at, word_of, present_word, page_word}
-use Rattle.memory_image.specs.Image.{Image, frames, memory_of}
+use Rattle.address_space.specs.Image.{named_by, table_at, word_of, present_word, page_word}
+use Rattle.memory_image.specs.Image.{Image, frames, process_at, directory_from, memory_of}
 use Rattle.memory_image.specs.Words.{own_frame}
-use Rattle.integrity_checker.specs.Counts.{is_this, frame_of, words_in}
+use Rattle.integrity_checker.specs.Counts.{is_this, frame_of, names_by, maps_by, words_in}
 use Rattle.integrity_checker.specs.Adds.{frame_named, words_naming}
 use Rattle.memory_image.proofs.ImageReads.{no_word}
+use Rattle.memory_image.proofs.References.{directory_read}
 
 module _ (image : Image) (p slot : ℕ) where
   abbrev M : memory.Image
@@ -71,3 +72,16 @@ module _ (image : Image) (p slot : ℕ) where
 
   pub maps_without_table : (f : ℕ) → table_at M p slot ≡ None → count_range (λ page. is_this f (frame_of image p page)) (1024 * slot) 1024 ≡ 0
   maps_without_table f none = count_range-none (λ page. is_this f (frame_of image p page)) (1024 * slot) 1024 (λ i low. ap (λ x. is_this f (option_and_then (own_frame image.version) x)) (no-word i low none))
+
+-- ---- A process that isn't live names nothing
+
+dead-table : (image : Image) (p s : ℕ) → process_at image p ≡ None → table_at (memory_of image) p s ≡ None
+dead-table image p s none = ap (λ x. option_and_then (λ d. named_by s (word_of (memory_of image) d s)) x) (sym (directory_read image p (process_at image p) refl) ∙ ap directory_from none)
+
+pub names_of_dead : (image : Image) (p : ℕ) → process_at image p ≡ None → (f : ℕ) → names_by image p f ≡ 0
+names_of_dead image p none f = count_range-none (λ s. is_this f (table_at (memory_of image) p s)) 256 704 (λ i low. ap (is_this f) (dead-table image p (256 + i) none))
+
+pub maps_of_dead : (image : Image) (p : ℕ) → process_at image p ≡ None → (f : ℕ) → maps_by image p f ≡ 0
+maps_of_dead image p none f =
+    count_range-none (λ page. is_this f (frame_of image p page)) 0x40000 0xb0000
+    (λ i low. ap (λ x. is_this f (option_and_then (own_frame image.version) (option_and_then (λ t. present_word (memory_of image) t (word_of (memory_of image) t (index_number (0x40000 + i)))) x))) (dead-table image p (slot_number (0x40000 + i)) none))

@@ -11,11 +11,12 @@ mod serving;
 mod tests;
 mod text;
 mod verdicts;
+mod walking;
 mod words;
 
 pub use clauses::{FrameClause, ProcessClause};
-pub use counting::{count_process, pid_of};
-pub use judging::process_clause;
+pub use counting::pid_of;
+pub use judging::judge_process;
 pub use laws::{draws_add_up, sound_where_nothing_fails, tests_decide};
 pub use memory_image::{
     Image, ImageFault, NoMemory, Process, WriteFailed, bytes_are_refused_where_they_spell_none,

@@ -6,7 +6,7 @@ use crate::{
 };
 use arrayvec::ArrayVec;
 use kernel_calls::{Call, Core, Event, Reply};
-use page_words::{DirWord, Frame, Page, Pid, Size, Vaddr};
+use page_words::{DirWord, Frame, Page, Pid, Size, TableWord, Vaddr};
 use std::io;
 use std::io::Write;
 use std::test::Fail;
@@ -95,6 +95,13 @@ fn shared_both_ways(rt: &HostRuntime) -> Result<Core, Fail> {
     if reply != Reply::Value(9) {
         return Err("the page is not shared".into());
     }
+    call(&mut core, child, Call::Quota);
+    let again = Call::Accept {
+        giver: root,
+        giver_page: PAGE,
+        page: Page(0x50001),
+    };
+    call(&mut core, child, again);
     Ok(core)
 }
 
@@ -326,6 +333,157 @@ fn another_kernels_images_are_sound(rt: HostRuntime) -> Result<(), Fail> {
         let told = verdict(&rt, &bytes)?;
         assert_eq!(rt; text(&rt, &told)?.as_slice(), SOUND, "version {version}");
     }
+    Ok(())
+}
+
+/// What an image says of one mapped page of a process.
+#[derive(Clone, Copy, Debug, PartialEq, Eq)]
+struct Mapped {
+    pid: u8,
+    page: u32,
+    /// Whether the process may write to it now, and whether it may be given that right.
+    write: bool,
+    may: bool,
+    accessed: bool,
+    dirty: bool,
+    lazy: bool,
+}
+
+/// What the word of a page says, in an image of this version.
+fn mapped_by(version: u32, pid: u8, page: u32, word: u32) -> Mapped {
+    let entry = TableWord::read(word);
+    Mapped {
+        pid,
+        page,
+        write: if version == 2 {
+            entry.granted()
+        } else {
+            entry.writable()
+        },
+        may: entry.may(),
+        accessed: entry.accessed(),
+        dirty: entry.dirty(),
+        lazy: version == 2 && entry.lazy(),
+    }
+}
+
+/// Adds the mapped pages of a table of a process, each with its frame.
+fn add_pages(
+    image: &Image,
+    pid: u8,
+    slot: u32,
+    table: Frame,
+    pages: &mut Vec<(Mapped, Frame)>,
+) -> Result<(), Fail> {
+    for index in 0..1024 {
+        let word = image.word(table, index);
+        let entry = TableWord::read(word);
+        if entry.present() {
+            let page = slot.wrapping_mul(1024).wrapping_add(index);
+            pages.push((mapped_by(image.version(), pid, page, word), entry.frame()))?;
+        }
+    }
+    Ok(())
+}
+
+/// The mapped pages of all processes of an image, each with its frame, in ascending order.
+fn pages_of(rt: &HostRuntime, image: &Image) -> Result<Vec<(Mapped, Frame)>, Fail> {
+    let mut pages = Vec::new(rt.alloc());
+    for number in 0..64 {
+        if let Some(process) = image.process(process(number)?) {
+            for slot in 256..960 {
+                let word = DirWord::read(image.word(process.directory, slot));
+                if word.present() {
+                    add_pages(image, number, slot, word.frame(), &mut pages)?;
+                }
+            }
+        }
+    }
+    Ok(pages)
+}
+
+/// The bytes of a frame of an image.
+fn bytes_in(image: &Image, frame: Frame) -> Option<&[u8]> {
+    let start = (frame.0 as usize).wrapping_mul(4096);
+    image.bytes().get(start..start.wrapping_add(4096))
+}
+
+/// Whether two images say the same of all processes, but for the frames of their directories.
+fn have_same_processes(rt: &HostRuntime, one: &Image, other: &Image) -> Result<bool, Fail> {
+    for number in 0..64 {
+        let pid = process(number)?;
+        let same = match (one.process(pid), other.process(pid)) {
+            (None, None) => true,
+            (Some(mine), Some(theirs)) => {
+                (mine.parent, mine.quota, mine.used, mine.given)
+                    == (theirs.parent, theirs.quota, theirs.used, theirs.given)
+            }
+            (None, Some(_)) => false,
+            (Some(_), None) => false,
+        };
+        if !same {
+            return Ok(false);
+        }
+    }
+    Ok(true)
+}
+
+/// Whether two images say the same of all pages: which are mapped, with which flags and bytes, and which
+/// of them are one frame.
+fn have_same_pages(rt: &HostRuntime, one: &Image, other: &Image) -> Result<bool, Fail> {
+    let mine = pages_of(rt, one)?;
+    let theirs = pages_of(rt, other)?;
+    if mine.len() != theirs.len() {
+        return Ok(false);
+    }
+    for ((page, frame), (same_page, same_frame)) in mine.iter().zip(theirs.iter()) {
+        if page != same_page || bytes_in(one, *frame) != bytes_in(other, *same_frame) {
+            return Ok(false);
+        }
+        for ((_, next), (_, same_next)) in mine.iter().zip(theirs.iter()) {
+            if (frame == next) != (same_frame == same_next) {
+                return Ok(false);
+            }
+        }
+    }
+    Ok(true)
+}
+
+/// An image stands for one pair of spaces and book at most, and that is what is compared: the processes with
+/// what they have, and the mapped pages with their flags, bytes and groups.
+#[test]
+fn another_kernels_images_stand_for_the_same_state(rt: HostRuntime) -> Result<(), Fail> {
+    let core = shared_both_ways(&rt)?;
+    let own = Image::of(rt.alloc(), &core)?;
+    assert_eq!(rt; pages_of(&rt, &own)?.len(), 2);
+    for (version, page) in [(1, 0xb267), (2, 0xba67)] {
+        let bytes = spelled(&rt, &other_kernels_words(version, page))?;
+        let image = read_image(rt.alloc(), &bytes)?;
+        assert!(rt;
+            have_same_processes(&rt, &own, &image)?,
+            "version {version}"
+        );
+        assert!(rt; have_same_pages(&rt, &own, &image)?, "version {version}");
+    }
+    Ok(())
+}
+
+/// One byte of the shared page, one flag, one page moved, or one number of a process: another state.
+#[test]
+fn a_changed_image_stands_for_another_state(rt: HostRuntime) -> Result<(), Fail> {
+    let core = shared_both_ways(&rt)?;
+    let own = Image::of(rt.alloc(), &core)?;
+    for (place, changed) in [(46_860, 8), (50_956, 0xb265), (50_956, 0xb227), (50_956, 0)] {
+        let mut bytes = spelled(&rt, &other_kernels_words(1, 0xb267))?;
+        put(&mut bytes, place, changed);
+        let image = read_image(rt.alloc(), &bytes)?;
+        assert!(rt; have_same_processes(&rt, &own, &image)?, "word {place}");
+        assert!(rt; !have_same_pages(&rt, &own, &image)?, "word {place}");
+    }
+    let mut bytes = spelled(&rt, &other_kernels_words(2, 0xba67))?;
+    put(&mut bytes, 44, 6);
+    let image = read_image(rt.alloc(), &bytes)?;
+    assert!(rt; !have_same_processes(&rt, &own, &image)?);
     Ok(())
 }
 

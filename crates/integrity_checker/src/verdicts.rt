@@ -7,12 +7,12 @@ ghost use Rattle.std.specs.Bool.{Decides};
 ghost use Rattle.std.specs.List.{list_all, range_with_len};
 ghost use Rattle.memory_image.specs.Sound.{IsSound};
 ghost use Rattle.integrity_checker.specs.Told.{fails_nothing, verdict_on, process_told, frame_told};
-ghost use Rattle.integrity_checker.specs.Adds.{Counts};
+ghost use Rattle.integrity_checker.specs.Adds.{Adds, AreZeros, Counts};
 ghost use Rattle.integrity_checker.specs.Verdict.{process_clause, frame_clause};
 
 use crate::clauses::{FrameClause, ProcessClause};
-use crate::counting::{count_all, pid_of};
-use crate::judging::process_clause;
+use crate::counting::pid_of;
+use crate::judging::judge_process;
 use crate::serving::frame_clause;
 use memory_image::{Image, NoMemory};
 use page_words::{Frame, Pid};
@@ -40,13 +40,22 @@ impl Model for Verdict {
     ghost invariant = { λ v. (length v.processes ≡ 64) × (length v.frames.items ≤ 4096) };
 }
 
-fn judge_processes(image: &Image) -> [Option<ProcessClause>; 64]
+/// Judges all processes, and adds what they name and map to counts of zeros.
+fn judge_processes(
+    image: &Image,
+    names: &mut [u32],
+    maps: &mut [u32],
+) -> [Option<ProcessClause>; 64]
+    requires names { AreZeros names.old }
+    requires maps { AreZeros maps.old }
     ensures clauses { result ≡ map (process_clause image.now) (range_with_len 0 64) }
     ensures length { length result ≡ 64 }
+    ensures names { Adds names.old names.new (λ f. counts.names image.now f) }
+    ensures maps { Adds maps.old maps.new (λ f. counts.maps image.now f) }
 {
     let mut clauses = [None; 64];
     for number in 0..64 {
-        clauses[number as usize] = process_clause(image, pid_of(number));
+        clauses[number as usize] = judge_process(image, pid_of(number), names, maps);
     }
     clauses
 }
@@ -160,8 +169,7 @@ fn judged(alloc: Global, image: &Image) -> Option<Verdict>
     let Ok(mut clauses) = vec![in alloc; None; frames] else {
         return None;
     };
-    count_all(image, &mut names, &mut maps);
-    let processes = judge_processes(image);
+    let processes = judge_processes(image, &mut names, &mut maps);
     Some(Verdict::of_counts(image, processes, &names, &maps, clauses))
 }
 

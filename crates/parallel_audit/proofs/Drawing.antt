@@ -13,7 +13,7 @@ use Rattle.page_map.specs.Pages.{counted}
 use Rattle.memory_image.specs.Image.{Image}
 use Rattle.integrity_checker.specs.Draws.{times}
 use Rattle.parallel_audit.specs.declared.draw.Drawer.{Drawer}
-use Rattle.parallel_audit.specs.Drawn.{drawer, once_below, share_of, spent_of, where_so, times_of, FitsSeat, Held, Given, Drew, Totals, gathered, spent}
+use Rattle.parallel_audit.specs.Drawn.{drawer, once_below, share_of, spent_of, where_so, times_of, FitsSeat, IsIdle, Held, Given, Drew, Totals, gathered, spent}
 use Rattle.parallel_audit.proofs.Sums.{total_set, total_push, total_least, total_one, times_append, times_nil, times_one, once_more, none_yet, full, spent_share, total_single, first_set}
 
 abbrev AllFit : ℕ → List Drawer → Type 0
@@ -100,12 +100,10 @@ draws n slots seat v carried some_share idle s h homes at small =
       ),
     ))
 
--- a share is cut off a seat that has drawn nothing
-pub cuts : (n seat : ℕ) (v : Drawer) → 0 < v.share → v.drawn ≡ [] → v.done ≡ false → Splits (Given n) seat v (drawer v.image (v.share - 1) [] false) (drawer v.image 1 [] false)
-cuts n seat v some_share none_drawn idle s h at =
+-- a seat that has drawn nothing is cut in two
+pub cuts : (n seat : ℕ) (v left right : Drawer) → IsIdle v → IsIdle left → IsIdle right → left.share + right.share ≡ v.share → Splits (Given n) seat v left right
+cuts n seat v left right idle mine his shares s h at =
     let w : ℕ = slice_index s.words 0 in
-    let left = drawer v.image (v.share - 1) [] false in
-    let right = drawer v.image 1 [] false in
     let views = set s.views seat left in (
       h.0,
       h.1,
@@ -114,13 +112,14 @@ cuts n seat v some_share none_drawn idle s h at =
             let p = total_set (times_of x) s.views seat v left at in
             let q = total_push (times_of x) views right in
             let a = h.2.0 x in
-            let b : times x v.drawn ≡ 0 = ap (times x) none_drawn ∙ times_nil x in
-            let c = times_nil x in
+            let b : times x v.drawn ≡ 0 = ap (times x) idle.0 ∙ times_nil x in
+            let c : times x left.drawn ≡ 0 = ap (times x) mine.0 ∙ times_nil x in
+            let d : times x right.drawn ≡ 0 = ap (times x) his.0 ∙ times_nil x in
             let o : ℕ = once_below x (min w 64) in
-            omega arith),
-        (let p = total_set share_of s.views seat v left at in let q = total_push share_of views right in let a = h.2.1 in omega arith),
-        (let p = total_set spent_of s.views seat v left at in let q = total_push spent_of views right in let a = h.2.2 in let z = spent_least v idle in omega arith),
-        fit_push w views right (fit_set w s.views seat left h.2.3 ((λ _. refl), (λ d. absurd (off d)))) ((λ _. refl), (λ d. absurd (off d))),
+            omega (arith, a, b, c, d, p, q)),
+        (let p = total_set share_of s.views seat v left at in let q = total_push share_of views right in let a = h.2.1 in omega (arith, shares, a, p, q)),
+        (let p = total_set spent_of s.views seat v left at in let q = total_push spent_of views right in let a = h.2.2 in let z = spent_least v idle.1 in let y = spent_least left mine.1 in let x = spent_least right his.1 in omega (arith, a, p, q, x, y, z)),
+        fit_push w views right (fit_set w s.views seat left h.2.3 ((λ _. mine.0), (λ d. absurd (off (sym mine.1 ∙ d))))) ((λ _. his.0), (λ d. absurd (off (sym his.1 ∙ d)))),
       ),
     )
 

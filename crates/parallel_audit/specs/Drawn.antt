@@ -35,6 +35,10 @@ spent_of v = where_so v.done v.share
 abbrev pub times_of : ℕ → Drawer → ℕ
 times_of x v = times x v.drawn
 
+-- a seat that has drawn nothing yet
+abbrev pub IsIdle : Drawer → Type 0
+IsIdle v = (v.drawn ≡ []) × (v.done ≡ false)
+
 -- a seat without a share has drawn nothing, and one that is done stands beside a word of 64 or more
 abbrev pub FitsSeat : ℕ → Drawer → Type 0
 FitsSeat word v = (v.share ≡ 0 → v.drawn ≡ []) × (v.done ≡ true → 64 ≤ word)

@@ -1,6 +1,6 @@
 //! The audit: how it is made, and how what its helpers found is put together.
 
-ghost use Rattle.std.specs.Prelude.{◌≡◌, ◌<◌, ◌≤◌, ◌+◌, ◌++◌, ◌∷◌, [], ℕ, All, IfOk, IfErr, IfSome, length, map, sum_by, true, vec_len};
+ghost use Rattle.std.specs.Prelude.{◌≡◌, ◌<◌, ◌≤◌, ◌+◌, ◌-◌, ◌++◌, ◌∷◌, [], ℕ, All, IfOk, IfErr, IfSome, false, length, map, sum_by, true, vec_len};
 ghost use Rattle.std.specs.List.{list_all, range_with_len};
 ghost use Rattle.memory_image.specs.Image.{frames};
 ghost use Rattle.integrity_checker.specs.Counts as counts;
@@ -8,14 +8,14 @@ ghost use Rattle.integrity_checker.specs.Adds.{Counts};
 ghost use Rattle.integrity_checker.specs.Told.{verdict_on};
 ghost use Rattle.integrity_checker.specs.Verdict.{process_clause};
 ghost use Rattle.integrity_checker.specs.Draws.{times};
-ghost use Rattle.parallel_audit.specs.Drawn.{once_below};
+ghost use Rattle.parallel_audit.specs.Drawn.{IsIdle, drawer, once_below};
 ghost use Rattle.parallel_audit.specs.Steps.{AnsweredAll, AreMissing, IsOf, IsRefused, answered};
 
 use crate::draw::{About, CutOne, Drawer, Gather, Total};
 use crate::faults::AuditFault;
 use crate::findings::Findings;
 use crate::parts::{Audit, DrawTable, Helper};
-use atomic_table::{Seat, Table};
+use atomic_table::{Seat, Split, Table};
 use integrity_checker::Verdict;
 use memory_image::Image;
 use std::alloc::{AllocError, Global};
@@ -100,13 +100,41 @@ fn made(alloc: Global, image: Image, helpers: u64) -> Option<(Audit, Vec<Helper>
     };
     let mut seats = Vec::new(alloc);
     for number in 1..helpers {
-        let seat = table.shared.split_seat::<CutOne>(&mut rest);
+        let seat = cut_one(&table, &mut rest);
         let findings = Findings::new(alloc, &about.image)?;
         push(&mut seats, Helper::new(seat, findings))?;
     }
     let findings = Findings::new(alloc, &about.image)?;
     push(&mut seats, Helper::new(rest, findings))?;
     Some((Audit { table, about, room }, seats))
+}
+
+/// Cuts a seat that has drawn nothing in two, which together stand for as many helpers.
+fn cut<M: Split<Drawer>>(table: &DrawTable, seat: &mut Seat<u8, Drawer>) -> Seat<u8, Drawer>
+    requires own { seat.old.table_id ≡ table.now.shared.table_id }
+    requires words { table.now.shared.table_id.words ≡ 1 }
+    requires idle { IsIdle seat.old.me.0 }
+    requires left { IsIdle (M.left seat.old.me.0) }
+    requires right { IsIdle (M.right seat.old.me.0) }
+    requires shares { (M.left seat.old.me.0).share + (M.right seat.old.me.0).share ≡ seat.old.me.0.share }
+    ensures left { seat.new.me ≡ (M.left seat.old.me.0, seat.old.me.1) }
+    ensures right { result.me ≡ (M.right seat.old.me.0, []) }
+    ensures own { (seat.new.table_id ≡ seat.old.table_id) × (result.table_id ≡ seat.old.table_id) }
+{
+    table.shared.split_seat::<M>(seat)
+}
+
+/// Cuts the seat of one helper off a seat that has drawn nothing, and stands for one at least.
+fn cut_one(table: &DrawTable, rest: &mut Seat<u8, Drawer>) -> Seat<u8, Drawer>
+    requires own { rest.old.table_id ≡ table.now.shared.table_id }
+    requires words { table.now.shared.table_id.words ≡ 1 }
+    requires some { 0 < rest.old.me.0.share }
+    requires idle { IsIdle rest.old.me.0 }
+    ensures left { rest.new.me ≡ (drawer rest.old.me.0.image (rest.old.me.0.share - 1) [] false, rest.old.me.1) }
+    ensures right { result.me ≡ (drawer rest.old.me.0.image 1 [] false, []) }
+    ensures own { (rest.new.table_id ≡ rest.old.table_id) × (result.table_id ≡ rest.old.table_id) }
+{
+    cut::<CutOne>(table, rest)
 }
 
 /// Whether each of them has answered that none is left.

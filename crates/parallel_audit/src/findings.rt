@@ -8,7 +8,7 @@ ghost use Rattle.integrity_checker.specs.Verdict.{process_clause};
 ghost use Rattle.integrity_checker.specs.Adds.{Adds, Counts, HaveRoom};
 ghost use Rattle.parallel_audit.specs.Found.{IsFound, HaveRoomFor, clause_at, either};
 
-use integrity_checker::{ProcessClause, count_process, pid_of, process_clause};
+use integrity_checker::{ProcessClause, judge_process, pid_of};
 use memory_image::Image;
 use std::alloc::Global;
 
@@ -45,8 +45,7 @@ impl Findings {
         ensures maps { Adds self.old.maps.items self.new.maps.items (λ f. maps_by image.now number f) }
     {
         let pid = pid_of(number);
-        let clause = process_clause(image, pid);
-        count_process(image, pid, &mut self.names, &mut self.maps);
+        let clause = judge_process(image, pid, &mut self.names, &mut self.maps);
         self.clauses[number as usize] = clause;
         clause
     }

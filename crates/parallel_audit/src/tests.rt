@@ -5,8 +5,9 @@ ghost use Rattle.parallel_audit.specs.Steps.{IsOf};
 
 use crate::{Audit, AuditFault, Helper, Step};
 use integrity_checker::{Verdict, check};
+use kernel_calls::{Call, Core, Event};
 use memory_image::{Image, read_image};
-use page_words::{Frame, Pid};
+use page_words::{Frame, Page, Pid, Size, Vaddr};
 use std::alloc::Global;
 use std::process::Abort;
 use std::test::Fail;
@@ -54,14 +55,53 @@ const SHARED: [(usize, u32); 37] = [
     (50956, 0xba67),
 ];
 
-/// A word that is put into the image, so that it is sound or not: whether it is.
-const DAMAGES: [(usize, u32, bool); 6] = [
-    (46860, 8, true),
-    (24, 4, false),
-    (48, 2, false),
-    (26380, 0, false),
-    (1736, 3, false),
-    (4096, 1, false),
+/// Words that are put into the image, so that it is sound or not: whether it is.
+const CASES: [(&[(usize, u32)], bool); 25] = [
+    // as it is, and with another value in the shared page
+    (&[], true),
+    (&[(46860, 8)], true),
+    // words of version 1, and each version with the other's words
+    (&[(4, 1), (26380, 0xb267), (50956, 0xb267)], true),
+    (&[(4, 1)], false),
+    (&[(26380, 0xb267), (50956, 0xb267)], false),
+    // a table in the place of a shared page
+    (&[(26380, 0xca67)], false),
+    // no page in a table, and a page that is mapped elsewhere
+    (&[(26380, 0)], false),
+    (&[(26380, 0x3a67)], false),
+    // quota of process 0, and directory of process 1
+    (&[(20, 16)], false),
+    (&[(56, 0)], false),
+    // a word of directory 10, in slot 0 and in slot 256
+    (&[(42764, 1)], false),
+    (&[(43788, 0xc0a7)], false),
+    // used and quota of process 1, given and used of process 0
+    (&[(48, 4)], false),
+    (&[(44, 2)], false),
+    (&[(28, 6)], false),
+    (&[(24, 4)], false),
+    // a word of frame 0, and roles of frame 1
+    (&[(1808, 1)], false),
+    (&[(1564, 0)], false),
+    (&[(1564, 2)], false),
+    (&[(1564, 3)], false),
+    // count of frame 11
+    (&[(1736, 3)], false),
+    // a word of table 12: a page in a free frame, and a lazy page that nobody is charged for
+    (&[(50960, 0x1005)], false),
+    (&[(50960, 0x0405)], false),
+    // a lazy page with a charge for it, in version 1 and in version 2
+    (
+        &[
+            (4, 1),
+            (26380, 0xb267),
+            (50956, 0xb267),
+            (50960, 0x0405),
+            (24, 4),
+        ],
+        false,
+    ),
+    (&[(50960, 0x0405), (24, 4)], true),
 ];
 
 /// Puts a word at a place.
@@ -73,13 +113,15 @@ fn put(bytes: &mut [u8], place: usize, word: u32) {
     }
 }
 
-/// The image with one word put to it.
-fn image_with(alloc: Global, place: usize, word: u32) -> Result<Image, Fail> {
+/// The image with these words put to it.
+fn image_with(alloc: Global, changes: &[(usize, u32)]) -> Result<Image, Fail> {
     let mut bytes = vec![in alloc; 0u8; 67_340]?;
     for (place, word) in SHARED {
         put(&mut bytes, place, word);
     }
-    put(&mut bytes, place, word);
+    for (place, word) in changes {
+        put(&mut bytes, *place, *word);
+    }
     let image = read_image(alloc, &bytes)?;
     Ok(image)
 }
@@ -89,6 +131,22 @@ fn image_with(alloc: Global, place: usize, word: u32) -> Result<Image, Fail> {
 struct Answers {
     times: [u64; 64],
     wrong: u64,
+}
+
+/// No answers.
+fn no_answers() -> Answers {
+    Answers {
+        times: [0; 64],
+        wrong: 0,
+    }
+}
+
+/// Adds answers to others.
+fn add_answers(into: &mut Answers, more: &Answers) {
+    for (count, new) in into.times.iter_mut().zip(more.times.iter()) {
+        *count = count.wrapping_add(*new);
+    }
+    into.wrong = into.wrong.wrapping_add(more.wrong);
 }
 
 /// Some steps of a helper.
@@ -136,8 +194,8 @@ fn round(
     Ok(back)
 }
 
-/// Whether two verdicts are the same on an image of 16 frames.
-fn agree(one: &Verdict, other: &Verdict) -> bool {
+/// Whether two verdicts are the same, on images of so many frames.
+fn agree(one: &Verdict, other: &Verdict, frames: u32) -> bool {
     for number in 0..64 {
         if let Some(pid) = Pid::new(number) {
             if one.process(pid) != other.process(pid) {
@@ -145,7 +203,7 @@ fn agree(one: &Verdict, other: &Verdict) -> bool {
             }
         }
     }
-    for number in 0..17 {
+    for number in 0..frames {
         if one.frame(Frame(number)) != other.frame(Frame(number)) {
             return false;
         }
@@ -153,10 +211,104 @@ fn agree(one: &Verdict, other: &Verdict) -> bool {
     one.sound() == other.sound()
 }
 
+/// All steps of a helper, and what it answered.
+fn all_steps(audit: &Audit, helper: Helper, told: &Verdict) -> (Helper, Answers)
+    requires { IsOf audit.now helper }
+    ensures { IsOf audit.now result.0 }
+{
+    let mut answers = no_answers();
+    let helper = steps(audit, helper, told, 65, &mut answers);
+    (helper, answers)
+}
+
+/// All steps of all helpers, each in a thread of its own, and what they answered.
+fn threads<R: Threads + Sync>(
+    rt: &R,
+    audit: &Audit,
+    helpers: Vec<Helper>,
+    told: &Verdict,
+) -> Result<Vec<(Helper, Answers)>, Fail>
+    requires { All (λ h. IsOf audit.now h) helpers.items }
+    ensures { IfOk result (λ v. All (λ r. IsOf audit.now r.0) v.items) }
+{
+    let work = move |helper: Helper| -> (Helper, Answers)
+        requires { IsOf audit.now helper }
+        ensures { IsOf audit.entry.now result.0 }
+    { all_steps(audit, helper, told) };
+    let done = thread::map_vec(rt, helpers, &work)?;
+    Ok(done)
+}
+
+/// The helpers that come back, and all that they answered.
+fn handed_back(
+    alloc: Global,
+    audit: &Audit,
+    mut done: Vec<(Helper, Answers)>,
+    answers: &mut Answers,
+) -> Result<Vec<Helper>, Fail>
+    requires { All (λ r. IsOf audit.now r.0) done.items }
+    ensures { IfOk result (λ v. All (λ h. IsOf audit.now h) v.items) }
+{
+    let mut back = Vec::new(alloc);
+    while let Some((helper, found)) = done.pop() {
+        add_answers(answers, &found);
+        back.push(helper)?;
+    }
+    Ok(back)
+}
+
+/// The verdict of an audit by so many helpers in turn, or each in a thread of its own, and what they
+/// answered.
+fn audited<R: Threads + Sync>(
+    rt: &R,
+    alloc: Global,
+    image: Image,
+    count: usize,
+    in_threads: bool,
+    told: &Verdict,
+) -> Result<(Verdict, Answers), Fail> {
+    let (audit, helpers) = Audit::new(alloc, image, count)?;
+    let mut answers = no_answers();
+    if in_threads {
+        let done = threads(rt, &audit, helpers, told)?;
+        let back = handed_back(alloc, &audit, done, &mut answers)?;
+        let verdict = audit.finish(back)?;
+        return Ok((verdict, answers));
+    }
+    let some = round(alloc, &audit, helpers, told, 5, 8, &mut answers)?;
+    let all = round(alloc, &audit, some, told, 65, 8, &mut answers)?;
+    let verdict = audit.finish(all)?;
+    Ok((verdict, answers))
+}
+
+/// By 1 to 8 helpers, in turn or in threads, the verdict on an image is the check's, and each number was
+/// answered once, with the check's clause.
+fn each_number_of_helpers<R: Threads + Abort + Sync>(
+    rt: &R,
+    alloc: Global,
+    changes: &[(usize, u32)],
+    sound: bool,
+    in_threads: bool,
+) -> Result<(), Fail> {
+    let told = check(alloc, &image_with(alloc, changes)?)?;
+    assert_eq!(rt; told.sound(), sound);
+    for count in 1..9usize {
+        let image = image_with(alloc, changes)?;
+        let (verdict, answers) = audited(rt, alloc, image, count, in_threads, &told)?;
+        assert_eq!(rt;
+            (answers.times, answers.wrong),
+            ([1; 64], 0),
+            "{count} helpers"
+        );
+        assert!(rt; agree(&told, &verdict, 17), "{count} helpers");
+    }
+    Ok(())
+}
+
 #[test]
 fn other_numbers_of_helpers_are_refused(rt: HostRuntime) -> Result<(), Fail> {
     for helpers in [0, 9, usize::MAX] {
-        let image = image_with(rt.alloc(), 46860, 9)?;
+        let image = image_with(rt.alloc(), &[])?;
         let fault = Audit::new(rt.alloc(), image, helpers).err();
         assert_eq!(rt; fault, Some(AuditFault::BadCount));
     }
@@ -166,13 +318,10 @@ fn other_numbers_of_helpers_are_refused(rt: HostRuntime) -> Result<(), Fail> {
 #[test]
 fn a_helper_that_was_not_stepped_is_missing(rt: HostRuntime) -> Result<(), Fail> {
     let alloc = rt.alloc();
-    let image = image_with(alloc, 46860, 9)?;
+    let image = image_with(alloc, &[])?;
     let told = check(alloc, &image)?;
     let (audit, helpers) = Audit::new(alloc, image, 2)?;
-    let mut answers = Answers {
-        times: [0; 64],
-        wrong: 0,
-    };
+    let mut answers = no_answers();
     let back = round(alloc, &audit, helpers, &told, 65, 1, &mut answers)?;
     assert_eq!(rt; (answers.times, answers.wrong), ([1; 64], 0));
     assert_eq!(rt; audit.finish(back).err(), Some(AuditFault::Missing));
@@ -181,101 +330,100 @@ fn a_helper_that_was_not_stepped_is_missing(rt: HostRuntime) -> Result<(), Fail>
 
 #[test]
 fn helpers_in_turn_find_what_one_finds(rt: HostRuntime) -> Result<(), Fail> {
-    let alloc = rt.alloc();
-    for (place, word, sound) in DAMAGES {
-        for count in 1..9usize {
-            let image = image_with(alloc, place, word)?;
-            let told = check(alloc, &image)?;
-            assert_eq!(rt; told.sound(), sound, "{place}");
-            let (audit, helpers) = Audit::new(alloc, image, count)?;
-            let mut answers = Answers {
-                times: [0; 64],
-                wrong: 0,
-            };
-            let some = round(alloc, &audit, helpers, &told, 5, 8, &mut answers)?;
-            let all = round(alloc, &audit, some, &told, 65, 8, &mut answers)?;
-            let verdict = audit.finish(all)?;
-            assert_eq!(rt; (answers.times, answers.wrong), ([1; 64], 0));
-            assert!(rt; agree(&told, &verdict), "{count} helpers, {place}");
-        }
+    for (changes, sound) in CASES {
+        each_number_of_helpers(&rt, rt.alloc(), changes, sound, false)?;
     }
-    Ok(())
-}
-
-/// Takes the last helper.
-fn taken(audit: &Audit, helpers: &mut Vec<Helper>) -> Option<Helper>
-    requires { All (λ h. IsOf audit.now h) helpers.old.items }
-    ensures left { All (λ h. IsOf audit.now h) helpers.new.items }
-    ensures taken { IfSome result (λ h. IsOf audit.now h) }
-{
-    helpers.pop()
-}
-
-/// Two helpers, handed back.
-fn handed_back(alloc: Global, audit: &Audit, one: Helper, two: Helper) -> Result<Vec<Helper>, Fail>
-    requires { IsOf audit.now one × IsOf audit.now two }
-    ensures { IfOk result (λ v. All (λ h. IsOf audit.now h) v.items) }
-{
-    let mut back = Vec::new(alloc);
-    back.push(one)?;
-    back.push(two)?;
-    Ok(back)
-}
-
-/// All steps of a helper, and what it answered.
-fn all_steps(audit: &Audit, helper: Helper, told: &Verdict) -> (Helper, Answers)
-    requires { IsOf audit.now helper }
-    ensures { IsOf audit.now result.0 }
-{
-    let mut answers = Answers {
-        times: [0; 64],
-        wrong: 0,
-    };
-    let helper = steps(audit, helper, told, 65, &mut answers);
-    (helper, answers)
-}
-
-/// How often two helpers answered each number.
-fn both(one: &Answers, two: &Answers) -> [u64; 64] {
-    let mut times = [0; 64];
-    for number in 0..64usize {
-        times[number] = one.times[number].wrapping_add(two.times[number]);
-    }
-    times
-}
-
-/// Two helpers judge an image in two threads.
-fn in_threads<R: Threads + Abort + Sync>(rt: &R, alloc: Global, image: Image) -> Result<(), Fail> {
-    let told = check(alloc, &image)?;
-    let (audit, mut helpers) = Audit::new(alloc, image, 2)?;
-    let two = taken(&audit, &mut helpers).ok_or("two helpers")?;
-    let one = taken(&audit, &mut helpers).ok_or("two helpers")?;
-    let shared = &audit;
-    let verdict = &told;
-    let ((one, first), (two, second)) = thread::join(
-        rt,
-        move || -> (Helper, Answers)
-            requires { IsOf shared.now one }
-            ensures { IsOf shared.entry.now result.0 }
-        { all_steps(shared, one, verdict) },
-        move || -> (Helper, Answers)
-            requires { IsOf shared.now two }
-            ensures { IsOf shared.entry.now result.0 }
-        { all_steps(shared, two, verdict) },
-    );
-    let back = handed_back(alloc, &audit, one, two)?;
-    let found = audit.finish(back)?;
-    assert_eq!(rt; both(&first, &second), [1; 64]);
-    assert_eq!(rt; (first.wrong, second.wrong), (0, 0));
-    assert!(rt; agree(&told, &found));
     Ok(())
 }
 
 #[test]
 fn helpers_in_threads_find_what_one_finds(rt: HostRuntime) -> Result<(), Fail> {
-    for (place, word, _) in DAMAGES {
-        let image = image_with(rt.alloc(), place, word)?;
-        in_threads(&rt, rt.alloc(), image)?;
+    for (changes, sound) in CASES {
+        each_number_of_helpers(&rt, rt.alloc(), changes, sound, true)?;
     }
     Ok(())
+}
+
+/// By each of these numbers of helpers, in turn and in threads, a core of so many frames is sound, as the
+/// check says.
+fn is_sound<R: Threads + Abort + Sync>(
+    rt: &R,
+    alloc: Global,
+    core: &Core,
+    frames: u32,
+    counts: &[usize],
+) -> Result<(), Fail> {
+    let told = check(alloc, &Image::of(alloc, core)?)?;
+    assert!(rt; told.sound());
+    for in_threads in [false, true] {
+        for count in counts {
+            let image = Image::of(alloc, core)?;
+            let (verdict, answers) = audited(rt, alloc, image, *count, in_threads, &told)?;
+            assert_eq!(rt;
+                (answers.times, answers.wrong),
+                ([1; 64], 0),
+                "{count} helpers"
+            );
+            assert!(rt; agree(&told, &verdict, frames), "{count} helpers");
+        }
+    }
+    Ok(())
+}
+
+fn store(addr: u32, value: u32) -> Call {
+    Call::Store {
+        addr: Vaddr(addr),
+        size: Size::Four,
+        value,
+    }
+}
+
+/// Two processes come to share a page, and the second maps more, and goes.
+fn calls(root: Pid, child: Pid) -> [(Pid, Call); 10] {
+    let page = Page(0x40000);
+    [
+        (root, store(0x4000_0000, 7)),
+        (root, Call::Spawn { quota: 5 }),
+        (
+            root,
+            Call::Offer {
+                page,
+                target: child,
+                write: true,
+            },
+        ),
+        (
+            child,
+            Call::Accept {
+                giver: root,
+                giver_page: page,
+                page: Page(0x50000),
+            },
+        ),
+        (child, store(0x5000_0000, 9)),
+        (child, Call::Map { page, write: false }),
+        (child, Call::Protect { page, write: true }),
+        (root, Call::Unmap { page }),
+        (child, Call::Exit),
+        (root, store(0x4000_0000, 1)),
+    ]
+}
+
+#[test]
+fn helpers_find_a_core_sound_after_each_call(rt: HostRuntime) -> Result<(), Fail> {
+    let root = Pid::new(0).ok_or("no process")?;
+    let child = Pid::new(1).ok_or("no process")?;
+    let mut core = Core::boot(rt.alloc(), 16)?;
+    is_sound(&rt, rt.alloc(), &core, 16, &[1, 2, 3, 4, 5, 6, 7, 8])?;
+    for (pid, call) in calls(root, child) {
+        core.step(&Event { cpu: 0, pid, call });
+        is_sound(&rt, rt.alloc(), &core, 16, &[1, 2, 3, 4, 5, 6, 7, 8])?;
+    }
+    Ok(())
+}
+
+#[test]
+fn helpers_find_the_largest_core_sound(rt: HostRuntime) -> Result<(), Fail> {
+    let core = Core::boot(rt.alloc(), 4096)?;
+    is_sound(&rt, rt.alloc(), &core, 4096, &[1, 8])
 }
