@@ -22,6 +22,8 @@ mod rounds;
 mod script;
 mod session;
 #[cfg(test)]
+mod strange_tests;
+#[cfg(test)]
 mod tests;
 mod tokens;
 mod tools;
