@@ -8,6 +8,8 @@
 ghost use Rattle.std.specs.Prelude.{◌≡◌, ◌≤◌};
 ghost use Rattle.tower.specs.Faults.{status_of, status_of_tool, status_of_words};
 
+#[cfg(test)]
+mod damaged_tests;
 mod faults;
 mod images;
 mod jobs;
