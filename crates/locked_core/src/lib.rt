@@ -8,6 +8,8 @@
 
 mod book;
 mod call_log;
+#[cfg(test)]
+mod contention_tests;
 mod cpu;
 mod faults;
 mod gate;
