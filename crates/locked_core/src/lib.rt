@@ -13,6 +13,8 @@ mod contention_tests;
 mod cpu;
 mod faults;
 mod gate;
+#[cfg(test)]
+mod gate_tests;
 mod kernel;
 mod locked;
 mod monitor;
