@@ -1,6 +1,6 @@
 //! Four guests in four threads, each of which counts up a byte of its own in one word that they share.
 
-ghost use Rattle.std.specs.Prelude.{◌≡◌, ◌<◌};
+ghost use Rattle.std.specs.Prelude.{◌≡◌};
 
 use crate::{Blank, Boot, Cpu, CpuPort, History, Kernel, Name, OpenGate};
 use guest_cpu::{End, Guest, Instruction, Reg, run};
@@ -58,17 +58,20 @@ fn give_page<N: Name, R: Wait + Abort>(
         giver_page: PAGE,
         page: PAGE,
     };
-    answered(rt, kernel, cpu, root, Call::Spawn { quota: 5 }, Reply::Child(child));
+    answered(
+        rt,
+        kernel,
+        cpu,
+        root,
+        Call::Spawn { quota: 5 },
+        Reply::Child(child),
+    );
     answered(rt, kernel, cpu, root, offer, Reply::Done);
     answered(rt, kernel, cpu, child, accept, Reply::Done);
 }
 
 /// Stores 0 as process 0, and gives its page to processes 1, 2 and 3: ten calls.
-fn open_word<N: Name, R: Wait + Abort>(
-    rt: &R,
-    kernel: &Kernel<N, OpenGate>,
-    cpu: &mut Cpu<N>,
-) {
+fn open_word<N: Name, R: Wait + Abort>(rt: &R, kernel: &Kernel<N, OpenGate>, cpu: &mut Cpu<N>) {
     let store = Call::Store {
         addr: Vaddr(WORD),
         size: Size::Four,
@@ -174,19 +177,28 @@ fn four_count<N: Name + Send + Sync, R: Threads + Wait + Abort + Sync>(
         move || count_both(rt, shared, zero, one),
         move || count_both(rt, shared, two, three),
     );
-    let ends = (low.0.1, low.1.1, high.0.1, high.1.1);
-    let halted = (End::Halted, End::Halted, End::Halted, End::Halted);
-    assert_eq!(rt; ends, halted);
-    let mut zero = low.0.0;
+    let ((mut zero, first), (one, second)) = low;
+    let ((two, third), (three, fourth)) = high;
+    for end in [first, second, third, fourth] {
+        assert_eq!(rt; end, End::Halted);
+    }
     let load = Call::Load {
         addr: Vaddr(WORD),
         size: Size::Four,
     };
-    answered(rt, &kernel, &mut zero, process(rt, 0), load, Reply::Value(0x3232_3232));
+    answered(
+        rt,
+        &kernel,
+        &mut zero,
+        process(rt, 0),
+        load,
+        Reply::Value(0x3232_3232),
+    );
     let mut back = Vec::new(alloc);
-    for cpu in [zero, low.1.0, high.0.0, high.1.0] {
-        back.push(cpu).expect(rt, "memory");
-    }
+    back.push(zero).expect(rt, "memory");
+    back.push(one).expect(rt, "memory");
+    back.push(two).expect(rt, "memory");
+    back.push(three).expect(rt, "memory");
     let Ok(history) = kernel.close(rt, back) else {
         panic!(rt; "not closed")
     };

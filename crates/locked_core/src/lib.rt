@@ -17,6 +17,8 @@ mod gate;
 mod gate_tests;
 mod kernel;
 mod locked;
+#[cfg(test)]
+mod memory_tests;
 mod monitor;
 mod port;
 mod publish;

@@ -2,9 +2,7 @@
 
 ghost use Rattle.std.specs.Prelude.{◌≡◌};
 
-use crate::{
-    Blank, Boot, BootFault, Cpu, CpuPort, Fault, Kernel, Monitor, Name, OpenGate,
-};
+use crate::{Blank, Boot, BootFault, Cpu, CpuPort, Fault, Kernel, Monitor, Name, OpenGate};
 use guest_cpu::{Port, PortFault};
 use kernel_calls::{Call, Event, Reply};
 use page_words::{Pid, Size, Vaddr};
