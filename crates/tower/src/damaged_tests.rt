@@ -1,15 +1,13 @@
 //! Images that were damaged in one word, and images that were cut off: what the check of one, the audit by
 //! two helpers and the command that checks a file find.
 
-ghost use Rattle.std.specs.Prelude.{All, IfOk};
-ghost use Rattle.parallel_audit.specs.Steps.{IsOf};
-
 use super::images::{check_bytes, write_script_image};
 use super::tools::ToolFault;
+use super::two_helpers::{handed_back, stepped, taken};
 use super::worked::sharing::SHARE_BOTH_WAYS;
 use integrity_checker::check;
 use memory_image::{ImageFault, read_image};
-use parallel_audit::{Audit, Helper};
+use parallel_audit::Audit;
 use std::alloc::Global;
 use std::test::Fail;
 
@@ -118,11 +116,7 @@ fn of_frame(place: usize, word: u32, frame: u32, clause: u32) -> Damage {
 
 /// Changes of one word each, and what then fails.
 fn damages(at: &Frames) -> [Damage; 11] {
-    let orphans = [
-        (at.other_directory, 2),
-        (at.other_table, 3),
-        (at.shared, 4),
-    ];
+    let orphans = [(at.other_directory, 2), (at.other_table, 3), (at.shared, 4)];
     [
         // quota of process 0
         of_processes(20, 16, "process 0 P1\n"),
@@ -186,42 +180,21 @@ fn checked(alloc: Global, bytes: &[u8]) -> Result<Vec<u8>, Fail> {
     Ok(text)
 }
 
-/// So many steps of a helper.
-fn stepped(audit: &Audit, mut helper: Helper, turns: u64) -> Helper
-    requires { IsOf audit.now helper }
-    ensures { IsOf audit.now result }
-{
-    for turn in 0..turns {
-        helper.step(audit);
-    }
-    helper
-}
-
-/// So many steps of each helper, one helper after the other.
-fn round(
-    alloc: Global,
-    audit: &Audit,
-    mut helpers: Vec<Helper>,
-    turns: u64,
-) -> Result<Vec<Helper>, Fail>
-    requires { All (λ h. IsOf audit.now h) helpers.items }
-    ensures { IfOk result (λ v. All (λ h. IsOf audit.now h) v.items) }
-{
-    let mut back = Vec::new(alloc);
-    while let Some(helper) = helpers.pop() {
-        back.push(stepped(audit, helper, turns))?;
-    }
-    Ok(back)
-}
-
 /// What the audit by two helpers finds, each of which judges half of the processes.
 fn audited(alloc: Global, bytes: &[u8]) -> Result<Vec<u8>, Fail> {
     let image = read_image(alloc, bytes)?;
-    let (audit, helpers) = Audit::new(alloc, image, 2)?;
-    let half = round(alloc, &audit, helpers, 32)?;
-    let all = round(alloc, &audit, half, 1)?;
+    let (audit, mut helpers) = Audit::new(alloc, image, 2)?;
+    let two = taken(&audit, &mut helpers).ok_or("two helpers")?;
+    let one = taken(&audit, &mut helpers).ok_or("two helpers")?;
+    let (one, first) = stepped(&audit, one, 32);
+    let (two, second) = stepped(&audit, two, 33);
+    let (one, third) = stepped(&audit, one, 1);
+    if (first, second, third) != (32, 32, 0) {
+        return Err("each helper checks half of the numbers".into());
+    }
+    let back = handed_back(alloc, &audit, one, two).ok_or("no memory")?;
     let mut text = Vec::new(alloc);
-    audit.finish(all)?.write_text(&mut text)?;
+    audit.finish(back)?.write_text(&mut text)?;
     Ok(text)
 }
 
@@ -259,7 +232,11 @@ fn an_image_that_is_cut_off_is_refused(rt: HostRuntime) -> Result<(), Fail> {
         } else {
             (ImageFault::BadLength, ToolFault::BadLength)
         };
-        assert_eq!(rt; read_image(rt.alloc(), front).err(), Some(read), "{length} bytes");
+        assert_eq!(rt;
+            read_image(rt.alloc(), front).err(),
+            Some(read),
+            "{length} bytes"
+        );
         let ended = check_bytes(rt.alloc(), front, &mut written);
         assert_eq!(rt; ended.err(), Some(told), "{length} bytes");
     }

@@ -11,9 +11,13 @@ ghost use Rattle.tower.specs.Faults.{status_of, status_of_tool, status_of_words}
 #[cfg(test)]
 mod damaged_tests;
 mod faults;
+#[cfg(test)]
+mod gate_tests;
 mod images;
 mod jobs;
 mod lines;
+#[cfg(test)]
+mod memory_tests;
 mod numbers;
 mod output;
 mod race;
@@ -29,6 +33,8 @@ mod strange_tests;
 mod tests;
 mod tokens;
 mod tools;
+#[cfg(test)]
+mod two_helpers;
 mod words;
 #[cfg(test)]
 mod worked;

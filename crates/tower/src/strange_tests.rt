@@ -103,11 +103,7 @@ impl Write for OddWriter {
 }
 
 /// Runs a script on so many frames: what was written, and the fault.
-fn run(
-    alloc: Global,
-    script: &[u8],
-    frames: u32,
-) -> Result<(Vec<u8>, Option<ScriptFault>), Fail> {
+fn run(alloc: Global, script: &[u8], frames: u32) -> Result<(Vec<u8>, Option<ScriptFault>), Fail> {
     let mut reader = script;
     let mut written = Vec::new(alloc);
     let fault = run_script(alloc, &mut reader, &mut written, frames).err();
@@ -146,7 +142,11 @@ fn lines_of_101_bytes_are_malformed(rt: HostRuntime) -> Result<(), Fail> {
             script.resize(101, b' ')?;
             script.extend_from_slice(end.as_bytes())?;
             let (written, fault) = run(rt.alloc(), script.as_slice(), 16)?;
-            assert_eq!(rt; fault, Some(ScriptFault::Malformed { line: 1 }), "{front:?}");
+            assert_eq!(rt;
+                fault,
+                Some(ScriptFault::Malformed { line: 1 }),
+                "{front:?}"
+            );
             assert!(rt; written.is_empty(), "{front:?}");
         }
     }
