@@ -176,3 +176,18 @@ fn protects_a_page_and_gives_the_right_back(rt: HostRuntime) -> Result<(), Fail>
     );
     Ok(())
 }
+
+/// `rt try --test --fail-alloc N` refuses the Nth allocation of this test alone, and each is one of
+/// `new`. A call that meets it answers NoMemory, the same call with memory then succeeds, and a line
+/// is printed that says so.
+#[test]
+fn goes_on_after_want_of_memory(rt: HostRuntime) -> Result<(), Fail> {
+    let first = Spaces::new(rt.alloc(), 16).map(|spaces| spaces.memory().frames());
+    if first.is_err() {
+        assert_eq!(rt; first, Err(SpacesFault::NoMemory));
+        let again = Spaces::new(rt.alloc(), 16).map(|spaces| spaces.memory().frames());
+        assert_eq!(rt; again, Ok(16));
+        println!(rt; "NoMemory, and then spaces")?;
+    }
+    Ok(())
+}

@@ -252,4 +252,19 @@ mod tests {
             assert_eq!(rt; FrameTable::new(rt.alloc(), frames).err(), fault);
         }
     }
+
+    /// `rt try --test --fail-alloc N` refuses the Nth allocation of this test alone, and each is one of
+    /// `new`. A call that meets it answers NoMemory, the same call with memory then succeeds, and a line
+    /// is printed that says so.
+    #[test]
+    fn goes_on_after_want_of_memory(rt: HostRuntime) -> Result<(), Fail> {
+        let first = FrameTable::new(rt.alloc(), 16).map(|table| table.free_count());
+        if first.is_err() {
+            assert_eq!(rt; first, Err(TableFault::NoMemory));
+            let again = FrameTable::new(rt.alloc(), 16).map(|table| table.free_count());
+            assert_eq!(rt; again, Ok(15));
+            println!(rt; "NoMemory, and then a table")?;
+        }
+        Ok(())
+    }
 }

@@ -114,3 +114,18 @@ fn agrees_with_a_scan_of_16_frames(rt: HostRuntime) -> Result<(), Fail> {
 fn agrees_with_a_scan_of_4096_frames(rt: HostRuntime) -> Result<(), Fail> {
     agrees_with_a_scan(&rt, rt.alloc(), 4096, 6_144)
 }
+
+/// `rt try --test --fail-alloc N` refuses the Nth allocation of this test alone, and each is one of
+/// `new`. A call that meets it answers NoMemory, the same call with memory then succeeds, and a line
+/// is printed that says so.
+#[test]
+fn goes_on_after_want_of_memory(rt: HostRuntime) -> Result<(), Fail> {
+    let first = Ledger::new(rt.alloc(), 16).map(|ledger| ledger.free_count());
+    if first.is_err() {
+        assert_eq!(rt; first, Err(LedgerFault::NoMemory));
+        let again = Ledger::new(rt.alloc(), 16).map(|ledger| ledger.free_count());
+        assert_eq!(rt; again, Ok(15));
+        println!(rt; "NoMemory, and then a ledger")?;
+    }
+    Ok(())
+}

@@ -8,11 +8,17 @@
 
 mod book;
 mod call_log;
+#[cfg(test)]
+mod contention_tests;
 mod cpu;
 mod faults;
 mod gate;
+#[cfg(test)]
+mod gate_tests;
 mod kernel;
 mod locked;
+#[cfg(test)]
+mod memory_tests;
 mod monitor;
 mod port;
 mod publish;

@@ -2,17 +2,14 @@
 
 ghost use Rattle.std.specs.Prelude.{◌≡◌};
 
-use crate::{
-    Blank, Boot, BootFault, Cpu, CpuPort, Fault, Gate, Kernel, Monitor, Name, OpenGate, Point,
-};
+use crate::{Blank, Boot, BootFault, Cpu, CpuPort, Fault, Kernel, Monitor, Name, OpenGate};
 use guest_cpu::{Port, PortFault};
 use kernel_calls::{Call, Event, Reply};
 use page_words::{Pid, Size, Vaddr};
 use std::alloc::Global;
 use std::marker::Brand;
 use std::process::Abort;
-use std::sync::atomic::{AtomicU64, Ordering};
-use std::sync::{Arc, Wait};
+use std::sync::Wait;
 use std::test::Fail;
 use std::thread;
 use std::thread::Threads;
@@ -362,98 +359,6 @@ fn a_monitor_reports_beside_the_calls(rt: HostRuntime) -> Result<(), Fail> {
     let alloc = rt.alloc();
     match Kernel::<Brand, OpenGate>::boot(&rt, alloc, 16, 1, 1, OpenGate) {
         Ok(blank) => beside::<Brand, HostRuntime>(&rt, blank, alloc),
-        Err(_) => panic!(rt; "not booted"),
-    }
-    Ok(())
-}
-
-/// How often a flag is looked at before a test gives up.
-const LOOKS: u64 = 1_000_000;
-
-/// Looks at a flag until it is set: whether it was, before the looks were spent.
-fn is_set(flag: &AtomicU64) -> bool {
-    for _ in 0..LOOKS {
-        if flag.load(Ordering::SeqCst) == 1 {
-            return true;
-        }
-        thread::yield_now();
-    }
-    false
-}
-
-/// Holds a call at Locked until it is told to let it go on.
-#[derive(Drop)]
-struct HeldGate {
-    reached: Arc<AtomicU64, Global>,
-    released: Arc<AtomicU64, Global>,
-}
-
-impl Gate for HeldGate {
-    fn reach(&self, point: Point) {
-        if point == Point::Locked {
-            self.reached.store(1, Ordering::SeqCst);
-            is_set(&self.released);
-        }
-    }
-}
-
-/// A call is held at Locked until a monitor in another thread has reported.
-fn held<N: Name + Send + Sync, R: Threads + Wait + Abort + Sync>(
-    rt: &R,
-    blank: Blank<HeldGate>,
-    alloc: Global,
-    reached: &AtomicU64,
-    released: &AtomicU64,
-)
-    requires { (blank.frames ≡ N.frames) × (blank.opened.seen.book ≡ N.book) }
-{
-    let Ok(boot) = blank.open::<N, R>(rt) else {
-        panic!(rt; "no memory")
-    };
-    let Boot {
-        kernel,
-        mut cpus,
-        mut monitors,
-    } = boot;
-    let mut cpu = cpus.pop().expect(rt, "one CPU");
-    let mut monitor = monitors.pop().expect(rt, "one monitor");
-    let shared = &kernel;
-    let pid = root(rt);
-    let (called, watched) = thread::join(
-        rt,
-        move || {
-            let answered = cpu.call(rt, shared, pid, Call::Quota).is_ok();
-            (cpu, answered)
-        },
-        move || {
-            let was_reached = is_set(reached);
-            let front = monitor.report().map(|seen| seen.front);
-            released.store(1, Ordering::SeqCst);
-            (was_reached, front)
-        },
-    );
-    let (cpu, answered) = called;
-    assert_eq!(rt; watched, (true, Some(0)));
-    assert!(rt; answered);
-    let mut back = Vec::new(alloc);
-    back.push(cpu).expect(rt, "memory");
-    let Ok(history) = kernel.close(rt, back) else {
-        panic!(rt; "not closed")
-    };
-    assert_eq!(rt; history.entries().len(), 1);
-}
-
-#[test]
-fn a_monitor_reports_while_a_call_is_held(rt: HostRuntime) -> Result<(), Fail> {
-    let alloc = rt.alloc();
-    let reached = Arc::new(alloc, AtomicU64::new(0))?;
-    let released = Arc::new(alloc, AtomicU64::new(0))?;
-    let gate = HeldGate {
-        reached: Arc::try_clone(&reached)?,
-        released: Arc::try_clone(&released)?,
-    };
-    match Kernel::<Brand, HeldGate>::boot(&rt, alloc, 16, 1, 1, gate) {
-        Ok(blank) => held::<Brand, HostRuntime>(&rt, blank, alloc, &reached, &released),
         Err(_) => panic!(rt; "not booted"),
     }
     Ok(())

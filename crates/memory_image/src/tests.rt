@@ -1,6 +1,6 @@
 //! The image of a core, its bytes, and what is refused of bytes that were changed.
 
-use crate::{Image, ImageFault, WriteFailed, read_image, write_image};
+use crate::{Image, ImageFault, NoMemory, WriteFailed, read_image, write_image};
 use arrayvec::ArrayVec;
 use kernel_calls::{Call, Core, Event, Role};
 use page_words::{Frame, Pid, Size, Vaddr};
@@ -235,5 +235,30 @@ fn faults_have_their_texts(rt: HostRuntime) -> Result<(), Fail> {
         let text = format!(in rt.alloc(); "{fault}")?;
         assert_eq!(rt; text.as_str(), expected);
     }
+    Ok(())
+}
+
+/// `rt try --test --fail-alloc N` refuses the Nth allocation of this test alone. The first three are those
+/// of the core; then come two of `Image::of`, one of the bytes, and two of `read_image`. Each of these calls
+/// that meets a refusal answers NoMemory, the same call with memory then succeeds, and a line is printed that
+/// says so.
+#[test]
+fn goes_on_after_want_of_memory(rt: HostRuntime) -> Result<(), Fail> {
+    let core = Core::boot(rt.alloc(), 16)?;
+    let mut made = Image::of(rt.alloc(), &core);
+    if made.is_err() {
+        assert_eq!(rt; made.err(), Some(NoMemory));
+        made = Image::of(rt.alloc(), &core);
+        println!(rt; "NoMemory, and then an image of a core")?;
+    }
+    let mut bytes = Vec::with_capacity(rt.alloc(), LENGTH)?;
+    write_image(&made?, &mut bytes)?;
+    let mut read = read_image(rt.alloc(), &bytes);
+    if read.is_err() {
+        assert_eq!(rt; read.err(), Some(ImageFault::NoMemory));
+        read = read_image(rt.alloc(), &bytes);
+        println!(rt; "NoMemory, and then an image of bytes")?;
+    }
+    assert_eq!(rt; read?.frames(), 16);
     Ok(())
 }

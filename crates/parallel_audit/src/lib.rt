@@ -5,6 +5,8 @@ mod audit;
 mod draw;
 mod faults;
 mod findings;
+#[cfg(test)]
+mod memory_tests;
 mod parts;
 mod stepping;
 #[cfg(test)]

@@ -216,4 +216,19 @@ mod tests {
         }
         Ok(())
     }
+
+    /// `rt try --test --fail-alloc N` refuses the Nth allocation of this test alone, and each is one of
+    /// `new`. A call that meets it answers NoMemory, the same call with memory then succeeds, and a line
+    /// is printed that says so.
+    #[test]
+    fn goes_on_after_want_of_memory(rt: HostRuntime) -> Result<(), Fail> {
+        let first = Memory::new(rt.alloc(), 16).map(|memory| memory.frames());
+        if first.is_err() {
+            assert_eq!(rt; first, Err(MemoryFault::NoMemory));
+            let again = Memory::new(rt.alloc(), 16).map(|memory| memory.frames());
+            assert_eq!(rt; again, Ok(16));
+            println!(rt; "NoMemory, and then a memory")?;
+        }
+        Ok(())
+    }
 }

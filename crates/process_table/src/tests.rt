@@ -357,3 +357,24 @@ fn charges_an_access_for_its_page(rt: HostRuntime) -> Result<(), Fail> {
     assert_eq!(rt; processes.access_charge(root, address, Size::Four), 3);
     Ok(())
 }
+
+/// `rt try --test --fail-alloc N` refuses the Nth allocation of this test alone, and each is one of
+/// `new`. A call that meets it answers NoMemory, the same call with memory then succeeds, and a line
+/// is printed that says so.
+#[test]
+fn goes_on_after_want_of_memory(rt: HostRuntime) -> Result<(), Fail> {
+    let first = Processes::new(rt.alloc(), 16).map(|processes| processes
+        .spaces()
+        .memory()
+        .frames());
+    if first.is_err() {
+        assert_eq!(rt; first, Err(ProcessesFault::NoMemory));
+        let again = Processes::new(rt.alloc(), 16).map(|processes| processes
+            .spaces()
+            .memory()
+            .frames());
+        assert_eq!(rt; again, Ok(16));
+        println!(rt; "NoMemory, and then processes")?;
+    }
+    Ok(())
+}

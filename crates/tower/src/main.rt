@@ -8,10 +8,16 @@
 ghost use Rattle.std.specs.Prelude.{◌≡◌, ◌≤◌};
 ghost use Rattle.tower.specs.Faults.{status_of, status_of_tool, status_of_words};
 
+#[cfg(test)]
+mod damaged_tests;
 mod faults;
+#[cfg(test)]
+mod gate_tests;
 mod images;
 mod jobs;
 mod lines;
+#[cfg(test)]
+mod memory_tests;
 mod numbers;
 mod output;
 mod race;
@@ -22,9 +28,13 @@ mod rounds;
 mod script;
 mod session;
 #[cfg(test)]
+mod strange_tests;
+#[cfg(test)]
 mod tests;
 mod tokens;
 mod tools;
+#[cfg(test)]
+mod two_helpers;
 mod words;
 #[cfg(test)]
 mod worked;

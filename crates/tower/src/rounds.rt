@@ -8,6 +8,9 @@ ghost use Rattle.locked_core.specs.Makers.{maker};
 ghost use Rattle.memory_report.specs.Histories.{Legal, StartsWith, entries_of, state_after};
 ghost use Rattle.memory_report.specs.Reports.{report_of};
 
+#[cfg(test)]
+mod alone_tests;
+
 use guest_cpu::{End, Guest, Instruction, Port, PortFault, Reg, run};
 use kernel_calls::{Call, Event, Reply};
 use locked_core::{

@@ -2,7 +2,7 @@
 
 mod alone;
 mod processes;
-mod sharing;
+pub mod sharing;
 
 use super::faults::ScriptFault;
 use super::images::{check_bytes, write_script_image};
@@ -14,12 +14,12 @@ use std::test::Fail;
 /// A script and what it must get.
 #[derive(Clone, Copy)]
 pub struct Worked {
-    name: &'static str,
-    frames: u32,
-    script: &'static str,
-    replies: &'static str,
+    pub name: &'static str,
+    pub frames: u32,
+    pub script: &'static str,
+    pub replies: &'static str,
     /// The malformed line that ends it, if one does.
-    malformed: Option<u32>,
+    pub malformed: Option<u32>,
 }
 
 #[test]

@@ -2,20 +2,22 @@
 
 use super::Worked;
 
+/// Two processes read what the other stored.
+pub const SHARE_BOTH_WAYS: Worked = Worked {
+    name: "share_both_ways",
+    frames: 16,
+    script: "\
+        0 0 store 40000000 4 7\n0 0 spawn 5\n0 0 offer 40000 1 rw\n1 1 accept 0 40000 50000\n\
+        1 1 load 50000000 4\n1 1 store 50000000 4 9\n0 0 load 40000000 4\n1 1 quota\n\
+        1 1 accept 0 40000 50001\n",
+    replies: "\
+        done\nchild 1\ndone\ndone\nvalue 00000007\ndone\nvalue 00000009\nquota 5 3 0\n\
+        refused NoOffer\n",
+    malformed: None,
+};
+
 pub const SCRIPTS: [Worked; 9] = [
-    // two processes read what the other stored
-    Worked {
-        name: "share_both_ways",
-        frames: 16,
-        script: "\
-            0 0 store 40000000 4 7\n0 0 spawn 5\n0 0 offer 40000 1 rw\n1 1 accept 0 40000 50000\n\
-            1 1 load 50000000 4\n1 1 store 50000000 4 9\n0 0 load 40000000 4\n1 1 quota\n\
-            1 1 accept 0 40000 50001\n",
-        replies: "\
-            done\nchild 1\ndone\ndone\nvalue 00000007\ndone\nvalue 00000009\nquota 5 3 0\n\
-            refused NoOffer\n",
-        malformed: None,
-    },
+    SHARE_BOTH_WAYS,
     // an offer of a page that was unmapped finds no taker
     Worked {
         name: "unmap_drops_offers",

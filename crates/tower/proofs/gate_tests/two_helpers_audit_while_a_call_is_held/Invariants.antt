@@ -1,4 +1,4 @@
-use Rattle.locked_core.proofs.tests.a_monitor_reports_while_a_call_is_held.Given as goal
+use Rattle.tower.proofs.gate_tests.two_helpers_audit_while_a_call_is_held.Given as goal
 
 -- the kernel that was just booted
 abbrev pub ghosts-held : goal.ghosts-held
