@@ -3,15 +3,15 @@
 ghost use Rattle.std.specs.Prelude.{◌≡◌, ◌+◌, ◌≤◌, ◌<◌, ◌^◌, [], ◌∷◌, ◌++◌, length, codes, decimal, OnOk, OnErr};
 ghost use Rattle.std.specs.Io.KnownBytes.{Appends};
 ghost use Rattle.arrayvec.specs.ArrayVec.{array_vec_len};
-ghost use Rattle.memory_image.specs.Output.{AppendsFront};
+ghost use Rattle.text_output.specs.Output.{AppendsFront};
 ghost use Rattle.integrity_checker.specs.Codes.{process_number, frame_number};
 ghost use Rattle.integrity_checker.specs.Text.{lines_from, process_line, frame_line, process_lines, frame_lines, verdict_text};
 
 use crate::clauses::{FrameClause, ProcessClause};
 use crate::verdicts::Verdict;
 use arrayvec::ArrayVec;
-use memory_image::{WriteFailed, write_whole};
 use std::io::Write;
+use text_output::{WriteFailed, push_number, push_word, write_whole};
 
 /// Room for the longest line of a verdict.
 const ROOM: usize = 32;
@@ -52,42 +52,8 @@ impl FrameClause {
     }
 }
 
-fn push_word(line: &mut Line, word: &str)
-    requires { array_vec_len line.old + length word.now ≤ 32 }
-    ensures items { line.new.items ≡ line.old.items ++ word.now }
-    ensures len { array_vec_len line.new ≡ array_vec_len line.old + length word.now }
-{
-    line.try_extend_from_slice(word.as_bytes()).unwrap();
-}
-
-/// A number in decimal.
-#[tactic(auto, using(crate::proofs::TextLemmas::decimal_steps))]
-fn push_decimal(line: &mut Line, n: u64)
-    requires { array_vec_len line.old + length (decimal n) ≤ 32 }
-    ensures items { line.new.items ≡ line.old.items ++ decimal n }
-    ensures len { array_vec_len line.new ≡ array_vec_len line.old + length (decimal n) }
-{
-    if n < 10 {
-        line.push(b'0' + n as u8);
-    } else {
-        push_decimal(line, n / 10);
-        line.push(b'0' + (n % 10) as u8);
-    }
-}
-
-/// A word, and a number in decimal.
-#[tactic(auto, using(crate::proofs::TextLemmas::short_decimal))]
-fn push_number(line: &mut Line, word: &str, n: u32)
-    requires { array_vec_len line.old + length word.now + 10 ≤ 32 }
-    ensures items { line.new.items ≡ line.old.items ++ word.now ++ decimal n }
-    ensures len { array_vec_len line.new ≤ array_vec_len line.old + length word.now + 10 }
-{
-    push_word(line, word);
-    push_decimal(line, u64::from(n));
-}
-
 /// The digit of a clause's number, and the end of the line.
-#[tactic(auto, using(crate::proofs::TextLemmas::one_digit))]
+#[tactic(auto, using(text_output::proofs::DecimalLemmas::one_digit))]
 fn end_line(line: &mut Line, clause: u32)
     requires room { array_vec_len line.old + 2 ≤ 32 }
     requires digit { clause < 10 }

@@ -21,6 +21,7 @@ use crate::rule::LogWriter;
 use kernel_calls::Core;
 use memory_image::Image;
 use memory_report::LogEntry;
+use page_words::{MAX_FRAMES, MIN_FRAMES};
 use std::alloc::{AllocError, Global};
 use std::sync::{Mutex, MutexGuard, Wait};
 
@@ -102,7 +103,7 @@ impl<N: Name, G: Gate + Drop> Kernel<N, G> {
         ensures count { IsErrOf result BootFault.BadCount → 1 ≤ cpus → cpus ≤ 8 → monitors ≤ 8 → ⊥ }
         ensures counted { IfOk result (λ _. (1 ≤ cpus) × (cpus ≤ 8) × (monitors ≤ 8)) }
     {
-        if frames < 16 || frames > 4096 {
+        if !(MIN_FRAMES..=MAX_FRAMES).contains(&frames) {
             return Err(BootFault::BadSize);
         }
         if cpus < 1 || cpus > 8 || monitors > 8 {

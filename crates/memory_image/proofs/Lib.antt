@@ -9,7 +9,6 @@ pub mod WorkedRefusals
 pub mod ReadingLemmas
 pub mod RespellLemmas
 pub mod FillLemmas
-pub mod OutputLemmas
 pub mod WritingLemmas
 pub mod MachineSound
 pub mod WorkedSpelling

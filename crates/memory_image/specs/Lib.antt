@@ -7,4 +7,3 @@ pub mod Spelling
 pub mod Tests
 pub mod Refusals
 pub mod Reading
-pub mod Output

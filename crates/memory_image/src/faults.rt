@@ -25,7 +25,3 @@ pub enum ImageFault {
 /// The allocator refused what a call needs.
 #[derive(Clone, Copy, Debug, PartialEq, Eq)]
 pub struct NoMemory;
-
-/// A write answered an error, or took no byte.
-#[derive(Clone, Copy, Debug, PartialEq, Eq)]
-pub struct WriteFailed;

@@ -7,6 +7,7 @@ ghost use Rattle.memory_image.specs.Tests.{first_failing};
 ghost use Rattle.memory_image.specs.Refusals.{process_fields, role_fields, first_bad, begins, fault_with, fault_of};
 
 use crate::faults::ImageFault;
+use page_words::{MAX_FRAMES, MIN_FRAMES};
 
 /// The number in four bytes, the lowest first.
 #[tactic(auto, using(crate::proofs::PieceLemmas::number_of_four))]
@@ -142,7 +143,7 @@ fn begins(bytes: &[u8]) -> bool
 fn fault_with(bytes: &[u8], frames: u32) -> Option<ImageFault>
     ensures { result ≡ fault_with bytes.now frames }
 {
-    if frames < 16 || 4096 < frames {
+    if frames < MIN_FRAMES || MAX_FRAMES < frames {
         return Some(ImageFault::BadField { offset: 8 });
     }
     if bytes.len() != 1548 + 4112 * frames as usize {

@@ -13,7 +13,7 @@ mod reading;
 mod tests;
 mod writing;
 
-pub use faults::{ImageFault, NoMemory, WriteFailed};
+pub use faults::{ImageFault, NoMemory};
 pub use fields::fault_in;
 pub use images::Image;
 pub use laws::{
@@ -22,4 +22,5 @@ pub use laws::{
 };
 pub use processes::Process;
 pub use reading::read_image;
-pub use writing::{write_image, write_whole};
+pub use text_output::WriteFailed;
+pub use writing::write_image;

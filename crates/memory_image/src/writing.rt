@@ -1,19 +1,19 @@
 //! Writing an image.
 
-ghost use Rattle.std.specs.Prelude.{◌≡◌, ◌+◌, ◌*◌, ◌≤◌, ◌<◌, ◌++◌, length, OnOk, OnErr};
+ghost use Rattle.std.specs.Prelude.{◌≡◌, ◌+◌, ◌≤◌, ◌++◌, length, OnOk, OnErr};
 ghost use Rattle.std.specs.List.{flat_map};
 ghost use Rattle.std.specs.Io.KnownBytes.{Appends};
 ghost use Rattle.arrayvec.specs.ArrayVec.{array_vec_len};
 ghost use Rattle.memory_image.specs.Image.{frames};
-ghost use Rattle.memory_image.specs.Output.{AppendsFront};
+ghost use Rattle.text_output.specs.Output.{AppendsFront};
 ghost use Rattle.memory_image.specs.Spelling.{magic, number, process_bytes, role_bytes, spelling};
 
-use crate::faults::WriteFailed;
 use crate::images::Image;
 use crate::processes::Process;
 use alloc_table::Role;
 use arrayvec::ArrayVec;
 use std::io::Write;
+use text_output::{WriteFailed, write_whole};
 
 /// The four bytes that an image begins with, as a number.
 const MAGIC: u32 = 0x4932_436d;
@@ -77,22 +77,6 @@ fn role_numbers(role: Role) -> [u32; 4]
         Role::Table { pid, slot } => [3, pid.number() as u32, slot, 0],
         Role::Page { count } => [4, 0, 0, count],
     }
-}
-
-/// Writes all of the bytes, in as many writes as it takes. A write that answers an error, of any kind,
-/// is not tried again.
-pub fn write_whole<W: Write>(writer: &mut W, bytes: &[u8]) -> Result<(), WriteFailed>
-    ensures ok { OnOk result (Appends (W.contents writer.old) (W.contents writer.new) bytes.now) }
-    ensures err { OnErr result (AppendsFront (W.contents writer.old) (W.contents writer.new) bytes.now) }
-{
-    let mut rest = bytes;
-    while !rest.is_empty() {
-        match writer.write(rest) {
-            Ok(count) if count > 0 => rest = &rest[count..],
-            _ => return Err(WriteFailed),
-        }
-    }
-    Ok(())
 }
 
 fn write_process<W: Write>(process: &Option<Process>, writer: &mut W) -> Result<(), WriteFailed>

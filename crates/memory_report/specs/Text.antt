@@ -1,6 +1,5 @@
 -- The text of a report.
-use Rattle.std.specs.Prelude.{◌≡◌, ℕ, ◌+◌, ◌<◌, List, [], ◌∷◌, ◌++◌, length, Option, Some, None, codes, decimal}
-use Rattle.std.specs.Io.KnownBytes.{Appends}
+use Rattle.std.specs.Prelude.{ℕ, ◌+◌, List, [], ◌∷◌, ◌++◌, Option, Some, None, codes, decimal}
 use Rattle.memory_report.specs.Reports.{total_of}
 use Rattle.memory_report.specs.declared.rows.Row.{Row}
 
@@ -23,13 +22,3 @@ total_line total = codes "total " ++ decimal total ++ 10 ∷ []
 
 unfoldable pub report_text : List (Option Row) → List ℕ
 report_text rows = lines_from 0 rows ++ total_line (total_of rows)
-
--- Known bytes grew by a front of the text, and this rest of it was not written.
-pub record LeavesUnwritten (old new : Option (List ℕ)) (text rest : List ℕ) : Type 0 where
-  pub written : List ℕ
-  pub whole : text ≡ written ++ rest
-  pub grown : Appends old new written
-
--- Known bytes grew by a front of the text, which is not the whole of it.
-abbrev pub AppendsFront : Option (List ℕ) → Option (List ℕ) → List ℕ → Type 0
-AppendsFront old new text = (rest : List ℕ) × (0 < length rest) × LeavesUnwritten old new text rest

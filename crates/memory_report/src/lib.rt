@@ -18,4 +18,4 @@ pub use entries::LogEntry;
 pub use laws::{reports_add_up_costs, runs_are_legal};
 pub use report::{Report, report_of};
 pub use rows::Row;
-pub use text::WriteFailed;
+pub use text_output::WriteFailed;

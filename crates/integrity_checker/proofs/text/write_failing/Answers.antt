@@ -1,6 +1,6 @@
 use Rattle.std.proofs.Common.{rules, ◌++◌, ap, sym}
-use Rattle.memory_image.specs.Output.{AppendsFront}
-use Rattle.memory_image.proofs.OutputLemmas.{wrote_first, cut_first, wrote_last, cut_last}
+use Rattle.text_output.specs.Output.{AppendsFront}
+use Rattle.text_output.proofs.OutputLemmas.{wrote_first, cut_first, wrote_last, cut_last}
 use Rattle.integrity_checker.specs.Text.{lines_from, process_line, frame_line, process_lines, frame_lines}
 use Rattle.integrity_checker.proofs.text.write_failing.Goals as goal
 

@@ -1,5 +1,5 @@
 use Rattle.std.proofs.Common.{rules, None, arith}
-use Rattle.memory_image.specs.Output.{AppendsFront}
+use Rattle.text_output.specs.Output.{AppendsFront}
 use Rattle.integrity_checker.specs.Text.{lines_from, frame_line}
 use Rattle.integrity_checker.proofs.TextLemmas.{wrote_line, cut_line}
 use Rattle.integrity_checker.proofs.text.write_frames.Goals as goal

@@ -1,6 +1,6 @@
 use Rattle.std.proofs.Common.{List, ℕ, sym, ap, subst, ◌≡◌, ◌∙◌}
 use Rattle.std.specs.Prelude.{OnErr}
-use Rattle.memory_image.specs.Output.{AppendsFront}
+use Rattle.text_output.specs.Output.{AppendsFront}
 use Rattle.integrity_checker.specs.Text.{process_line}
 use Rattle.integrity_checker.proofs.text.write_process.Goals as goal
 

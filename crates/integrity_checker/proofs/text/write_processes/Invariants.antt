@@ -1,6 +1,6 @@
 -- What is not written yet are the lines from the next one on.
 use Rattle.std.proofs.Common.{drop}
-use Rattle.memory_image.specs.Output.{LeavesUnwritten}
+use Rattle.text_output.specs.Output.{LeavesUnwritten}
 use Rattle.integrity_checker.specs.Text.{lines_from, process_line}
 use Rattle.integrity_checker.proofs.text.write_processes.Given as goal
 

@@ -1,7 +1,7 @@
 use Rattle.std.proofs.Common.{rules, refl}
-use Rattle.memory_image.specs.Output.{AppendsFront}
+use Rattle.text_output.specs.Output.{AppendsFront}
 use Rattle.memory_image.specs.Spelling.{spelling}
-use Rattle.memory_image.proofs.OutputLemmas.{wrote_first, cut_first, wrote_piece, cut_piece, wrote_last, cut_last}
+use Rattle.text_output.proofs.OutputLemmas.{wrote_first, cut_first, wrote_piece, cut_piece, wrote_last, cut_last}
 use Rattle.memory_image.proofs.WritingLemmas.{front, parts}
 use Rattle.memory_image.proofs.writing.write_image.Goals as goal
 

@@ -1,8 +1,8 @@
 use Rattle.std.proofs.Common.{rules, arith}
 use Rattle.std.specs.List.{flat_map}
-use Rattle.memory_image.specs.Output.{AppendsFront}
+use Rattle.text_output.specs.Output.{AppendsFront}
 use Rattle.memory_image.specs.Spelling.{process_bytes}
-use Rattle.memory_image.proofs.OutputLemmas.{wrote_next, cut_next}
+use Rattle.text_output.proofs.OutputLemmas.{wrote_next, cut_next}
 use Rattle.memory_image.proofs.writing.write_processes.Goals as goal
 
 pub loop-place-preserved : goal.loop-place-preserved

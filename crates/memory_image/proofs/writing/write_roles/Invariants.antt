@@ -1,7 +1,7 @@
 -- What is not written yet are the records from the next one on.
 use Rattle.std.proofs.Common.{drop}
 use Rattle.std.specs.List.{flat_map}
-use Rattle.memory_image.specs.Output.{LeavesUnwritten}
+use Rattle.text_output.specs.Output.{LeavesUnwritten}
 use Rattle.memory_image.specs.Spelling.{role_bytes}
 use Rattle.memory_image.proofs.writing.write_roles.Given as goal
 

@@ -1,6 +1,7 @@
 use Rattle.std.proofs.Common.{List, ℕ, sym, ap, subst, ◌≡◌, ◌∙◌}
 use Rattle.std.specs.Prelude.{OnErr}
-use Rattle.memory_report.specs.Text.{AppendsFront, line_of}
+use Rattle.text_output.specs.Output.{AppendsFront}
+use Rattle.memory_report.specs.Text.{line_of}
 use Rattle.memory_report.proofs.text.write_row.Goals as goal
 
 pub returns-in-Some-clause-err : goal.returns-in-Some-clause-err

@@ -1,7 +1,9 @@
 use Rattle.std.proofs.Common.{rules, List, ℕ, arith, ap, subst, ◌∙◌}
 use Rattle.std.specs.Prelude.{OnErr}
-use Rattle.memory_report.proofs.TextLemmas.{wrote_row, cut_row, at_end, cut_rest}
-use Rattle.memory_report.specs.Text.{AppendsFront, report_text, total_line}
+use Rattle.text_output.specs.Output.{AppendsFront}
+use Rattle.text_output.proofs.OutputLemmas.{cut_last}
+use Rattle.memory_report.proofs.TextLemmas.{wrote_row, cut_row, at_end}
+use Rattle.memory_report.specs.Text.{report_text, total_line}
 use Rattle.memory_report.proofs.text.write_rows.Goals as goal
 
 pub loop-number-preserved : goal.loop-number-preserved
@@ -18,4 +20,4 @@ pub returns-clause-err : goal.returns-clause-err
 returns-clause-err g c =
     let last = at_end _ _ _ _ c.args.rows.now c.loop-number.number (omega arith) c.loop-number.invariant in
     let bytes = c.deref.ensures.0 ∙ c.total_line.ensures ∙ ap total_line c.total_used.ensures in
-    cut_rest _ _ _ _ _ c.write_whole.result last (subst (λ (l : List ℕ). OnErr c.write_whole.result (AppendsFront (g.W.Write.contents c.loop-number.writer) (g.W.Write.contents c.write_whole.new.writer) l)) bytes c.write_whole.ensures.err)
+    cut_last _ _ _ _ _ c.write_whole.result last (subst (λ (l : List ℕ). OnErr c.write_whole.result (AppendsFront (g.W.Write.contents c.loop-number.writer) (g.W.Write.contents c.write_whole.new.writer) l)) bytes c.write_whole.ensures.err)

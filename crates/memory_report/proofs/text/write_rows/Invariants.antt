@@ -1,7 +1,8 @@
 -- What is not written yet are the lines of the rows that are left, and the total's.
 use Rattle.std.proofs.Common.{◌++◌, drop}
 use Rattle.memory_report.specs.Reports.{total_of}
-use Rattle.memory_report.specs.Text.{LeavesUnwritten, lines_from, report_text, total_line}
+use Rattle.text_output.specs.Output.{LeavesUnwritten}
+use Rattle.memory_report.specs.Text.{lines_from, report_text, total_line}
 use Rattle.memory_report.proofs.text.write_rows.Given as goal
 
 abbrev pub invariant-loop-number : goal.invariant-loop-number

@@ -1,7 +1,7 @@
 use Rattle.std.proofs.Common.{List, ℕ, sym, subst, ◌∙◌}
 use Rattle.std.specs.Prelude.{OnOk, OnErr}
 use Rattle.std.specs.Io.KnownBytes.{Appends}
-use Rattle.memory_image.specs.Output.{AppendsFront}
+use Rattle.text_output.specs.Output.{AppendsFront}
 use Rattle.integrity_checker.proofs.VerdictTexts.{sound_text, failing_text}
 use Rattle.integrity_checker.proofs.verdicts.Verdict.write_text.Goals as goal
 

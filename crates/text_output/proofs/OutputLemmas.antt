@@ -1,11 +1,11 @@
 -- Pieces of a text that are written one behind another.
-use Rattle.std.proofs.Common.{◌≡◌, ℕ, ◌+◌, ◌-◌, ◌<◌, ◌≤◌, List, [], ◌++◌, Option, length, take, drop, subst, sym, ap, ◌∙◌, append_assoc, take-append-drop, get_or, drop-cons, add-one, append-nil, Result, Ok, Err}
+use Rattle.std.proofs.Common.{◌≡◌, ℕ, ◌+◌, ◌-◌, ◌<◌, ◌≤◌, List, [], ◌++◌, Option, length, take, drop, subst, sym, ap, ◌∙◌, append_assoc, take-append-drop, get_or, drop-cons, add-one, append-nil, length-append, arith, Result, Ok, Err}
 use Rattle.std.specs.Prelude.{OnOk, OnErr}
 use Rattle.std.specs.List.{flat_map}
 use Rattle.std.specs.Io.KnownBytes.{Appends}
 use Rattle.std.proofs.KnownBytes.{Appends-trans}
 use Rattle.std.proofs.lemmas.List.{take_rest, drop_all}
-use Rattle.memory_image.specs.Output.{AppendsFront, LeavesUnwritten}
+use Rattle.text_output.specs.Output.{AppendsFront, LeavesUnwritten}
 
 -- a write after a write that left a rest
 pub wrote_more : (a b c : Option (List ℕ)) (text rest : List ℕ) (n : ℕ) → LeavesUnwritten a b text rest → Appends b c (take n rest) → LeavesUnwritten a c text (take (length rest - n) (drop n rest))
@@ -26,8 +26,9 @@ wrote_piece a b c text piece rest before more = record {
 -- a piece of the rest is cut short
 pub cut_piece : (a b c : Option (List ℕ)) (text piece rest : List ℕ) → LeavesUnwritten a b text (piece ++ rest) → AppendsFront b c piece → AppendsFront a c text
 cut_piece a b c text piece rest before front =
-    let part = front.1 in (
+    let part = front.2 in (
       front.0 ++ rest,
+      (let some = front.1 in omega (arith, length-append front.0 rest)),
       record {
         written = before.written ++ part.written;
         whole = before.whole ∙ ap (λ l. before.written ++ (l ++ rest)) part.whole ∙ ap (λ l. before.written ++ l) (append_assoc part.written front.0 rest) ∙ sym (append_assoc before.written part.written (front.0 ++ rest));
@@ -64,8 +65,11 @@ wrote_first a b text piece rest whole grown = record { written = piece; whole = 
 
 pub cut_first : (a b : Option (List ℕ)) (text piece rest : List ℕ) → text ≡ piece ++ rest → AppendsFront a b piece → AppendsFront a b text
 cut_first a b text piece rest whole front =
-    let part = front.1 in
-    (front.0 ++ rest, record { written = part.written; whole = whole ∙ ap (λ l. l ++ rest) part.whole ∙ append_assoc part.written front.0 rest; grown = part.grown })
+    let part = front.2 in (
+      front.0 ++ rest,
+      (let some = front.1 in omega (arith, length-append front.0 rest)),
+      record { written = part.written; whole = whole ∙ ap (λ l. l ++ rest) part.whole ∙ append_assoc part.written front.0 rest; grown = part.grown },
+    )
 
 pub wrote_last : {T E : Type 0} (a b c : Option (List ℕ)) (text rest : List ℕ) (r : Result T E) → LeavesUnwritten a b text rest → OnOk r (Appends b c rest) → OnOk r (Appends a c text)
 wrote_last a b c text rest (Ok x) before more = subst (Appends a c) (sym before.whole) (Appends-trans a b c before.written rest before.grown more)

@@ -1,0 +1,14 @@
+//! Text for a writer: words and decimal numbers put behind one another in a line, and bytes written whole
+//! or told as cut short.
+//!
+//! What a writer has of a text after a write that failed is said once, by `AppendsFront`
+//! (specs/Output.antt), for all crates that write.
+#![tactic(auto)]
+
+mod lines;
+mod output;
+#[cfg(test)]
+mod tests;
+
+pub use lines::{push_decimal, push_number, push_word};
+pub use output::{WriteFailed, write_whole};
