@@ -250,7 +250,8 @@ fn handed_back(
     ensures { IfOk result (λ v. All (λ h. IsOf audit.now h) v.items) }
 {
     let mut back = Vec::new(alloc);
-    while let Some((helper, found)) = done.pop() {
+    while let Some(one) = done.pop() {
+        let (helper, found) = one;
         add_answers(answers, &found);
         back.push(helper)?;
     }

@@ -1,7 +1,5 @@
 pub mod NumberLemmas
 pub mod TokenLemmas
-pub mod OutputLemmas
-pub mod ReplyLemmas
 pub mod LineLemmas
 pub mod ScriptLemmas
 pub mod ProgressLemmas
@@ -9,8 +7,3 @@ pub mod RunLemmas
 pub mod JobLemmas
 pub mod ValueLemmas
 pub mod CommandLemmas
-pub mod ChainLemmas
-pub mod SameLemmas
-pub mod RaceLemmas
-pub mod HaltLemmas
-pub mod RoundLemmas

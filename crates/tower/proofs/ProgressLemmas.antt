@@ -13,7 +13,7 @@ use Rattle.tower.specs.declared.faults.ScriptFault.{ScriptFault}
 use Rattle.tower.specs.declared.faults.ScriptFault.TheVariants.{BadSize, NoMemory, Malformed, TooLong, ReadFailed, WriteFailed}
 use Rattle.tower.specs.declared.session.Session.{Session}
 use Rattle.tower.specs.Lines.{line_of, is_too_long}
-use Rattle.tower.specs.Output.{LeavesUnwritten, AppendsFront}
+use Rattle.text_output.specs.Output.{LeavesUnwritten, AppendsFront}
 use Rattle.tower.specs.Script.{is_line_feed, lines_of, closed_lines, open_line, judged_to, is_malformed, is_sound, events_in, replies_text}
 use Rattle.tower.specs.Progress.{state_after, text_after, LineFails, IsOneLine, Reached, Begins, Breaks, Stops}
 use Rattle.tower.proofs.LineLemmas.{closed_piece, open_piece, closed_line, open_fresh, judged_more, judged_line, judged_long, judged_rest}

@@ -11,7 +11,7 @@ use Rattle.tower.specs.declared.faults.ScriptFault.{ScriptFault}
 use Rattle.tower.specs.declared.faults.ScriptFault.TheVariants.{BadSize, NoMemory, Malformed, TooLong, ReadFailed, WriteFailed}
 use Rattle.tower.specs.declared.session.Session.{Session}
 use Rattle.tower.specs.Lines.{line_of, is_too_long}
-use Rattle.tower.specs.Output.{LeavesUnwritten, AppendsFront}
+use Rattle.text_output.specs.Output.{LeavesUnwritten, AppendsFront}
 use Rattle.tower.specs.Replies.{text_of}
 use Rattle.tower.specs.Script.{limit, lines_of, closed_lines, open_line, is_malformed, is_sound, events_in, events_of, fault_of, replies_text}
 use Rattle.tower.specs.Progress.{state_after, text_after, LineFails, Reached, Begins, Stops, Finished, StopsAtLast, Ran, EndsWhole, ReadSome, RanInto, EndsBy, IsBeforeReading}

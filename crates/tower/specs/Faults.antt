@@ -1,12 +1,12 @@
 -- The texts of faults.
 use Rattle.std.specs.Prelude.{◌≡◌, ℕ, List, ◌++◌, codes, decimal}
+use Rattle.guest_race.specs.declared.faults.RoundFault.{RoundFault}
+use Rattle.guest_race.specs.declared.faults.RoundFault.TheVariants as round
 use Rattle.kernel_calls.specs.declared.kernel.BootFault.{BootFault}
 use Rattle.kernel_calls.specs.declared.kernel.BootFault.TheVariants as boot
 use Rattle.memory_image.specs.declared.faults.ImageFault.{ImageFault}
 use Rattle.memory_image.specs.declared.faults.ImageFault.TheVariants as image
 use Rattle.tower.specs.declared.faults.ScriptFault.{ScriptFault}
-use Rattle.tower.specs.declared.rounds.RoundFault.{RoundFault}
-use Rattle.tower.specs.declared.rounds.RoundFault.TheVariants as round
 use Rattle.tower.specs.declared.tools.ToolFault.{ToolFault}
 use Rattle.tower.specs.declared.tools.ToolFault.TheVariants as tool
 use Rattle.tower.specs.declared.words.WordsFault.{WordsFault}

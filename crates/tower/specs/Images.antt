@@ -5,7 +5,7 @@ use Rattle.integrity_checker.specs.Text.{verdict_text}
 use Rattle.integrity_checker.specs.Told.{fails_nothing, verdict_on}
 use Rattle.kernel_calls.specs.Machine.{end_of}
 use Rattle.memory_image.specs.Image.{Image}
-use Rattle.memory_image.specs.Output.{AppendsFront}
+use Rattle.text_output.specs.Output.{AppendsFront}
 use Rattle.memory_image.specs.Reading.{IsRefusal}
 use Rattle.memory_image.specs.Sound.{StandsFor}
 use Rattle.memory_image.specs.Spelling.{Spells, spelling}

@@ -1,6 +1,5 @@
 pub mod Numbers
 pub mod Tokens
-pub mod Output
 pub mod Lines
 pub mod Replies
 pub mod Faults

@@ -17,7 +17,7 @@ use Rattle.tower.specs.declared.lines.Line.{Line}
 use Rattle.tower.specs.declared.lines.Line.TheVariants as line
 use Rattle.tower.specs.declared.session.Session.{Session}
 use Rattle.tower.specs.Lines.{is_too_long}
-use Rattle.tower.specs.Output.{LeavesUnwritten, AppendsFront}
+use Rattle.text_output.specs.Output.{LeavesUnwritten, AppendsFront}
 use Rattle.tower.specs.Replies.{reply_line}
 use Rattle.tower.specs.Script.{lines_of, closed_lines, open_line, judged_to, limit, is_malformed, is_sound, events_in, events_of, fault_of, replies_text}
 

@@ -1,10 +1,10 @@
 //! Why a script's run ends early.
 
-use super::output::WriteFailed;
 use kernel_calls::BootFault;
 use std::alloc::AllocError;
 use std::error::Error;
 use std::fmt;
+use text_output::WriteFailed;
 
 /// Why a script's run ends early.
 #[derive(Clone, Copy, Debug, PartialEq, Eq)]

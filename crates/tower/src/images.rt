@@ -44,10 +44,8 @@ pub fn write_script_image<R: Read, W: Write>(
     ensures fault { IfErr result (λ fault. EndsImage frames fault (R.remaining reader.old) (W.contents writer.old) (W.contents writer.new)) }
 {
     let image = script_image(alloc, reader, frames)?;
-    match write_image(&image, writer) {
-        Ok(()) => Ok(()),
-        Err(_) => Err(ScriptFault::WriteFailed),
-    }
+    write_image(&image, writer)?;
+    Ok(())
 }
 
 /// The program's fault for an image's.

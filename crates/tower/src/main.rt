@@ -24,7 +24,6 @@ mod race;
 #[cfg(test)]
 mod race_tests;
 mod replies;
-mod rounds;
 mod script;
 mod session;
 #[cfg(test)]

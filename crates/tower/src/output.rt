@@ -2,18 +2,15 @@
 
 ghost use Rattle.std.specs.Prelude.{◌≡◌, ◌+◌, ◌≤◌, ◌<◌, [], ◌++◌, length, IfOk, OnOk, OnErr};
 ghost use Rattle.std.specs.Io.KnownBytes.{Appends};
-ghost use Rattle.tower.specs.Output.{LeavesUnwritten, AppendsFront};
+ghost use Rattle.text_output.specs.Output.{LeavesUnwritten, AppendsFront};
 
 use std::alloc::{AllocError, Global};
 use std::io::Write;
 use std::marker::Model;
+use text_output::{WriteFailed, write_whole};
 
 /// The bytes of a block.
 const BLOCK: usize = 65_536;
-
-/// A write answered an error, or took no byte.
-#[derive(Clone, Copy, Debug, PartialEq, Eq)]
-pub struct WriteFailed;
 
 /// Text that waits to be written, at most 65,536 bytes of it.
 #[derive(Drop)]
@@ -69,21 +66,4 @@ impl Output {
         self.block.clear();
         written
     }
-}
-
-/// Writes all of the bytes, in as many writes as it takes. A write that answers an error, of any
-/// kind, is not tried again.
-pub fn write_whole<W: Write>(writer: &mut W, bytes: &[u8]) -> Result<(), WriteFailed>
-    ensures ok { OnOk result (Appends (W.contents writer.old) (W.contents writer.new) bytes.now) }
-    ensures err { OnErr result (AppendsFront (W.contents writer.old) (W.contents writer.new) bytes.now) }
-    ensures some { OnErr result (0 < length bytes.now) }
-{
-    let mut rest = bytes;
-    while !rest.is_empty() {
-        match writer.write(rest) {
-            Ok(count) if count > 0 => rest = &rest[count..],
-            _ => return Err(WriteFailed),
-        }
-    }
-    Ok(())
 }

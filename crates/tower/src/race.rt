@@ -2,19 +2,22 @@
 
 ghost use Rattle.std.specs.Prelude.{◌≡◌, ◌≤◌, ◌↔◌, IfOk, IfErr, IsErrOf, OnOk, OnErr};
 ghost use Rattle.std.specs.Io.KnownBytes.{Appends};
-ghost use Rattle.memory_report.specs.Text.{report_text};
-ghost use Rattle.tower.specs.Races.{Raced, Writes, EndsRace, LeavesFront, race_heading, race_text};
+ghost use Rattle.tower.specs.Races.{Raced, Writes, EndsRace, race_heading, race_text};
+ghost use Rattle.text_output.specs.Output.{AppendsFront};
 
-use super::output::{WriteFailed, write_whole};
-use super::replies::{ReplyLine, push_decimal, push_word};
-use super::rounds::{RoundFault, round};
 use super::tools::ToolFault;
 use arrayvec::ArrayVec;
+use guest_race::{RoundFault, round};
 use memory_report::Report;
+use page_words::{MAX_FRAMES, MIN_FRAMES};
 use std::alloc::Global;
 use std::io::Write;
 use std::sync::Wait;
 use std::thread::Threads;
+use text_output::{WriteFailed, push_number, push_word, write_whole};
+
+/// Room for the lines before the report.
+const ROOM: usize = 64;
 
 /// Plays so many rounds, each on a kernel of its own. The report of the last one.
 fn play<R: Threads + Wait + Sync>(
@@ -34,41 +37,29 @@ fn play<R: Threads + Wait + Sync>(
 }
 
 /// The lines before the report.
-#[tactic(auto, using(crate::proofs::ReplyLemmas::short_decimal), unfolding(crate::specs::Races::race_heading))]
-fn heading(rounds: u32) -> ReplyLine
+#[tactic(auto, unfolding(crate::specs::Races::race_heading))]
+fn heading(rounds: u32) -> ArrayVec<u8, ROOM>
     ensures { result.items ≡ race_heading rounds }
 {
     let mut text = ArrayVec::new();
-    push_word(&mut text, "rounds ");
-    push_decimal(&mut text, rounds);
-    push_word(&mut text, "\nhistory legal\nreport equal\n");
+    push_number(&mut text, "rounds ", rounds);
+    push_word(&mut text, "\nhistory legal\nreport equal\nverdict sound\n");
     text
-}
-
-/// Writes the report, which memory_report does with a fault of its own.
-fn write_report<W: Write>(writer: &mut W, report: &Report) -> Result<(), WriteFailed>
-    ensures ok { OnOk result (Appends (W.contents writer.old) (W.contents writer.new) (report_text report.now)) }
-    ensures err { OnErr result (LeavesFront (W.contents writer.old) (W.contents writer.new) (report_text report.now)) }
-{
-    match report.write_text(writer) {
-        Ok(()) => Ok(()),
-        Err(_) => Err(WriteFailed),
-    }
 }
 
 /// Writes what is said of so many rounds.
 #[tactic(auto, unfolding(crate::specs::Races::race_text))]
 fn write_race<W: Write>(writer: &mut W, rounds: u32, report: &Report) -> Result<(), WriteFailed>
     ensures ok { OnOk result (Appends (W.contents writer.old) (W.contents writer.new) (race_text rounds report.now)) }
-    ensures err { OnErr result (LeavesFront (W.contents writer.old) (W.contents writer.new) (race_text rounds report.now)) }
+    ensures err { OnErr result (AppendsFront (W.contents writer.old) (W.contents writer.new) (race_text rounds report.now)) }
 {
     write_whole(writer, heading(rounds).as_slice())?;
-    write_report(writer, report)
+    report.write_text(writer)
 }
 
 /// Plays so many rounds of a race, at least one, each on a freshly booted kernel of so many frames, and
-/// then writes that all histories were legal and all reports equal, and the report of the last round. It
-/// may wait, as each round's threads do.
+/// then writes that all histories were legal, all reports equal and all images sound, and the report of the
+/// last round. It may wait, as each round's threads do.
 ///
 /// `BadSize` comes where there are not 16 to 4,096 frames. Then the first round that ends early ends the
 /// race: `NoMemory` where memory runs out, else `RaceTurns` where a guest ran out of turns, else
@@ -86,7 +77,7 @@ pub fn race<R: Threads + Wait + Sync, W: Write>(
     ensures text { OnOk result (Writes frames rounds (W.contents writer.old) (W.contents writer.new)) }
     ensures fault { IfErr result (λ fault. EndsRace frames rounds fault (W.contents writer.old) (W.contents writer.new)) }
 {
-    if frames < 16 || frames > 4096 {
+    if !(MIN_FRAMES..=MAX_FRAMES).contains(&frames) {
         return Err(ToolFault::BadSize);
     }
     let report = play(rt, alloc, frames, rounds)?;

@@ -8,10 +8,10 @@ use std::io::Write;
 use std::test::Fail;
 
 const THREE_ROUNDS: &[u8] =
-    b"rounds 3\nhistory legal\nreport equal\nprocess 0 parent 0 quota 15 used 3 given 5\nprocess 1 parent 0 quota 5 used 3 given 0\ntotal 6\n";
+    b"rounds 3\nhistory legal\nreport equal\nverdict sound\nprocess 0 parent 0 quota 15 used 3 given 5\nprocess 1 parent 0 quota 5 used 3 given 0\ntotal 6\n";
 
 const LARGEST: &[u8] =
-    b"rounds 1\nhistory legal\nreport equal\nprocess 0 parent 0 quota 4095 used 3 given 5\nprocess 1 parent 0 quota 5 used 3 given 0\ntotal 6\n";
+    b"rounds 1\nhistory legal\nreport equal\nverdict sound\nprocess 0 parent 0 quota 4095 used 3 given 5\nprocess 1 parent 0 quota 5 used 3 given 0\ntotal 6\n";
 
 #[test]
 fn plays_three_rounds(rt: HostRuntime) -> Result<(), Fail> {
@@ -72,7 +72,7 @@ impl Write for FullAfter {
 
 #[test]
 fn writes_a_front_before_a_write_fails(rt: HostRuntime) -> Result<(), Fail> {
-    for left in [0, 8, 22, 35, 80, 128, 129] {
+    for left in [0, 8, 22, 35, 49, 94, 142, 143] {
         let mut writer = FullAfter {
             written: ArrayVec::new(),
             left,

@@ -1,27 +1,19 @@
 //! The text of replies.
 
-ghost use Rattle.std.specs.Prelude.{◌≡◌, ◌+◌, ◌≤◌, ◌<◌, ◌^◌, ◌%◌, ◌++◌, [], ◌∷◌, length, decimal};
+ghost use Rattle.std.specs.Prelude.{◌≡◌, ◌+◌, ◌≤◌, ◌%◌, ◌++◌, [], ◌∷◌, length};
 ghost use Rattle.std.specs.Char.{digit_char};
 ghost use Rattle.arrayvec.specs.ArrayVec.{array_vec_len};
 ghost use Rattle.tower.specs.Replies.{eight_digits, name_of, bit_of, flags_of, reply_text, reply_line};
 
 use arrayvec::ArrayVec;
 use kernel_calls::{Cause, Reply};
+use text_output::{push_number, push_word};
 
 /// Room for the longest line that a reply has.
 const ROOM: usize = 64;
 
 /// A reply's line.
 pub type ReplyLine = ArrayVec<u8, ROOM>;
-
-/// Puts a word behind what stands there.
-pub fn push_word(line: &mut ReplyLine, word: &str)
-    requires { array_vec_len line.old + length word.now ≤ 64 }
-    ensures items { line.new.items ≡ line.old.items ++ word.now }
-    ensures len { array_vec_len line.new ≡ array_vec_len line.old + length word.now }
-{
-    line.try_extend_from_slice(word.as_bytes()).unwrap();
-}
 
 /// The lowest hexadecimal digit of a number.
 fn last_digit(n: u32) -> u8
@@ -53,21 +45,6 @@ fn push_eight_digits(line: &mut ReplyLine, n: u32)
         last_digit(n),
     ];
     line.try_extend_from_slice(&digits).unwrap();
-}
-
-/// A number in decimal.
-#[tactic(auto, using(crate::proofs::ReplyLemmas::decimal_steps))]
-pub fn push_decimal(line: &mut ReplyLine, n: u32)
-    requires { array_vec_len line.old + length (decimal n) ≤ 64 }
-    ensures items { line.new.items ≡ line.old.items ++ decimal n }
-    ensures len { array_vec_len line.new ≡ array_vec_len line.old + length (decimal n) }
-{
-    if n < 10 {
-        line.push(b'0' + n as u8);
-    } else {
-        push_decimal(line, n / 10);
-        line.push(b'0' + (n % 10) as u8);
-    }
 }
 
 /// The name of a cause.
@@ -119,7 +96,6 @@ fn push_flags(line: &mut ReplyLine, write: bool, may: bool, accessed: bool, dirt
 }
 
 /// What a reply says, without the line feed.
-#[tactic(auto, using(crate::proofs::ReplyLemmas::short_decimal))]
 fn push_text(line: &mut ReplyLine, reply: &Reply)
     requires { line.old.items ≡ [] }
     ensures items { line.new.items ≡ reply_text reply.now }
@@ -131,10 +107,7 @@ fn push_text(line: &mut ReplyLine, reply: &Reply)
             push_word(line, "value ");
             push_eight_digits(line, value);
         }
-        Reply::Child(child) => {
-            push_word(line, "child ");
-            push_decimal(line, u32::from(child.number()));
-        }
+        Reply::Child(child) => push_number(line, "child ", u32::from(child.number())),
         Reply::Info {
             write,
             may,
@@ -144,22 +117,17 @@ fn push_text(line: &mut ReplyLine, reply: &Reply)
         } => {
             push_word(line, "info ");
             push_flags(line, write, may, accessed, dirty);
-            push_word(line, " ");
-            push_decimal(line, holders);
+            push_number(line, " ", holders);
         }
         Reply::Quota { quota, used, given } => {
-            push_word(line, "quota ");
-            push_decimal(line, quota);
-            push_word(line, " ");
-            push_decimal(line, used);
-            push_word(line, " ");
-            push_decimal(line, given);
+            push_number(line, "quota ", quota);
+            push_number(line, " ", used);
+            push_number(line, " ", given);
         }
         Reply::Fault { addr, code } => {
             push_word(line, "fault ");
             push_eight_digits(line, addr.0);
-            push_word(line, " ");
-            push_decimal(line, u32::from(code));
+            push_number(line, " ", u32::from(code));
         }
         Reply::Refused(cause) => {
             push_word(line, "refused ");

@@ -3,7 +3,7 @@
 ghost use Rattle.std.specs.Prelude.{◌≡◌, ℕ, ◌+◌, ◌≤◌, ◌<◌, ◌↔◌, IsErrOf, false, List, [], ◌∷◌, ◌++◌, length, Option, take, OnOk, IfOk, IfErr, MatchOption, ◌^◌};
 ghost use Rattle.std.specs.Io.KnownBytes.{Consumes, Keeps, IsAtEnd};
 ghost use Rattle.tower.specs.Lines.{line_of};
-ghost use Rattle.tower.specs.Output.{LeavesUnwritten};
+ghost use Rattle.text_output.specs.Output.{LeavesUnwritten};
 ghost use Rattle.tower.specs.Script.{is_malformed};
 ghost use Rattle.tower.specs.Progress.{state_after, text_after, LineFails, IsOneLine, Reached, Stops, Finished, StopsAtLast, Ran, RanInto, EndsWhole, EndsBy, IsBeforeReading};
 

@@ -1,9 +1,9 @@
 //! Why a command of the program ends early.
 
-use super::output::WriteFailed;
-use super::rounds::RoundFault;
+use guest_race::RoundFault;
 use std::error::Error;
 use std::fmt;
+use text_output::WriteFailed;
 
 /// Why a command of the program ends early.
 #[derive(Clone, Copy, Debug, PartialEq, Eq)]

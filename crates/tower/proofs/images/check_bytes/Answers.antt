@@ -2,7 +2,7 @@ use Rattle.std.proofs.Common.{ap, subst, ◌∙◌}
 use Rattle.std.specs.Io.KnownBytes.{Appends}
 use Rattle.integrity_checker.specs.Text.{verdict_text}
 use Rattle.integrity_checker.specs.Told.{Told, fails_nothing}
-use Rattle.memory_image.specs.Output.{AppendsFront}
+use Rattle.text_output.specs.Output.{AppendsFront}
 use Rattle.tower.proofs.images.check_bytes.Goals as goal
 
 -- what was written is the text of the verdict on the image that was read

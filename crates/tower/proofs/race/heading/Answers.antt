@@ -5,5 +5,5 @@ use Rattle.tower.proofs.race.heading.Goals as goal
 
 pub returns : goal.returns
 unfolding race_heading
-returns c = rw (c.push_word-2.ensures.items, c.push_decimal.ensures.items, c.push_word.ensures.items, c.new-text.ensures)
-    (sym (append_assoc (codes "rounds " ++ decimal c.args.rounds) (10 ∷ []) (line (codes "history legal") ++ line (codes "report equal"))))
+returns c = rw (c.push_word.ensures.items, c.push_number.ensures.items, c.new-text.ensures)
+    (sym (append_assoc (codes "rounds " ++ decimal c.args.rounds) (10 ∷ []) (line (codes "history legal") ++ (line (codes "report equal") ++ line (codes "verdict sound")))))

@@ -1,7 +1,10 @@
-use Rattle.std.proofs.Common.{◌∷◌, [], ◌++◌, arith, length-append}
+use Rattle.std.proofs.Common.{◌∷◌, [], ◌++◌, refl, arith, length-append}
 use Rattle.std.proofs.lemmas.List.Elements.{All-push}
-use Rattle.tower.specs.Races.{IsReported}
+use Rattle.guest_race.specs.Rounds.{IsReported}
 use Rattle.tower.proofs.race.play.Goals as goal
+
+pub loop-played-init : goal.loop-played-init
+loop-played-init g c = record { earlier = []; count = refl; each = λ k d below. absurd (omega arith); last = c.in_ok-report.ensures }
 
 pub loop-played-preserved : goal.loop-played-preserved
 loop-played-preserved g c =

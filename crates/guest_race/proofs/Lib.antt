@@ -1,0 +1,5 @@
+pub mod ChainLemmas
+pub mod GrowthLemmas
+pub mod HaltLemmas
+pub mod RoundLemmas
+pub mod SameLemmas

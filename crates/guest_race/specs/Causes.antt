@@ -1,0 +1,50 @@
+-- Why a round ends early.
+--     cause_of end      why a guest's end ends its round
+--     boot_cause, kernel_cause, audit_cause      why a refusal does
+--     graver, told_cause      which of two causes is told
+use Rattle.std.specs.Prelude.{◌==◌, Option, None, Some, if◌then◌else◌}
+use Rattle.guest_cpu.specs.declared.runs.End.{End}
+use Rattle.guest_cpu.specs.declared.runs.End.TheVariants as end
+use Rattle.locked_core.specs.declared.faults.BootFault.{BootFault}
+use Rattle.locked_core.specs.declared.faults.BootFault.TheVariants as boot
+use Rattle.locked_core.specs.declared.faults.Fault.{Fault}
+use Rattle.locked_core.specs.declared.faults.Fault.TheVariants as kernel
+use Rattle.parallel_audit.specs.declared.faults.AuditFault.{AuditFault}
+use Rattle.parallel_audit.specs.declared.faults.AuditFault.TheVariants as audit
+use Rattle.guest_race.specs.declared.faults.RoundFault.{RoundFault}
+use Rattle.guest_race.specs.declared.faults.RoundFault.TheVariants.{NoMemory, Turns, Failed}
+
+abbrev pub cause_of : End → Option RoundFault
+cause_of end.Halted = None
+cause_of end.OutOfTurns = Some Turns
+cause_of (end.Stopped reply) = Some Failed
+cause_of (end.PortFault fault) = if fault == 1 then Some NoMemory else Some Failed
+
+abbrev pub boot_cause : BootFault → RoundFault
+boot_cause boot.NoMemory = NoMemory
+boot_cause boot.BadSize = Failed
+boot_cause boot.BadCount = Failed
+
+abbrev pub kernel_cause : Fault → RoundFault
+kernel_cause kernel.NoMemory = NoMemory
+kernel_cause (kernel.Stale front) = Failed
+kernel_cause kernel.Unread = Failed
+kernel_cause kernel.Disagree = Failed
+
+abbrev pub audit_cause : AuditFault → RoundFault
+audit_cause audit.NoMemory = NoMemory
+audit_cause audit.BadCount = Failed
+audit_cause audit.Missing = Failed
+
+-- of two causes the one that is told: want of memory, and then turns
+abbrev pub graver : RoundFault → RoundFault → RoundFault
+graver NoMemory b = NoMemory
+graver Turns NoMemory = NoMemory
+graver Turns Turns = Turns
+graver Turns Failed = Turns
+graver Failed b = b
+
+abbrev pub told_cause : Option RoundFault → Option RoundFault → Option RoundFault
+told_cause None b = b
+told_cause (Some a) None = Some a
+told_cause (Some a) (Some b) = Some (graver a b)

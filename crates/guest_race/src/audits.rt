@@ -1,0 +1,90 @@
+//! The audit of a kernel's memory by two helpers, each in a thread of its own.
+
+ghost use Rattle.std.specs.Prelude.{◌≡◌, ◌≤◌, ◌∷◌, [], IfNone, IfOk, true, vec_len};
+ghost use Rattle.std.specs.Vec.{vec_capacity};
+ghost use Rattle.integrity_checker.specs.Told.{fails_nothing, verdict_on};
+ghost use Rattle.parallel_audit.specs.Steps.{IsOf};
+ghost use Rattle.guest_race.specs.Rounds.{Audited};
+
+use crate::faults::RoundFault;
+use locked_core::{Cpu, Kernel, Name, OpenGate};
+use memory_image::Image;
+use parallel_audit::{Audit, Helper, Step};
+use std::alloc::Global;
+use std::sync::Wait;
+use std::thread;
+use std::thread::Threads;
+
+/// Steps until a helper answers that no number is left: one for each of the 64 numbers, and one more.
+const STEPS: u32 = 65;
+
+/// All steps of a helper.
+fn all_steps(audit: &Audit, mut helper: Helper) -> Helper
+    requires { IsOf audit.now helper }
+    ensures { IsOf audit.now result }
+{
+    for step in 0..STEPS {
+        if let Step::NoneLeft = helper.step(audit) {
+            return helper;
+        }
+    }
+    helper
+}
+
+/// The steps of two helpers, in two threads.
+fn steps_of_both<R: Threads + Sync>(
+    rt: &R,
+    audit: &Audit,
+    first: Helper,
+    second: Helper,
+) -> (Helper, Helper)
+    requires { IsOf audit.now first × IsOf audit.now second }
+    ensures { IsOf audit.now result.0 × IsOf audit.now result.1 }
+{
+    thread::join(
+        rt,
+        move || -> Helper
+            requires { IsOf audit.now first }
+            ensures { IsOf audit.entry.now result }
+        { all_steps(audit, first) },
+        move || -> Helper
+            requires { IsOf audit.now second }
+            ensures { IsOf audit.entry.now result }
+        { all_steps(audit, second) },
+    )
+}
+
+/// Whether two helpers find nothing that fails in an image.
+fn is_sound<R: Threads + Sync>(rt: &R, alloc: Global, image: Image) -> Result<bool, RoundFault>
+    ensures { IfOk result (λ sound. sound ≡ fails_nothing (verdict_on image)) }
+{
+    let (audit, mut helpers) = Audit::new(alloc, image, 2)?;
+    let second = helpers.pop().unwrap();
+    let first = helpers.pop().unwrap();
+    let (first, second) = steps_of_both(rt, &audit, first, second);
+    helpers.push(first).unwrap();
+    helpers.push(second).unwrap();
+    let verdict = audit.finish(helpers)?;
+    Ok(verdict.sound())
+}
+
+/// Why an image of the kernel's memory was not found sound; None where it was. What the CPU has seen stays.
+pub(crate) fn audit_memory<N: Name, R: Threads + Wait + Sync>(
+    rt: &R,
+    alloc: Global,
+    kernel: &Kernel<N, OpenGate>,
+    cpu: &mut Cpu<N>,
+) -> Option<RoundFault>
+    ensures kept { cpu.new ≡ cpu.old }
+    ensures sound { IfNone result (Audited N.frames cpu.old) }
+{
+    let image = match kernel.snapshot(rt, cpu) {
+        Ok(image) => image,
+        Err(fault) => return Some(RoundFault::from(fault)),
+    };
+    match is_sound(rt, alloc, image) {
+        Ok(true) => None,
+        Ok(false) => Some(RoundFault::Failed),
+        Err(fault) => Some(fault),
+    }
+}

@@ -1,0 +1,134 @@
+//! A round of a race, from the kernel's boot to its end.
+
+ghost use Rattle.std.specs.Prelude.{◌≡◌, ◌∷◌, ◌≤◌, [], IfOk, IfSome, IsTrue, None, Some, Ok, vec_len};
+ghost use Rattle.std.specs.Vec.{vec_capacity};
+ghost use Rattle.locked_core.specs.Makers.{maker};
+ghost use Rattle.memory_report.specs.Reports.{report_of};
+ghost use Rattle.guest_race.specs.Rounds.{Closes, IsReported, Reports};
+
+use crate::audits::audit_memory;
+use crate::faults::{RoundFault, graver, told_cause};
+use crate::guests::play_opened;
+use locked_core::{Blank, Boot, Cpu, History, Kernel, Monitor, Name, OpenGate};
+use memory_report::{Report, report_of};
+use std::alloc::Global;
+use std::marker::Brand;
+use std::sync::Wait;
+use std::thread::Threads;
+
+/// What a monitor reports that is told all that both CPUs have seen.
+fn report_told<N: Name>(monitor: &mut Monitor<N>, first: &Cpu<N>, second: &Cpu<N>) -> Option<Report>
+    ensures { IfSome result (λ report. Reports N.frames first.now.seen second.now.seen report) }
+{
+    monitor.learn(first.tell());
+    monitor.learn(second.tell());
+    let seen = monitor.report()?;
+    Some(seen.report)
+}
+
+fn is_same(a: &Report, b: &Report) -> bool
+    ensures { IsTrue result → a.now ≡ b.now }
+{
+    a == b
+}
+
+/// The report of a kernel that was closed, where it is also the one that its monitor gave.
+fn same_report(reported: Option<Report>, history: &History) -> Result<Report, RoundFault>
+    ensures core { IfOk result (λ report. report ≡ report_of history.now.core.state) }
+    ensures reported { IfOk result (λ report. reported ≡ Some report) }
+{
+    let report = report_of(history.core());
+    match reported {
+        Some(found) if is_same(&found, &report) => Ok(report),
+        _ => Err(RoundFault::Failed),
+    }
+}
+
+/// What a round comes to: where a cause was told, or no report was given twice, the graver of both.
+fn judged(
+    cause: Option<RoundFault>,
+    report: Result<Report, RoundFault>,
+) -> Result<Report, RoundFault>
+    ensures { IfOk result (λ rows. (cause ≡ None) × (report ≡ Ok rows)) }
+{
+    match (cause, report) {
+        (None, report) => report,
+        (Some(cause), Ok(_)) => Err(cause),
+        (Some(cause), Err(fault)) => Err(graver(cause, fault)),
+    }
+}
+
+/// The two CPUs, which are all.
+fn take_both<N: Name>(cpus: &mut Vec<Cpu<N>>) -> (Cpu<N>, Cpu<N>)
+    requires { cpus.old.items ≡ maker 0 [] ∷ maker 1 [] ∷ [] }
+    ensures both { (result.0 ≡ maker 0 []) × (result.1 ≡ maker 1 []) }
+    ensures none { (vec_len cpus.new ≡ 0) × (2 ≤ vec_capacity cpus.new) }
+{
+    let second = cpus.pop().unwrap();
+    let first = cpus.pop().unwrap();
+    (first, second)
+}
+
+/// Puts both back into their place.
+fn put_both<N: Name>(cpus: &mut Vec<Cpu<N>>, first: Cpu<N>, second: Cpu<N>)
+    requires { (vec_len cpus.old ≡ 0) × (2 ≤ vec_capacity cpus.old) }
+    ensures { cpus.new.items ≡ first ∷ second ∷ [] }
+{
+    cpus.push(first).unwrap();
+    cpus.push(second).unwrap();
+}
+
+/// Closes a kernel. Its report, where it is also the one that its monitor gave.
+fn close_all<N: Name, R: Wait>(
+    rt: &R,
+    kernel: Kernel<N, OpenGate>,
+    cpus: Vec<Cpu<N>>,
+    reported: Option<Report>,
+) -> Result<Report, RoundFault>
+    ensures { IfOk result (λ rows. Closes N.frames cpus.items rows × (reported ≡ Some rows)) }
+{
+    let history = kernel.close(rt, cpus)?;
+    same_report(reported, &history)
+}
+
+/// A round on a kernel that has just booted: both guests are played, a monitor that was told by both CPUs
+/// reports, an image of the memory is judged, and the kernel is closed. The report, which is the same before
+/// and after.
+fn play_round<N: Name + Send + Sync, R: Threads + Wait + Sync>(
+    rt: &R,
+    alloc: Global,
+    blank: Blank<OpenGate>,
+) -> Result<Report, RoundFault>
+    requires name { (blank.frames ≡ N.frames) × (blank.opened.seen.book ≡ N.book) }
+    requires seats { (blank.cpus ≡ 2) × (blank.monitors ≡ 1) }
+    ensures { IfOk result (IsReported blank.frames) }
+{
+    let Boot {
+        kernel,
+        mut cpus,
+        mut monitors,
+    } = blank.open::<N, R>(rt)?;
+    let (first, second) = take_both(&mut cpus);
+    let mut monitor = monitors.pop().unwrap();
+    let (mut first, second, played) = play_opened(rt, &kernel, first, second);
+    let reported = report_told(&mut monitor, &first, &second);
+    let audited = audit_memory(rt, alloc, &kernel, &mut first);
+    put_both(&mut cpus, first, second);
+    let report = close_all(rt, kernel, cpus, reported);
+    judged(told_cause(played, audited), report)
+}
+
+/// A round on a kernel of its own, of 16 to 4,096 frames. The report on its memory at the end.
+///
+/// NoMemory where there is not enough memory, else Turns where a guest ran out of turns, else Failed
+/// where anything else ended it early, as a number of frames that no kernel has.
+pub fn round<R: Threads + Wait + Sync>(
+    rt: &R,
+    alloc: Global,
+    frames: u32,
+) -> Result<Report, RoundFault>
+    ensures { IfOk result (IsReported frames) }
+{
+    let blank = Kernel::<Brand, OpenGate>::boot(rt, alloc, frames, 2, 1, OpenGate)?;
+    play_round::<Brand, R>(rt, alloc, blank)
+}
