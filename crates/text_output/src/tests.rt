@@ -44,7 +44,10 @@ fn lines_are_words_and_numbers(rt: HostRuntime) -> Result<(), Fail> {
     push_number(&mut line, "from ", 0);
     push_word(&mut line, " to ");
     push_decimal(&mut line, u64::MAX);
-    assert_eq!(rt; line.as_slice(), b"from 0 to 18446744073709551615".as_slice());
+    assert_eq!(rt;
+        line.as_slice(),
+        b"from 0 to 18446744073709551615".as_slice()
+    );
     Ok(())
 }
 

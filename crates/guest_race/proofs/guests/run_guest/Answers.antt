@@ -18,7 +18,7 @@ returns g c =
         events = made.events;
         answers = made.answers;
         chain = subst (λ (end : Maker). Chain (IsCpuStep g.N.Name.frames) c.args.cpu.now made.events made.answers end) (sym back)
-          (subst (λ (start : Maker). Chain (IsCpuStep g.N.Name.frames) start made.events made.answers last) c.new-port.ensures.cpu shown);
+            (subst (λ (start : Maker). Chain (IsCpuStep g.N.Name.frames) start made.events made.answers last) c.new-port.ensures.cpu shown);
         run = rw (sym c.number.ensures.number, sym c.new-guest.ensures) made.run;
       },
     )
