@@ -386,18 +386,48 @@ fn add_pages(
     Ok(())
 }
 
+/// Adds the mapped pages of the table that a directory word links.
+fn add_table(
+    image: &Image,
+    pid: u8,
+    slot: u32,
+    word: DirWord,
+    pages: &mut Vec<(Mapped, Frame)>,
+) -> Result<(), Fail> {
+    if word.present() {
+        add_pages(image, pid, slot, word.frame(), pages)
+    } else {
+        Ok(())
+    }
+}
+
+/// Adds the mapped pages of a directory.
+fn add_directory(
+    image: &Image,
+    pid: u8,
+    directory: Frame,
+    pages: &mut Vec<(Mapped, Frame)>,
+) -> Result<(), Fail> {
+    for slot in 256..960 {
+        let word = DirWord::read(image.word(directory, slot));
+        add_table(image, pid, slot, word, pages)?;
+    }
+    Ok(())
+}
+
+/// Adds the mapped pages of a process, where it is live.
+fn add_process(image: &Image, pid: Pid, pages: &mut Vec<(Mapped, Frame)>) -> Result<(), Fail> {
+    match image.process(pid) {
+        Some(process) => add_directory(image, pid.number(), process.directory, pages),
+        None => Ok(()),
+    }
+}
+
 /// The mapped pages of all processes of an image, each with its frame, in ascending order.
 fn pages_of(rt: &HostRuntime, image: &Image) -> Result<Vec<(Mapped, Frame)>, Fail> {
     let mut pages = Vec::new(rt.alloc());
     for number in 0..64 {
-        if let Some(process) = image.process(process(number)?) {
-            for slot in 256..960 {
-                let word = DirWord::read(image.word(process.directory, slot));
-                if word.present() {
-                    add_pages(image, number, slot, word.frame(), &mut pages)?;
-                }
-            }
-        }
+        add_process(image, process(number)?, &mut pages)?;
     }
     Ok(pages)
 }

@@ -1,6 +1,8 @@
 //! Scripts of strange lines and of odd lengths, and readers and writers that give and take odd pieces or
 //! fail in mid-stream.
 
+ghost use Rattle.std.specs.Prelude.{◌<◌};
+
 use super::faults::ScriptFault;
 use super::script::run_script;
 use super::worked::sharing::SHARE_BOTH_WAYS;
@@ -21,7 +23,9 @@ enum Pieces {
 
 impl Pieces {
     /// How many bytes the next piece has at most.
-    fn next(&mut self) -> usize {
+    fn next(&mut self) -> usize
+        ensures { 0 < result }
+    {
         match self {
             Pieces::Whole => usize::MAX,
             Pieces::Single => 1,
@@ -50,8 +54,8 @@ impl Read for OddReader<'_> {
         if self.left == 0 {
             return Err(io::Error::from(io::ErrorKind::BrokenPipe));
         }
-        let most = self.left.min(self.pieces.next());
-        let count = buf.len().min(most).min(self.rest.len());
+        let most = self.pieces.next();
+        let count = buf.len().min(self.left).min(self.rest.len()).min(most);
         let (front, rest) = self.rest.split_at(count);
         buf[..count].copy_from_slice(front);
         self.rest = rest;
