@@ -379,8 +379,15 @@ fn store(addr: u32, value: u32) -> Call {
     }
 }
 
+fn load(addr: u32) -> Call {
+    Call::Load {
+        addr: Vaddr(addr),
+        size: Size::Four,
+    }
+}
+
 /// Two processes come to share a page, and the second maps more, and goes.
-fn calls(root: Pid, child: Pid) -> [(Pid, Call); 10] {
+fn calls(root: Pid, child: Pid) -> [(Pid, Call); 12] {
     let page = Page(0x40000);
     [
         (root, store(0x4000_0000, 7)),
@@ -404,7 +411,9 @@ fn calls(root: Pid, child: Pid) -> [(Pid, Call); 10] {
         (child, store(0x5000_0000, 9)),
         (child, Call::Map { page, write: false }),
         (child, Call::Protect { page, write: true }),
+        (child, load(0xefff_fffc)),
         (root, Call::Unmap { page }),
+        (root, load(0x4000_0000)),
         (child, Call::Exit),
         (root, store(0x4000_0000, 1)),
     ]
@@ -426,5 +435,5 @@ fn helpers_find_a_core_sound_after_each_call(rt: HostRuntime) -> Result<(), Fail
 #[test]
 fn helpers_find_the_largest_core_sound(rt: HostRuntime) -> Result<(), Fail> {
     let core = Core::boot(rt.alloc(), 4096)?;
-    is_sound(&rt, rt.alloc(), &core, 4096, &[1, 8])
+    is_sound(&rt, rt.alloc(), &core, 4096, &[1, 2, 3, 4, 5, 6, 7, 8])
 }
