@@ -17,7 +17,7 @@ use Rattle.process_table.specs.View.{View}
 use Rattle.kernel_calls.specs.declared.calls.Reply.{Reply}
 use Rattle.locked_core.proofs.Prefixes.{same_entries}
 use Rattle.locked_core.specs.Held.{Held}
-use Rattle.locked_core.specs.Makers.{Maker, maker, Makes, IsUnread, Prevents}
+use Rattle.locked_core.specs.Makers.{Maker, maker, Makes, IsRefused, Prevents}
 use Rattle.locked_core.specs.declared.faults.Fault.{Fault}
 use Rattle.locked_core.specs.declared.faults.Fault.TheVariants.{NoMemory, Stale, Unread, Disagree}
 use Rattle.memory_report.specs.Histories.{StartsWith}
@@ -104,12 +104,13 @@ makes frames before after pid call reply event log new front of fits legal grown
       },
     )
 
--- what keeps a judged call from being carried out is Unread only where the history is longer
-pub prevents_unread : (log : List LogEntry) (f : Fault) → Prevents log f → IsUnread log f
-prevents_unread log NoMemory h = tt
-prevents_unread log Unread h = h
-prevents_unread log (Stale front) h = tt
-prevents_unread log Disagree h = tt
+-- what keeps a judged call from being carried out refuses its CPU, which fits the log
+pub prevents_refuses : (frames : ℕ) (log : List LogEntry) (cpu : Maker) (f : Fault) → Legal frames log → StartsWith log cpu.seen × (calls_of cpu.number log ≡ calls_of cpu.number cpu.seen) → Prevents log f
+    → IsRefused frames log cpu f
+prevents_refuses frames log cpu NoMemory legal fits h = (legal, fits.0, fits.1)
+prevents_refuses frames log cpu Unread legal fits h = h
+prevents_refuses frames log cpu (Stale front) legal fits h = absurd h
+prevents_refuses frames log cpu Disagree legal fits h = absurd h
 
 -- the core is in the state after the log, which is a legal history
 abbrev pub Stands : ℕ → Held → Type 0

@@ -41,19 +41,14 @@ Makes frames before pid call after reply = (between : List LogEntry) × (e : Log
 abbrev pub BeginOne : ℕ → List LogEntry → List LogEntry → Type 0
 BeginOne frames log seen = (history : List LogEntry) × Legal frames history × StartsWith history log × StartsWith history seen
 
--- Stale tells the length of the log. It and what was seen are beginnings of one legal history, and it is shorter or has another number of this CPU's entries.
-abbrev pub IsStale : ℕ → List LogEntry → ℕ → List LogEntry → Fault → Type 0
-IsStale frames log cpu seen (Stale front) = (front ≡ length log) × BeginOne frames log seen × ((length log < length seen) ⊎ (calls_of cpu log ≢ calls_of cpu seen))
-IsStale frames log cpu seen NoMemory = Unit {0}
-IsStale frames log cpu seen Unread = Unit {0}
-IsStale frames log cpu seen Disagree = Unit {0}
-
--- Unread is answered where the kernel's history is longer than the log.
-abbrev pub IsUnread : List LogEntry → Fault → Type 0
-IsUnread log Unread = GoesOn log
-IsUnread log (Stale front) = Unit {0}
-IsUnread log NoMemory = Unit {0}
-IsUnread log Disagree = Unit {0}
+-- Why a CPU is refused on the log that was found, in the order in which it is asked. Unread where the kernel's history is longer than the log. Stale tells the
+-- log's length: the log and what was seen are beginnings of one legal history, and the log is shorter or has another number of this CPU's entries. NoMemory
+-- only where the log is legal, begins with what was seen and has as many of this CPU's entries. Nothing else refuses it.
+abbrev pub IsRefused : ℕ → List LogEntry → Maker → Fault → Type 0
+IsRefused frames log cpu Unread = GoesOn log
+IsRefused frames log cpu (Stale front) = (front ≡ length log) × BeginOne frames log cpu.seen × ((length log < length cpu.seen) ⊎ (calls_of cpu.number log ≢ calls_of cpu.number cpu.seen))
+IsRefused frames log cpu NoMemory = Legal frames log × StartsWith log cpu.seen × (calls_of cpu.number log ≡ calls_of cpu.number cpu.seen)
+IsRefused frames log cpu Disagree = ⊥
 
 -- what keeps a call that was judged from being carried out: no memory, or a history that is longer than the log
 abbrev pub Prevents : List LogEntry → Fault → Type 0

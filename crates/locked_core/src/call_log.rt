@@ -63,11 +63,6 @@ impl CallLog {
         }
     }
 
-    /// Where its memory comes from.
-    pub fn allocator(&self) -> Global {
-        *self.entries.allocator()
-    }
-
     /// How many entries it has.
     pub fn len(&self) -> usize
         ensures { result ≡ length self.now.entries }

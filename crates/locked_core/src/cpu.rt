@@ -1,7 +1,7 @@
 //! The CPUs, and what each has seen.
 
 ghost use Rattle.std.specs.Prelude.{◌≡◌, ◌≢◌, ◌+◌, ◌<◌, ◌^◌, ◌⊎◌, ◌↔◌, [], false, IfOk, IfErr, OnErr, IsTrue, length, List};
-ghost use Rattle.locked_core.specs.Makers.{Maker, maker, Makes, BeginOne, IsFit, IsStale, IsUnread};
+ghost use Rattle.locked_core.specs.Makers.{Maker, maker, Makes, BeginOne, IsFit, IsRefused};
 ghost use Rattle.memory_report.specs.Histories.{StartsWith, calls_of};
 ghost use Rattle.memory_report.specs.declared.entries.LogEntry.{LogEntry};
 
@@ -143,8 +143,7 @@ impl<N: Name> Cpu<N> {
         ensures made { IfOk result (Makes N.frames self.old pid call self.new) }
         ensures number { self.new.number ≡ self.old.number }
         ensures calls { IfOk result (λ _. calls_of self.new.number self.new.seen ≡ calls_of self.old.number self.old.seen + 1) }
-        ensures stale { IfErr result (λ f. (log : List LogEntry) × IsStale N.frames log self.old.number self.old.seen f) }
-        ensures unread { IfErr result (λ f. (log : List LogEntry) × IsUnread log f) }
+        ensures refused { IfErr result (λ f. (log : List LogEntry) × IsRefused N.frames log self.old f) }
         ensures err { OnErr result (self.new ≡ self.old) }
     {
         let mut guard = kernel.state.lock(rt);

@@ -2,7 +2,7 @@
 
 ghost use Rattle.std.specs.Prelude.{◌≡◌, ◌≤◌, ◌↔◌, [], IfErr, IfOk, IsErrOf, All, Any, IsTrue, length, take, drop, replicate, List};
 ghost use Rattle.left_right.specs.Sides.{view};
-ghost use Rattle.locked_core.specs.Makers.{AreAll, IsFit, IsOneOf, IsStale, IsTaken, IsUnread, new_makers};
+ghost use Rattle.locked_core.specs.Makers.{AreAll, IsFit, IsOneOf, IsRefused, IsTaken, new_makers};
 ghost use Rattle.locked_core.specs.Pages.{page};
 ghost use Rattle.locked_core.specs.Published.{view_of};
 ghost use Rattle.memory_report.specs.Histories.{Legal, state_after, calls_of};
@@ -100,7 +100,7 @@ impl<N: Name, G: Gate + Drop> Kernel<N, G> {
     ) -> Result<Blank<G>, BootFault>
         ensures made { IfOk result (λ b. (b.frames ≡ frames) × (b.cpus ≡ cpus) × (b.monitors ≡ monitors)) }
         ensures size { IsErrOf result BootFault.BadSize ↔ (16 ≤ frames → frames ≤ 4096 → ⊥) }
-        ensures count { IsErrOf result BootFault.BadCount → 1 ≤ cpus → cpus ≤ 8 → monitors ≤ 8 → ⊥ }
+        ensures count { IsErrOf result BootFault.BadCount ↔ (16 ≤ frames) × (frames ≤ 4096) × (1 ≤ cpus → cpus ≤ 8 → monitors ≤ 8 → ⊥) }
         ensures counted { IfOk result (λ _. (1 ≤ cpus) × (cpus ≤ 8) × (monitors ≤ 8)) }
     {
         if !(MIN_FRAMES..=MAX_FRAMES).contains(&frames) {
@@ -138,8 +138,7 @@ impl<N: Name, G: Gate + Drop> Kernel<N, G> {
     pub fn snapshot<R: Wait>(&self, rt: &R, cpu: &mut Cpu<N>) -> Result<Image, Fault>
         ensures taken { IfOk result (λ image. (history : List LogEntry) × IsTaken N.frames cpu.old image history) }
         ensures kept { cpu.new ≡ cpu.old }
-        ensures stale { IfErr result (λ f. (log : List LogEntry) × IsStale N.frames log cpu.old.number cpu.old.seen f) }
-        ensures unread { IfErr result (λ f. (log : List LogEntry) × IsUnread log f) }
+        ensures refused { IfErr result (λ f. (log : List LogEntry) × IsRefused N.frames log cpu.old f) }
     {
         let guard = self.state.lock(rt);
         let image = guard.snapshot(cpu);

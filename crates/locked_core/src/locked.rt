@@ -3,7 +3,7 @@
 ghost use Rattle.std.specs.Prelude.{◌≡◌, ◌≤◌, ◌<◌, ◌+◌, ◌^◌, ◌++◌, [], ◌∷◌, IfOk, IfErr, OnErr, drop, length};
 ghost use Rattle.kernel_calls.specs.Decisions.{decision_of};
 ghost use Rattle.left_right.specs.Sides.{view};
-ghost use Rattle.locked_core.specs.Makers.{IsStale, IsUnread, Prevents};
+ghost use Rattle.locked_core.specs.Makers.{IsRefused, Prevents};
 ghost use Rattle.locked_core.specs.Pages.{page};
 ghost use Rattle.locked_core.specs.Published.{view_of};
 ghost use Rattle.memory_image.specs.Sound.{StandsFor};
@@ -86,8 +86,7 @@ impl<N: Name> Locked<N> {
     fn page_for(&self, cpu: &Cpu<N>) -> Result<Shown, Fault>
         ensures page { IfOk result (λ p. p ≡ page N.frames N.book self.now.log) }
         ensures fits { IfOk result (λ _. StartsWith self.now.log cpu.now.seen × (calls_of cpu.now.number self.now.log ≡ calls_of cpu.now.number cpu.now.seen)) }
-        ensures stale { IfErr result (IsStale N.frames self.now.log cpu.now.number cpu.now.seen) }
-        ensures unread { IfErr result (IsUnread self.now.log) }
+        ensures refused { IfErr result (IsRefused N.frames self.now.log cpu.now) }
     {
         let page = self.page();
         if !page.is_all(&self.book) {
@@ -107,11 +106,10 @@ impl<N: Name> Locked<N> {
         ensures legal { IfOk result (λ _. Legal N.frames self.now.log) }
         ensures stands { IfOk result (λ image. StandsFor image (state_after N.frames self.now.log)) }
         ensures fits { IfOk result (λ _. StartsWith self.now.log cpu.now.seen × (calls_of cpu.now.number self.now.log ≡ calls_of cpu.now.number cpu.now.seen)) }
-        ensures stale { IfErr result (IsStale N.frames self.now.log cpu.now.number cpu.now.seen) }
-        ensures unread { IfErr result (IsUnread self.now.log) }
+        ensures refused { IfErr result (IsRefused N.frames self.now.log cpu.now) }
     {
         match self.page_for(cpu) {
-            Ok(_) => match Image::of(self.log.allocator(), &self.core) {
+            Ok(_) => match Image::of(*self.log.entries.allocator(), &self.core) {
                 Ok(image) => Ok(image),
                 Err(_) => Err(Fault::NoMemory),
             },
@@ -124,12 +122,12 @@ impl<N: Name> Locked<N> {
     /// Unread where the kernel's history is longer than the log; Stale where the log is shorter than what
     /// the CPU has seen, or has another number of its entries.
     pub(crate) fn judge(&self, cpu: &Cpu<N>, pid: Pid, call: Call) -> Result<Ready, Fault>
+        ensures legal { IfOk result (λ _. Legal N.frames self.now.log) }
         ensures page { IfOk result (λ r. r.page ≡ page N.frames N.book self.now.log) }
         ensures nth { IfOk result (λ r. (cpu.now.number < 8) × (r.nth ≡ calls_of cpu.now.number self.now.log)) }
         ensures decided { IfOk result (λ r. r.decision ≡ decision_of self.now.core (record { cpu = cpu.now.number; pid = pid; call = call })) }
         ensures fits { IfOk result (λ _. StartsWith self.now.log cpu.now.seen × (calls_of cpu.now.number self.now.log ≡ calls_of cpu.now.number cpu.now.seen)) }
-        ensures stale { IfErr result (IsStale N.frames self.now.log cpu.now.number cpu.now.seen) }
-        ensures unread { IfErr result (IsUnread self.now.log) }
+        ensures refused { IfErr result (IsRefused N.frames self.now.log cpu.now) }
     {
         let page = self.page_for(cpu)?;
         let event = Event {

@@ -1,12 +1,20 @@
 use Rattle.std.proofs.Common.{rules, ◌≡◌, ap, subst}
 use Rattle.kernel_calls.specs.declared.calls.Decision.{Decision}
-use Rattle.locked_core.proofs.Entries.{makes, prevents_unread}
+use Rattle.locked_core.proofs.Entries.{makes, prevents_refuses}
 use Rattle.locked_core.proofs.cpu.Cpu.call.Goals as goal
 use Rattle.locked_core.specs.Held.{Held}
-use Rattle.memory_report.specs.Histories.{StartsWith, calls_of}
+use Rattle.memory_report.specs.Histories.{Legal, StartsWith, calls_of}
 
-pub returns-in-Err-carry_out-clause-unread : goal.returns-in-Err-carry_out-clause-unread
-returns-in-Err-carry_out-clause-unread g c = (c.deref_mut.result.now.log, prevents_unread c.deref_mut.result.now.log c.in-Err-carry_out.fault c.in-Err-carry_out.ensures.prevented)
+-- the log on which a call was judged is the one that it was to be carried out on
+pub returns-in-Err-carry_out-clause-refused : goal.returns-in-Err-carry_out-clause-refused
+returns-in-Err-carry_out-clause-refused g c =
+    let before = c.args.self.now in
+    let same : c.deref.result.now ≡ c.deref_mut.result.now = search rules in
+    let judged : Legal g.N.Name.frames c.deref_mut.result.now.log × (StartsWith c.deref_mut.result.now.log before.seen × (calls_of before.number c.deref_mut.result.now.log ≡ calls_of before.number before.seen)) =
+    subst (λ (h : Held). Legal g.N.Name.frames h.log × (StartsWith h.log before.seen × (calls_of before.number h.log ≡ calls_of before.number before.seen))) same (c.in-Ok.ensures.legal, c.in-Ok.ensures.fits) in (
+      c.deref_mut.result.now.log,
+      prevents_refuses g.N.Name.frames c.deref_mut.result.now.log before c.in-Err-carry_out.fault judged.0 judged.1 c.in-Err-carry_out.ensures.prevented,
+    )
 
 -- the core and the log are those that the call was judged on
 pub returns-clause-made : goal.returns-clause-made
