@@ -14,3 +14,4 @@ pub mod DrawLemmas
 pub mod ToldLemmas
 pub mod TextLemmas
 pub mod VerdictTexts
+pub mod NamingLemmas

@@ -16,6 +16,10 @@ pub record Adds (old new : List ℕ) (k : ℕ → ℕ) : Type 0 where
 abbrev pub HaveRoom : List ℕ → ℕ → Type 0
 HaveRoom counts most = (f : ℕ) → f < length counts → slice_index counts f + most < 2 ^ 32
 
+-- each count may grow by what k gives for it
+abbrev pub MayGrow : List ℕ → (ℕ → ℕ) → Type 0
+MayGrow counts k = (f : ℕ) → f < length counts → slice_index counts f + k f < 2 ^ 32
+
 abbrev pub AreZeros : List ℕ → Type 0
 AreZeros counts = (f : ℕ) → f < length counts → slice_index counts f ≡ 0
 

@@ -1,6 +1,6 @@
 //! What must hold of one process.
 
-ghost use Rattle.std.specs.Prelude.{◌≡◌, ◌+◌, ◌*◌, ◌<◌, ◌≤◌, ◌^◌, ◌==◌, if◌then◌else◌, None, Some};
+ghost use Rattle.std.specs.Prelude.{◌≡◌, ◌+◌, ◌*◌, ◌<◌, ◌≤◌, ◌^◌, ◌==◌, if◌then◌else◌, IfSome, is_some, None, Some};
 ghost use Rattle.page_words.specs.Words.{is_present};
 ghost use Rattle.page_map.specs.Pages.{counted};
 ghost use Rattle.address_space.specs.Image.{is_user_slot, table_at, word_of};
@@ -167,25 +167,29 @@ fn keeps_its_quota(process: &Process) -> bool
     process.used as u64 + process.given as u64 <= process.quota as u64
 }
 
-/// The first clause that a live process fails, by what was found in its directory and tables.
+/// The first clause that a live process fails, by what was found in its tables; None where its directory
+/// does not lead to tables of its own.
 #[tactic(auto, unfolding(crate::specs::Verdict::links_tables, crate::specs::Verdict::maps_pages))]
-fn live_clause(image: &Image, pid: Pid, process: &Process, found: &Walked) -> Option<ProcessClause>
-    requires links { found.now.links ≡ all_range (λ s. links_table image.now pid s (word_of (memory_of image.now) process.now.directory s)) 0 1024 }
-    requires right { found.now.right ≡ all_range (λ s. table_is_right image.now (table_at (memory_of image.now) pid s)) 256 704 }
-    requires tables { found.now.tables ≡ tables_by image.now pid }
-    requires pages { found.now.pages ≡ pages_by image.now pid }
-    requires few { (found.now.tables ≤ 704) × (found.now.pages ≤ 720896) }
+fn live_clause(image: &Image, pid: Pid, process: &Process, found: Option<Walked>) -> Option<ProcessClause>
+    requires links { is_some found ≡ all_range (λ s. links_table image.now pid s (word_of (memory_of image.now) process.now.directory s)) 0 1024 }
+    requires right { IfSome found (λ w. w.right ≡ all_range (λ s. table_is_right image.now (table_at (memory_of image.now) pid s)) 256 704) }
+    requires tables { IfSome found (λ w. w.tables ≡ tables_by image.now pid) }
+    requires pages { IfSome found (λ w. w.pages ≡ pages_by image.now pid) }
+    requires few { IfSome found (λ w. (w.tables ≤ 704) × (w.pages ≤ 720896)) }
     ensures { result ≡ live_clause image.now pid process.now }
 {
     if !has_parent(image, pid, process) {
-        Some(ProcessClause::Parent)
-    } else if !has_directory(image, pid, process) {
-        Some(ProcessClause::Directory)
-    } else if !found.links {
-        Some(ProcessClause::Tables)
-    } else if !found.right {
+        return Some(ProcessClause::Parent);
+    }
+    if !has_directory(image, pid, process) {
+        return Some(ProcessClause::Directory);
+    }
+    let Some(found) = found else {
+        return Some(ProcessClause::Tables);
+    };
+    if !found.right {
         Some(ProcessClause::Pages)
-    } else if !uses_its_frames(process.used, found) {
+    } else if !uses_its_frames(process.used, &found) {
         Some(ProcessClause::Used)
     } else if !gives_its_children(image, pid, process.given) {
         Some(ProcessClause::Given)
@@ -212,7 +216,7 @@ fn judge_live(
     ensures maps { Adds maps.old maps.new (λ f. maps_by image.now pid f) }
 {
     let found = walk(image, pid, process.directory, names, maps);
-    live_clause(image, pid, process, &found)
+    live_clause(image, pid, process, found)
 }
 
 /// The clause that a process fails that isn't live.

@@ -6,6 +6,7 @@ mod clauses;
 mod counting;
 mod judging;
 mod laws;
+mod naming;
 mod serving;
 #[cfg(test)]
 mod tests;

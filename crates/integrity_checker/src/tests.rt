@@ -575,6 +575,29 @@ fn a_changed_word_fails_its_clauses(rt: HostRuntime) -> Result<(), Fail> {
     Ok(())
 }
 
+/// All 704 slots of process 0 name its one table, and process 1 has its page too.
+#[test]
+fn a_table_counts_for_each_slot_that_names_it(rt: HostRuntime) -> Result<(), Fail> {
+    let (directory, wrong) = (Frame(10), "process 0 P3\nframe 11 F4\nframe 12 F3\n");
+    let mut bytes = spelled(&rt, &other_kernels_words(2, 0xba67))?;
+    let link = word_of(&rt, &bytes, directory, 256)?;
+    for slot in 257..960 {
+        put(&mut bytes, place_of(directory, slot), link);
+    }
+    let counts = [
+        (2, wrong),
+        (704, wrong),
+        (705, "process 0 P3\nframe 12 F3\n"),
+        (706, wrong),
+    ];
+    for (count, expected) in counts {
+        put(&mut bytes, 1736, count);
+        let told = verdict(&rt, &bytes)?;
+        assert_eq!(rt; text(&rt, &told)?.as_slice(), expected.as_bytes());
+    }
+    Ok(())
+}
+
 /// With a charge for it, a lazy page is sound in version 2; version 1 has none.
 #[test]
 fn a_lazy_page_is_sound_in_version_2_alone(rt: HostRuntime) -> Result<(), Fail> {

@@ -1,6 +1,6 @@
-//! One pass over the directory of a process and its tables: the clauses of their words, and what they name.
+//! The directory of a process and its tables: the clauses of their words, and what they name.
 
-ghost use Rattle.std.specs.Prelude.{◌≡◌, ◌+◌, ◌-◌, ◌*◌, ◌<◌, ◌≤◌, ◌^◌, ◌&&◌, nat_le, is_some, Some};
+ghost use Rattle.std.specs.Prelude.{◌≡◌, ◌+◌, ◌*◌, ◌<◌, ◌≤◌, ◌^◌, ◌&&◌, IfSome, nat_le, is_some, Some};
 ghost use Rattle.page_map.specs.Pages.{counted, count_range};
 ghost use Rattle.address_space.specs.Image.{directory_at, named_by, table_at, word_of, page_word};
 ghost use Rattle.address_space.specs.Spaces.{at_page};
@@ -11,6 +11,7 @@ ghost use Rattle.integrity_checker.specs.Verdict.{links_table, maps_page, table_
 
 use crate::counting::{count_one, frame_named};
 use crate::judging::{is_user_slot, links_table, maps_page, word_count};
+use crate::naming::count_named;
 use memory_image::Image;
 use page_words::{DirWord, Frame, Pid};
 
@@ -26,11 +27,9 @@ struct TableFound {
 /// What one pass over words of a directory and their tables finds.
 #[derive(Clone, Copy)]
 pub struct Walked {
-    /// Whether the words are 0, or lead to tables of its own.
-    pub links: bool,
     /// Whether the tables hold the words of pages, and each has one.
     pub right: bool,
-    /// How many tables they name.
+    /// How many tables the words name.
     pub tables: u32,
     /// How many words of the tables are present.
     pub pages: u32,
@@ -106,6 +105,15 @@ fn named_by(slot: u32, word: u32) -> Option<Frame>
     }
 }
 
+/// The frame that a slot of a process's directory names as a table.
+pub fn table_at(image: &Image, pid: Pid, directory: Frame, slot: u32) -> Option<Frame>
+    requires slot { slot < 1024 }
+    requires directory { directory_at (memory_of image.now) pid ≡ Some directory }
+    ensures { result ≡ table_at (memory_of image.now) pid slot }
+{
+    named_by(slot, image.word(directory, slot))
+}
+
 /// 1 where there is a table, and else 0.
 fn table_count(table: Option<Frame>) -> u32
     ensures count { result ≡ counted (is_some table) }
@@ -114,7 +122,7 @@ fn table_count(table: Option<Frame>) -> u32
     if table.is_some() { 1 } else { 0 }
 }
 
-/// Judges a word of a directory and its table, and adds what they name.
+/// Judges the table that a slot of a directory names, and adds what the slot and the table name.
 fn walk_slot(
     image: &Image,
     pid: Pid,
@@ -127,7 +135,6 @@ fn walk_slot(
     requires directory { directory_at (memory_of image.now) pid ≡ Some directory }
     requires names { HaveRoom names.old 1 }
     requires maps { HaveRoom maps.old 1024 }
-    ensures links { result.links ≡ links_table image.now pid slot (word_of (memory_of image.now) directory slot) }
     ensures right { result.right ≡ table_is_right image.now (table_at (memory_of image.now) pid slot) }
     ensures tables { result.tables ≡ counted (is_some (table_at (memory_of image.now) pid slot)) }
     ensures pages { result.pages ≡ count_range (λ page. is_some (page_word (memory_of image.now) (at_page pid page))) (1024 * slot) 1024 }
@@ -139,14 +146,13 @@ fn walk_slot(
     count_one(names, named_by(slot, word));
     let found = walk_pages(image, pid, slot, named_by(slot, word), maps);
     Walked {
-        links: links_table(image, pid, slot, word),
         right: found.right,
         tables: table_count(named_by(slot, word)),
         pages: found.words,
     }
 }
 
-/// Judges the words of a directory in the user range and their tables, and adds what they name.
+/// Judges the tables that a directory names, and adds what its words and the tables name.
 fn walk_tables(
     image: &Image,
     pid: Pid,
@@ -157,7 +163,6 @@ fn walk_tables(
     requires directory { directory_at (memory_of image.now) pid ≡ Some directory }
     requires names { HaveRoom names.old 704 }
     requires maps { HaveRoom maps.old 720896 }
-    ensures links { result.links ≡ all_range (λ s. links_table image.now pid s (word_of (memory_of image.now) directory s)) 256 704 }
     ensures right { result.right ≡ all_range (λ s. table_is_right image.now (table_at (memory_of image.now) pid s)) 256 704 }
     ensures tables { result.tables ≡ tables_by image.now pid }
     ensures pages { result.pages ≡ pages_by image.now pid }
@@ -165,19 +170,16 @@ fn walk_tables(
     ensures names { Adds names.old names.new (λ f. names_by image.now pid f) }
     ensures maps { Adds maps.old maps.new (λ f. maps_by image.now pid f) }
 {
-    let mut links = true;
     let mut right = true;
     let mut tables = 0;
     let mut pages = 0;
     for slot in 256..960 {
         let found = walk_slot(image, pid, directory, slot, names, maps);
-        links &= found.links;
         right &= found.right;
         tables += found.tables;
         pages += found.pages;
     }
     Walked {
-        links,
         right,
         tables,
         pages,
@@ -191,45 +193,44 @@ fn links_at(image: &Image, pid: Pid, directory: Frame, slot: u32) -> bool
     links_table(image, pid, slot, image.word(directory, slot))
 }
 
-/// Whether the words of a directory from one slot up to another are 0, or lead to tables of its own.
-fn links_in(image: &Image, pid: Pid, directory: Frame, first: u32, end: u32) -> bool
-    requires { (first ≤ end) × (end ≤ 1024) }
-    ensures { result ≡ all_range (λ s. links_table image.now pid s (word_of (memory_of image.now) directory s)) first (end - first) }
+/// Whether the words of a directory are 0, or lead to tables of its own.
+fn links_all(image: &Image, pid: Pid, directory: Frame) -> bool
+    ensures { result ≡ all_range (λ s. links_table image.now pid s (word_of (memory_of image.now) directory s)) 0 1024 }
 {
     let mut links = true;
-    for slot in first..end {
+    for slot in 0..1024 {
         links &= links_at(image, pid, directory, slot);
     }
     links
 }
 
-/// Judges the words of a process's directory and of its tables, and adds what they name. It reads each
-/// word of the directory once, and each word of a table once for each slot that names it.
+/// Judges the words of a process's directory and of its tables, and adds what they name; None where a
+/// word of the directory isn't 0 and leads to no table of its own.
+///
+/// Tables of its own are apart from each other and from those of other processes, so each is read once.
+/// Else a frame may be named by many words, and `count_named` reads it once for all of them.
 pub fn walk(
     image: &Image,
     pid: Pid,
     directory: Frame,
     names: &mut [u32],
     maps: &mut [u32],
-) -> Walked
+) -> Option<Walked>
     requires directory { directory_at (memory_of image.now) pid ≡ Some directory }
     requires names { HaveRoom names.old 704 }
     requires maps { HaveRoom maps.old 720896 }
-    ensures links { result.links ≡ all_range (λ s. links_table image.now pid s (word_of (memory_of image.now) directory s)) 0 1024 }
-    ensures right { result.right ≡ all_range (λ s. table_is_right image.now (table_at (memory_of image.now) pid s)) 256 704 }
-    ensures tables { result.tables ≡ tables_by image.now pid }
-    ensures pages { result.pages ≡ pages_by image.now pid }
-    ensures few { (result.tables ≤ 704) × (result.pages ≤ 720896) }
+    ensures links { is_some result ≡ all_range (λ s. links_table image.now pid s (word_of (memory_of image.now) directory s)) 0 1024 }
+    ensures right { IfSome result (λ w. w.right ≡ all_range (λ s. table_is_right image.now (table_at (memory_of image.now) pid s)) 256 704) }
+    ensures tables { IfSome result (λ w. w.tables ≡ tables_by image.now pid) }
+    ensures pages { IfSome result (λ w. w.pages ≡ pages_by image.now pid) }
+    ensures few { IfSome result (λ w. (w.tables ≤ 704) × (w.pages ≤ 720896)) }
     ensures names { Adds names.old names.new (λ f. names_by image.now pid f) }
     ensures maps { Adds maps.old maps.new (λ f. maps_by image.now pid f) }
 {
-    let below = links_in(image, pid, directory, 0, 256);
-    let found = walk_tables(image, pid, directory, names, maps);
-    let above = links_in(image, pid, directory, 960, 1024);
-    Walked {
-        links: below & found.links & above,
-        right: found.right,
-        tables: found.tables,
-        pages: found.pages,
+    if links_all(image, pid, directory) {
+        Some(walk_tables(image, pid, directory, names, maps))
+    } else {
+        count_named(image, pid, directory, names, maps);
+        None
     }
 }

@@ -1,17 +1,16 @@
 use Rattle.std.proofs.Common.{◌≡◌, ◌-◌, ◌*◌, ◌≤◌, is_some}
 use Rattle.page_map.specs.Pages.{count_range}
-use Rattle.address_space.specs.Image.{table_at, word_of, page_word}
+use Rattle.address_space.specs.Image.{table_at, page_word}
 use Rattle.address_space.specs.Slots.{at_pid}
 use Rattle.memory_image.specs.Image.{memory_of}
 use Rattle.integrity_checker.specs.Counts.{all_range, is_this, frame_of}
 use Rattle.integrity_checker.specs.Adds.{Adds}
-use Rattle.integrity_checker.specs.Verdict.{links_table, table_is_right}
+use Rattle.integrity_checker.specs.Verdict.{table_is_right}
 use Rattle.integrity_checker.proofs.walking.walk_tables.Given as goal
 
 abbrev pub invariant-loop-slot : goal.invariant-loop-slot
 invariant-loop-slot l =
-    (l.links ≡ all_range (λ s. links_table l.image l.fn.pid s (word_of (memory_of l.image) l.fn.directory s)) 256 (l.slot - 256))
-    × (l.right ≡ all_range (λ s. table_is_right l.image (table_at (memory_of l.image) l.fn.pid s)) 256 (l.slot - 256))
+    (l.right ≡ all_range (λ s. table_is_right l.image (table_at (memory_of l.image) l.fn.pid s)) 256 (l.slot - 256))
     × (l.tables ≡ count_range (λ s. is_some (table_at (memory_of l.image) l.fn.pid s)) 256 (l.slot - 256)) × (l.tables ≤ l.slot - 256)
     × (l.pages ≡ count_range (λ page. is_some (page_word (memory_of l.image) (at_pid l.fn.pid page))) 0x40000 (1024 * (l.slot - 256))) × (l.pages ≤ 1024 * (l.slot - 256))
     × Adds l.fn.names l.names (λ f. count_range (λ s. is_this f (table_at (memory_of l.image) l.fn.pid s)) 256 (l.slot - 256))
