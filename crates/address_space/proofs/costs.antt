@@ -1,5 +1,6 @@
 -- Lemmas on what processes cost.
 pub mod AccessCosts
+pub mod Beside
 pub mod ChargeLemmas
 pub mod CostSteps
 pub mod Costed

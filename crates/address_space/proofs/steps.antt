@@ -1,4 +1,5 @@
 -- What each step of the code leaves.
+pub mod CountSteps
 pub mod Departures
 pub mod Joins
 pub mod LazyFilling

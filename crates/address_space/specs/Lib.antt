@@ -1,6 +1,7 @@
 pub mod Cells
 pub mod Changes
 pub mod Codes
+pub mod Counts
 pub mod Image
 pub mod Shown
 pub mod Slots

@@ -9,11 +9,12 @@ ghost use Rattle.page_map.specs.Entries.{table_of, IsPageMap};
 ghost use Rattle.page_map.specs.Pages.{counted};
 ghost use Rattle.address_space.specs.Spaces.{cost, pages_of, regions_of, without, is_slot, at_page};
 ghost use Rattle.address_space.specs.View.{directory_of, spaces_in};
-ghost use Rattle.address_space.specs.Sound.{IsSound, IsSpaces, IsAlone, IsShared};
+ghost use Rattle.address_space.specs.Sound.{IsSound, IsSpaces};
+ghost use Rattle.address_space.specs.Counts.{IsCounted};
 
-use crate::{Directories, home};
+use crate::{Directories, home, region_counts};
 use alloc_table::FrameTable;
-use page_words::{Frame, Page, Pid, slot_of};
+use page_words::{Frame, Page, Pid};
 use phys_memory::Memory;
 
 /// 1 where a slot has a table, and else 0.
@@ -69,28 +70,12 @@ pub fn cost_in(memory: &Memory, frames: &FrameTable, directories: &Directories, 
     sum(tables, pages)
 }
 
-/// Whether no other page of a page's region is mapped.
-fn is_alone(memory: &Memory, directory: Frame, page: Page) -> bool
-    requires user { IsUserPage page }
-    requires map { IsPageMap memory.now directory }
-    ensures alone { result ≡ true → IsAlone (frame_bytes memory.now) directory page }
-    ensures shared { result ≡ false → IsShared (frame_bytes memory.now) directory page }
-{
-    let first = slot_of(page) * 1024;
-    for index in 0..1024u32 {
-        let other = Page(first + index);
-        if other != page && page_map::entry(memory, directory, other).is_some() {
-            return false;
-        }
-    }
-    true
-}
-
 /// What a process's cost falls by when a mapped page goes.
 pub fn relief_in(
     memory: &Memory,
     frames: &FrameTable,
     directories: &Directories,
+    counts: &Vec<u32>,
     pid: Pid,
     page: Page,
 ) -> u32
@@ -98,12 +83,18 @@ pub fn relief_in(
     requires live { is_some (directory_of directories.now pid) ≡ true }
     requires mapped { is_some (map.get (spaces_in directories.now memory.now) (at_page pid page)) ≡ true }
     requires user { IsUserPage page }
+    requires counted { IsCounted (spaces_in directories.now memory.now) frames.now counts.now.items }
     ensures { cost (without (spaces_in directories.now memory.now) (is_slot pid page)) pid + result ≡ cost (spaces_in directories.now memory.now) pid }
 {
     let directory = home(directories, pid);
-    if is_alone(memory, directory, page) {
-        2
-    } else {
-        1
-    }
+    let mapped = region_counts::pages_beside(
+        memory,
+        frames,
+        directories,
+        counts,
+        pid,
+        directory,
+        page,
+    );
+    if mapped == 1 { 2 } else { 1 }
 }

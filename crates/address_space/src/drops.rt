@@ -3,6 +3,7 @@
 ghost use Rattle.std.specs.Prelude.{◌≡◌, true, Some, None, is_some, slice_set};
 ghost use Rattle.address_space.specs.View.{directory_of, spaces_in};
 ghost use Rattle.address_space.specs.Sound.{IsSpaces};
+ghost use Rattle.address_space.specs.Counts.{IsCounted, KeepsCounts};
 ghost use Rattle.address_space.specs.Changes.{IsEmptySpace, PagesDropped, DirectoryDropped, SpaceDropped};
 
 use crate::{Directories, home, remove_entry};
@@ -15,16 +16,19 @@ fn drop_pages(
     memory: &mut Memory,
     frames: &mut FrameTable,
     directories: &Directories,
+    counts: &mut Vec<u32>,
     pid: Pid,
     directory: Frame,
 )
     requires spaces { IsSpaces directories.now memory.old frames.old }
     requires live { directory_of directories.now pid ≡ Some directory }
-    ensures { PagesDropped directories.now pid memory.old frames.old memory.new frames.new }
+    requires counted { IsCounted (spaces_in directories.now memory.old) frames.old counts.old.items }
+    ensures counted { IsCounted (spaces_in directories.now memory.new) frames.new counts.new.items }
+    ensures dropped { PagesDropped directories.now pid memory.old frames.old memory.new frames.new }
 {
     let mut from = 0x40000;
     while let Some(page) = page_map::next_page(memory, directory, Page(from)) {
-        remove_entry(memory, frames, directories, pid, directory, page);
+        remove_entry(memory, frames, directories, counts, pid, directory, page);
         from = page.0 + 1;
     }
 }
@@ -47,7 +51,8 @@ fn drop_directory(
     requires spaces { IsSpaces directories.old memory.now frames.old }
     requires live { directory_of directories.old pid ≡ Some directory }
     requires empty { IsEmptySpace (spaces_in directories.old memory.now) pid }
-    ensures { DirectoryDropped directories.old pid memory.now frames.old directories.new frames.new }
+    ensures dropped { DirectoryDropped directories.old pid memory.now frames.old directories.new frames.new }
+    ensures counted { KeepsCounts (spaces_in directories.old memory.now) frames.old (spaces_in directories.new memory.now) frames.new }
 {
     frames.release(directory);
     forget(directories, pid);
@@ -58,13 +63,16 @@ pub fn drop_space(
     memory: &mut Memory,
     frames: &mut FrameTable,
     directories: &mut Directories,
+    counts: &mut Vec<u32>,
     pid: Pid,
 )
     requires spaces { IsSpaces directories.old memory.old frames.old }
     requires live { is_some (directory_of directories.old pid) ≡ true }
-    ensures { SpaceDropped directories.old pid memory.old frames.old directories.new memory.new frames.new }
+    requires counted { IsCounted (spaces_in directories.old memory.old) frames.old counts.old.items }
+    ensures dropped { SpaceDropped directories.old pid memory.old frames.old directories.new memory.new frames.new }
+    ensures counted { IsCounted (spaces_in directories.new memory.new) frames.new counts.new.items }
 {
     let directory = home(directories, pid);
-    drop_pages(memory, frames, directories, pid, directory);
+    drop_pages(memory, frames, directories, counts, pid, directory);
     drop_directory(memory, frames, directories, pid, directory);
 }

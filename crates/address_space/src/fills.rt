@@ -5,10 +5,11 @@ ghost use Rattle.page_words.specs.Addresses.{IsUserPage};
 ghost use Rattle.phys_memory.specs.Bytes.{frame_bytes};
 ghost use Rattle.page_map.specs.Entries.{entry_at, is_lazy_entry, IsPageMap};
 ghost use Rattle.address_space.specs.Image.{is_lazy_at};
-ghost use Rattle.address_space.specs.View.{directory_of};
+ghost use Rattle.address_space.specs.View.{directory_of, spaces_in};
 ghost use Rattle.address_space.specs.Sound.{IsSound, IsSpaces};
 ghost use Rattle.address_space.specs.Changes.{PageFilled};
 ghost use Rattle.address_space.specs.Spaces.{at_page};
+ghost use Rattle.address_space.specs.Counts.{KeepsCounts};
 
 use crate::{Directories, space_of, take};
 use alloc_table::{FrameTable, Role};
@@ -70,7 +71,8 @@ pub fn fill_page(
     requires live { directory_of directories.now pid ≡ Some directory }
     requires user { IsUserPage page }
     requires lazy { is_lazy_entry (entry_at (frame_bytes memory.old) directory page) ≡ true }
-    ensures { PageFilled directories.now pid page memory.old frames.old memory.new frames.new }
+    ensures filled { PageFilled directories.now pid page memory.old frames.old memory.new frames.new }
+    ensures counted { KeepsCounts (spaces_in directories.now memory.old) frames.old (spaces_in directories.now memory.new) frames.new }
 {
     let entry = page_map::entry(memory, directory, page).unwrap();
     let frame = take(frames, Role::Page { count: 1 });

@@ -19,12 +19,14 @@ ghost use Rattle.address_space.specs.Shown.{shown};
 ghost use Rattle.std.specs.Option.{option_map};
 ghost use Rattle.address_space.specs.View.{directory_of, table_in, entries_in, spaces_in, total_cost};
 ghost use Rattle.address_space.specs.Sound.{IsSound, Names, Inside, IsSpaces};
+ghost use Rattle.address_space.specs.Counts.{IsCounted, AlwaysMapsAlike, KeepsCounts};
 ghost use Rattle.address_space.specs.Changes.{table_need, TableGiven, PageAdded, SlotJoined, Touched, TableFreed, EntryLeft, SlotRemoved, SpaceAdded, PageFilled};
 
 mod accesses;
 mod charges;
 mod drops;
 mod fills;
+mod region_counts;
 
 use alloc_table::{FrameTable, Role};
 use page_map::PageEntry;
@@ -44,11 +46,13 @@ pub struct Spaces {
     memory: Memory,
     frames: FrameTable,
     directories: Directories,
+    /// For each frame how many pages it maps, as a table.
+    counts: Vec<u32>,
 }
 
 impl Model for Spaces {
     ghost use Rattle.address_space.specs.View.{View, view_code, spaces_in};
-    ghost use Rattle.address_space.specs.Sound.{IsSpaces};
+    ghost use Rattle.address_space.specs.Counts.{IsKept};
 
     ghost Value = { View };
 
@@ -56,7 +60,7 @@ impl Model for Spaces {
 
     ghost view = { λ s. record { spaces = spaces_in s.directories s.memory; directories = s.directories; bytes = s.memory; roles = s.frames } };
 
-    ghost invariant = { λ s. IsSpaces s.directories s.memory s.frames };
+    ghost invariant = { λ s. IsKept s.directories s.memory s.frames s.counts.items };
 }
 
 /// A frame for a role, where one is free.
@@ -97,7 +101,8 @@ fn give_table(
     requires low { 256 ≤ slot }
     requires high { slot < 960 }
     requires room { table_need (table_in (directory_of directories.now) (frame_bytes memory.old) pid slot) ≤ free_frames frames.old }
-    ensures { TableGiven directories.now pid slot memory.old frames.old memory.new frames.new }
+    ensures given { TableGiven directories.now pid slot memory.old frames.old memory.new frames.new }
+    ensures counted { KeepsCounts (spaces_in directories.now memory.old) frames.old (spaces_in directories.now memory.new) frames.new }
 {
     if !page_map::has_table(memory, directory, slot) {
         let table = take(frames, Role::Table { pid, slot });
@@ -157,7 +162,8 @@ fn add_holder(
     requires table { is_some (table_of (frame_bytes memory.old) directory (slot_number page)) ≡ true }
     requires given { Names (entries_in (directory_of directories.now) (frame_bytes memory.old)) (at_page giver giver_page) frame }
     requires real { 1 ≤ frame }
-    ensures { SlotJoined directories.now giver giver_page pid page right memory.old frames.old memory.new frames.new }
+    ensures joined { SlotJoined directories.now giver giver_page pid page right memory.old frames.old memory.new frames.new }
+    ensures alike { AlwaysMapsAlike frames.old frames.new }
 {
     frames.hold(frame);
     page_map::set_entry(
@@ -200,6 +206,7 @@ fn remove_entry(
     memory: &mut Memory,
     frames: &mut FrameTable,
     directories: &Directories,
+    counts: &mut Vec<u32>,
     pid: Pid,
     directory: Frame,
     page: Page,
@@ -208,10 +215,21 @@ fn remove_entry(
     requires live { directory_of directories.now pid ≡ Some directory }
     requires user { IsUserPage page }
     requires mapped { is_some (entry_at (frame_bytes memory.old) directory page) ≡ true }
-    ensures { SlotRemoved directories.now pid page memory.old frames.old memory.new frames.new }
+    requires counted { IsCounted (spaces_in directories.now memory.old) frames.old counts.old.items }
+    ensures removed { SlotRemoved directories.now pid page memory.old frames.old memory.new frames.new }
+    ensures counted { IsCounted (spaces_in directories.now memory.new) frames.new counts.new.items }
 {
     let entry = page_map::entry(memory, directory, page).unwrap();
-    let freed = page_map::clear_entry(memory, directory, page);
+    let mapped = region_counts::uncount_page(
+        memory,
+        frames,
+        directories,
+        counts,
+        pid,
+        directory,
+        page,
+    );
+    let freed = page_map::clear_entry(memory, directory, page, mapped);
     leave(frames, entry);
     free_table(frames, freed);
 }
@@ -226,7 +244,8 @@ fn add_directory(
     requires spaces { IsSpaces directories.old memory.old frames.old }
     requires none { directory_of directories.old pid ≡ None }
     requires room { 2 + total_cost directories.old (spaces_in directories.old memory.old) ≤ length frames.old }
-    ensures { SpaceAdded directories.old pid memory.old frames.old directories.new memory.new frames.new }
+    ensures added { SpaceAdded directories.old pid memory.old frames.old directories.new memory.new frames.new }
+    ensures counted { KeepsCounts (spaces_in directories.old memory.old) frames.old (spaces_in directories.new memory.new) frames.new }
 {
     let directory = take(frames, Role::Directory { pid });
     memory.zero_frame(directory);
@@ -234,9 +253,10 @@ fn add_directory(
 }
 
 /// Address spaces over blank memory, without any space.
-fn opened(memory: Memory, table: FrameTable, frames: u32) -> Spaces
+fn opened(memory: Memory, table: FrameTable, counts: Vec<u32>, frames: u32) -> Spaces
     requires memory { memory ≡ blank_bytes frames }
     requires roles { table ≡ opening_roles frames }
+    requires counts { counts.items ≡ replicate frames 0 }
     requires least { 16 ≤ frames }
     requires most { frames ≤ 4096 }
     ensures spaces { result.spaces ≡ map.empty }
@@ -249,6 +269,7 @@ fn opened(memory: Memory, table: FrameTable, frames: u32) -> Spaces
         memory,
         frames: table,
         directories: [None; 64],
+        counts,
     }
 }
 
@@ -337,7 +358,7 @@ fn need_in(
 pub enum SpacesFault {
     /// The number of frames is not 16 to 4,096.
     BadSize,
-    /// There was no memory for the frames or for their roles.
+    /// There was no memory for the frames, for their roles or for the counts of their pages.
     NoMemory,
 }
 
@@ -360,7 +381,10 @@ impl Spaces {
         let Ok(table) = FrameTable::new(alloc, frames) else {
             return Err(SpacesFault::NoMemory);
         };
-        Ok(opened(memory, table, frames))
+        let Ok(counts) = vec![in alloc; 0u32; frames as usize] else {
+            return Err(SpacesFault::NoMemory);
+        };
+        Ok(opened(memory, table, counts, frames))
     }
 
     /// Gives a process an empty space: a blank directory.
@@ -402,6 +426,15 @@ impl Spaces {
             directory,
             slot,
         );
+        region_counts::count_page(
+            &self.memory,
+            &self.frames,
+            &self.directories,
+            &mut self.counts,
+            pid,
+            directory,
+            page,
+        );
         add_page(
             &mut self.memory,
             &self.frames,
@@ -437,6 +470,15 @@ impl Spaces {
             pid,
             directory,
             slot,
+        );
+        region_counts::count_page(
+            &self.memory,
+            &self.frames,
+            &self.directories,
+            &mut self.counts,
+            pid,
+            directory,
+            page,
         );
         add_holder(
             &mut self.memory,
@@ -542,7 +584,14 @@ impl Spaces {
         requires user { IsUserPage page }
         ensures { cost (without self.now.spaces (is_slot pid page)) pid + result ≡ cost self.now.spaces pid }
     {
-        charges::relief_in(&self.memory, &self.frames, &self.directories, pid, page)
+        charges::relief_in(
+            &self.memory,
+            &self.frames,
+            &self.directories,
+            &self.counts,
+            pid,
+            page,
+        )
     }
 
     /// The number at an address of a mapped page, the lowest byte first. It sets no flag.
@@ -624,6 +673,7 @@ impl Spaces {
             &mut self.memory,
             &mut self.frames,
             &self.directories,
+            &mut self.counts,
             pid,
             directory,
             page,
@@ -643,6 +693,7 @@ impl Spaces {
             &mut self.memory,
             &mut self.frames,
             &mut self.directories,
+            &mut self.counts,
             pid,
         );
     }

@@ -52,6 +52,31 @@ fn end(rt: &impl Abort, spaces: &mut Spaces, pid: Pid)
     assert!(rt; spaces.directory(pid).is_none());
 }
 
+/// Unmaps a page that is mapped, and says what its process's charge falls by.
+fn unmap_page(rt: &impl Abort, spaces: &mut Spaces, pid: Pid, page: Page) -> u32
+    requires user { IsUserPage page }
+    ensures frames { length spaces.new.roles ≡ length spaces.old.roles }
+{
+    assert!(rt; spaces.cell(pid, page).is_some());
+    let relief = spaces.relief(pid, page);
+    spaces.unmap(pid, page);
+    assert!(rt; spaces.cell(pid, page).is_none());
+    relief
+}
+
+/// Maps all 1,024 pages from a first one on.
+fn map_region(rt: &impl Abort, spaces: &mut Spaces, pid: Pid, first: u32)
+    requires low { 0x40000 ≤ first }
+    requires high { first + 1024 ≤ 0xf0000 }
+    requires room { 2051 + total_cost spaces.old.directories spaces.old.spaces ≤ length spaces.old.roles }
+    ensures costs { total_cost spaces.new.directories spaces.new.spaces ≤ 2048 + total_cost spaces.old.directories spaces.old.spaces }
+    ensures frames { length spaces.new.roles ≡ length spaces.old.roles }
+{
+    for page in first..first + 1024 {
+        map_page(rt, spaces, pid, Page(page));
+    }
+}
+
 /// What a process that has a space is charged for.
 fn charge(rt: &impl Abort, spaces: &Spaces, pid: Pid) -> u32 {
     assert!(rt; spaces.directory(pid).is_some());
@@ -146,6 +171,50 @@ fn drops_a_space_and_keeps_what_is_shared(rt: HostRuntime) -> Result<(), Fail> {
     for frame in 1..spaces.frames() {
         assert_eq!(rt; spaces.role(Frame(frame)), Role::Free);
     }
+    Ok(())
+}
+
+#[test]
+fn a_table_goes_with_its_last_page(rt: HostRuntime) -> Result<(), Fail> {
+    let mut spaces = Spaces::new(rt.alloc(), 16)?;
+    let root = Pid::new(0).ok_or("no root")?;
+    begin(&rt, &mut spaces, root);
+    map_page(&rt, &mut spaces, root, Page(0x40000));
+    map_page(&rt, &mut spaces, root, Page(0x40001));
+    map_page(&rt, &mut spaces, root, Page(0x403ff));
+    assert_eq!(rt; unmap_page(&rt, &mut spaces, root, Page(0x40001)), 1);
+    assert_eq!(rt; charge(&rt, &spaces, root), 4);
+    assert_eq!(rt; unmap_page(&rt, &mut spaces, root, Page(0x40000)), 1);
+    assert_eq!(rt; charge(&rt, &spaces, root), 3);
+    assert_eq!(rt; unmap_page(&rt, &mut spaces, root, Page(0x403ff)), 2);
+    assert_eq!(rt; charge(&rt, &spaces, root), 1);
+    let directory = spaces.directory(root);
+    for frame in 1..spaces.frames() {
+        let is_free = spaces.role(Frame(frame)) == Role::Free;
+        assert_eq!(rt; is_free, directory != Some(Frame(frame)));
+    }
+    Ok(())
+}
+
+#[test]
+fn drops_a_full_table_and_a_sparse_one(rt: HostRuntime) -> Result<(), Fail> {
+    let mut spaces = Spaces::new(rt.alloc(), 4096)?;
+    let root = Pid::new(0).ok_or("no root")?;
+    begin(&rt, &mut spaces, root);
+    map_region(&rt, &mut spaces, root, 0x40000);
+    map_page(&rt, &mut spaces, root, Page(0x40401));
+    map_page(&rt, &mut spaces, root, Page(0x407fe));
+    assert_eq!(rt; charge(&rt, &spaces, root), 1 + 2 + 1026);
+    assert!(rt; spaces.cell(root, Page(0x403ff)).is_some());
+    spaces.fill(root, Page(0x403ff));
+    assert!(rt; spaces.cell(root, Page(0x407fe)).is_some());
+    spaces.fill(root, Page(0x407fe));
+    end(&rt, &mut spaces, root);
+    for frame in 1..spaces.frames() {
+        assert_eq!(rt; spaces.role(Frame(frame)), Role::Free);
+    }
+    assert!(rt; spaces.cell(root, Page(0x40000)).is_none());
+    assert!(rt; spaces.cell(root, Page(0x407fe)).is_none());
     Ok(())
 }
 

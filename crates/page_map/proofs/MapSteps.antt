@@ -72,7 +72,7 @@ module _ (n : ℕ) (m : Frames) (d page t w : ℕ) (T : TablesApart n m d) (smal
       ap (option_and_then (λ table. word_entry (word_in (with_word_at m t page w table) (index_number page)))) (table_kept (slot_number page) ∙ there)
       ∙ ap word_entry word_own
 
-  word_other : (s u i : ℕ) → s < 1024 → i < 1024 → table_of m d s ≡ Some u → ((s ≡ slot_number page) → (i ≡ index_number page) → ⊥)
+  pub word_other : (s u i : ℕ) → s < 1024 → i < 1024 → table_of m d s ≡ Some u → ((s ≡ slot_number page) → (i ≡ index_number page) → ⊥)
       → word_in (with_word_at m t page w u) i ≡ word_in (m u) i
   word_other s u i small_s small_i found other = elim (cases_eq u t) [
     | inl same ↦

@@ -99,6 +99,14 @@ pub record IsFreshTable (m : Frames) (directory slot table : ℕ) : Type 0 where
   pub not_reserved : 1 ≤ table
   pub foreign : IsForeign m directory table
 
+-- no other word of the page's table is present
+abbrev pub IsLastEntry : Frames → ℕ → ℕ → Type 0
+IsLastEntry m table page = (i : ℕ) → i < 1024 → is_present (word_in (without_entry m table page table) i) ≡ false
+
+-- another word of the page's table is present
+abbrev pub HasOtherEntry : Frames → ℕ → ℕ → Type 0
+HasOtherEntry m table page = (i : ℕ) × (i < 1024) × (is_present (word_in (without_entry m table page table) i) ≡ true)
+
 -- a page's entry is gone: its table stays where it has another entry, and is unlinked where it has none
 pub record IsCleared (m : Frames) (directory page : ℕ) (freed : Option ℕ) (m' : Frames) : Type 0 where
   pub kept : freed ≡ None → (m' ≡ without_entry m (frame_number (dir_word m directory (slot_number page))) page)

@@ -11,7 +11,7 @@ ghost use Rattle.page_words.specs.Words.{is_present, frame_number};
 ghost use Rattle.page_words.specs.Addresses.{slot_number, IsUserPage};
 ghost use Rattle.page_words.specs.FiniteMap as map;
 ghost use Rattle.phys_memory.specs.Bytes.{frame_bytes, word_in, with_word_in, with_frame};
-ghost use Rattle.page_map.specs.Entries.{IsPageMap, IsForeign, IsFreshTable, IsKernelEntry, IsCleared, dir_word, table_of, entry_at, word_entry, entry_word, with_entry, with_table, link_word};
+ghost use Rattle.page_map.specs.Entries.{IsPageMap, IsForeign, IsFreshTable, IsKernelEntry, IsLastEntry, HasOtherEntry, IsCleared, dir_word, table_of, entry_at, word_entry, entry_word, with_entry, with_table, link_word};
 ghost use Rattle.page_map.specs.Laws.{EntriesAreTheWords, EntriesAreUserPages, EntriesReadBack, EntryWordsAreKernelWords, TablesReadBack, LinkWordsAreKernelWords, BlankFramesAreMaps, BlankFramesMapNothing, WalksReadEntries, MarksTouchEntries};
 ghost use Rattle.page_map.specs.Pages.{entries_of, is_mapped, counted, count_range};
 
@@ -95,10 +95,10 @@ fn set_word(memory: &mut Memory, frame: Frame, index: u32, word: u32)
     memory.write_word(frame.0 as usize * FRAME_BYTES + index as usize * 4, word);
 }
 
-/// The table of a slot.
-fn table(memory: &Memory, directory: Frame, slot: u32) -> Option<Frame>
-    requires inside { 4096 * directory + 4096 ≤ length memory.now }
+/// The table of a slot of the directory, which may be empty, or None where the slot has none.
+pub fn table(memory: &Memory, directory: Frame, slot: u32) -> Option<Frame>
     requires slot { slot < 1024 }
+    requires map { IsPageMap memory.now directory }
     ensures { result ≡ table_of (frame_bytes memory.now) directory slot }
 {
     let word = DirWord::read(word(memory, directory, slot));
@@ -231,17 +231,20 @@ fn next_present(memory: &Memory, table: Frame, first: u32) -> Option<u32>
     None
 }
 
-fn remove_entry(memory: &mut Memory, directory: Frame, page: Page) -> Option<Frame>
+fn remove_entry(memory: &mut Memory, directory: Frame, page: Page, mapped: u32) -> Option<Frame>
     requires user { IsUserPage page }
     requires map { IsPageMap memory.old directory }
     requires table { is_present (dir_word (frame_bytes memory.old) directory (slot_number page)) ≡ true }
+    requires last { mapped ≡ 1 → IsLastEntry (frame_bytes memory.old) (frame_number (dir_word (frame_bytes memory.old) directory (slot_number page))) page }
+    requires others { mapped ≢ 1 → HasOtherEntry (frame_bytes memory.old) (frame_number (dir_word (frame_bytes memory.old) directory (slot_number page))) page }
     ensures cleared { IsCleared (frame_bytes memory.old) directory page result (frame_bytes memory.new) }
     ensures length { length memory.new ≡ length memory.old }
+    ensures last { is_some result ≡ true → mapped ≡ 1 }
 {
     let slot = slot_of(page);
     let table = table(memory, directory, slot)?;
     set_word(memory, table, index_of(page), 0);
-    if next_present(memory, table, 0).is_none() {
+    if mapped == 1 {
         set_word(memory, directory, slot, 0);
         Some(table)
     } else {
@@ -249,19 +252,22 @@ fn remove_entry(memory: &mut Memory, directory: Frame, page: Page) -> Option<Fra
     }
 }
 
-/// Clears a page's entry. Where that was the last entry of its table, it unlinks the table and returns
-/// it; else it returns None. The slot of the page must have a table.
-pub fn clear_entry(memory: &mut Memory, directory: Frame, page: Page) -> Option<Frame>
+/// Clears the entry of a mapped page, in whose slot that many pages are mapped, this one among them.
+/// Where it was the last one, it unlinks the table and returns it; else it returns None. It reads no
+/// other word of the table.
+pub fn clear_entry(memory: &mut Memory, directory: Frame, page: Page, mapped: u32) -> Option<Frame>
     requires user { IsUserPage page }
     requires map { IsPageMap memory.old directory }
-    requires table { is_present (dir_word (frame_bytes memory.old) directory (slot_number page)) ≡ true }
+    requires entry { is_some (entry_at (frame_bytes memory.old) directory page) ≡ true }
+    requires mapped { mapped ≡ count_range (λ other. is_some (entry_at (frame_bytes memory.old) directory other)) (1024 * slot_number page) 1024 }
     ensures cleared { IsCleared (frame_bytes memory.old) directory page result (frame_bytes memory.new) }
     ensures length { length memory.new ≡ length memory.old }
+    ensures last { is_some result ≡ true → mapped ≡ 1 }
     ensures entries { entries_of (frame_bytes memory.new) directory ≡ map.remove (entries_of (frame_bytes memory.old) directory) page }
     ensures map { IsPageMap memory.new directory }
     ensures foreign { (frame : ℕ) → IsForeign (frame_bytes memory.old) directory frame → frame_bytes memory.new frame ≡ frame_bytes memory.old frame }
 {
-    remove_entry(memory, directory, page)
+    remove_entry(memory, directory, page, mapped)
 }
 
 /// 1 where a word of a table is present, and else 0.

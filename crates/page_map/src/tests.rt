@@ -47,8 +47,11 @@ fn maps_and_clears_a_page(rt: HostRuntime) -> Result<(), Fail> {
     assert_eq!(rt; pages(&memory, directory), 1);
     assert_eq!(rt; next_page(&memory, directory, Page(0)), Some(page));
     assert_eq!(rt; next_page(&memory, directory, Page(0x40001)), None);
-    assert!(rt; has_table(&memory, directory, 256));
-    assert_eq!(rt; clear_entry(&mut memory, directory, page), Some(Frame(2)));
+    assert_eq!(rt; table(&memory, directory, 256), Some(Frame(2)));
+    assert!(rt; entry(&memory, directory, page).is_some());
+    let mapped = pages_of_slot(&memory, directory, 256);
+    let freed = clear_entry(&mut memory, directory, page, mapped);
+    assert_eq!(rt; freed, Some(Frame(2)));
     assert_eq!(rt; pages(&memory, directory), 0);
     Ok(())
 }

@@ -6,6 +6,7 @@ use Rattle.address_space.proofs.steps.Steps.{page_map_of, inside}
 use Rattle.address_space.proofs.frames.FewHolders.{count_few}
 use Rattle.address_space.proofs.steps.Joins.{slot_joined}
 use Rattle.address_space.proofs.steps.Stores.{page_of_name}
+use Rattle.address_space.proofs.steps.CountSteps.{alike_held}
 use Rattle.address_space.proofs.add_holder.Goals as goal
 
 pub hold-requires : goal.hold-requires
@@ -21,7 +22,10 @@ set_entry-requires-clause-frame c =
 pub set_entry-requires-clause-map : goal.set_entry-requires-clause-map
 set_entry-requires-clause-map c = page_map_of c.args.directories.now c.args.memory.now c.args.frames.now c.args.pid c.args.directory c.requires.sound c.requires.live
 
-pub returns : goal.returns
-returns c =
+pub returns-clause-joined : goal.returns-clause-joined
+returns-clause-joined c =
     slot_joined c.args.directories.now c.args.memory.now c.set_entry.new.memory c.args.frames.now c.hold.new.self c.args.giver c.args.giver_page c.args.pid c.args.directory c.args.page c.args.frame c.hold.ensures.count c.args.right
     c.requires.sound c.requires.live c.requires.user.0 c.requires.user.1 c.requires.unmapped c.requires.table c.requires.given c.hold.ensures.page c.hold.ensures.now c.set_entry.ensures.frames c.set_entry.ensures.length
+
+pub returns-clause-alike : goal.returns-clause-alike
+returns-clause-alike c = alike_held c.args.frames.now c.hold.new.self c.args.frame c.hold.ensures

@@ -44,7 +44,7 @@ cost-stored_of S slot at new p found = cost-same (stored S slot at new) S p (λ 
 pub cost-insert_other : (S : Spaces) (slot : Slot) (cell : Cell) (p : ℕ) → p ≢ slot.pid → cost (map.insert S slot cell) p ≡ cost S p
 cost-insert_other S slot cell p n = cost-by-pages (map.insert S slot cell) S p (λ page. other_slot S slot cell p page n)
 
-key-joined : (S : Spaces) (giver slot : Slot) (right : Bool) (c : Cell) (q : Slot) → map.contains_key (joined S giver slot right) q ≡ map.contains_key (map.insert S slot c) q
+pub key-joined : (S : Spaces) (giver slot : Slot) (right : Bool) (c : Cell) (q : Slot) → map.contains_key (joined S giver slot right) q ≡ map.contains_key (map.insert S slot c) q
 key-joined S giver slot right c q =
     key-insert (set_holders S (cell_or_fresh S giver).holders (set.insert (cell_or_fresh S giver).holders slot)) slot _ q
     ∙ ap (cond (same slot_order q slot) true) (key-each (λ s cell. if set.contains (cell_or_fresh S giver).holders s then with_holders cell (set.insert (cell_or_fresh S giver).holders slot) else cell) S q)
@@ -60,7 +60,7 @@ cost-joined_other S giver slot right p n = cost-same (joined S giver slot right)
 
 -- ---- Slots less
 
-key-without : (S : Spaces) (gone : Slot → Bool) (q : Slot) → gone q ≡ false → map.contains_key (without S gone) q ≡ map.contains_key S q
+pub key-without : (S : Spaces) (gone : Slot → Bool) (q : Slot) → gone q ≡ false → map.contains_key (without S gone) q ≡ map.contains_key S q
 key-without S gone q stays = ap is_some (get-without S gone q ∙ ap (λ b. cond (not b) (option_map (λ cell. with_holders cell (set.retain cell.holders (λ s. not (gone s)))) (map.get S q)) None) stays) ∙ by (map.get S q)
   where
     by : (x : Option Cell) → is_some (option_map (λ cell. with_holders cell (set.retain cell.holders (λ s. not (gone s)))) x) ≡ is_some x

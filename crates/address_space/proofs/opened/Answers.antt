@@ -3,12 +3,19 @@ use Rattle.phys_memory.specs.Bytes.{blank_bytes}
 use Rattle.address_space.specs.View.{spaces_in}
 use Rattle.address_space.specs.Sound.{IsSpaces}
 use Rattle.address_space.proofs.steps.Openings.{opening_is_sound, opening_spaces, opening_length, opening_cost}
+use Rattle.alloc_table.specs.Roles.{opening_roles}
+use Rattle.address_space.specs.Counts.{IsCounted}
+use Rattle.address_space.proofs.steps.CountSteps.{opening_counted}
 use Rattle.address_space.proofs.opened.Goals as goal
 
 pub invariant_of-result : goal.invariant_of-result
-invariant_of-result c =
-    subst (λ b. IsSpaces (replicate 64 None) b c.args.table) (sym c.requires.memory)
-    (subst (λ r. IsSpaces (replicate 64 None) (blank_bytes c.args.frames) r) (sym c.requires.roles) (opening_is_sound c.args.frames c.requires.least c.requires.most))
+invariant_of-result c = record {
+  spaces =
+      subst (λ b. IsSpaces (replicate 64 None) b c.args.table) (sym c.requires.memory)
+      (subst (λ r. IsSpaces (replicate 64 None) (blank_bytes c.args.frames) r) (sym c.requires.roles) (opening_is_sound c.args.frames c.requires.least c.requires.most));
+  counted = subst (λ r. IsCounted (spaces_in (replicate 64 None) c.args.memory) r c.args.counts.items) (sym c.requires.roles)
+      (subst (IsCounted (spaces_in (replicate 64 None) c.args.memory) (opening_roles c.args.frames)) (sym c.requires.counts) (opening_counted (spaces_in (replicate 64 None) c.args.memory) c.args.frames));
+}
 
 pub returns-clause-spaces : goal.returns-clause-spaces
 returns-clause-spaces c = opening_spaces c.args.memory

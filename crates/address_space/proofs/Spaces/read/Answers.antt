@@ -1,10 +1,12 @@
-use Rattle.std.proofs.Common.{arith, ◌≡◌, ap, sym, subst, true}
+use Rattle.std.proofs.Common.{arith, ◌≡◌, ◌∙◌, ap, sym, subst, true}
 use Rattle.std.specs.Prelude.{is_some}
 use Rattle.page_words.specs.Addresses.{page_number}
 use Rattle.page_words.specs.FiniteMap as map
-use Rattle.address_space.specs.Spaces.{slot_at}
-use Rattle.address_space.specs.View.{View}
+use Rattle.address_space.specs.Spaces.{at_page, slot_at}
+use Rattle.address_space.specs.View.{View, spaces_in}
 use Rattle.address_space.proofs.steps.Stores.{mapped_slot, mapped_live, mapped_entry}
+use Rattle.address_space.proofs.costs.AccessCosts.{kept}
+use Rattle.address_space.proofs.steps.CountSteps.{counted_keys}
 use Rattle.address_space.proofs.Spaces.read.Goals as goal
 
 pub home-directory-requires : goal.home-directory-requires
@@ -21,7 +23,15 @@ load-requires-clause-mapped c =
 pub invariant_of-self : goal.invariant_of-self
 invariant_of-self c =
     let cost = c.load.ensures.touched.cost in
-    let weighs = c.self.invariant.weighs in
-    let within = c.self.invariant.within in
+    let weighs = c.self.invariant.spaces.weighs in
+    let within = c.self.invariant.spaces.within in
     let lazy = c.load.ensures.touched.lazy in
-    record { sound = c.load.ensures.touched.sound; in_use = c.load.ensures.touched.in_use c.self.invariant.in_use; weighs = omega (arith, cost, weighs, lazy); within = omega (arith, cost, within) }
+    let U : View → Type 0 = λ v. is_some (map.get v.spaces (slot_at c.args.pid c.args.address)) ≡ true in
+    let before = spaces_in c.self.inside.directories c.self.inside.memory in
+    let slot = at_page c.args.pid c.page_of-page.result in
+    let there = subst (λ n. is_some (map.get before (at_page c.args.pid n)) ≡ true) (sym c.page_of-page.ensures.value) (subst U (sym c.self.view_is) c.requires.mapped) in
+    let after = spaces_in c.self.inside.directories c.load.new.memory in
+    record {
+      spaces = record { sound = c.load.ensures.touched.sound; in_use = c.load.ensures.touched.in_use c.self.invariant.spaces.in_use; weighs = omega (arith, cost, weighs, lazy); within = omega (arith, cost, within) };
+      counted = counted_keys before after c.self.inside.frames c.self.inside.counts.items (λ q. ap (λ x. map.contains_key x q) c.load.ensures.touched.spaces ∙ kept before slot _ there q) c.self.invariant.counted;
+    }

@@ -1,12 +1,14 @@
 use Rattle.std.proofs.Common.{arith, ◌≡◌, ◌∙◌, ap, sym, subst, true, false}
 use Rattle.std.specs.Prelude.{is_some}
-use Rattle.page_words.specs.Addresses.{page_number}
+use Rattle.page_words.specs.Addresses.{page_number, byte_count}
 use Rattle.page_words.specs.FiniteMap as map
-use Rattle.address_space.specs.Spaces.{slot_at}
-use Rattle.address_space.specs.View.{View}
+use Rattle.address_space.specs.Spaces.{at_page, slot_at, cell_or_fresh, bytes_of}
+use Rattle.address_space.specs.View.{View, spaces_in}
 use Rattle.address_space.specs.Image.{is_lazy_at}
 use Rattle.address_space.proofs.standing.Standing.{lazy_read}
 use Rattle.address_space.proofs.steps.Stores.{mapped_slot, mapped_live, mapped_entry}
+use Rattle.address_space.proofs.costs.AccessCosts.{kept, key-stored}
+use Rattle.address_space.proofs.steps.CountSteps.{counted_keys}
 use Rattle.address_space.proofs.Spaces.write.Goals as goal
 
 pub home-directory-requires : goal.home-directory-requires
@@ -24,12 +26,20 @@ pub store-requires-clause-real : goal.store-requires-clause-real
 store-requires-clause-real c =
     let U : View → Type 0 = λ v. is_lazy_at (record { directories = v.directories; bytes = v.bytes; roles = v.roles }) (slot_at c.args.pid c.args.address) ≡ false in
     rw c.page_of-page.ensures.value
-    (lazy_read c.self.inside.directories c.self.inside.memory c.self.inside.frames c.args.pid c.home-directory.result (page_number c.args.address) c.self.invariant.sound c.home-directory.ensures ∙ subst U (sym c.self.view_is) c.requires.real)
+    (lazy_read c.self.inside.directories c.self.inside.memory c.self.inside.frames c.args.pid c.home-directory.result (page_number c.args.address) c.self.invariant.spaces.sound c.home-directory.ensures ∙ subst U (sym c.self.view_is) c.requires.real)
 
 pub invariant_of-self : goal.invariant_of-self
 invariant_of-self c =
     let cost = c.store.ensures.cost in
-    let weighs = c.self.invariant.weighs in
-    let within = c.self.invariant.within in
+    let weighs = c.self.invariant.spaces.weighs in
+    let within = c.self.invariant.spaces.within in
     let lazy = c.store.ensures.lazy in
-    record { sound = c.store.ensures.sound; in_use = c.store.ensures.in_use c.self.invariant.in_use; weighs = omega (arith, cost, weighs, lazy); within = omega (arith, cost, within) }
+    let U : View → Type 0 = λ v. is_some (map.get v.spaces (slot_at c.args.pid c.args.address)) ≡ true in
+    let before = spaces_in c.self.inside.directories c.self.inside.memory in
+    let slot = at_page c.args.pid c.page_of-page.result in
+    let there = subst (λ n. is_some (map.get before (at_page c.args.pid n)) ≡ true) (sym c.page_of-page.ensures.value) (subst U (sym c.self.view_is) c.requires.mapped) in
+    let after = spaces_in c.self.inside.directories c.store.new.memory in
+    record {
+      spaces = record { sound = c.store.ensures.sound; in_use = c.store.ensures.in_use c.self.invariant.spaces.in_use; weighs = omega (arith, cost, weighs, lazy); within = omega (arith, cost, within) };
+      counted = counted_keys before after c.self.inside.frames c.self.inside.counts.items (λ q. ap (λ x. map.contains_key x q) c.store.ensures.spaces ∙ key-stored before slot c.offset_of-at.result (bytes_of (byte_count c.args.size) c.args.value) (cell_or_fresh before slot) q ∙ kept before slot (cell_or_fresh before slot) there q) c.self.invariant.counted;
+    }
