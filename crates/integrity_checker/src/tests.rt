@@ -632,7 +632,7 @@ fn a_verdict_stops_where_a_write_fails(rt: HostRuntime) -> Result<(), Fail> {
     Ok(())
 }
 
-/// `rt try --test --fail-alloc N` refuses the Nth allocation of this test alone. The first three are those
+/// `rt try --test --fail-alloc N` refuses the Nth allocation of this test alone. The first four are those
 /// of the core; then come two of `Image::of`, one of the bytes, two of `read_image` and three of `check`.
 /// Each of these calls that meets a refusal answers NoMemory, the same call with memory then succeeds, and
 /// a line is printed that says so.

@@ -238,7 +238,7 @@ fn faults_have_their_texts(rt: HostRuntime) -> Result<(), Fail> {
     Ok(())
 }
 
-/// `rt try --test --fail-alloc N` refuses the Nth allocation of this test alone. The first three are those
+/// `rt try --test --fail-alloc N` refuses the Nth allocation of this test alone. The first four are those
 /// of the core; then come two of `Image::of`, one of the bytes, and two of `read_image`. Each of these calls
 /// that meets a refusal answers NoMemory, the same call with memory then succeeds, and a line is printed that
 /// says so.

@@ -5,7 +5,7 @@ use kernel_calls::Core;
 use memory_image::Image;
 use std::test::Fail;
 
-/// `rt try --test --fail-alloc N` refuses the Nth allocation of this test alone. The first five are those of
+/// `rt try --test --fail-alloc N` refuses the Nth allocation of this test alone. The first six are those of
 /// the core and its image; the others are those of `Audit::new`. A call that meets a refusal answers
 /// NoMemory, the same call with memory then gives two helpers, and a line is printed that says so.
 #[test]
