@@ -229,7 +229,7 @@ fn remove_entry(
         directory,
         page,
     );
-    let freed = page_map::clear_entry(memory, directory, page, mapped);
+    let freed = page_map::clear_counted_entry(memory, directory, page, mapped);
     leave(frames, entry);
     free_table(frames, freed);
 }

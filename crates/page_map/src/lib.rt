@@ -231,7 +231,40 @@ fn next_present(memory: &Memory, table: Frame, first: u32) -> Option<u32>
     None
 }
 
-fn remove_entry(memory: &mut Memory, directory: Frame, page: Page, mapped: u32) -> Option<Frame>
+fn remove_entry(memory: &mut Memory, directory: Frame, page: Page) -> Option<Frame>
+    requires user { IsUserPage page }
+    requires map { IsPageMap memory.old directory }
+    requires table { is_present (dir_word (frame_bytes memory.old) directory (slot_number page)) ≡ true }
+    ensures cleared { IsCleared (frame_bytes memory.old) directory page result (frame_bytes memory.new) }
+    ensures length { length memory.new ≡ length memory.old }
+{
+    let slot = slot_of(page);
+    let table = table(memory, directory, slot)?;
+    set_word(memory, table, index_of(page), 0);
+    if next_present(memory, table, 0).is_none() {
+        set_word(memory, directory, slot, 0);
+        Some(table)
+    } else {
+        None
+    }
+}
+
+/// Clears a page's entry. Where that was the last entry of its table, it unlinks the table and returns
+/// it; else it returns None. The slot of the page must have a table.
+pub fn clear_entry(memory: &mut Memory, directory: Frame, page: Page) -> Option<Frame>
+    requires user { IsUserPage page }
+    requires map { IsPageMap memory.old directory }
+    requires table { is_present (dir_word (frame_bytes memory.old) directory (slot_number page)) ≡ true }
+    ensures cleared { IsCleared (frame_bytes memory.old) directory page result (frame_bytes memory.new) }
+    ensures length { length memory.new ≡ length memory.old }
+    ensures entries { entries_of (frame_bytes memory.new) directory ≡ map.remove (entries_of (frame_bytes memory.old) directory) page }
+    ensures map { IsPageMap memory.new directory }
+    ensures foreign { (frame : ℕ) → IsForeign (frame_bytes memory.old) directory frame → frame_bytes memory.new frame ≡ frame_bytes memory.old frame }
+{
+    remove_entry(memory, directory, page)
+}
+
+fn remove_counted_entry(memory: &mut Memory, directory: Frame, page: Page, mapped: u32) -> Option<Frame>
     requires user { IsUserPage page }
     requires map { IsPageMap memory.old directory }
     requires table { is_present (dir_word (frame_bytes memory.old) directory (slot_number page)) ≡ true }
@@ -252,10 +285,10 @@ fn remove_entry(memory: &mut Memory, directory: Frame, page: Page, mapped: u32) 
     }
 }
 
-/// Clears the entry of a mapped page, in whose slot that many pages are mapped, this one among them.
-/// Where it was the last one, it unlinks the table and returns it; else it returns None. It reads no
-/// other word of the table.
-pub fn clear_entry(memory: &mut Memory, directory: Frame, page: Page, mapped: u32) -> Option<Frame>
+/// Clears the entry of a mapped page, in whose slot that many pages are mapped, this one among them, as
+/// `clear_entry` does: where it was the last one, it unlinks the table and returns it; else it returns
+/// None. It reads no other word of the table.
+pub fn clear_counted_entry(memory: &mut Memory, directory: Frame, page: Page, mapped: u32) -> Option<Frame>
     requires user { IsUserPage page }
     requires map { IsPageMap memory.old directory }
     requires entry { is_some (entry_at (frame_bytes memory.old) directory page) ≡ true }
@@ -267,7 +300,7 @@ pub fn clear_entry(memory: &mut Memory, directory: Frame, page: Page, mapped: u3
     ensures map { IsPageMap memory.new directory }
     ensures foreign { (frame : ℕ) → IsForeign (frame_bytes memory.old) directory frame → frame_bytes memory.new frame ≡ frame_bytes memory.old frame }
 {
-    remove_entry(memory, directory, page, mapped)
+    remove_counted_entry(memory, directory, page, mapped)
 }
 
 /// 1 where a word of a table is present, and else 0.

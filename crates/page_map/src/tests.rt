@@ -47,11 +47,33 @@ fn maps_and_clears_a_page(rt: HostRuntime) -> Result<(), Fail> {
     assert_eq!(rt; pages(&memory, directory), 1);
     assert_eq!(rt; next_page(&memory, directory, Page(0)), Some(page));
     assert_eq!(rt; next_page(&memory, directory, Page(0x40001)), None);
-    assert_eq!(rt; table(&memory, directory, 256), Some(Frame(2)));
-    assert!(rt; entry(&memory, directory, page).is_some());
-    let mapped = pages_of_slot(&memory, directory, 256);
-    let freed = clear_entry(&mut memory, directory, page, mapped);
-    assert_eq!(rt; freed, Some(Frame(2)));
+    assert!(rt; has_table(&memory, directory, 256));
+    assert_eq!(rt; clear_entry(&mut memory, directory, page), Some(Frame(2)));
     assert_eq!(rt; pages(&memory, directory), 0);
+    Ok(())
+}
+
+#[test]
+fn clears_the_one_page_that_is_counted(rt: HostRuntime) -> Result<(), Fail> {
+    let mut memory = empty_map(rt.alloc())?;
+    let directory = Frame(1);
+    let page = Page(0x40000);
+    link_table(&mut memory, directory, 256, Frame(2));
+    assert!(rt; has_table(&memory, directory, 256));
+    let mapped = PageEntry {
+        frame: Frame(3),
+        write: true,
+        may: true,
+        accessed: false,
+        dirty: false,
+        lazy: false,
+    };
+    set_entry(&mut memory, directory, page, mapped);
+    assert!(rt; entry(&memory, directory, page).is_some());
+    let count = pages_of_slot(&memory, directory, 256);
+    assert_eq!(rt; count, 1);
+    let freed = clear_counted_entry(&mut memory, directory, page, count);
+    assert_eq!(rt; freed, Some(Frame(2)));
+    assert!(rt; !has_table(&memory, directory, 256));
     Ok(())
 }
