@@ -11,11 +11,15 @@
 mod alone_tests;
 mod audits;
 mod faults;
+#[cfg(test)]
+mod gate_tests;
 mod guests;
 mod programs;
 mod rounds;
 #[cfg(test)]
 mod tests;
+#[cfg(test)]
+mod two_helpers;
 
 pub use faults::RoundFault;
 pub use rounds::round;

@@ -345,6 +345,65 @@ fn helpers_in_threads_find_what_one_finds(rt: HostRuntime) -> Result<(), Fail> {
     Ok(())
 }
 
+/// Words that are put into the image, one at a time, and the text of the verdict then.
+const TOLD: [(usize, u32, &str); 11] = [
+    // quota of process 0, and directory of process 1
+    (20, 16, "process 0 P1\n"),
+    (56, 0, "process 1 P2\nframe 5 F2\nframe 6 F3\nframe 11 F4\n"),
+    // a word of directory 10 in slot 0, which is outside the user range
+    (42_764, 1, "process 0 P3\n"),
+    // used of process 1, given of process 0, quota of process 1
+    (48, 4, "process 1 P5\n"),
+    (28, 6, "process 0 P6\n"),
+    (44, 2, "process 0 P6\nprocess 1 P7\n"),
+    // a word of frame 0, roles of frame 1, and the count of frame 11
+    (1808, 1, "frame 0 F1\n"),
+    (1564, 2, "frame 1 F2\n"),
+    (1564, 3, "frame 1 F3\n"),
+    (1736, 3, "frame 11 F4\n"),
+    // a word of table 12: a page in a free frame
+    (50_960, 0x1005, "process 0 P4\nframe 1 F5\n"),
+];
+
+/// How many numbers were answered.
+fn answered(answers: &Answers) -> u64 {
+    let mut sum = 0u64;
+    for count in answers.times {
+        sum = sum.wrapping_add(count);
+    }
+    sum
+}
+
+/// The verdict of two helpers, of which the first judges 32 numbers, the second what is left, and the first
+/// none more; and how many numbers each of the three answered.
+fn by_halves(alloc: Global, image: Image, told: &Verdict) -> Result<(Verdict, [u64; 3]), Fail> {
+    let (audit, helpers) = Audit::new(alloc, image, 2)?;
+    let (mut first, mut second, mut third) = (no_answers(), no_answers(), no_answers());
+    let helpers = round(alloc, &audit, helpers, told, 32, 1, &mut first)?;
+    let helpers = round(alloc, &audit, helpers, told, 33, 1, &mut second)?;
+    let helpers = round(alloc, &audit, helpers, told, 1, 1, &mut third)?;
+    let verdict = audit.finish(helpers)?;
+    Ok((
+        verdict,
+        [answered(&first), answered(&second), answered(&third)],
+    ))
+}
+
+#[test]
+fn two_helpers_of_half_the_numbers_tell_what_fails(rt: HostRuntime) -> Result<(), Fail> {
+    for (place, word, lines) in TOLD {
+        let changes = [(place, word)];
+        let told = check(rt.alloc(), &image_with(rt.alloc(), &changes)?)?;
+        let image = image_with(rt.alloc(), &changes)?;
+        let (verdict, numbers) = by_halves(rt.alloc(), image, &told)?;
+        let mut text = Vec::new(rt.alloc());
+        verdict.write_text(&mut text)?;
+        assert_eq!(rt; numbers, [32, 32, 0], "word at {place}");
+        assert_eq!(rt; text.as_slice(), lines.as_bytes(), "word at {place}");
+    }
+    Ok(())
+}
+
 /// By each of these numbers of helpers, in turn and in threads, a core of so many frames is sound, as the
 /// check says.
 fn is_sound<R: Threads + Abort + Sync>(

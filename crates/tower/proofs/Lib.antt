@@ -1,9 +1,3 @@
-pub mod NumberLemmas
-pub mod TokenLemmas
-pub mod LineLemmas
-pub mod ScriptLemmas
-pub mod ProgressLemmas
-pub mod RunLemmas
 pub mod JobLemmas
 pub mod ValueLemmas
 pub mod CommandLemmas

@@ -1,30 +1,15 @@
--- The texts of faults.
-use Rattle.std.specs.Prelude.{◌≡◌, ℕ, List, ◌++◌, codes, decimal}
+-- The texts of faults, and exit statuses.
+use Rattle.std.specs.Prelude.{ℕ, List, ◌++◌, codes, decimal}
 use Rattle.guest_race.specs.declared.faults.RoundFault.{RoundFault}
 use Rattle.guest_race.specs.declared.faults.RoundFault.TheVariants as round
-use Rattle.kernel_calls.specs.declared.kernel.BootFault.{BootFault}
-use Rattle.kernel_calls.specs.declared.kernel.BootFault.TheVariants as boot
 use Rattle.memory_image.specs.declared.faults.ImageFault.{ImageFault}
 use Rattle.memory_image.specs.declared.faults.ImageFault.TheVariants as image
-use Rattle.tower.specs.declared.faults.ScriptFault.{ScriptFault}
+use Rattle.script_run.specs.declared.faults.ScriptFault.{ScriptFault}
 use Rattle.tower.specs.declared.tools.ToolFault.{ToolFault}
 use Rattle.tower.specs.declared.tools.ToolFault.TheVariants as tool
 use Rattle.tower.specs.declared.words.WordsFault.{WordsFault}
 use Rattle.tower.specs.declared.words.WordsFault.TheVariants as words
-use Rattle.tower.specs.declared.faults.ScriptFault.TheVariants.{BadSize, NoMemory, Malformed, TooLong, ReadFailed, WriteFailed}
-
-abbrev pub fault_text : ScriptFault → List ℕ
-fault_text BadSize = codes "tower: frames must be 16 to 4096"
-fault_text NoMemory = codes "tower: out of memory"
-fault_text (Malformed line) = codes "tower: line " ++ (decimal line ++ codes " is malformed")
-fault_text TooLong = codes "tower: script is too long"
-fault_text ReadFailed = codes "tower: read failed"
-fault_text WriteFailed = codes "tower: write failed"
-
--- what a fault of the boot is to a script
-abbrev pub BootGives : BootFault → ScriptFault → Type 0
-BootGives boot.BadSize fault = fault ≡ BadSize
-BootGives boot.NoMemory fault = fault ≡ NoMemory
+use Rattle.script_run.specs.declared.faults.ScriptFault.TheVariants.{BadSize, NoMemory, Malformed, TooLong, ReadFailed, WriteFailed}
 
 -- the exit status of a fault: 1 for want of memory or a device's fault, 2 for a refused script
 abbrev pub status_of : ScriptFault → ℕ

@@ -11,9 +11,9 @@ use Rattle.memory_image.specs.Sound.{StandsFor}
 use Rattle.memory_image.specs.Spelling.{Spells, spelling}
 use Rattle.memory_image.specs.declared.faults.ImageFault.TheVariants as image
 use Rattle.process_table.specs.State.{open_with}
-use Rattle.tower.specs.Script.{events_of, fault_of}
-use Rattle.tower.specs.declared.faults.ScriptFault.{ScriptFault}
-use Rattle.tower.specs.declared.faults.ScriptFault.TheVariants as script
+use Rattle.script_run.specs.Script.{events_of, fault_of}
+use Rattle.script_run.specs.declared.faults.ScriptFault.{ScriptFault}
+use Rattle.script_run.specs.declared.faults.ScriptFault.TheVariants as script
 use Rattle.tower.specs.declared.tools.ToolFault.{ToolFault}
 use Rattle.tower.specs.declared.tools.ToolFault.TheVariants as tool
 

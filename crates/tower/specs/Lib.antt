@@ -1,11 +1,4 @@
-pub mod Numbers
-pub mod Tokens
-pub mod Lines
-pub mod Replies
 pub mod Faults
 pub mod Images
-pub mod Script
-pub mod Progress
 pub mod Jobs
 pub mod Races
-pub mod WorkedScripts

@@ -1,13 +1,11 @@
-//! Images that were damaged in one word, and images that were cut off: what the check of one, the audit by
-//! two helpers and the command that checks a file find.
+//! Images that were damaged in one word, and images that were cut off: what the check and the command that
+//! checks a file find.
 
 use super::images::{check_bytes, write_script_image};
 use super::tools::ToolFault;
-use super::two_helpers::{handed_back, stepped, taken};
-use super::worked::sharing::SHARE_BOTH_WAYS;
 use integrity_checker::check;
 use memory_image::{ImageFault, read_image};
-use parallel_audit::Audit;
+use script_run::worked::sharing::SHARE_BOTH_WAYS;
 use std::alloc::Global;
 use std::test::Fail;
 
@@ -172,29 +170,11 @@ fn image_bytes(alloc: Global) -> Result<Vec<u8>, Fail> {
     Ok(bytes)
 }
 
-/// What the check by one finds.
+/// What the check finds.
 fn checked(alloc: Global, bytes: &[u8]) -> Result<Vec<u8>, Fail> {
     let image = read_image(alloc, bytes)?;
     let mut text = Vec::new(alloc);
     check(alloc, &image)?.write_text(&mut text)?;
-    Ok(text)
-}
-
-/// What the audit by two helpers finds, each of which judges half of the processes.
-fn audited(alloc: Global, bytes: &[u8]) -> Result<Vec<u8>, Fail> {
-    let image = read_image(alloc, bytes)?;
-    let (audit, mut helpers) = Audit::new(alloc, image, 2)?;
-    let two = taken(&audit, &mut helpers).ok_or("two helpers")?;
-    let one = taken(&audit, &mut helpers).ok_or("two helpers")?;
-    let (one, first) = stepped(&audit, one, 32);
-    let (two, second) = stepped(&audit, two, 33);
-    let (one, third) = stepped(&audit, one, 1);
-    if (first, second, third) != (32, 32, 0) {
-        return Err("each helper checks half of the numbers".into());
-    }
-    let back = handed_back(alloc, &audit, one, two).ok_or("no memory")?;
-    let mut text = Vec::new(alloc);
-    audit.finish(back)?.write_text(&mut text)?;
     Ok(text)
 }
 
@@ -206,7 +186,7 @@ fn commanded(alloc: Global, bytes: &[u8]) -> Result<Vec<u8>, Fail> {
 }
 
 #[test]
-fn a_changed_word_fails_the_same_for_all(rt: HostRuntime) -> Result<(), Fail> {
+fn a_changed_word_fails_the_same_for_both(rt: HostRuntime) -> Result<(), Fail> {
     let sound = image_bytes(rt.alloc())?;
     let places = frames_of(sound.as_slice());
     for damage in damages(&places) {
@@ -215,7 +195,6 @@ fn a_changed_word_fails_the_same_for_all(rt: HostRuntime) -> Result<(), Fail> {
         let lines = lines_of(rt.alloc(), &damage)?;
         let word = damage.place;
         assert_eq!(rt; checked(rt.alloc(), &bytes)?, lines, "word at {word}");
-        assert_eq!(rt; audited(rt.alloc(), &bytes)?, lines, "word at {word}");
         assert_eq!(rt; commanded(rt.alloc(), &bytes)?, lines, "word at {word}");
     }
     Ok(())

@@ -4,11 +4,10 @@ ghost use Rattle.std.specs.Prelude.{◌≡◌, ◌≤◌, ◌↔◌, IfOk, IfErr
 ghost use Rattle.tower.specs.Images.{Checks, EndsCheck, EndsImage, ShowsEnd, WritesImage};
 ghost use Rattle.tower.specs.Faults.{tool_of_image};
 
-use super::faults::ScriptFault;
-use super::script::run_script;
 use super::tools::ToolFault;
 use integrity_checker::check;
 use memory_image::{Image, ImageFault, read_image, write_image};
+use script_run::{ScriptFault, run_script};
 use std::alloc::Global;
 use std::io;
 use std::io::{Read, Write};

@@ -10,40 +10,25 @@ ghost use Rattle.tower.specs.Faults.{status_of, status_of_tool, status_of_words}
 
 #[cfg(test)]
 mod damaged_tests;
-mod faults;
-#[cfg(test)]
-mod gate_tests;
 mod images;
 mod jobs;
-mod lines;
 #[cfg(test)]
 mod memory_tests;
-mod numbers;
-mod output;
 mod race;
 #[cfg(test)]
 mod race_tests;
-mod replies;
-mod script;
-mod session;
-#[cfg(test)]
-mod strange_tests;
 #[cfg(test)]
 mod tests;
-mod tokens;
 mod tools;
-#[cfg(test)]
-mod two_helpers;
 mod words;
 #[cfg(test)]
-mod worked;
+mod worked_tests;
 
 use clap::error::ErrorKind;
-use faults::ScriptFault;
 use images::{check_bytes, write_script_image};
 use jobs::{Job, job_of};
 use race::race;
-use script::run_script;
+use script_run::{ScriptFault, run_script};
 use std::fs::Files;
 use std::io::Read;
 use std::process::ExitCode;

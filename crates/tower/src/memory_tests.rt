@@ -4,13 +4,13 @@
 //! meets it answers want of memory, with nothing written, the same call with memory then succeeds, and a line
 //! is printed that says so.
 
-use super::faults::ScriptFault;
 use super::images::{check_bytes, write_script_image};
 use super::jobs::{Job, job_of};
 use super::tools::ToolFault;
 use super::words::{WordsFault, words};
-use super::worked::sharing::SHARE_BOTH_WAYS;
 use clap::error::ErrorKind;
+use script_run::ScriptFault;
+use script_run::worked::sharing::SHARE_BOTH_WAYS;
 use std::alloc::Global;
 use std::env::FillError;
 use std::rt::Env;

@@ -1,0 +1,6 @@
+pub mod NumberLemmas
+pub mod TokenLemmas
+pub mod LineLemmas
+pub mod ScriptLemmas
+pub mod ProgressLemmas
+pub mod RunLemmas

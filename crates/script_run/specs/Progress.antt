@@ -1,0 +1,153 @@
+-- How far a session has come in a script, when some bytes of it were read.
+--     Reached      no line is malformed so far, and all of them were carried out
+--     Begins, Breaks      how the lines of any script that goes on from these bytes begin;  that one of them is malformed
+--     Stops      why the session stopped at a line
+--     Finished, StopsAtLast      the last line, without a line feed, was carried out too;  why it was not
+--     Ran, RanInto      what a run came to, with replies that wait to be written
+--     EndsReading      what a run that ended by a failed read did
+--     EndsBy      what a run that ended by a fault did
+use Rattle.std.specs.Prelude.{◌≡◌, ℕ, ◌+◌, ◌≤◌, Bool, true, false, List, [], ◌∷◌, ◌++◌, length, Option, Some, None, IfSome}
+use Rattle.std.specs.List.{list_all}
+use Rattle.std.specs.Io.KnownBytes.{Appends, Keeps, Consumes}
+use Rattle.process_table.specs.State.{State, open_with}
+use Rattle.kernel_calls.specs.Machine.{answer, next, end_of}
+use Rattle.script_run.specs.declared.faults.ScriptFault.{ScriptFault}
+use Rattle.script_run.specs.declared.faults.ScriptFault.TheVariants.{BadSize, NoMemory, Malformed, TooLong, ReadFailed, WriteFailed}
+use Rattle.script_run.specs.declared.lines.Line.{Line}
+use Rattle.script_run.specs.declared.lines.Line.TheVariants as line
+use Rattle.script_run.specs.declared.session.Session.{Session}
+use Rattle.script_run.specs.Lines.{is_too_long}
+use Rattle.text_output.specs.Output.{LeavesUnwritten, AppendsFront}
+use Rattle.script_run.specs.Replies.{reply_line}
+use Rattle.script_run.specs.Script.{lines_of, closed_lines, open_line, judged_to, limit, is_malformed, is_sound, events_in, events_of, fault_of, replies_text}
+
+-- a fault that comes before the first read
+abbrev pub IsBeforeReading : ScriptFault → Type 0
+IsBeforeReading BadSize = Unit {0}
+IsBeforeReading NoMemory = Unit {0}
+IsBeforeReading (Malformed line) = ⊥
+IsBeforeReading TooLong = ⊥
+IsBeforeReading ReadFailed = ⊥
+IsBeforeReading WriteFailed = ⊥
+
+-- ---- One line
+
+abbrev pub state_after : State → Line → State
+state_after state (line.Event event) = next state event
+state_after state line.Skipped = state
+state_after state line.Malformed = state
+
+abbrev pub text_after : State → Line → List ℕ
+text_after state (line.Event event) = reply_line (answer state event)
+text_after state line.Skipped = []
+text_after state line.Malformed = []
+
+-- why a line of that number was not carried out
+abbrev pub LineFails : ScriptFault → ℕ → List ℕ → List ℕ → List ℕ → Option (List ℕ) → Option (List ℕ) → Type 0
+LineFails (Malformed found) number bytes waited waits held holds = (found ≡ number) × (is_malformed bytes ≡ true) × (waits ≡ waited) × Keeps held holds
+LineFails WriteFailed number bytes waited waits held holds = (waits ≡ []) × AppendsFront held holds waited
+LineFails BadSize number bytes waited waits held holds = ⊥
+LineFails NoMemory number bytes waited waits held holds = ⊥
+LineFails TooLong number bytes waited waits held holds = ⊥
+LineFails ReadFailed number bytes waited waits held holds = ⊥
+
+-- no line feed stands in the bytes
+unfoldable pub IsOneLine : List ℕ → Type 0
+IsOneLine bytes = lines_of bytes ≡ bytes ∷ []
+
+-- ---- Many lines
+
+-- what the writer held when the session began, and holds now
+pub record Reached (frames : ℕ) (read : List ℕ) (session : Session) (start now : Option (List ℕ)) : Type 0 where
+  pub sound : list_all is_sound (closed_lines read) ≡ true
+  pub line : session.line.items ≡ open_line read
+  pub short : length session.line.items ≤ 100
+  pub lines : session.lines ≡ length (closed_lines read)
+  pub state : session.core.state ≡ end_of (open_with frames) (events_in (closed_lines read))
+  pub text : LeavesUnwritten start now (replies_text frames (events_in (closed_lines read))) session.output
+
+-- each script that goes on from these bytes begins with these lines, none of which is malformed
+pub record Begins (read : List ℕ) (good : List (List ℕ)) : Type 0 where
+  pub sound : list_all is_sound good ≡ true
+  pub next : (is_whole : Bool) (more : List ℕ) → (others : List (List ℕ)) × (judged_to is_whole (read ++ more) ≡ good ++ others)
+
+-- and the line after them is malformed
+pub record Breaks (read : List ℕ) (good : List (List ℕ)) : Type 0 where
+  pub sound : list_all is_sound good ≡ true
+  pub next : (is_whole : Bool) (more : List ℕ) → (bad : List ℕ) × (others : List (List ℕ)) × (judged_to is_whole (read ++ more) ≡ good ++ bad ∷ others) × (is_malformed bad ≡ true)
+
+-- why a session stopped at a line: what waits, and what the writer held and holds
+abbrev pub Stops : ℕ → List ℕ → ScriptFault → List ℕ → Option (List ℕ) → Option (List ℕ) → Type 0
+Stops frames read (Malformed found) waits start now = (good : List (List ℕ)) × Breaks read good × (found ≡ length good + 1) × LeavesUnwritten start now (replies_text frames (events_in good)) waits
+Stops frames read WriteFailed waits start now = (good : List (List ℕ)) × (waits ≡ []) × Begins read good × AppendsFront start now (replies_text frames (events_in good))
+Stops frames read BadSize waits start now = ⊥
+Stops frames read NoMemory waits start now = ⊥
+Stops frames read TooLong waits start now = ⊥
+Stops frames read ReadFailed waits start now = ⊥
+
+-- ---- The last line, without a line feed
+
+pub record Finished (frames : ℕ) (read : List ℕ) (session : Session) (start now : Option (List ℕ)) : Type 0 where
+  pub sound : list_all is_sound (closed_lines read ++ open_line read ∷ []) ≡ true
+  pub state : session.core.state ≡ end_of (open_with frames) (events_in (closed_lines read ++ open_line read ∷ []))
+  pub text : LeavesUnwritten start now (replies_text frames (events_in (closed_lines read ++ open_line read ∷ []))) session.output
+
+abbrev pub StopsAtLast : ℕ → List ℕ → ScriptFault → List ℕ → Option (List ℕ) → Option (List ℕ) → Type 0
+StopsAtLast frames read (Malformed found) waits start now = (list_all is_sound (closed_lines read) ≡ true) × (is_malformed (open_line read) ≡ true) × (found ≡ length (closed_lines read) + 1)
+    × LeavesUnwritten start now (replies_text frames (events_in (closed_lines read))) waits
+StopsAtLast frames read WriteFailed waits start now = (waits ≡ []) × Begins read (closed_lines read) × AppendsFront start now (replies_text frames (events_in (closed_lines read)))
+StopsAtLast frames read BadSize waits start now = ⊥
+StopsAtLast frames read NoMemory waits start now = ⊥
+StopsAtLast frames read TooLong waits start now = ⊥
+StopsAtLast frames read ReadFailed waits start now = ⊥
+
+-- ---- Whole runs
+
+-- what the reader had left at the start is the script
+abbrev pub Ran : ℕ → Option (List ℕ) → Session → Option (List ℕ) → Option (List ℕ) → Type 0
+Ran frames remained session held holds = IfSome remained (λ input. (fault_of input ≡ None) × (session.core.state ≡ end_of (open_with frames) (events_of input)) × LeavesUnwritten held holds (replies_text frames (events_of input)) session.output)
+
+-- the same, with all replies written
+abbrev pub EndsWhole : ℕ → Option (List ℕ) → Session → Option (List ℕ) → Option (List ℕ) → Type 0
+EndsWhole frames remained session held holds = IfSome remained (λ input. (fault_of input ≡ None) × (session.core.state ≡ end_of (open_with frames) (events_of input)) × Appends held holds (replies_text frames (events_of input)))
+
+-- the replies to the complete lines of what was read: what the reader had left and has left, and what the writer held and holds
+pub record ReadSome (frames : ℕ) (remained remains : Option (List ℕ)) (waits : List ℕ) (held holds : Option (List ℕ)) : Type 0 where
+  pub read : List ℕ
+  pub within : length read ≤ limit
+  pub taken : Consumes remained remains read
+  pub sound : list_all is_sound (closed_lines read) ≡ true
+  pub short : is_too_long (open_line read) ≡ false
+  pub text : LeavesUnwritten held holds (replies_text frames (events_in (closed_lines read))) waits
+
+abbrev pub RanInto : ℕ → ScriptFault → Option (List ℕ) → Option (List ℕ) → List ℕ → Option (List ℕ) → Option (List ℕ) → Type 0
+RanInto frames (Malformed line) remained remains waits held holds = IfSome remained (λ input. (fault_of input ≡ Some (Malformed line)) × LeavesUnwritten held holds (replies_text frames (events_of input)) waits)
+RanInto frames TooLong remained remains waits held holds = IfSome remained (λ input. (fault_of input ≡ Some TooLong) × LeavesUnwritten held holds (replies_text frames (events_of input)) waits)
+RanInto frames ReadFailed remained remains waits held holds = ReadSome frames remained remains waits held holds
+RanInto frames WriteFailed remained remains waits held holds = (waits ≡ []) × IfSome remained (λ input. AppendsFront held holds (replies_text frames (events_of input)))
+RanInto frames BadSize remained remains waits held holds = ⊥
+RanInto frames NoMemory remained remains waits held holds = ⊥
+
+-- What was read before a read failed lies within the limit of a script, none of its complete lines
+-- is malformed, the line after them is not too long so far, and the replies to the complete lines,
+-- and nothing else, were written.
+pub record EndsReading (frames : ℕ) (remained remains held holds : Option (List ℕ)) : Type 0 where
+  pub read : List ℕ
+  pub within : length read ≤ limit
+  pub taken : Consumes remained remains read
+  pub sound : list_all is_sound (closed_lines read) ≡ true
+  pub short : is_too_long (open_line read) ≡ false
+  pub text : Appends held holds (replies_text frames (events_in (closed_lines read)))
+
+-- What a run that ended by this fault read and wrote. A number of frames that may not be, and want of
+-- memory, come before the first read. The fault of a malformed line and of a long script is the
+-- script's own, and all replies before it were written; after a read that failed, those to the
+-- complete lines that were read. A write fails only where there is text to write: a front of the
+-- replies was written then, and at least one byte of them was not.
+abbrev pub EndsBy : ℕ → ScriptFault → Option (List ℕ) → Option (List ℕ) → Option (List ℕ) → Option (List ℕ) → Type 0
+EndsBy frames BadSize remained remains held holds = Keeps remained remains × Keeps held holds
+EndsBy frames NoMemory remained remains held holds = Keeps remained remains × Keeps held holds
+EndsBy frames (Malformed line) remained remains held holds = IfSome remained (λ input. (fault_of input ≡ Some (Malformed line)) × Appends held holds (replies_text frames (events_of input)))
+EndsBy frames TooLong remained remains held holds = IfSome remained (λ input. (fault_of input ≡ Some TooLong) × Appends held holds (replies_text frames (events_of input)))
+EndsBy frames ReadFailed remained remains held holds = EndsReading frames remained remains held holds
+EndsBy frames WriteFailed remained remains held holds = IfSome remained (λ input. AppendsFront held holds (replies_text frames (events_of input)))

@@ -1,0 +1,26 @@
+//! The language of scripts: bytes of a script in, bytes of replies out.
+//!
+//! A script is lines, each of which says nothing or asks for one event of the machine. `run_script` reads them
+//! in blocks, carries the events out on a freshly booted core, and writes a line for each reply. What a script
+//! means is said by definitions of its own (specs/Tokens.antt, Numbers.antt, Lines.antt, Replies.antt,
+//! Script.antt), and what a run that ended early read and wrote by specs/Progress.antt.
+#![tactic(auto)]
+
+mod faults;
+mod lines;
+mod numbers;
+mod output;
+mod replies;
+mod script;
+mod session;
+#[cfg(test)]
+mod strange_tests;
+#[cfg(test)]
+mod tests;
+mod tokens;
+pub mod worked;
+#[cfg(test)]
+mod worked_tests;
+
+pub use faults::ScriptFault;
+pub use script::{malformed_line_ends_a_script, run_script};

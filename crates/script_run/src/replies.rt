@@ -1,0 +1,147 @@
+//! The text of replies.
+
+ghost use Rattle.std.specs.Prelude.{◌≡◌, ◌+◌, ◌≤◌, ◌%◌, ◌++◌, [], ◌∷◌, length};
+ghost use Rattle.std.specs.Char.{digit_char};
+ghost use Rattle.arrayvec.specs.ArrayVec.{array_vec_len};
+ghost use Rattle.script_run.specs.Replies.{eight_digits, name_of, bit_of, flags_of, reply_text, reply_line};
+
+use arrayvec::ArrayVec;
+use kernel_calls::{Cause, Reply};
+use text_output::{push_number, push_word};
+
+/// Room for the longest line that a reply has.
+const ROOM: usize = 64;
+
+/// A reply's line.
+pub type ReplyLine = ArrayVec<u8, ROOM>;
+
+/// The lowest hexadecimal digit of a number.
+fn last_digit(n: u32) -> u8
+    ensures { result ≡ digit_char (n % 16) }
+{
+    let digit = (n % 16) as u8;
+    if digit < 10 {
+        b'0' + digit
+    } else {
+        b'a' - 10 + digit
+    }
+}
+
+/// Eight hexadecimal digits in lower case.
+#[tactic(auto, unfolding(crate::specs::Replies::eight_digits))]
+fn push_eight_digits(line: &mut ReplyLine, n: u32)
+    requires { array_vec_len line.old + 8 ≤ 64 }
+    ensures items { line.new.items ≡ line.old.items ++ eight_digits n }
+    ensures len { array_vec_len line.new ≡ array_vec_len line.old + 8 }
+{
+    let digits = [
+        last_digit(n >> 28),
+        last_digit(n >> 24),
+        last_digit(n >> 20),
+        last_digit(n >> 16),
+        last_digit(n >> 12),
+        last_digit(n >> 8),
+        last_digit(n >> 4),
+        last_digit(n),
+    ];
+    line.try_extend_from_slice(&digits).unwrap();
+}
+
+/// The name of a cause.
+fn name_of(cause: Cause) -> &'static str
+    ensures value { result.now ≡ name_of cause }
+    ensures short { length result.now ≤ 13 }
+{
+    match cause {
+        Cause::NoProcess => "NoProcess",
+        Cause::BadPage => "BadPage",
+        Cause::Misaligned => "Misaligned",
+        Cause::NotMapped => "NotMapped",
+        Cause::Mapped => "Mapped",
+        Cause::Quota => "Quota",
+        Cause::Rights => "Rights",
+        Cause::SelfOffer => "SelfOffer",
+        Cause::NoTarget => "NoTarget",
+        Cause::OfferPending => "OfferPending",
+        Cause::TooManyOffers => "TooManyOffers",
+        Cause::NoOffer => "NoOffer",
+        Cause::TableFull => "TableFull",
+        Cause::BadQuota => "BadQuota",
+        Cause::HasChildren => "HasChildren",
+        Cause::RootExit => "RootExit",
+    }
+}
+
+/// 1 where it is so, and 0 where not.
+fn bit_of(flag: bool) -> &'static str
+    ensures value { result.now ≡ bit_of flag }
+    ensures short { length result.now ≡ 1 }
+{
+    if flag { "1" } else { "0" }
+}
+
+/// The four flags, one space between.
+fn push_flags(line: &mut ReplyLine, write: bool, may: bool, accessed: bool, dirty: bool)
+    requires { array_vec_len line.old + 7 ≤ 64 }
+    ensures items { line.new.items ≡ line.old.items ++ flags_of write may accessed dirty }
+    ensures len { array_vec_len line.new ≡ array_vec_len line.old + 7 }
+{
+    push_word(line, bit_of(write));
+    push_word(line, " ");
+    push_word(line, bit_of(may));
+    push_word(line, " ");
+    push_word(line, bit_of(accessed));
+    push_word(line, " ");
+    push_word(line, bit_of(dirty));
+}
+
+/// What a reply says, without the line feed.
+fn push_text(line: &mut ReplyLine, reply: &Reply)
+    requires { line.old.items ≡ [] }
+    ensures items { line.new.items ≡ reply_text reply.now }
+    ensures room { array_vec_len line.new ≤ 63 }
+{
+    match *reply {
+        Reply::Done => push_word(line, "done"),
+        Reply::Value(value) => {
+            push_word(line, "value ");
+            push_eight_digits(line, value);
+        }
+        Reply::Child(child) => push_number(line, "child ", u32::from(child.number())),
+        Reply::Info {
+            write,
+            may,
+            accessed,
+            dirty,
+            holders,
+        } => {
+            push_word(line, "info ");
+            push_flags(line, write, may, accessed, dirty);
+            push_number(line, " ", holders);
+        }
+        Reply::Quota { quota, used, given } => {
+            push_number(line, "quota ", quota);
+            push_number(line, " ", used);
+            push_number(line, " ", given);
+        }
+        Reply::Fault { addr, code } => {
+            push_word(line, "fault ");
+            push_eight_digits(line, addr.0);
+            push_number(line, " ", u32::from(code));
+        }
+        Reply::Refused(cause) => {
+            push_word(line, "refused ");
+            push_word(line, name_of(cause));
+        }
+    }
+}
+
+/// A reply's line, with its line feed.
+pub fn reply_line(reply: &Reply) -> ReplyLine
+    ensures { result.items ≡ reply_line reply.now }
+{
+    let mut line = ArrayVec::new();
+    push_text(&mut line, reply);
+    line.push(b'\n');
+    line
+}

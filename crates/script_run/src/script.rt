@@ -1,0 +1,54 @@
+//! A script's run, from its bytes to the bytes of its replies.
+
+ghost use Rattle.std.specs.Prelude.{◌≡◌, ℕ, ◌≤◌, ◌↔◌, IsErrOf, IfOk, IfErr, OnOk, IfSome, None, Some};
+ghost use Rattle.std.specs.Io.KnownBytes.{Appends};
+ghost use Rattle.process_table.specs.State.{open_with};
+ghost use Rattle.kernel_calls.specs.Machine.{end_of};
+ghost use Rattle.script_run.specs.Script.{events_of, fault_of, replies_text};
+ghost use Rattle.script_run.specs.Progress.{EndsBy};
+ghost use Rattle.script_run.specs.WorkedScripts.{second_line_malformed, reply_to_the_first};
+
+use super::faults::ScriptFault;
+use super::session::Session;
+use kernel_calls::Core;
+use std::alloc::Global;
+use std::io::{Read, Write};
+
+/// The bytes of a read.
+const BLOCK: usize = 65_536;
+
+/// Runs a script on a machine of so many frames: carries out its events, writes a line for each
+/// reply, and hands back the machine. Reads and writes go in blocks, and all memory is taken before
+/// the first read.
+///
+/// `BadSize` comes where there are not 16 to 4,096 frames, and `NoMemory` where memory runs out, both
+/// before anything is read or written. After that, what is met first decides: `Malformed` with the
+/// line's number, `TooLong` where a byte follows the first 16,777,216, `ReadFailed` where a read
+/// answers an error, `WriteFailed` where a write does or takes no byte. The replies to the events
+/// before stand written, or after `WriteFailed` a front of them.
+pub fn run_script<R: Read, W: Write>(
+    alloc: Global,
+    reader: &mut R,
+    writer: &mut W,
+    frames: u32,
+) -> Result<Core, ScriptFault>
+    ensures size { IsErrOf result ScriptFault.BadSize ↔ (16 ≤ frames → frames ≤ 4096 → ⊥) }
+
+    // Where the reader tells what it had left, that is the script.
+    ensures whole { OnOk result (IfSome (R.remaining reader.old) (λ input. fault_of input ≡ None)) }
+    ensures state { IfOk result (λ core. IfSome (R.remaining reader.old) (λ input. core.state ≡ end_of (open_with frames) (events_of input))) }
+    ensures replies { OnOk result (IfSome (R.remaining reader.old) (λ input. Appends (W.contents writer.old) (W.contents writer.new) (replies_text frames (events_of input)))) }
+    ensures fault { IfErr result (λ fault. EndsBy frames fault (R.remaining reader.old) (R.remaining reader.new) (W.contents writer.old) (W.contents writer.new)) }
+{
+    let mut session = Session::boot(alloc, frames)?;
+    let mut block = vec![in alloc; 0u8; BLOCK]?;
+    session.run(reader, block.as_mut_slice(), writer)?;
+    Ok(session.core)
+}
+
+/// What a script means whose second line is malformed, computed from the definitions: that line is its
+/// fault, and only the first line has a reply. It computes nothing.
+pub fn malformed_line_ends_a_script()
+    ensures fault { fault_of second_line_malformed ≡ Some (ScriptFault.Malformed 2) }
+    ensures replies { replies_text 16 (events_of second_line_malformed) ≡ reply_to_the_first }
+{}

@@ -1,0 +1,17 @@
+//! Worked scripts and the replies that they must get, which were written before the program was. The tests of
+//! this crate, and of those above it, are held to them.
+
+pub mod alone;
+pub mod processes;
+pub mod sharing;
+
+/// A script and what it must get.
+#[derive(Clone, Copy)]
+pub struct Worked {
+    pub name: &'static str,
+    pub frames: u32,
+    pub script: &'static str,
+    pub replies: &'static str,
+    /// The malformed line that ends it, if one does.
+    pub malformed: Option<u32>,
+}

@@ -1,6 +1,0 @@
-use Rattle.std.proofs.Common.{refl}
-use Rattle.tower.proofs.RunLemmas.{opens}
-use Rattle.tower.proofs.session.Session.boot.Goals as goal
-
-pub returns-clause-opened : goal.returns-clause-opened
-returns-clause-opened c = λ held. opens c.args.frames _ held c.in_ok-core.ensures.opening c.in_ok-output.ensures c.new-2.ensures refl
