@@ -1,6 +1,6 @@
 //! What a line of a script says.
 
-ghost use Rattle.std.specs.Prelude.{◌≡◌};
+ghost use Rattle.std.specs.Prelude.{◌≡◌, ◌∷◌, codes};
 ghost use Rattle.std.specs.Option.{option_map};
 ghost use Rattle.std.specs.Str.{bytes_eq};
 ghost use Rattle.script_run.specs.Tokens.{tokens_of};
@@ -57,22 +57,76 @@ fn quota_of(token: &[u8]) -> Option<u32>
     }
 }
 
+/// Whether a token is this word. The words of up to five letters have functions of their own, which look at
+/// the bytes without a loop.
 fn is_word(token: &[u8], word: &str) -> bool
     ensures { result ≡ bytes_eq token.now word.now }
 {
     token == word.as_bytes()
 }
 
+fn is_load(op: &[u8]) -> bool
+    ensures { result ≡ bytes_eq op.now (codes "load") }
+{
+    matches!(op, b"load")
+}
+
+fn is_store(op: &[u8]) -> bool
+    ensures { result ≡ bytes_eq op.now (codes "store") }
+{
+    matches!(op, b"store")
+}
+
+fn is_map(op: &[u8]) -> bool
+    ensures { result ≡ bytes_eq op.now (codes "map") }
+{
+    matches!(op, b"map")
+}
+
+fn is_unmap(op: &[u8]) -> bool
+    ensures { result ≡ bytes_eq op.now (codes "unmap") }
+{
+    matches!(op, b"unmap")
+}
+
+fn is_info(op: &[u8]) -> bool
+    ensures { result ≡ bytes_eq op.now (codes "info") }
+{
+    matches!(op, b"info")
+}
+
+fn is_offer(op: &[u8]) -> bool
+    ensures { result ≡ bytes_eq op.now (codes "offer") }
+{
+    matches!(op, b"offer")
+}
+
+fn is_spawn(op: &[u8]) -> bool
+    ensures { result ≡ bytes_eq op.now (codes "spawn") }
+{
+    matches!(op, b"spawn")
+}
+
+fn is_exit(op: &[u8]) -> bool
+    ensures { result ≡ bytes_eq op.now (codes "exit") }
+{
+    matches!(op, b"exit")
+}
+
+fn is_quota(op: &[u8]) -> bool
+    ensures { result ≡ bytes_eq op.now (codes "quota") }
+{
+    matches!(op, b"quota")
+}
+
 /// `1` or `4`, bytes.
 fn size_of(token: &[u8]) -> Option<Size>
     ensures { result ≡ size_of token.now }
 {
-    if is_word(token, "1") {
-        Some(Size::One)
-    } else if is_word(token, "4") {
-        Some(Size::Four)
-    } else {
-        None
+    match token {
+        b"1" => Some(Size::One),
+        b"4" => Some(Size::Four),
+        _ => None,
     }
 }
 
@@ -80,12 +134,10 @@ fn size_of(token: &[u8]) -> Option<Size>
 fn right_of(token: &[u8]) -> Option<bool>
     ensures { result ≡ right_of token.now }
 {
-    if is_word(token, "rw") {
-        Some(true)
-    } else if is_word(token, "ro") {
-        Some(false)
-    } else {
-        None
+    match token {
+        b"rw" => Some(true),
+        b"ro" => Some(false),
+        _ => None,
     }
 }
 
@@ -249,11 +301,11 @@ fn alone(call: Call, operands: &[u8]) -> Option<Call>
 fn process_call_of(op: &[u8], operands: &[u8]) -> Option<Call>
     ensures { result ≡ process_call_of op.now (tokens_of operands.now) }
 {
-    if is_word(op, "spawn") {
+    if is_spawn(op) {
         spawn_of(operands)
-    } else if is_word(op, "exit") {
+    } else if is_exit(op) {
         alone(Call::Exit, operands)
-    } else if is_word(op, "quota") {
+    } else if is_quota(op) {
         alone(Call::Quota, operands)
     } else {
         None
@@ -265,7 +317,7 @@ fn process_call_of(op: &[u8], operands: &[u8]) -> Option<Call>
 fn sharing_call_of(op: &[u8], operands: &[u8]) -> Option<Call>
     ensures { result ≡ sharing_call_of op.now (tokens_of operands.now) }
 {
-    if is_word(op, "offer") {
+    if is_offer(op) {
         offer_of(operands)
     } else if is_word(op, "withdraw") {
         withdraw_of(operands)
@@ -281,29 +333,29 @@ fn sharing_call_of(op: &[u8], operands: &[u8]) -> Option<Call>
 fn call_of(op: &[u8], operands: &[u8]) -> Option<Call>
     ensures { result ≡ call_of op.now (tokens_of operands.now) }
 {
-    if is_word(op, "load") {
+    if is_load(op) {
         load_of(operands)
-    } else if is_word(op, "store") {
+    } else if is_store(op) {
         store_of(operands)
-    } else if is_word(op, "map") {
+    } else if is_map(op) {
         map_of(operands)
-    } else if is_word(op, "unmap") {
+    } else if is_unmap(op) {
         unmap_of(operands)
     } else if is_word(op, "protect") {
         protect_of(operands)
-    } else if is_word(op, "info") {
+    } else if is_info(op) {
         info_of(operands)
     } else {
         sharing_call_of(op, operands)
     }
 }
 
-/// The event that the tokens of a line spell: CPU, process, name of the call, operands.
+/// The event that a line's first token, its CPU, and the bytes after it spell: process, name of the call,
+/// operands.
 #[tactic(auto, unfolding(crate::specs::Lines::event_of))]
-fn event_of(line: &[u8]) -> Option<Event>
-    ensures { result ≡ event_of (tokens_of line.now) }
+fn event_of(cpu: &[u8], rest: &[u8]) -> Option<Event>
+    ensures { result ≡ event_of (cpu.now ∷ tokens_of rest.now) }
 {
-    let (cpu, rest) = first_token(line)?;
     let (pid, rest) = first_token(rest)?;
     let (op, operands) = first_token(rest)?;
     let cpu = cpu_of(cpu)?;
@@ -321,10 +373,13 @@ pub fn line_of(bytes: &[u8]) -> Line
     if bytes.len() > LINE {
         return Line::Malformed;
     }
-    if bytes.first() == Some(&b'#') || first_token(bytes).is_none() {
+    if bytes.first() == Some(&b'#') {
         return Line::Skipped;
     }
-    match event_of(bytes) {
+    let Some((cpu, rest)) = first_token(bytes) else {
+        return Line::Skipped;
+    };
+    match event_of(cpu, rest) {
         Some(event) => Line::Event(event),
         None => Line::Malformed,
     }

@@ -1,10 +1,30 @@
 //! Numbers as a script writes them.
 
-ghost use Rattle.std.specs.Prelude.{◌≡◌, ◌≤◌, ◌<◌, ◌^◌};
-ghost use Rattle.script_run.specs.Numbers.{number_of, decimal_number, hexadecimal_number, below};
+ghost use Rattle.std.specs.Prelude.{◌≡◌, ◌≤◌};
+ghost use Rattle.std.specs.Char.{digit_value};
+ghost use Rattle.script_run.specs.Numbers.{number_of, decimal_number, hexadecimal_number};
+
+/// What a byte is worth as a digit, a letter of either case behind the nine; 36 where it is neither.
+fn digit_of(byte: u8) -> u8
+    ensures value { result ≡ digit_value byte }
+    ensures bound { result ≤ 36 }
+{
+    let decimal = byte.wrapping_sub(b'0');
+    let lower = byte.wrapping_sub(b'a');
+    let upper = byte.wrapping_sub(b'A');
+    if decimal < 10 {
+        decimal
+    } else if lower < 26 {
+        lower + 10
+    } else if upper < 26 {
+        upper + 10
+    } else {
+        36
+    }
+}
 
 /// The number that one to `most` digits of this radix write, leading zeros among them; None for any
-/// other token.
+/// other token. It reads all bytes before it judges them, so that no digit asks for a branch.
 #[tactic(auto, using(crate::proofs::NumberLemmas::number_steps))]
 fn number(token: &[u8], radix: u32, most: usize) -> Option<u64>
     requires radix { (2 ≤ radix) × (radix ≤ 16) }
@@ -15,11 +35,13 @@ fn number(token: &[u8], radix: u32, most: usize) -> Option<u64>
         return None;
     }
     let mut value: u64 = 0;
+    let mut all_digits = true;
     for byte in token {
-        let digit = char::from(*byte).to_digit(radix)?;
+        let digit = digit_of(*byte);
         value = value * u64::from(radix) + u64::from(digit);
+        all_digits &= u32::from(digit) < radix;
     }
-    Some(value)
+    if all_digits { Some(value) } else { None }
 }
 
 /// One to ten decimal digits.

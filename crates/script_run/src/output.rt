@@ -1,32 +1,30 @@
-//! Text on its way to a writer, gathered in a block that is allocated once.
+//! Lines of replies on their way to a writer, gathered in a block that is allocated once.
 
-ghost use Rattle.std.specs.Prelude.{◌≡◌, ◌+◌, ◌≤◌, ◌<◌, [], ◌++◌, length, IfOk, OnOk, OnErr};
+ghost use Rattle.std.specs.Prelude.{◌≡◌, ◌<◌, [], ◌++◌, length, IfOk, OnOk, OnErr};
 ghost use Rattle.std.specs.Io.KnownBytes.{Appends};
 ghost use Rattle.text_output.specs.Output.{LeavesUnwritten, AppendsFront};
+ghost use Rattle.script_run.specs.Replies.{reply_line};
 
+use super::replies::{BLOCK, Block, ROOM, push_reply_line};
+use arrayvec::ArrayVec;
+use kernel_calls::Reply;
 use std::alloc::{AllocError, Global};
 use std::io::Write;
 use std::marker::Model;
 use text_output::{WriteFailed, write_whole};
 
-/// The bytes of a block.
-const BLOCK: usize = 65_536;
-
 /// Text that waits to be written, at most 65,536 bytes of it.
 #[derive(Drop)]
 pub struct Output {
-    block: Vec<u8>,
+    block: Box<Block>,
 }
 
 impl Model for Output {
-    ghost use Rattle.std.specs.Prelude.{ℕ, List, ◌≤◌, vec_len};
-    ghost use Rattle.std.specs.Vec.{vec_capacity};
+    ghost use Rattle.std.specs.Prelude.{ℕ, List};
 
     ghost Value = { List ℕ };
 
-    ghost view = { λ output. output.block.items };
-
-    ghost invariant = { λ output. (vec_len output.block ≤ 65536) × (65536 ≤ vec_capacity output.block) };
+    ghost view = { λ output. output.block.value.items };
 }
 
 impl Output {
@@ -34,23 +32,21 @@ impl Output {
     pub fn new(alloc: Global) -> Result<Output, AllocError>
         ensures { IfOk result (λ output. output ≡ []) }
     {
-        let block = Vec::with_capacity(alloc, BLOCK)?;
+        let block = Box::new(alloc, ArrayVec::new())?;
         Ok(Output { block })
     }
 
-    /// Puts text, of no more bytes than a block has, behind what waits. Where there is no room for it,
-    /// what waits is written first. After an error what was written is a front of what waited, and
-    /// the rest of it is dropped.
-    pub fn push<W: Write>(&mut self, text: &[u8], writer: &mut W) -> Result<(), WriteFailed>
-        requires { length text.now ≤ 65536 }
-        ensures ok { OnOk result (LeavesUnwritten (W.contents writer.old) (W.contents writer.new) (self.old ++ text.now) self.new) }
+    /// Puts a reply's line behind what waits. Where there may be no room for it, what waits is written
+    /// first. After an error what was written is a front of what waited, and the rest of it is dropped.
+    pub fn push_reply<W: Write>(&mut self, reply: &Reply, writer: &mut W) -> Result<(), WriteFailed>
+        ensures ok { OnOk result (LeavesUnwritten (W.contents writer.old) (W.contents writer.new) (self.old ++ reply_line reply.now) self.new) }
         ensures err { OnErr result (AppendsFront (W.contents writer.old) (W.contents writer.new) self.old) }
         ensures dropped { OnErr result (self.new ≡ []) }
     {
-        if text.len() > BLOCK - self.block.len() {
+        if BLOCK - self.block.len() < ROOM {
             self.flush(writer)?;
         }
-        self.block.extend_from_slice(text).unwrap();
+        push_reply_line(&mut self.block, reply);
         Ok(())
     }
 
@@ -62,7 +58,7 @@ impl Output {
         ensures err { OnErr result (AppendsFront (W.contents writer.old) (W.contents writer.new) self.old) }
         ensures waited { OnErr result (0 < length self.old) }
     {
-        let written = write_whole(writer, &self.block);
+        let written = write_whole(writer, self.block.as_slice());
         self.block.clear();
         written
     }

@@ -9,11 +9,14 @@ use arrayvec::ArrayVec;
 use kernel_calls::{Cause, Reply};
 use text_output::{push_number, push_word};
 
-/// Room for the longest line that a reply has.
-const ROOM: usize = 64;
+/// The most bytes of a block.
+pub const BLOCK: usize = 65_536;
 
-/// A reply's line.
-pub type ReplyLine = ArrayVec<u8, ROOM>;
+/// Room for the longest line that a reply has.
+pub const ROOM: usize = 64;
+
+/// The lines of replies, one behind another.
+pub type Block = ArrayVec<u8, BLOCK>;
 
 /// The lowest hexadecimal digit of a number.
 fn last_digit(n: u32) -> u8
@@ -29,8 +32,8 @@ fn last_digit(n: u32) -> u8
 
 /// Eight hexadecimal digits in lower case.
 #[tactic(auto, unfolding(crate::specs::Replies::eight_digits))]
-fn push_eight_digits(line: &mut ReplyLine, n: u32)
-    requires { array_vec_len line.old + 8 ≤ 64 }
+fn push_eight_digits(line: &mut Block, n: u32)
+    requires { array_vec_len line.old + 8 ≤ 65536 }
     ensures items { line.new.items ≡ line.old.items ++ eight_digits n }
     ensures len { array_vec_len line.new ≡ array_vec_len line.old + 8 }
 {
@@ -81,8 +84,8 @@ fn bit_of(flag: bool) -> &'static str
 }
 
 /// The four flags, one space between.
-fn push_flags(line: &mut ReplyLine, write: bool, may: bool, accessed: bool, dirty: bool)
-    requires { array_vec_len line.old + 7 ≤ 64 }
+fn push_flags(line: &mut Block, write: bool, may: bool, accessed: bool, dirty: bool)
+    requires { array_vec_len line.old + 7 ≤ 65536 }
     ensures items { line.new.items ≡ line.old.items ++ flags_of write may accessed dirty }
     ensures len { array_vec_len line.new ≡ array_vec_len line.old + 7 }
 {
@@ -96,10 +99,10 @@ fn push_flags(line: &mut ReplyLine, write: bool, may: bool, accessed: bool, dirt
 }
 
 /// What a reply says, without the line feed.
-fn push_text(line: &mut ReplyLine, reply: &Reply)
-    requires { line.old.items ≡ [] }
-    ensures items { line.new.items ≡ reply_text reply.now }
-    ensures room { array_vec_len line.new ≤ 63 }
+fn push_text(line: &mut Block, reply: &Reply)
+    requires { array_vec_len line.old + 63 ≤ 65536 }
+    ensures items { line.new.items ≡ line.old.items ++ reply_text reply.now }
+    ensures len { array_vec_len line.new ≤ array_vec_len line.old + 63 }
 {
     match *reply {
         Reply::Done => push_word(line, "done"),
@@ -136,12 +139,11 @@ fn push_text(line: &mut ReplyLine, reply: &Reply)
     }
 }
 
-/// A reply's line, with its line feed.
-pub fn reply_line(reply: &Reply) -> ReplyLine
-    ensures { result.items ≡ reply_line reply.now }
+/// Puts a reply's line, with its line feed, behind what stands there, where there is room for the longest.
+pub fn push_reply_line(lines: &mut Block, reply: &Reply)
+    requires { array_vec_len lines.old + 64 ≤ 65536 }
+    ensures { lines.new.items ≡ lines.old.items ++ reply_line reply.now }
 {
-    let mut line = ArrayVec::new();
-    push_text(&mut line, reply);
-    line.push(b'\n');
-    line
+    push_text(lines, reply);
+    lines.push(b'\n');
 }

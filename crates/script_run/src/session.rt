@@ -10,7 +10,6 @@ ghost use Rattle.script_run.specs.Progress.{state_after, text_after, LineFails, 
 use super::faults::ScriptFault;
 use super::lines::{LINE, Line, line_of};
 use super::output::Output;
-use super::replies::reply_line;
 use arrayvec::ArrayVec;
 use kernel_calls::Core;
 use memchr::memchr;
@@ -210,7 +209,7 @@ fn carry_out<W: Write>(
         Line::Malformed => Err(ScriptFault::Malformed { line: number }),
         Line::Event(event) => {
             let reply = core.step(&event);
-            output.push(reply_line(&reply).as_slice(), writer)?;
+            output.push_reply(&reply, writer)?;
             Ok(())
         }
     }
