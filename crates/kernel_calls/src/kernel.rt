@@ -1,15 +1,18 @@
 //! The kernel's core: one machine's memory and its processes.
 
-ghost use Rattle.std.specs.Prelude.{◌≡◌, ◌↔◌, ◌*◌, ◌<◌, ◌≤◌, true, false, Some, IfOk, IsErrOf, length, slice_get};
+ghost use Rattle.std.specs.Prelude.{◌≡◌, ◌↔◌, ◌*◌, ◌<◌, ◌≤◌, true, false, Some, IfOk, IfSome, IsSome, IsNone, IsErrOf, length, slice_get};
 ghost use Rattle.address_space.specs.View.{directory_of};
 ghost use Rattle.address_space.specs.Walks.{WalksAgree};
-ghost use Rattle.process_table.specs.State.{open_with, container_of};
+ghost use Rattle.process_table.specs.State.{open_with, container_of, is_live};
+ghost use Rattle.process_table.specs.Calls.{loaded, after_load, after_store};
+ghost use Rattle.table_walk.specs.declared.Access.TheVariants as access;
+ghost use Rattle.fault_handler.specs.declared.plans.Plan.TheVariants as plan;
 ghost use Rattle.process_table.specs.Image.{StandsFor, image_of, memory_of};
 ghost use Rattle.process_table.specs.WellFormed.{IsWellFormed, total};
 ghost use Rattle.address_space.specs.Image.{LeavesRoom};
 ghost use Rattle.address_space.specs.Spaces.{zeros};
 ghost use Rattle.phys_memory.specs.Bytes.{frame_bytes};
-ghost use Rattle.fault_handler.specs.Plans.{goes_on};
+ghost use Rattle.fault_handler.specs.Plans.{goes_on, plan_of};
 ghost use Rattle.kernel_calls.specs.Machine.{answer, after, next, answers, end_of, completes};
 ghost use Rattle.kernel_calls.specs.Decisions.{decision_of, charge_after};
 
@@ -17,7 +20,7 @@ use crate::calls::{Call, Decision, Event, Reply};
 use crate::decisions::decide_on;
 use alloc_table::Role;
 use fault_handler::{Plan, settle};
-use page_words::{Frame, Pid};
+use page_words::{Frame, Pid, Size, Vaddr};
 use phys_memory::Memory;
 use process_table::{Processes, ProcessesFault};
 use quota_tree::Container;
@@ -88,6 +91,66 @@ fn complete(processes: &mut Processes, decision: &Decision)
     }
 }
 
+/// Loads from a page that is mapped. None, and nothing changes, where the load doesn't complete at once.
+fn load(processes: &mut Processes, pid: Pid, address: Vaddr, size: Size) -> Option<u32>
+    ensures live { IsSome result → is_live processes.old.state pid ≡ true }
+    ensures plan { IsSome result → plan_of processes.old.state pid address size access.Read ≡ plan.Complete }
+    ensures value { IfSome result (λ value. value ≡ loaded processes.old.state pid address size) }
+    ensures state { IsSome result → processes.new.state ≡ after_load processes.old.state pid address }
+    ensures none { IsNone result → processes.new ≡ processes.old }
+{
+    if !processes.live(pid) {
+        return None;
+    }
+    let plan = fault_handler::plan(processes, pid, address, size, Access::Read);
+    if plan != Plan::Complete {
+        return None;
+    }
+    Some(settle(processes, plan, pid, address, size, Access::Read, 0))
+}
+
+/// Stores to a page that is mapped with the right to write and has a frame. False, and nothing changes, where
+/// the store doesn't complete at once.
+fn store(processes: &mut Processes, pid: Pid, address: Vaddr, size: Size, value: u32) -> bool
+    ensures live { result ≡ true → is_live processes.old.state pid ≡ true }
+    ensures plan { result ≡ true → plan_of processes.old.state pid address size access.Write ≡ plan.Complete }
+    ensures state { result ≡ true → processes.new.state ≡ after_store processes.old.state pid address size value }
+    ensures none { result ≡ false → processes.new ≡ processes.old }
+{
+    if !processes.live(pid) {
+        return false;
+    }
+    let plan = fault_handler::plan(processes, pid, address, size, Access::Write);
+    if plan != Plan::Complete {
+        return false;
+    }
+    settle(processes, plan, pid, address, size, Access::Write, value);
+    true
+}
+
+/// Carries out a load or a store that completes at once. None, and nothing changes, for any other event.
+fn at_once(processes: &mut Processes, event: &Event) -> Option<Reply>
+    ensures reply { IfSome result (λ reply. reply ≡ answer processes.old.state event.now) }
+    ensures completes { IfSome result (λ reply. completes reply ≡ true) }
+    ensures state { IsSome result → processes.new.state ≡ next processes.old.state event.now }
+    ensures none { IsNone result → processes.new ≡ processes.old }
+{
+    match event.call {
+        Call::Load { addr, size } => {
+            let value = load(processes, event.pid, addr, size)?;
+            Some(Reply::Value(value))
+        }
+        Call::Store { addr, size, value } => {
+            if store(processes, event.pid, addr, size, value) {
+                Some(Reply::Done)
+            } else {
+                None
+            }
+        }
+        _ => None,
+    }
+}
+
 /// Carries out what was decided.
 fn carry_out(processes: &mut Processes, decision: &Decision)
     requires decided { decision.now ≡ decision_of processes.old decision.now.event }
@@ -151,6 +214,10 @@ impl Core {
         ensures stands { StandsFor (image_of self.new) self.new.state }
         ensures kept { completes result ≡ false → self.new ≡ self.old }
     {
+        if let Some(reply) = at_once(&mut self.processes, event) {
+            self.stands();
+            return reply;
+        }
         let decision = self.decide(event);
         self.commit(decision)
     }
