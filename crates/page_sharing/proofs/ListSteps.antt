@@ -1,270 +1,369 @@
--- What a list of offers answers as a map, and what it keeps after an offer more and after some less.
-use Rattle.std.proofs.Common.{◌≡◌, ◌≢◌, ℕ, zero, suc, ◌+◌, ◌*◌, ◌<◌, ◌≤◌, inl, inr, Bool, true, false, cond, not, ◌&&◌, ◌==◌, nat_le, List, [], ◌∷◌, ◌++◌, length, filter, is_some, refl, sym, ap, ◌∙◌, Option, Some, None, arith, subst, count_by, length-append}
+-- What lists of offers answer as a map, and what they keep after an offer more and after some less.
+use Rattle.std.proofs.Common.{◌≡◌, ◌≢◌, ℕ, zero, suc, ◌+◌, ◌<◌, ◌≤◌, inl, inr, Bool, true, false, cond, not, ◌&&◌, ◌||◌, ◌==◌, nat_le, List, [], ◌∷◌, ◌++◌, length, filter, is_some, refl, sym, ap, ◌∙◌, Option, Some, None, arith, subst, length-append, length-set}
 use Rattle.std.specs.Prelude.{find, IsOk}
-use Rattle.std.specs.List.{All}
-use Rattle.std.specs.Option.{option_map}
+use Rattle.std.specs.Option.{option_map, option_or}
 use Rattle.std.specs.Ordering.{nat_cmp, ordering_then}
-use Rattle.std.specs.Cmp.{unsigned_tied}
-use Rattle.std.proofs.lemmas.List.Elements.{All-filter, All-push}
+use Rattle.std.specs.Cmp.{unsigned_tied, tied_then}
+use Rattle.std.proofs.lemmas.List.{get_or-set_same, get_or-set_other}
 use Rattle.std.proofs.lemmas.List.Filters.{length-filter_both}
-use Rattle.std.proofs.lemmas.List.Sums.{sum_by-cons, sum_by-append, length-filter}
+use Rattle.std.proofs.lemmas.List.Folds.{find-append}
+use Rattle.std.proofs.lemmas.Bool.{eqb-true, eq-eqb, ne_eqb}
 use Rattle.std.proofs.lemmas.Bool.Decides.{nat_tests}
+use Rattle.arrayvec.specs.ArrayVec.{ArrayVec}
 use Rattle.page_words.specs.FiniteMap as map
-use Rattle.page_words.specs.FiniteMap.{Order, Map, same}
-use Rattle.page_words.proofs.MapLemmas.{get-insert, get-retain_keys, retain-insert, retain-insert_other, same_map, len-insert}
+use Rattle.page_words.specs.FiniteMap.{nat_order, same}
+use Rattle.page_words.proofs.MapLemmas.{get-insert, get-retain_keys, same_map, len-insert}
 use Rattle.page_words.proofs.SetLemmas.{same_sym, same_cases}
 use Rattle.page_sharing.specs.declared.Offer.{Offer}
-use Rattle.page_sharing.specs.Offers.{OfferKey, Offers, offer_order, offer_answer, answered, limited, pending}
-use Rattle.page_sharing.specs.Listed.{key_of, has_key, offers_in, IsDistinct, IsOffers}
-use borrow.Author.Tests.{eqb-true, eq-eqb}
-use Rattle.std.specs.Cmp.{tied_then}
+use Rattle.page_sharing.specs.Offers.{OfferKey, Offers, offer_of, offer_order, offer_answer, answered, limited, pending, without_page, without_process}
+use Rattle.page_sharing.specs.Listed.{is_of, offers_by, with_list, with_offers, offers_from, offers_in, IsDistinct, IsOffers}
 
 -- ---- Keys
 
--- whether an offer has a key, as the order of keys sees it
-same-key_of : (key : OfferKey) (offer : Offer) → same offer_order key (key_of offer) ≡ has_key key offer
-same-key_of key offer =
-    same_sym offer_order key (key_of offer)
-    ∙ sym (tied_then (nat_cmp offer.offerer key.offerer) (ordering_then (nat_cmp offer.page key.page) (nat_cmp offer.target key.target)))
-    ∙ (λ i. unsigned_tied offer.offerer key.offerer i && sym (tied_then (nat_cmp offer.page key.page) (nat_cmp offer.target key.target)) i)
-    ∙ (λ i. (offer.offerer == key.offerer) && (unsigned_tied offer.page key.page i && unsigned_tied offer.target key.target i))
+-- whether an offer by p has a key, as the order of keys sees it
+same-key : (key : OfferKey) (p : ℕ) (offer : Offer) → same offer_order key (offer_of p offer.page offer.target) ≡ ((p == key.offerer) && is_of key.page key.target offer)
+same-key key p offer =
+    same_sym offer_order key (offer_of p offer.page offer.target)
+    ∙ sym (tied_then (nat_cmp p key.offerer) (ordering_then (nat_cmp offer.page key.page) (nat_cmp offer.target key.target)))
+    ∙ (λ i. unsigned_tied p key.offerer i && sym (tied_then (nat_cmp offer.page key.page) (nat_cmp offer.target key.target)) i)
+    ∙ (λ i. (p == key.offerer) && (unsigned_tied offer.page key.page i && unsigned_tied offer.target key.target i))
 
--- ---- The map of a list
+-- ---- The map of lists
 
-pub get-offers_in : (offers : List Offer) (key : OfferKey) → map.get (offers_in offers) key ≡ option_map (λ offer. offer.write) (find (has_key key) offers)
-get-offers_in [] key = refl
-get-offers_in (offer ∷ offers) key =
-    get-insert (offers_in offers) (key_of offer) offer.write key
-    ∙ (λ i. cond (same-key_of key offer i) (Some offer.write) (get-offers_in offers key i))
-    ∙ turned (has_key key offer)
-  where
-    turned : (b : Bool) → cond b (Some offer.write) (option_map (λ (o : Offer). o.write) (find (has_key key) offers)) ≡ option_map (λ (o : Offer). o.write) (cond b (Some offer) (find (has_key key) offers))
-    turned true = refl
-    turned false = refl
+-- the right of the offer of a page to a target, where a list has it
+abbrev pub right_in : List Offer → ℕ → ℕ → Option Bool
+right_in offers page target = option_map (λ offer. offer.write) (find (is_of page target) offers)
 
-module _ (t : OfferKey → Bool) where
-  abbrev passes : Offer → Bool
-  passes offer = t (key_of offer)
-
-  one_filtered : (offer : Offer) (offers : List Offer) → offers_in (filter passes offers) ≡ map.retain_keys (offers_in offers) t → (b : Bool) → t (key_of offer) ≡ b
-      → offers_in (cond b (offer ∷ filter passes offers) (filter passes offers)) ≡ map.retain_keys (map.insert (offers_in offers) (key_of offer) offer.write) t
-  one_filtered offer offers rest true is = ap (λ m. map.insert m (key_of offer) offer.write) rest ∙ sym (retain-insert (offers_in offers) t (key_of offer) offer.write is)
-  one_filtered offer offers rest false is = rest ∙ sym (retain-insert_other (offers_in offers) t (key_of offer) offer.write is)
-
-  -- the offers whose keys pass a test
-  pub offers_in-filter : (offers : List Offer) → offers_in (filter passes offers) ≡ map.retain_keys (offers_in offers) t
-  offers_in-filter [] = refl
-  offers_in-filter (offer ∷ offers) = one_filtered offer offers (offers_in-filter offers) (t (key_of offer)) refl
-
-  absent-filter : (offers : List Offer) (key : OfferKey) → map.get (offers_in offers) key ≡ None → map.get (offers_in (filter passes offers)) key ≡ None
-  absent-filter offers key none =
-      ap (λ m. map.get m key) (offers_in-filter offers)
-      ∙ get-retain_keys (offers_in offers) t key
-      ∙ ap (λ x. cond (t key) x None) none
-      ∙ either (t key)
+module _ (p : ℕ) (others : Offers) where
+  get-own : (offers : List Offer) (page target : ℕ) → map.get others (offer_of p page target) ≡ None → map.get (with_offers p offers others) (offer_of p page target) ≡ right_in offers page target
+  get-own [] page target none = none
+  get-own (offer ∷ offers) page target none =
+      get-insert (with_offers p offers others) (offer_of p offer.page offer.target) offer.write (offer_of p page target)
+      ∙ (λ i. cond ((same-key (offer_of p page target) p offer ∙ ap (λ b. b && is_of page target offer) (eq-eqb p p refl)) i) (Some offer.write) (get-own offers page target none i))
+      ∙ turned (is_of page target offer)
     where
-      either : (b : Bool) → ◌≡◌ {A = Option Bool} (cond b None None) None
+      turned : (b : Bool) → cond b (Some offer.write) (right_in offers page target) ≡ option_map (λ (o : Offer). o.write) (cond b (Some offer) (find (is_of page target) offers))
+      turned true = refl
+      turned false = refl
+
+  get-other : (q : ℕ) → q ≢ p → (offers : List Offer) (page target : ℕ) → map.get (with_offers p offers others) (offer_of q page target) ≡ map.get others (offer_of q page target)
+  get-other q apart [] page target = refl
+  get-other q apart (offer ∷ offers) page target =
+      get-insert (with_offers p offers others) (offer_of p offer.page offer.target) offer.write (offer_of q page target)
+      ∙ ap (λ b. cond b (Some offer.write) (map.get (with_offers p offers others) (offer_of q page target))) (same-key (offer_of q page target) p offer ∙ ap (λ b. b && is_of page target offer) (ne_eqb p q (λ e. apart (sym e))))
+      ∙ get-other q apart offers page target
+
+get-before : (start : ℕ) (lists : List (ArrayVec Offer)) (q page target : ℕ) → q < start → map.get (offers_from start lists) (offer_of q page target) ≡ None
+get-before start [] q page target h = refl
+get-before start (list ∷ lists) q page target h =
+    let other : q ≢ start = omega arith in
+    get-other start (offers_from (start + 1) lists) q other list.items page target
+    ∙ get-before (start + 1) lists q page target (omega arith)
+
+get-at : (start : ℕ) (lists : List (ArrayVec Offer)) (i q page target : ℕ) → q ≡ start + i → map.get (offers_from start lists) (offer_of q page target) ≡ right_in (offers_by lists i) page target
+get-at start [] i q page target e = refl
+get-at start (list ∷ lists) zero q page target e =
+    let here : start ≡ q = omega arith in
+    subst (λ (n : ℕ). map.get (with_offers start list.items (offers_from (start + 1) lists)) (offer_of n page target) ≡ right_in list.items page target) here
+    (get-own start (offers_from (start + 1) lists) list.items page target (get-before (start + 1) lists start page target (omega arith)))
+get-at start (list ∷ lists) (suc i) q page target e =
+    let other : q ≢ start = omega arith in
+    get-other start (offers_from (start + 1) lists) q other list.items page target
+    ∙ get-at (start + 1) lists i q page target (omega arith)
+
+-- the map answers as the list of the offerer does
+pub get-offers_in : (lists : List (ArrayVec Offer)) (key : OfferKey) → map.get (offers_in lists) key ≡ right_in (offers_by lists key.offerer) key.page key.target
+unfolding offers_in
+get-offers_in lists key = get-at 0 lists key.offerer key.offerer key.page key.target (omega arith)
+
+same_offers : (lists : List (ArrayVec Offer)) (m : Offers) → ((key : OfferKey) → right_in (offers_by lists key.offerer) key.page key.target ≡ map.get m key) → offers_in lists ≡ m
+same_offers lists m is = same_map (offers_in lists) m (λ key. get-offers_in lists key ∙ is key)
+
+pub offers_in-none : (lists : List (ArrayVec Offer)) → ((p : ℕ) → offers_by lists p ≡ []) → offers_in lists ≡ map.empty
+offers_in-none lists none = same_offers lists map.empty (λ key. ap (λ offers. right_in offers key.page key.target) (none key.offerer))
+
+-- ---- How many an offerer has pending
+
+len-with_offers : (p : ℕ) (offers : List Offer) → IsDistinct offers → map.len (with_offers p offers map.empty) ≡ length offers
+len-with_offers p [] h = refl
+len-with_offers p (offer ∷ offers) h =
+    let absent : map.contains_key (with_offers p offers map.empty) (offer_of p offer.page offer.target) ≡ false =
+    ap is_some (get-own p map.empty offers offer.page offer.target refl) ∙ ap (λ o. is_some (option_map (λ (x : Offer). x.write) o)) h.0
+    in
+    let rest = len-with_offers p offers h.1 in
+    len-insert (with_offers p offers map.empty) (offer_of p offer.page offer.target) offer.write
+    ∙ ap (λ b. cond b (map.len (with_offers p offers map.empty)) (map.len (with_offers p offers map.empty) + 1)) absent
+    ∙ omega (arith, rest)
+
+pending_alone : (lists : List (ArrayVec Offer)) (p : ℕ) → pending (offers_in lists) p ≡ with_offers p (offers_by lists p) map.empty
+pending_alone lists p = same_map (pending (offers_in lists) p) (with_offers p (offers_by lists p) map.empty) (λ key.
+    get-retain_keys (offers_in lists) (λ k. k.offerer == p) key
+    ∙ elim (same_cases nat_order key.offerer p) [
+      | inl is ↦
+          ap (λ b. cond b (map.get (offers_in lists) key) None) (eq-eqb key.offerer p is.0)
+          ∙ get-offers_in lists key
+          ∙ ap (λ q. right_in (offers_by lists q) key.page key.target) is.0
+          ∙ sym (get-own p map.empty (offers_by lists p) key.page key.target refl)
+          ∙ ap (λ q. map.get (with_offers p (offers_by lists p) map.empty) (offer_of q key.page key.target)) (sym is.0)
+      | inr other ↦
+          ap (λ b. cond b (map.get (offers_in lists) key) None) (ne_eqb key.offerer p other.0)
+          ∙ sym (get-other p map.empty key.offerer other.0 (offers_by lists p) key.page key.target)
+    ])
+
+pub len-pending : (lists : List (ArrayVec Offer)) → IsOffers lists → (p : ℕ) → map.len (pending (offers_in lists) p) ≡ length (offers_by lists p)
+len-pending lists kept p = ap map.len (pending_alone lists p) ∙ len-with_offers p (offers_by lists p) (kept.distinct p)
+
+pub few_pending : (lists : List (ArrayVec Offer)) → IsOffers lists → (p : ℕ) → map.len (pending (offers_in lists) p) ≤ 32
+few_pending lists kept p = let a = len-pending lists kept p in let b = kept.few p in omega (arith, a, b)
+
+-- ---- One list is another
+
+module _ (lists : List (ArrayVec Offer)) (p : ℕ) (p_in : p < length lists) (offers : List Offer) where
+  by_it : offers_by (with_list lists p offers) p ≡ offers
+  by_it = ap (λ v. v.items) (get_or-set_same lists p (record { items = offers }) (record { items = [] }) p_in)
+
+  by_other : (q : ℕ) → q ≢ p → offers_by (with_list lists p offers) q ≡ offers_by lists q
+  by_other q apart = ap (λ v. v.items) (get_or-set_other lists p q (record { items = offers }) (record { items = [] }) apart)
+
+  for_each : (P : List Offer → Type 0) → P offers → ((q : ℕ) → P (offers_by lists q)) → (q : ℕ) → P (offers_by (with_list lists p offers) q)
+  for_each P own others q = elim (same_cases nat_order q p) [
+    | inl is ↦ subst P (sym (ap (offers_by (with_list lists p offers)) is.0 ∙ by_it)) own
+    | inr other ↦ subst P (sym (by_other q other.0)) (others q)
+  ]
+
+  pub kept-with_list : IsOffers lists → IsDistinct offers → length offers ≤ 32 → IsOffers (with_list lists p offers)
+  kept-with_list kept distinct few = record {
+    places = length-set lists p (record { items = offers }) ∙ kept.places;
+    distinct = for_each IsDistinct distinct kept.distinct;
+    few = for_each (λ xs. length xs ≤ 32) few kept.few;
+  }
+
+  offers_in-with_list : (m : Offers) → ((page target : ℕ) → right_in offers page target ≡ map.get m (offer_of p page target)) → ((key : OfferKey) → key.offerer ≢ p → map.get (offers_in lists) key ≡ map.get m key) → offers_in (with_list lists p offers) ≡ m
+  offers_in-with_list m own others = same_offers (with_list lists p offers) m (λ key. elim (same_cases nat_order key.offerer p) [
+    | inl is ↦
+        ap (λ q. right_in (offers_by (with_list lists p offers) q) key.page key.target) is.0
+        ∙ ap (λ xs. right_in xs key.page key.target) by_it
+        ∙ own key.page key.target
+        ∙ ap (λ q. map.get m (offer_of q key.page key.target)) (sym is.0)
+    | inr other ↦ ap (λ xs. right_in xs key.page key.target) (by_other key.offerer other.0) ∙ sym (get-offers_in lists key) ∙ others key other.0
+  ])
+
+-- ---- Fewer
+
+none_either : (b : Bool) → ◌≡◌ {A = Option Offer} None (cond b None None)
+none_either true = refl
+none_either false = refl
+
+find-filter : (q t : Offer → Bool) (b : Bool) → ((o : Offer) → q o ≡ true → t o ≡ b) → (offers : List Offer) → find q (filter t offers) ≡ cond b (find q offers) None
+find-filter q t b says [] = none_either b
+find-filter q t b says (o ∷ offers) = one (find-filter q t b says offers) (q o) (t o) refl refl
+  where
+    one : find q (filter t offers) ≡ cond b (find q offers) None → (u v : Bool) → q o ≡ u → t o ≡ v → find q (cond v (o ∷ filter t offers) (filter t offers)) ≡ cond b (cond u (Some o) (find q offers)) None
+    one rest true true is stays =
+        ap (λ x. cond x (Some o) (find q (filter t offers))) is
+        ∙ ap (λ x. cond x (Some o) None) (sym stays ∙ says o is)
+    one rest true false is goes =
+        let not_b : b ≡ false = sym (says o is) ∙ goes in
+        rest ∙ ap (λ x. cond x (find q offers) None) not_b ∙ sym (ap (λ x. cond x (Some o) None) not_b)
+    one rest false true is stays = ap (λ x. cond x (Some o) (find q (filter t offers))) is ∙ rest
+    one rest false false is goes = rest
+
+of_one : (page target : ℕ) (o : Offer) → is_of page target o ≡ true → (o.page ≡ page) × (o.target ≡ target)
+of_one page target o is = (eqb-true o.page page (first (o.page == page) (o.target == target) is), eqb-true o.target target (second (o.page == page) (o.target == target) is))
+  where
+    first : (a b : Bool) → (a && b) ≡ true → a ≡ true
+    first true b e = refl
+    first false b e = e
+
+    second : (a b : Bool) → (a && b) ≡ true → b ≡ true
+    second true b e = e
+    second false b e = cc
+
+module _ (t : ℕ → ℕ → Bool) where
+  abbrev passes : Offer → Bool
+  passes offer = t offer.page offer.target
+
+  find-passes : (offers : List Offer) (page target : ℕ) → find (is_of page target) (filter passes offers) ≡ cond (t page target) (find (is_of page target) offers) None
+  find-passes offers page target = find-filter (is_of page target) passes (t page target) (λ o is. (let e = of_one page target o is in λ i. t (e.0 i) (e.1 i))) offers
+
+  right_in-filter : (offers : List Offer) (page target : ℕ) → right_in (filter passes offers) page target ≡ cond (t page target) (right_in offers page target) None
+  right_in-filter offers page target = ap (option_map (λ (o : Offer). o.write)) (find-passes offers page target) ∙ either (t page target)
+    where
+      either : (b : Bool) → option_map (λ (o : Offer). o.write) (cond b (find (is_of page target) offers) None) ≡ cond b (right_in offers page target) None
       either true = refl
       either false = refl
 
   distinct-filter : (offers : List Offer) → IsDistinct offers → IsDistinct (filter passes offers)
   distinct-filter [] h = tt
-  distinct-filter (offer ∷ offers) h = one (t (key_of offer)) (absent-filter offers (key_of offer) h.0) (distinct-filter offers h.1)
+  distinct-filter (offer ∷ offers) h = one (passes offer) (absent (t offer.page offer.target) (find-passes offers offer.page offer.target)) (distinct-filter offers h.1)
     where
-      one : (b : Bool) → map.get (offers_in (filter passes offers)) (key_of offer) ≡ None → IsDistinct (filter passes offers) → IsDistinct (cond b (offer ∷ filter passes offers) (filter passes offers))
+      absent : (b : Bool) → find (is_of offer.page offer.target) (filter passes offers) ≡ cond b (find (is_of offer.page offer.target) offers) None → find (is_of offer.page offer.target) (filter passes offers) ≡ None
+      absent true e = e ∙ h.0
+      absent false e = e
+
+      one : (b : Bool) → find (is_of offer.page offer.target) (filter passes offers) ≡ None → IsDistinct (filter passes offers) → IsDistinct (cond b (offer ∷ filter passes offers) (filter passes offers))
       one true none rest = (none, rest)
       one false none rest = rest
 
--- as many as the list is long
-len-offers_in : (offers : List Offer) → IsDistinct offers → map.len (offers_in offers) ≡ length offers
-len-offers_in [] h = refl
-len-offers_in (offer ∷ offers) h =
-    let one = len-insert (offers_in offers) (key_of offer) offer.write in
-    let none : map.contains_key (offers_in offers) (key_of offer) ≡ false = ap is_some h.0 in
-    let rest = len-offers_in offers h.1 in
-    one ∙ ap (λ b. cond b (map.len (offers_in offers)) (map.len (offers_in offers) + 1)) none ∙ omega (arith, rest)
+  length_filter : (offers : List Offer) → length (filter passes offers) ≤ length offers
+  length_filter offers = let both = length-filter_both passes (λ o. not (passes o)) (λ _. refl) offers in omega (arith, both)
 
--- how many an offerer has pending
-pub len-pending : (offers : List Offer) → IsDistinct offers → (p : ℕ) → map.len (pending (offers_in offers) p) ≡ count_by (λ offer. offer.offerer == p) offers
-len-pending offers h p =
-    ap map.len (sym (offers_in-filter (λ key. key.offerer == p) offers))
-    ∙ len-offers_in (filter (λ offer. offer.offerer == p) offers) (distinct-filter (λ key. key.offerer == p) offers h)
-    ∙ length-filter (λ offer. offer.offerer == p) offers
+  module _ (lists : List (ArrayVec Offer)) (p : ℕ) (p_in : p < length lists) where
+    abbrev left : List (ArrayVec Offer)
+    left = with_list lists p (filter passes (offers_by lists p))
 
--- ---- Fewer
+    pub kept-filter : IsOffers lists → IsOffers left
+    kept-filter kept =
+        let a = length_filter (offers_by lists p) in
+        let b = kept.few p in
+        kept-with_list lists p p_in (filter passes (offers_by lists p)) kept (distinct-filter (offers_by lists p) (kept.distinct p)) (omega (arith, a, b))
 
-count-filter : (p q : Offer → Bool) (offers : List Offer) → count_by q (filter p offers) ≤ count_by q offers
-count-filter p q [] = omega arith
-count-filter p q (offer ∷ offers) = one (p offer) (count-filter p q offers) (sum_by-cons (λ o. cond (q o) 1 0) offer offers) (sum_by-cons (λ o. cond (q o) 1 0) offer (filter p offers))
+    pub offers_in-filter : (u : OfferKey → Bool) → ((page target : ℕ) → u (offer_of p page target) ≡ t page target) → ((key : OfferKey) → key.offerer ≢ p → u key ≡ true) → offers_in left ≡ map.retain_keys (offers_in lists) u
+    offers_in-filter u own others = offers_in-with_list lists p p_in (filter passes (offers_by lists p)) (map.retain_keys (offers_in lists) u)
+        (λ page target.
+        right_in-filter (offers_by lists p) page target
+        ∙ (λ i. cond (sym (own page target) i) (sym (get-offers_in lists (offer_of p page target)) i) None)
+        ∙ sym (get-retain_keys (offers_in lists) u (offer_of p page target)))
+        (λ key apart. sym (get-retain_keys (offers_in lists) u key ∙ ap (λ b. cond b (map.get (offers_in lists) key) None) (others key apart)))
+
+-- ---- What goes: one offer, the offers of a page, all of a process, those to a process
+
+module _ (lists : List (ArrayVec Offer)) (p : ℕ) (p_in : p < length lists) where
+  module _ (page target : ℕ) where
+    unlike : (q g t : ℕ) → not (same offer_order (offer_of p page target) (offer_of q g t)) ≡ not ((q == p) && ((g == page) && (t == target)))
+    unlike q g t = ap not (same-key (offer_of p page target) q (record { page = g; target = t; write = true }))
+
+    pub kept-remove : IsOffers lists → IsOffers (with_list lists p (filter (λ offer. not (is_of page target offer)) (offers_by lists p)))
+    kept-remove kept = kept-filter (λ g t. not ((g == page) && (t == target))) lists p p_in kept
+
+    pub offers_in-remove : offers_in (with_list lists p (filter (λ offer. not (is_of page target offer)) (offers_by lists p))) ≡ map.remove (offers_in lists) (offer_of p page target)
+    offers_in-remove = offers_in-filter (λ g t. not ((g == page) && (t == target))) lists p p_in (λ key. not (same offer_order (offer_of p page target) key))
+        (λ g t. unlike p g t ∙ ap (λ b. not (b && ((g == page) && (t == target)))) (eq-eqb p p refl))
+        (λ key apart. unlike key.offerer key.page key.target ∙ ap (λ b. not (b && ((key.page == page) && (key.target == target)))) (ne_eqb key.offerer p apart))
+
+  module _ (page : ℕ) where
+    pub kept-remove_page : IsOffers lists → IsOffers (with_list lists p (filter (λ offer. not (offer.page == page)) (offers_by lists p)))
+    kept-remove_page kept = kept-filter (λ g t. not (g == page)) lists p p_in kept
+
+    pub offers_in-remove_page : offers_in (with_list lists p (filter (λ offer. not (offer.page == page)) (offers_by lists p))) ≡ without_page (offers_in lists) p page
+    offers_in-remove_page = offers_in-filter (λ g t. not (g == page)) lists p p_in (λ key. not ((key.offerer == p) && (key.page == page)))
+        (λ g t. ap (λ b. not (b && (g == page))) (eq-eqb p p refl))
+        (λ key apart. ap (λ b. not (b && (key.page == page))) (ne_eqb key.offerer p apart))
+
+  pub kept-clear : IsOffers lists → IsOffers (with_list lists p [])
+  kept-clear kept = kept-with_list lists p p_in [] kept tt (omega arith)
+
+  offers_in-clear : offers_in (with_list lists p []) ≡ map.retain_keys (offers_in lists) (λ key. not (key.offerer == p))
+  offers_in-clear = offers_in-with_list lists p p_in [] (map.retain_keys (offers_in lists) (λ key. not (key.offerer == p)))
+      (λ page target. sym (get-retain_keys (offers_in lists) (λ key. not (key.offerer == p)) (offer_of p page target) ∙ ap (λ b. cond (not b) (map.get (offers_in lists) (offer_of p page target)) None) (eq-eqb p p refl)))
+      (λ key apart. sym (get-retain_keys (offers_in lists) (λ k. not (k.offerer == p)) key ∙ ap (λ b. cond (not b) (map.get (offers_in lists) key) None) (ne_eqb key.offerer p apart)))
+
+-- each list loses the offers to p
+module _ (lists left : List (ArrayVec Offer)) (p : ℕ) (is : (q : ℕ) → offers_by left q ≡ filter (λ offer. not (offer.target == p)) (offers_by lists q)) where
+  pub kept-remove_target : length left ≡ length lists → IsOffers lists → IsOffers left
+  kept-remove_target places kept = record {
+    places = places ∙ kept.places;
+    distinct = λ q. subst IsDistinct (sym (is q)) (distinct-filter (λ g t. not (t == p)) (offers_by lists q) (kept.distinct q));
+    few = λ q. (let a = length_filter (λ g t. not (t == p)) (offers_by lists q) in let b = kept.few q in let e = ap length (is q) in omega (arith, a, b, e));
+  }
+
+  offers_in-remove_target : offers_in left ≡ map.retain_keys (offers_in lists) (λ key. not (key.target == p))
+  offers_in-remove_target = same_offers left (map.retain_keys (offers_in lists) (λ key. not (key.target == p))) (λ key.
+      ap (λ xs. right_in xs key.page key.target) (is key.offerer)
+      ∙ right_in-filter (λ g t. not (t == p)) (offers_by lists key.offerer) key.page key.target
+      ∙ ap (λ o. cond (not (key.target == p)) o None) (sym (get-offers_in lists key))
+      ∙ sym (get-retain_keys (offers_in lists) (λ k. not (k.target == p)) key))
+
+both_tests : (m : Offers) (p : ℕ) → map.retain_keys (map.retain_keys m (λ key. not (key.offerer == p))) (λ key. not (key.target == p)) ≡ without_process m p
+both_tests m p = same_map (map.retain_keys (map.retain_keys m (λ key. not (key.offerer == p))) (λ key. not (key.target == p))) (without_process m p) (λ key.
+    get-retain_keys (map.retain_keys m (λ k. not (k.offerer == p))) (λ k. not (k.target == p)) key
+    ∙ ap (λ o. cond (not (key.target == p)) o None) (get-retain_keys m (λ k. not (k.offerer == p)) key)
+    ∙ either (key.offerer == p) (key.target == p) (map.get m key)
+    ∙ sym (get-retain_keys m (λ k. not ((k.offerer == p) || (k.target == p))) key))
   where
-    one : (b : Bool) → count_by q (filter p offers) ≤ count_by q offers → count_by q (offer ∷ offers) ≡ cond (q offer) 1 0 + count_by q offers
-        → count_by q (offer ∷ filter p offers) ≡ cond (q offer) 1 0 + count_by q (filter p offers)
-        → count_by q (cond b (offer ∷ filter p offers) (filter p offers)) ≤ count_by q (offer ∷ offers)
-    one true rest a b = omega arith
-    one false rest a b = omega arith
+    either : (a b : Bool) (o : Option Bool) → cond (not b) (cond (not a) o None) None ≡ cond (not (a || b)) o None
+    either true true o = refl
+    either true false o = refl
+    either false true o = refl
+    either false false o = refl
 
-pub offers-filter : (t : OfferKey → Bool) (offers : List Offer) → IsOffers offers → IsOffers (filter (λ offer. t (key_of offer)) offers)
-offers-filter t offers kept = record {
-  distinct = distinct-filter t offers kept.distinct;
-  offerers = All-filter (λ offer. t (key_of offer)) (λ offer. offer.offerer < 64) offers kept.offerers;
-  few = λ p. (let a = count-filter (λ offer. t (key_of offer)) (λ offer. offer.offerer == p) offers in let b = kept.few p in omega (arith, a, b));
-}
-
-abbrev only : Bool → ℕ
-only b = cond b 1 0
+pub offers_in-remove_process : (lists left : List (ArrayVec Offer)) (p : ℕ) → p < length lists
+    → ((q : ℕ) → offers_by left q ≡ filter (λ offer. not (offer.target == p)) (offers_by (with_list lists p []) q)) → offers_in left ≡ without_process (offers_in lists) p
+offers_in-remove_process lists left p p_in is =
+    offers_in-remove_target (with_list lists p []) left p is
+    ∙ ap (λ m. map.retain_keys m (λ key. not (key.target == p))) (offers_in-clear lists p p_in)
+    ∙ both_tests (offers_in lists) p
 
 -- ---- One more
-
-insert_swap : (m : Offers) (j k : OfferKey) (v w : Bool) → same offer_order j k ≡ false → map.insert (map.insert m k w) j v ≡ map.insert (map.insert m j v) k w
-insert_swap m j k v w apart = same_map (map.insert (map.insert m k w) j v) (map.insert (map.insert m j v) k w) (λ q.
-    get-insert (map.insert m k w) j v q
-    ∙ ap (cond (same offer_order q j) (Some v)) (get-insert m k w q)
-    ∙ swapped (map.get m q) (same offer_order q j) (same offer_order q k) (not_both q)
-    ∙ ap (cond (same offer_order q k) (Some w)) (sym (get-insert m j v q))
-    ∙ sym (get-insert (map.insert m j v) k w q))
-  where
-    not_both : (q : OfferKey) → same offer_order q j ≡ true → same offer_order q k ≡ true → ⊥
-    not_both q a b = elim (same_cases offer_order q j) [
-      | inl is ↦ (let e : true ≡ false = sym b ∙ ap (λ x. same offer_order x k) is.0 ∙ apart in cc)
-      | inr other ↦ (let e : true ≡ false = sym a ∙ other.1 in cc)
-    ]
-
-    swapped : (x : Option Bool) (a b : Bool) → (a ≡ true → b ≡ true → ⊥) → cond a (Some v) (cond b (Some w) x) ≡ cond b (Some w) (cond a (Some v) x)
-    swapped x true true n = absurd (n refl refl)
-    swapped x true false n = refl
-    swapped x false true n = refl
-    swapped x false false n = refl
-
--- an offer isn't pending beside one that is
-apart_from : (offers : List Offer) (x o : Offer) → map.get (map.insert (offers_in offers) (key_of x) x.write) (key_of o) ≡ None → same offer_order (key_of o) (key_of x) ≡ false
-apart_from offers x o none = by (same offer_order (key_of o) (key_of x)) refl
-  where
-    by : (b : Bool) → same offer_order (key_of o) (key_of x) ≡ b → b ≡ false
-    by true is = absurd (let e : true ≡ false = ap is_some (ap (λ b. cond b (Some x.write) (map.get (offers_in offers) (key_of o))) (sym is) ∙ sym (get-insert (offers_in offers) (key_of x) x.write (key_of o)) ∙ none) in cc)
-    by false is = refl
-
-absent_rest : (offers : List Offer) (x o : Offer) → map.get (map.insert (offers_in offers) (key_of x) x.write) (key_of o) ≡ None → map.get (offers_in offers) (key_of o) ≡ None
-absent_rest offers x o none =
-    ap (λ b. cond b (Some x.write) (map.get (offers_in offers) (key_of o))) (sym (apart_from offers x o none))
-    ∙ sym (get-insert (offers_in offers) (key_of x) x.write (key_of o)) ∙ none
-
-pub offers_in-push : (offers : List Offer) (o : Offer) → map.get (offers_in offers) (key_of o) ≡ None → offers_in (offers ++ o ∷ []) ≡ map.insert (offers_in offers) (key_of o) o.write
-offers_in-push [] o none = refl
-offers_in-push (x ∷ offers) o none =
-    ap (λ m. map.insert m (key_of x) x.write) (offers_in-push offers o (absent_rest offers x o none))
-    ∙ insert_swap (offers_in offers) (key_of x) (key_of o) x.write o.write (same_sym offer_order (key_of x) (key_of o) ∙ apart_from offers x o none)
-
-distinct-push : (offers : List Offer) (o : Offer) → IsDistinct offers → map.get (offers_in offers) (key_of o) ≡ None → IsDistinct (offers ++ o ∷ [])
-distinct-push [] o h none = (refl, tt)
-distinct-push (x ∷ offers) o h none = (
-  ap (λ m. map.get m (key_of x)) (offers_in-push offers o (absent_rest offers x o none))
-      ∙ get-insert (offers_in offers) (key_of o) o.write (key_of x)
-      ∙ ap (λ b. cond b (Some o.write) (map.get (offers_in offers) (key_of x))) (same_sym offer_order (key_of x) (key_of o) ∙ apart_from offers x o none)
-      ∙ h.0,
-  distinct-push offers o h.1 (absent_rest offers x o none),
-)
-
-pub offers-push : (offers : List Offer) (o : Offer) → IsOffers offers → map.get (offers_in offers) (key_of o) ≡ None → o.offerer < 64
-    → count_by (λ offer. offer.offerer == o.offerer) offers < 32 → IsOffers (offers ++ o ∷ [])
-offers-push offers o kept none number room = record {
-  distinct = distinct-push offers o kept.distinct none;
-  offerers = All-push (λ offer. offer.offerer < 64) offers o kept.offerers number;
-  few = few;
-}
-  where
-    few : (p : ℕ) → count_by (λ offer. offer.offerer == p) (offers ++ o ∷ []) ≤ 32
-    few p = by (o.offerer == p) refl
-      where
-        more : count_by (λ offer. offer.offerer == p) (offers ++ o ∷ []) ≡ count_by (λ offer. offer.offerer == p) offers + count_by (λ offer. offer.offerer == p) (o ∷ [])
-        more = sum_by-append (λ (offer : Offer). cond (offer.offerer == p) 1 0) offers (o ∷ [])
-
-        one : count_by (λ offer. offer.offerer == p) (o ∷ []) ≡ cond (o.offerer == p) 1 0 + 0
-        one = sum_by-cons (λ (offer : Offer). cond (offer.offerer == p) 1 0) o []
-
-        by : (b : Bool) → (o.offerer == p) ≡ b → count_by (λ offer. offer.offerer == p) (offers ++ o ∷ []) ≤ 32
-        by true is =
-            let same_count : count_by (λ offer. offer.offerer == p) offers < 32 = subst (λ (n : ℕ). count_by (λ (offer : Offer). offer.offerer == n) offers < 32) (eqb-true o.offerer p is) room in
-            let a : ◌≡◌ {A = ℕ} (cond (o.offerer == p) 1 0) 1 = ap (λ b. only b) is in
-            omega (arith, more, one, a, same_count)
-        by false is =
-            let a : ◌≡◌ {A = ℕ} (cond (o.offerer == p) 1 0) 0 = ap (λ b. only b) is in
-            let h = kept.few p in
-            omega (arith, more, one, a, h)
-
--- ---- There is room for all
-
-All-cons : (P : Offer → Type 0) (o : Offer) (offers : List Offer) → P o → All P offers → All P (o ∷ offers)
-All-cons P o offers h rest zero d k = h
-All-cons P o offers h rest (suc i) d k = rest i d (omega arith)
-
-below_next : (n : ℕ) (offers : List Offer) → All (λ offer. offer.offerer < suc n) offers → All (λ offer. offer.offerer < n) (filter (λ offer. not (offer.offerer == n)) offers)
-below_next n [] all = λ k d h. absurd (omega arith)
-below_next n (o ∷ offers) all = one (o.offerer == n) refl (all 0 o (omega arith)) (below_next n offers (λ k d h. all (suc k) d (omega arith)))
-  where
-    one : (b : Bool) → (o.offerer == n) ≡ b → o.offerer < suc n → All (λ offer. offer.offerer < n) (filter (λ offer. not (offer.offerer == n)) offers)
-        → All (λ offer. offer.offerer < n) (cond (not b) (o ∷ filter (λ offer. not (offer.offerer == n)) offers) (filter (λ offer. not (offer.offerer == n)) offers))
-    one true is h rest = rest
-    one false is h rest =
-        let other : o.offerer ≢ n = λ e. (let f : true ≡ false = sym (eq-eqb o.offerer n e) ∙ is in cc) in
-        All-cons (λ offer. offer.offerer < n) o (filter (λ offer. not (offer.offerer == n)) offers) (omega arith) rest
-
-by_number : (n : ℕ) (offers : List Offer) → All (λ offer. offer.offerer < n) offers → ((p : ℕ) → count_by (λ offer. offer.offerer == p) offers ≤ 32) → length offers ≤ 32 * n
-by_number zero [] all few = omega arith
-by_number zero (o ∷ offers) all few = absurd (let h = all 0 o (omega arith) in omega arith)
-by_number (suc n) offers all few =
-    let both = length-filter_both (λ (o : Offer). o.offerer == n) (λ o. not (o.offerer == n)) (λ _. refl) offers in
-    let one = length-filter (λ (o : Offer). o.offerer == n) offers in
-    let h = few n in
-    let rest = by_number n (filter (λ o. not (o.offerer == n)) offers) (below_next n offers all) (λ p. (let c = count-filter (λ o. not (o.offerer == n)) (λ o. o.offerer == p) offers in let d = few p in omega (arith, c, d))) in
-    omega (arith, both, one, h, rest)
-
-pub length-offers : (offers : List Offer) → IsOffers offers → length offers ≤ 2048
-length-offers offers kept = by_number 64 offers kept.offerers kept.few
-
--- ---- What is asked before an offer
 
 room : (offers : Offers) (p : ℕ) (b : Bool) → nat_le 32 (map.len (pending offers p)) ≡ b → IsOk (limited b) → map.len (pending offers p) < 32
 room offers p true is e = cc
 room offers p false is e = grind (arith, nat_tests)
 
-pub may_offer : (offers : Offers) (key : OfferKey) → IsOk (offer_answer offers key) → (map.get offers key ≡ None) × (map.len (pending offers key.offerer) < 32)
+may_offer : (offers : Offers) (key : OfferKey) → IsOk (offer_answer offers key) → (map.get offers key ≡ None) × (map.len (pending offers key.offerer) < 32)
 may_offer offers key h = by (map.get offers key) refl h
   where
     by : (o : Option Bool) → map.get offers key ≡ o → IsOk (answered (is_some o) (nat_le 32 (map.len (pending offers key.offerer)))) → (map.get offers key ≡ None) × (map.len (pending offers key.offerer) < 32)
     by None is e = (is, room offers key.offerer (nat_le 32 (map.len (pending offers key.offerer))) refl e)
     by (Some right) is e = cc
 
--- ---- One fewer, by its key
+turned : (a b : ℕ) → (a == b) ≡ (b == a)
+turned a b = elim (same_cases nat_order a b) [
+  | inl is ↦ eq-eqb a b is.0 ∙ sym (eq-eqb b a (sym is.0))
+  | inr other ↦ ne_eqb a b other.0 ∙ sym (ne_eqb b a (λ e. other.0 (sym e)))
+]
 
-same_filter : (p q : Offer → Bool) → ((o : Offer) → p o ≡ q o) → (offers : List Offer) → filter p offers ≡ filter q offers
-same_filter p q alike [] = refl
-same_filter p q alike (o ∷ offers) = λ i. cond (alike o i) (o ∷ same_filter p q alike offers i) (same_filter p q alike offers i)
+-- a list without the offer o, and then with it
+module _ (o : Offer) where
+  right_in-push : (offers : List Offer) → find (is_of o.page o.target) offers ≡ None → (page target : ℕ) → right_in (offers ++ o ∷ []) page target ≡ cond (is_of page target o) (Some o.write) (right_in offers page target)
+  right_in-push offers absent page target =
+      ap (option_map (λ (x : Offer). x.write)) (find-append (is_of page target) offers (o ∷ []))
+      ∙ either (is_of page target o) refl (find (is_of page target) offers) refl
+    where
+      none_of : is_of page target o ≡ true → find (is_of page target) offers ≡ None
+      none_of is = (let e = of_one page target o is in (λ i. find (is_of (sym e.0 i) (sym e.1 i)) offers) ∙ absent)
 
-module _ (key : OfferKey) (offers : List Offer) where
-  without_key : filter (λ offer. not (has_key key offer)) offers ≡ filter (λ offer. not (same offer_order key (key_of offer))) offers
-  without_key = same_filter (λ offer. not (has_key key offer)) (λ offer. not (same offer_order key (key_of offer))) (λ offer. ap not (sym (same-key_of key offer))) offers
+      either : (b : Bool) → is_of page target o ≡ b → (x : Option Offer) → find (is_of page target) offers ≡ x
+          → option_map (λ (y : Offer). y.write) (option_or x (cond b (Some o) None)) ≡ cond b (Some o.write) (option_map (λ (y : Offer). y.write) x)
+      either true is None e = refl
+      either true is (Some x) e = (let f : Some x ≡ None = sym e ∙ none_of is in cc)
+      either false is None e = refl
+      either false is (Some x) e = refl
 
-  pub offers-without : IsOffers offers → IsOffers (filter (λ offer. not (has_key key offer)) offers)
-  offers-without kept = subst IsOffers (sym without_key) (offers-filter (λ j. not (same offer_order key j)) offers kept)
+  distinct-push : (offers : List Offer) → find (is_of o.page o.target) offers ≡ None → IsDistinct offers → IsDistinct (offers ++ o ∷ [])
+  distinct-push [] absent h = (refl, tt)
+  distinct-push (x ∷ offers) absent h = by (is_of o.page o.target x) refl absent (λ later. distinct-push offers later h.1)
+    where
+      swapped : is_of o.page o.target x ≡ false → is_of x.page x.target o ≡ false
+      swapped apart = (λ i. turned o.page x.page i && turned o.target x.target i) ∙ apart
 
-  pub offers_in-without : offers_in (filter (λ offer. not (has_key key offer)) offers) ≡ map.remove (offers_in offers) key
-  offers_in-without = ap offers_in without_key ∙ offers_in-filter (λ j. not (same offer_order key j)) offers
-
-pub few_pending : (offers : List Offer) → IsOffers offers → (p : ℕ) → map.len (pending (offers_in offers) p) ≤ 32
-few_pending offers kept p = let a = len-pending offers kept.distinct p in let b = kept.few p in omega (arith, a, b)
+      by : (b : Bool) → is_of o.page o.target x ≡ b → cond b (Some x) (find (is_of o.page o.target) offers) ≡ None → (find (is_of o.page o.target) offers ≡ None → IsDistinct (offers ++ o ∷ []))
+          → (find (is_of x.page x.target) (offers ++ o ∷ []) ≡ None) × IsDistinct (offers ++ o ∷ [])
+      by true is e rest = cc
+      by false is e rest = (find-append (is_of x.page x.target) offers (o ∷ []) ∙ (λ i. option_or (h.0 i) (cond (swapped is i) (Some o) None)), rest e)
 
 -- an offer that may be made
-module _ (offers : List Offer) (o : Offer) (kept : IsOffers offers) (may : IsOk (offer_answer (offers_in offers) (key_of o))) where
-  pub may_absent : map.get (offers_in offers) (key_of o) ≡ None
-  may_absent = (may_offer (offers_in offers) (key_of o) may).0
+module _ (lists : List (ArrayVec Offer)) (kept : IsOffers lists) (p : ℕ) (o : Offer) (may : IsOk (offer_answer (offers_in lists) (offer_of p o.page o.target))) where
+  pub may_push : length (offers_by lists p) < 32
+  may_push = let a = len-pending lists kept p in let b = (may_offer (offers_in lists) (offer_of p o.page o.target) may).1 in omega (arith, a, b)
 
-  pub may_keep : o.offerer < 64 → IsOffers (offers ++ o ∷ [])
-  may_keep number =
-      let a = len-pending offers kept.distinct o.offerer in
-      let b = (may_offer (offers_in offers) (key_of o) may).1 in
-      offers-push offers o kept may_absent number (omega (arith, a, b))
+  absent_there : find (is_of o.page o.target) (offers_by lists p) ≡ None
+  absent_there = by (find (is_of o.page o.target) (offers_by lists p)) (sym (get-offers_in lists (offer_of p o.page o.target)) ∙ (may_offer (offers_in lists) (offer_of p o.page o.target) may).0)
+    where
+      by : (x : Option Offer) → option_map (λ (y : Offer). y.write) x ≡ None → x ≡ None
+      by None e = refl
+      by (Some x) e = cc
 
-  pub may_push : o.offerer < 64 → length offers < 2048
-  may_push number =
-      let a = length-offers (offers ++ o ∷ []) (may_keep number) in
-      omega (arith, a, length-append offers (o ∷ []))
+  pub kept-push : p < length lists → IsOffers (with_list lists p (offers_by lists p ++ o ∷ []))
+  kept-push p_in =
+      let a = may_push in
+      let b = length-append (offers_by lists p) (o ∷ []) in
+      kept-with_list lists p p_in (offers_by lists p ++ o ∷ []) kept (distinct-push o (offers_by lists p) absent_there (kept.distinct p)) (omega (arith, a, b))
+
+  pub offers_in-push : p < length lists → offers_in (with_list lists p (offers_by lists p ++ o ∷ [])) ≡ map.insert (offers_in lists) (offer_of p o.page o.target) o.write
+  offers_in-push p_in = offers_in-with_list lists p p_in (offers_by lists p ++ o ∷ []) (map.insert (offers_in lists) (offer_of p o.page o.target) o.write)
+      (λ page target.
+      right_in-push o (offers_by lists p) absent_there page target
+      ∙ (λ i. cond (sym (same-key (offer_of p page target) p o ∙ ap (λ b. b && is_of page target o) (eq-eqb p p refl)) i) (Some o.write) (sym (get-offers_in lists (offer_of p page target)) i))
+      ∙ sym (get-insert (offers_in lists) (offer_of p o.page o.target) o.write (offer_of p page target)))
+      (λ key apart. sym (get-insert (offers_in lists) (offer_of p o.page o.target) o.write key ∙ ap (λ b. cond b (Some o.write) (map.get (offers_in lists) key)) (same-key key p o ∙ ap (λ b. b && is_of key.page key.target o) (ne_eqb p key.offerer (λ e. apart (sym e))))))

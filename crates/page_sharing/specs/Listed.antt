@@ -1,27 +1,42 @@
--- A list of offers as a finite map, and what the list keeps.
-use Rattle.std.specs.Prelude.{◌≡◌, ℕ, ◌<◌, ◌≤◌, ◌==◌, ◌&&◌, Bool, List, [], ◌∷◌, None, count_by}
-use Rattle.std.specs.List.{All}
+-- The lists of offers, one for each process, as a finite map, and what they keep.
+use Rattle.std.specs.Prelude.{◌≡◌, ℕ, ◌+◌, ◌≤◌, ◌==◌, ◌&&◌, Bool, List, [], ◌∷◌, None, find, length, slice_index_or, slice_set}
+use Rattle.arrayvec.specs.ArrayVec.{ArrayVec}
 use Rattle.page_words.specs.FiniteMap as map
 use Rattle.page_sharing.specs.declared.Offer.{Offer}
-use Rattle.page_sharing.specs.Offers.{OfferKey, Offers}
+use Rattle.page_sharing.specs.Offers.{Offers, offer_of}
 
-abbrev pub key_of : Offer → OfferKey
-key_of offer = record { offerer = offer.offerer; page = offer.page; target = offer.target }
+-- whether an offer is of that page to that target
+abbrev pub is_of : ℕ → ℕ → Offer → Bool
+is_of page target offer = (offer.page == page) && (offer.target == target)
 
-abbrev pub has_key : OfferKey → Offer → Bool
-has_key key offer = (offer.offerer == key.offerer) && ((offer.page == key.page) && (offer.target == key.target))
+-- the offers by a process
+abbrev pub offers_by : List (ArrayVec Offer) → ℕ → List Offer
+offers_by lists p = (slice_index_or lists p (record { items = [] })).items
 
-abbrev pub offers_in : List Offer → Offers
-offers_in [] = map.empty
-offers_in (offer ∷ offers) = map.insert (offers_in offers) (key_of offer) offer.write
+-- the lists, where those by a process are these
+abbrev pub with_list : List (ArrayVec Offer) → ℕ → List Offer → List (ArrayVec Offer)
+with_list lists p offers = slice_set lists p (record { items = offers })
 
--- no two have one key
+-- those of a process beside others
+abbrev pub with_offers : ℕ → List Offer → Offers → Offers
+with_offers p [] others = others
+with_offers p (offer ∷ offers) others = map.insert (with_offers p offers others) (offer_of p offer.page offer.target) offer.write
+
+-- those of lists of which the first is that of process p
+abbrev pub offers_from : ℕ → List (ArrayVec Offer) → Offers
+offers_from p [] = map.empty
+offers_from p (list ∷ lists) = with_offers p list.items (offers_from (p + 1) lists)
+
+unfoldable pub offers_in : List (ArrayVec Offer) → Offers
+offers_in lists = offers_from 0 lists
+
+-- no two are of one page to one target
 abbrev pub IsDistinct : List Offer → Type 0
 IsDistinct [] = Unit {0}
-IsDistinct (offer ∷ offers) = (map.get (offers_in offers) (key_of offer) ≡ None) × IsDistinct offers
+IsDistinct (offer ∷ offers) = (find (is_of offer.page offer.target) offers ≡ None) × IsDistinct offers
 
-pub record IsOffers (offers : List Offer) : Type 0 where
-  pub distinct : IsDistinct offers
-  pub offerers : All (λ offer. offer.offerer < 64) offers
+pub record IsOffers (lists : List (ArrayVec Offer)) : Type 0 where
+  pub places : length lists ≡ 64
+  pub distinct : (p : ℕ) → IsDistinct (offers_by lists p)
   -- no process offers more
-  pub few : (p : ℕ) → count_by (λ offer. offer.offerer == p) offers ≤ 32
+  pub few : (p : ℕ) → length (offers_by lists p) ≤ 32

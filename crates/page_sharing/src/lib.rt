@@ -1,24 +1,25 @@
 //! Offers: which pages processes have offered to others, and with which right.
 //!
 //! A contract sees them as a finite map from the offer (offerer, page and target) to the right that
-//! goes with it. A process has at most 32 offers pending.
+//! goes with it. A process has at most 32 offers pending, which stand in a list of its own.
 #![tactic(auto)]
 
-ghost use Rattle.std.specs.Prelude.{◌≡◌, ℕ, ◌<◌, ◌≤◌, ◌==◌, ◌&&◌, ◌||◌, ◌↔◌, not, false, IsErrOf, IfErr, IfOk, IsOk, OnOk, OnErr, Some, filter, find, count_by};
+ghost use Rattle.std.specs.Prelude.{◌≡◌, ℕ, ◌<◌, ◌≤◌, ◌==◌, ◌&&◌, ◌↔◌, not, false, [], ◌∷◌, ◌++◌, IsErrOf, IfErr, IfOk, IsOk, OnOk, OnErr, Some, filter, find, length, nat_le};
 ghost use Rattle.std.specs.Option.{option_map};
 ghost use Rattle.page_words.specs.FiniteMap as map;
 ghost use Rattle.page_sharing.specs.Offers.{offer_of, offer_answer, pending, without_page, without_process};
-ghost use Rattle.page_sharing.specs.Listed.{has_key};
+ghost use Rattle.page_sharing.specs.Listed.{is_of, offers_by, with_list};
 
 use arrayvec::ArrayVec;
 use page_words::{Page, Pid};
+use std::array;
 use std::marker::Model;
 
 /// How many offers a process can have pending.
 pub const MOST_PENDING: usize = 32;
 
-/// Room for that many offers of each of 64 processes.
-const MOST_OFFERS: usize = 2048;
+/// How many processes there can be.
+const MOST_PROCESSES: usize = 64;
 
 /// What stands in the way of an offer.
 #[derive(Clone, Copy, Debug, PartialEq, Eq)]
@@ -31,9 +32,9 @@ pub enum OfferFault {
     NoOffer,
 }
 
+/// An offer, in the list of its offerer.
 #[derive(Clone, Copy, Debug)]
 struct Offer {
-    offerer: Pid,
     page: Page,
     target: Pid,
     write: bool,
@@ -41,28 +42,32 @@ struct Offer {
 
 impl Default for Offer {
     fn default() -> Offer {
-        let root = Pid::new(0).unwrap();
         Offer {
-            offerer: root,
             page: Page(0),
-            target: root,
+            target: Pid::new(0).unwrap(),
             write: false,
         }
     }
 }
 
 impl Offer {
-    fn is_of(&self, giver: Pid, page: Page, target: Pid) -> bool
-        ensures { result ≡ has_key (offer_of giver page target) self.now }
+    fn is_of(&self, page: Page, target: Pid) -> bool
+        ensures { result ≡ is_of page target self.now }
     {
-        self.offerer == giver && self.page == page && self.target == target
+        self.page == page && self.target == target
     }
 }
+
+/// The offers of one process.
+type OfferList = ArrayVec<Offer, MOST_PENDING>;
+
+/// The list of each process, by its number.
+type OfferLists = [OfferList; MOST_PROCESSES];
 
 /// All pending offers.
 #[derive(Debug, Drop)]
 pub struct Offers {
-    offers: ArrayVec<Offer, MOST_OFFERS>,
+    lists: OfferLists,
 }
 
 impl Model for Offers {
@@ -74,42 +79,101 @@ impl Model for Offers {
 
     ghost use Rattle.page_sharing.specs.Listed.{offers_in, IsOffers};
 
-    ghost view = { λ offers. offers_in offers.offers.items };
+    ghost view = { λ offers. offers_in offers.lists };
 
-    ghost invariant = { λ offers. IsOffers offers.offers.items };
+    ghost invariant = { λ offers. IsOffers offers.lists };
 }
 
-fn right_of(offers: &[Offer], giver: Pid, page: Page, target: Pid) -> Option<bool>
-    ensures { result ≡ option_map (λ offer. offer.write) (find (has_key (offer_of giver page target)) offers.now) }
+fn right_of(offers: &[Offer], page: Page, target: Pid) -> Option<bool>
+    ensures { result ≡ option_map (λ offer. offer.write) (find (is_of page target) offers.now) }
 {
     offers
         .iter()
-        .find(|offer| offer.is_of(giver, page, target))
+        .find(|offer| offer.is_of(page, target))
         .map(|offer| offer.write)
 }
 
-fn offers_of(offers: &[Offer], giver: Pid) -> usize
-    ensures { result ≡ count_by (λ offer. offer.offerer == giver) offers.now }
+fn keep_other_offers(offers: &mut OfferList, page: Page, target: Pid)
+    ensures { offers.new.items ≡ filter (λ offer. not (is_of page target offer)) offers.old.items }
 {
-    offers.iter().filter(|offer| offer.offerer == giver).count()
+    offers.retain(|offer| !offer.is_of(page, target));
 }
 
-fn keep_other_offers(offers: &mut ArrayVec<Offer, MOST_OFFERS>, giver: Pid, page: Page, target: Pid)
-    ensures { offers.new.items ≡ filter (λ offer. not (has_key (offer_of giver page target) offer)) offers.old.items }
+fn keep_other_pages(offers: &mut OfferList, page: Page)
+    ensures { offers.new.items ≡ filter (λ offer. not (offer.page == page)) offers.old.items }
 {
-    offers.retain(|offer| !offer.is_of(giver, page, target));
+    offers.retain(|offer| offer.page != page);
 }
 
-fn keep_other_pages(offers: &mut ArrayVec<Offer, MOST_OFFERS>, pid: Pid, page: Page)
-    ensures { offers.new.items ≡ filter (λ offer. not ((offer.offerer == pid) && (offer.page == page))) offers.old.items }
+// Out of line, so that the loop over all lists passes over an empty one in a few instructions.
+#[inline(never)]
+fn keep_other_targets(offers: &mut OfferList, target: Pid)
+    ensures { offers.new.items ≡ filter (λ offer. not (offer.target == target)) offers.old.items }
 {
-    offers.retain(|offer| !(offer.offerer == pid && offer.page == page));
+    offers.retain(|offer| offer.target != target);
 }
 
-fn keep_other_processes(offers: &mut ArrayVec<Offer, MOST_OFFERS>, pid: Pid)
-    ensures { offers.new.items ≡ filter (λ offer. not ((offer.offerer == pid) || (offer.target == pid))) offers.old.items }
+/// No process has an offer pending.
+fn no_offers() -> OfferLists
+    ensures offers { (p : ℕ) → offers_by result p ≡ [] }
+    ensures places { length result ≡ MOST_PROCESSES }
 {
-    offers.retain(|offer| !(offer.offerer == pid || offer.target == pid));
+    array::from_fn(|_| OfferList::new())
+}
+
+/// The offers by a process.
+fn list_by(lists: &OfferLists, giver: Pid) -> &[Offer]
+    ensures { result.now ≡ offers_by lists.now giver }
+{
+    &lists[giver.number() as usize]
+}
+
+/// Whether a process has 32 offers pending.
+fn has_most(lists: &OfferLists, giver: Pid) -> bool
+    ensures { result ≡ nat_le MOST_PENDING (length (offers_by lists.now giver)) }
+{
+    list_by(lists, giver).len() >= MOST_PENDING
+}
+
+fn add_offer(lists: &mut OfferLists, giver: Pid, offer: Offer)
+    requires { length (offers_by lists.old giver) < MOST_PENDING }
+    ensures listed { giver < length lists.old }
+    ensures list { lists.new ≡ with_list lists.old giver (offers_by lists.old giver ++ offer ∷ []) }
+{
+    lists[giver.number() as usize].push(offer);
+}
+
+fn remove_offer(lists: &mut OfferLists, giver: Pid, page: Page, target: Pid)
+    ensures listed { giver < length lists.old }
+    ensures list { lists.new ≡ with_list lists.old giver (filter (λ offer. not (is_of page target offer)) (offers_by lists.old giver)) }
+{
+    keep_other_offers(&mut lists[giver.number() as usize], page, target);
+}
+
+fn remove_page(lists: &mut OfferLists, giver: Pid, page: Page)
+    ensures listed { giver < length lists.old }
+    ensures list { lists.new ≡ with_list lists.old giver (filter (λ offer. not (offer.page == page)) (offers_by lists.old giver)) }
+{
+    keep_other_pages(&mut lists[giver.number() as usize], page);
+}
+
+fn remove_all_by(lists: &mut OfferLists, giver: Pid)
+    ensures listed { giver < length lists.old }
+    ensures list { lists.new ≡ with_list lists.old giver [] }
+{
+    lists[giver.number() as usize].clear();
+}
+
+/// Takes the offers to a process out of each list.
+fn remove_all_to(lists: &mut OfferLists, target: Pid)
+    ensures offers { (p : ℕ) → offers_by lists.new p ≡ filter (λ offer. not (offer.target == target)) (offers_by lists.old p) }
+    ensures places { length lists.new ≡ length lists.old }
+{
+    for list in lists.iter_mut() {
+        if !list.is_empty() {
+            keep_other_targets(list, target);
+        }
+    }
 }
 
 impl Offers {
@@ -117,9 +181,7 @@ impl Offers {
     pub fn new() -> Offers
         ensures { result ≡ map.empty }
     {
-        Offers {
-            offers: ArrayVec::new(),
-        }
+        Offers { lists: no_offers() }
     }
 
     /// Whether a process may offer a page to another.
@@ -132,7 +194,7 @@ impl Offers {
         if self.get(giver, page, target).is_some() {
             return Err(OfferFault::OfferPending);
         }
-        if offers_of(&self.offers, giver) >= MOST_PENDING {
+        if has_most(&self.lists, giver) {
             return Err(OfferFault::TooManyOffers);
         }
         Ok(())
@@ -143,21 +205,19 @@ impl Offers {
         requires { IsOk (offer_answer self.old (offer_of giver page target)) }
         ensures { self.new ≡ map.insert self.old (offer_of giver page target) write }
     {
-        let number = giver.number();
-        prove!(number < 64);
-        self.offers.push(Offer {
-            offerer: giver,
+        let offer = Offer {
             page,
             target,
             write,
-        });
+        };
+        add_offer(&mut self.lists, giver, offer);
     }
 
     /// The right of a pending offer: whether the target may write. None where it isn't pending.
     pub fn get(&self, giver: Pid, page: Page, target: Pid) -> Option<bool>
         ensures { result ≡ map.get self.now (offer_of giver page target) }
     {
-        right_of(&self.offers, giver, page, target)
+        right_of(list_by(&self.lists, giver), page, target)
     }
 
     /// Takes a pending offer back. NoOffer where it isn't pending, and nothing changes then.
@@ -183,7 +243,7 @@ impl Offers {
         let Some(write) = self.get(giver, page, target) else {
             return Err(OfferFault::NoOffer);
         };
-        keep_other_offers(&mut self.offers, giver, page, target);
+        remove_offer(&mut self.lists, giver, page, target);
         Ok(write)
     }
 
@@ -191,21 +251,22 @@ impl Offers {
     pub fn drop_page(&mut self, pid: Pid, page: Page)
         ensures { self.new ≡ without_page self.old pid page }
     {
-        keep_other_pages(&mut self.offers, pid, page);
+        remove_page(&mut self.lists, pid, page);
     }
 
     /// Drops the offers by a process and those to it.
     pub fn drop_process(&mut self, pid: Pid)
         ensures { self.new ≡ without_process self.old pid }
     {
-        keep_other_processes(&mut self.offers, pid);
+        remove_all_by(&mut self.lists, pid);
+        remove_all_to(&mut self.lists, pid);
     }
 
     /// No process has more than 32 offers pending.
     pub fn within(&self)
         ensures { (p : ℕ) → map.len (pending self.now p) ≤ MOST_PENDING }
     {
-        let _ = &self.offers;
+        let _ = &self.lists;
     }
 }
 
@@ -294,6 +355,67 @@ mod tests {
         assert_eq!(rt; offers.get(first, high, second), None);
         assert_eq!(rt; offers.get(second, low, first), None);
         assert_eq!(rt; offers.get(first, high, third), Some(false));
+        Ok(())
+    }
+
+    /// Offers 32 pages of a process to another, from page 0x40000 on.
+    fn offer_most(rt: &impl Abort, offers: &mut Offers, giver: Pid, target: Pid) {
+        for page in 0x40000..0x40020 {
+            offer(rt, offers, giver, Page(page), target, true);
+        }
+    }
+
+    #[test]
+    fn keeps_32_for_each_offerer(rt: HostRuntime) -> Result<(), Fail> {
+        let (first, second, last) = (process(&rt, 0), process(&rt, 1), process(&rt, 63));
+        let mut offers = Offers::new();
+        offer_most(&rt, &mut offers, first, last);
+        offer_most(&rt, &mut offers, last, second);
+        assert_eq!(rt;
+            offers.can_offer(first, Page(0x40020), second),
+            Err(OfferFault::TooManyOffers)
+        );
+        assert_eq!(rt; offers.can_offer(second, Page(0x40020), first), Ok(()));
+        offer_most(&rt, &mut offers, second, first);
+        for giver in [first, second, last] {
+            assert_eq!(rt;
+                offers.can_offer(giver, Page(0x40020), process(&rt, 2)),
+                Err(OfferFault::TooManyOffers)
+            );
+        }
+        assert_eq!(rt; offers.take(second, Page(0x40007), first), Ok(true));
+        assert_eq!(rt; offers.can_offer(second, Page(0x40020), first), Ok(()));
+        assert_eq!(rt;
+            offers.can_offer(last, Page(0x40020), second),
+            Err(OfferFault::TooManyOffers)
+        );
+        assert_eq!(rt; offers.get(first, Page(0x40007), last), Some(true));
+        assert_eq!(rt; offers.get(last, Page(0x40007), second), Some(true));
+        Ok(())
+    }
+
+    #[test]
+    fn drops_by_and_to_a_process_among_many(rt: HostRuntime) -> Result<(), Fail> {
+        let (root, gone) = (process(&rt, 0), process(&rt, 7));
+        let mut offers = Offers::new();
+        for number in 1..64 {
+            let giver = process(&rt, number);
+            for page in 0x40000..0x4001f {
+                offer(&rt, &mut offers, giver, Page(page), root, false);
+            }
+            if giver != gone {
+                offer(&rt, &mut offers, giver, Page(0x4001f), gone, true);
+            }
+        }
+        offers.drop_process(gone);
+        for number in 1..64 {
+            let giver = process(&rt, number);
+            let kept = if giver == gone { None } else { Some(false) };
+            assert_eq!(rt; offers.get(giver, Page(0x40000), root), kept);
+            assert_eq!(rt; offers.get(giver, Page(0x4001e), root), kept);
+            assert_eq!(rt; offers.get(giver, Page(0x4001f), gone), None);
+            assert_eq!(rt; offers.can_offer(giver, Page(0x4001f), root), Ok(()));
+        }
         Ok(())
     }
 }

@@ -2,14 +2,14 @@ use Rattle.std.proofs.Common.{ap, ◌∙◌}
 use Rattle.page_words.specs.FiniteMap as map
 use Rattle.page_sharing.specs.Offers.{offer_of}
 use Rattle.page_sharing.specs.Listed.{offers_in}
-use Rattle.page_sharing.proofs.ListSteps.{offers-without, offers_in-without}
+use Rattle.page_sharing.proofs.ListSteps.{kept-remove, offers_in-remove}
 use Rattle.page_sharing.proofs.Offers.take.Goals as goal
 
 pub invariant_of-self : goal.invariant_of-self
-invariant_of-self c = rw c.keep_other_offers.ensures (offers-without (offer_of c.args.giver c.args.page c.args.target) c.self.inside.offers.items c.self.invariant)
+invariant_of-self c = rw c.remove_offer.ensures.list (kept-remove c.self.inside.lists c.args.giver c.remove_offer.ensures.listed c.args.page c.args.target c.self.invariant)
 
 pub returns-clause-taken : goal.returns-clause-taken
 returns-clause-taken c =
-    ap offers_in c.keep_other_offers.ensures
-    ∙ offers_in-without (offer_of c.args.giver c.args.page c.args.target) c.self.inside.offers.items
+    ap offers_in c.remove_offer.ensures.list
+    ∙ offers_in-remove c.self.inside.lists c.args.giver c.remove_offer.ensures.listed c.args.page c.args.target
     ∙ ap (λ view. map.remove view (offer_of c.args.giver c.args.page c.args.target)) c.self.view_is
