@@ -170,7 +170,12 @@ fn keeps_its_quota(process: &Process) -> bool
 /// The first clause that a live process fails, by what was found in its tables; None where its directory
 /// does not lead to tables of its own.
 #[tactic(auto, unfolding(crate::specs::Verdict::links_tables, crate::specs::Verdict::maps_pages))]
-fn live_clause(image: &Image, pid: Pid, process: &Process, found: Option<Walked>) -> Option<ProcessClause>
+fn live_clause(
+    image: &Image,
+    pid: Pid,
+    process: &Process,
+    found: Option<Walked>,
+) -> Option<ProcessClause>
     requires links { is_some found ≡ all_range (λ s. links_table image.now pid s (word_of (memory_of image.now) process.now.directory s)) 0 1024 }
     requires right { IfSome found (λ w. w.right ≡ all_range (λ s. table_is_right image.now (table_at (memory_of image.now) pid s)) 256 704) }
     requires tables { IfSome found (λ w. w.tables ≡ tables_by image.now pid) }

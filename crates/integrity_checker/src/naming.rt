@@ -66,13 +66,7 @@ fn names_of(image: &Image, pid: Pid, directory: Frame) -> [u32; MAX_FRAMES as us
 
 /// Adds how often a process's directory names each frame, and how many of its pages are mapped to each.
 /// It reads each table once, however many words name it.
-pub fn count_named(
-    image: &Image,
-    pid: Pid,
-    directory: Frame,
-    names: &mut [u32],
-    maps: &mut [u32],
-)
+pub fn count_named(image: &Image, pid: Pid, directory: Frame, names: &mut [u32], maps: &mut [u32])
     requires directory { directory_at (memory_of image.now) pid ≡ Some directory }
     requires names { HaveRoom names.old 704 }
     requires maps { HaveRoom maps.old 720896 }

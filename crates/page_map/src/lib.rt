@@ -264,7 +264,12 @@ pub fn clear_entry(memory: &mut Memory, directory: Frame, page: Page) -> Option<
     remove_entry(memory, directory, page)
 }
 
-fn remove_counted_entry(memory: &mut Memory, directory: Frame, page: Page, mapped: u32) -> Option<Frame>
+fn remove_counted_entry(
+    memory: &mut Memory,
+    directory: Frame,
+    page: Page,
+    mapped: u32,
+) -> Option<Frame>
     requires user { IsUserPage page }
     requires map { IsPageMap memory.old directory }
     requires table { is_present (dir_word (frame_bytes memory.old) directory (slot_number page)) ≡ true }
@@ -288,7 +293,12 @@ fn remove_counted_entry(memory: &mut Memory, directory: Frame, page: Page, mappe
 /// Clears the entry of a mapped page, in whose slot that many pages are mapped, this one among them, as
 /// `clear_entry` does: where it was the last one, it unlinks the table and returns it; else it returns
 /// None. It reads no other word of the table.
-pub fn clear_counted_entry(memory: &mut Memory, directory: Frame, page: Page, mapped: u32) -> Option<Frame>
+pub fn clear_counted_entry(
+    memory: &mut Memory,
+    directory: Frame,
+    page: Page,
+    mapped: u32,
+) -> Option<Frame>
     requires user { IsUserPage page }
     requires map { IsPageMap memory.old directory }
     requires entry { is_some (entry_at (frame_bytes memory.old) directory page) ≡ true }
