@@ -7,3 +7,4 @@ pub mod Leaves
 pub mod Openings
 pub mod Steps
 pub mod Stores
+pub mod Touches

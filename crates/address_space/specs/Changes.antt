@@ -1,10 +1,12 @@
 -- What each change of directories, memory and roles leaves.
-use Rattle.std.specs.Prelude.{◌≡◌, ◌≢◌, ℕ, ◌+◌, ◌<◌, ◌≤◌, Bool, true, false, List, length, Option, Some, None, is_some}
+use Rattle.std.specs.Prelude.{◌≡◌, ◌≢◌, ◌⊎◌, ℕ, ◌+◌, ◌<◌, ◌≤◌, Bool, true, false, not, ◌&&◌, List, length, Option, Some, None, is_some}
 use Rattle.page_words.specs.Addresses.{slot_number}
+use Rattle.page_words.specs.Words.{frame_number}
 use Rattle.phys_memory.specs.Bytes.{frame_bytes}
 use Rattle.alloc_table.specs.declared.Role.{Role}
 use Rattle.alloc_table.specs.Roles.{IsReleased}
 use Rattle.page_map.specs.declared.PageEntry.{PageEntry}
+use Rattle.page_map.specs.Entries.{dir_word, with_entry}
 use Rattle.page_words.specs.FiniteMap as map
 use Rattle.address_space.specs.Spaces.{cell_or_fresh, Slot, Spaces, need, fresh, joined, without, is_slot, is_of, at_page}
 use Rattle.address_space.specs.Cells.{lazy_count}
@@ -49,6 +51,16 @@ pub record SlotJoined (directories : List (Option ℕ)) (giver giver_page p page
 -- a slot's own cell has these two flags
 abbrev pub flagged : Spaces → Slot → Bool → Bool → Spaces
 flagged spaces slot write accessed = map.insert spaces slot (record (cell_or_fresh spaces slot) { write = write; accessed = accessed })
+
+-- whether a store goes through an entry as it stands: the page may be written, and has a frame of its own
+abbrev pub takes_stores_through : Option PageEntry → Bool
+takes_stores_through None = false
+takes_stores_through (Some e) = e.write && not e.lazy
+
+-- a page's entry, which was one, is another from now on; or it stays, as it was that already
+abbrev pub EntryPut : List ℕ → ℕ → ℕ → PageEntry → PageEntry → List ℕ → Type 0
+EntryPut bytes directory page e e' bytes' = ((e' ≡ e) × (bytes' ≡ bytes))
+    ⊎ (frame_bytes bytes' ≡ with_entry (frame_bytes bytes) (frame_number (dir_word (frame_bytes bytes) directory (slot_number page))) page e')
 
 -- the entry or the bytes of a mapped slot changed, which left these spaces
 pub record Touched (directories : List (Option ℕ)) (spaces' : Spaces) (bytes : List ℕ) (roles : List Role) (bytes' : List ℕ) : Type 0 where

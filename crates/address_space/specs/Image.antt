@@ -1,6 +1,6 @@
 -- What memory's own words say: the tables and pages that directories name, when directories, roles and words
 -- agree, and which spaces they stand for.
-use Rattle.std.specs.Prelude.{◌≡◌, ℕ, ◌+◌, ◌*◌, ◌<◌, ◌≤◌, ◌↔◌, Bool, true, false, ◌&&◌, nat_lt, nat_le, if◌then◌else◌, IsTrue, MatchBool, List, length, Option, Some, None, slice_get}
+use Rattle.std.specs.Prelude.{◌≡◌, ℕ, ◌+◌, ◌*◌, ◌<◌, ◌≤◌, ◌↔◌, Bool, true, false, not, ◌&&◌, nat_lt, nat_le, if◌then◌else◌, IsTrue, MatchBool, List, length, Option, Some, None, slice_get}
 use Rattle.std.specs.Option.{option_and_then, option_map, unwrap_or}
 use Rattle.page_words.specs.Addresses.{slot_number, index_number}
 use Rattle.page_words.specs.Words.{frame_number, is_present, is_accessed, is_dirty, has_may, is_lazy, is_granted, IsKernelDirWord, IsKernelTableWord}
@@ -12,7 +12,7 @@ use Rattle.page_words.specs.FiniteSet.{Set}
 use Rattle.phys_memory.specs.Bytes.{frame_bytes, word_in}
 use Rattle.alloc_table.specs.declared.Role.{Role}
 use Rattle.alloc_table.specs.declared.Role.TheVariants.{Reserved, Directory, Table, Page}
-use Rattle.address_space.specs.Spaces.{Slot, slot_order, Cell, Spaces, zeros}
+use Rattle.address_space.specs.Spaces.{Slot, slot_order, Cell, Spaces, cell_or_fresh, zeros}
 use Rattle.address_space.specs.View.{View}
 
 -- what there is of address spaces outside the abstract machine
@@ -59,6 +59,10 @@ page_word image slot = option_and_then (λ t. present_word image t (word_of imag
 -- whether a slot has a lazy page
 abbrev pub is_lazy_at : Image → Slot → Bool
 is_lazy_at image slot = unwrap_or (option_map is_lazy (page_word image slot)) false
+
+-- whether a store to a slot goes through as memory stands: it is mapped, with the right to write, and not lazy
+abbrev pub takes_stores : Spaces → Image → Slot → Bool
+takes_stores spaces image slot = map.contains_key spaces slot && ((cell_or_fresh spaces slot).write && not (is_lazy_at image slot))
 
 -- the frame of its own that a word names
 abbrev pub own_frame : ℕ → Option ℕ

@@ -6,14 +6,14 @@
 //! costs allows.
 #![tactic(auto)]
 
-ghost use Rattle.std.specs.Prelude.{◌≡◌, ◌≢◌, ◌↔◌, IfOk, IsErrOf, replicate, ℕ, ◌+◌, ◌*◌, ◌<◌, ◌≤◌, ◌%◌, Some, None, length, slice_get, slice_set, is_some, true, false};
+ghost use Rattle.std.specs.Prelude.{◌≡◌, ◌≢◌, ◌↔◌, IfOk, IfSome, IsSome, IsNone, IsErrOf, replicate, ℕ, ◌+◌, ◌*◌, ◌<◌, ◌≤◌, ◌%◌, Some, None, length, slice_get, slice_set, is_some, true, false};
 ghost use Rattle.page_words.specs.Addresses.{slot_number, page_number, offset_number, byte_count, IsUserPage};
 ghost use Rattle.phys_memory.specs.Bytes.{blank_bytes, frame_bytes, with_frame};
 ghost use Rattle.alloc_table.specs.Roles.{free_frames, frames_in_use, CanBeTaken, IsTaken, IsPageBelow, IsInUse, opening_roles};
 ghost use Rattle.page_map.specs.Entries.{table_of, entry_at, is_lazy_entry, IsPageMap};
 ghost use Rattle.page_words.specs.FiniteMap as map;
 ghost use Rattle.address_space.specs.Spaces.{need, fresh, joined, stored, write_at, bytes_of, without, slot_at, value_of, bytes_at, cell_or_fresh, accessed, protected, cost, is_slot, is_of, at_page};
-ghost use Rattle.address_space.specs.Image.{StandsFor, StandsForOne, LeavesRoom, image_of, is_lazy_at};
+ghost use Rattle.address_space.specs.Image.{StandsFor, StandsForOne, LeavesRoom, image_of, is_lazy_at, takes_stores};
 ghost use Rattle.address_space.specs.Walks.{WalksAgree};
 ghost use Rattle.address_space.specs.Shown.{shown};
 ghost use Rattle.std.specs.Option.{option_map};
@@ -550,6 +550,29 @@ impl Spaces {
         );
     }
 
+    /// Stores, as `write` does, where the slot takes a store as memory stands: it is mapped, with the right to
+    /// write, and isn't lazy. Whether it is so; where it isn't, nothing changes.
+    pub fn try_write(&mut self, pid: Pid, address: Vaddr, size: Size, value: u32) -> bool
+        requires user { IsUserPage (page_number address) }
+        requires aligned { address % byte_count size ≡ 0 }
+        ensures done { result ≡ takes_stores self.old.spaces (image_of self.old) (slot_at pid address) }
+        ensures spaces { result ≡ true → self.new.spaces ≡ stored self.old.spaces (slot_at pid address) (offset_number address) (bytes_of (byte_count size) value) }
+        ensures directories { self.new.directories ≡ self.old.directories }
+        ensures roles { self.new.roles ≡ self.old.roles }
+        ensures none { result ≡ false → self.new ≡ self.old }
+    {
+        accesses::try_store(
+            &mut self.memory,
+            &self.frames,
+            &self.directories,
+            pid,
+            page_of(address),
+            offset_of(address),
+            size,
+            value,
+        )
+    }
+
     /// The flags of a slot and the size of its group; None where the page is not mapped.
     pub fn cell(&self, pid: Pid, page: Page) -> Option<Cell>
         requires user { IsUserPage page }
@@ -625,15 +648,27 @@ impl Spaces {
         ensures directories { self.new.directories ≡ self.old.directories }
         ensures roles { self.new.roles ≡ self.old.roles }
     {
-        let directory = home(&self.directories, pid);
-        let page = page_of(address);
+        self.try_read(pid, address, size).unwrap()
+    }
+
+    /// The number at an address, as `read` gives it, where the page is mapped. None where it isn't, and nothing
+    /// changes.
+    pub fn try_read(&mut self, pid: Pid, address: Vaddr, size: Size) -> Option<u32>
+        requires user { IsUserPage (page_number address) }
+        requires aligned { address % byte_count size ≡ 0 }
+        ensures mapped { is_some result ≡ map.contains_key self.old.spaces (slot_at pid address) }
+        ensures value { IfSome result (λ value. value ≡ value_of (bytes_at (cell_or_fresh self.old.spaces (slot_at pid address)).bytes (offset_number address) (byte_count size))) }
+        ensures spaces { IsSome result → self.new.spaces ≡ accessed self.old.spaces (slot_at pid address) }
+        ensures directories { self.new.directories ≡ self.old.directories }
+        ensures roles { self.new.roles ≡ self.old.roles }
+        ensures none { IsNone result → self.new ≡ self.old }
+    {
         accesses::load(
             &mut self.memory,
             &self.frames,
             &self.directories,
             pid,
-            directory,
-            page,
+            page_of(address),
             offset_of(address),
             size,
         )

@@ -4,12 +4,12 @@
 //! nothing; or the access completes, at once or after its page has been mapped.
 #![tactic(auto)]
 
-ghost use Rattle.std.specs.Prelude.{◌≡◌, ◌≢◌, Bool, true, false, not, IsOk};
+ghost use Rattle.std.specs.Prelude.{◌≡◌, ◌≢◌, ◌↔◌, Bool, true, false, not, IsOk, IfSome, IsSome, IsNone};
 ghost use Rattle.page_words.specs.Addresses.{page_number, IsUserPage};
 ghost use Rattle.address_space.specs.Spaces.{slot_at};
 ghost use Rattle.process_table.specs.State.{is_live, is_mapped};
 ghost use Rattle.process_table.specs.TestAnswers.{map_answer};
-ghost use Rattle.process_table.specs.Calls.{is_misaligned, access_value, after_access, after_map};
+ghost use Rattle.process_table.specs.Calls.{is_misaligned, loaded, access_value, after_access, after_load, after_store, after_map};
 ghost use Rattle.address_space.specs.Image.{is_lazy_at};
 ghost use Rattle.process_table.specs.Image.{memory_of};
 ghost use Rattle.fault_handler.specs.Plans.{plan_of, plan_at, goes_on};
@@ -120,6 +120,43 @@ pub fn settle(
     map_first(processes, &plan, pid, address);
     fill_first(processes, &plan, pid, address, access);
     processes.access(pid, address, size, access, value)
+}
+
+/// Loads where the load completes as memory stands: its page is mapped. None where it doesn't, and nothing
+/// changes.
+pub fn try_load(processes: &mut Processes, pid: Pid, address: Vaddr, size: Size) -> Option<u32>
+    ensures live { IsSome result → is_live processes.old.state pid ≡ true }
+    ensures plan { IsSome result ↔ plan_at processes.old pid address size Access.Read ≡ Plan.Complete }
+    ensures value { IfSome result (λ value. value ≡ loaded processes.old.state pid address size) }
+    ensures state { IsSome result → processes.new.state ≡ after_load processes.old.state pid address }
+    ensures roles { processes.new.roles ≡ processes.old.roles }
+    ensures none { IsNone result → processes.new ≡ processes.old }
+{
+    if is_aligned(address, size) && in_user_range(page_of(address)) {
+        processes.try_load(pid, address, size)
+    } else {
+        None
+    }
+}
+
+/// Stores where the store completes as memory stands: its page is mapped, with the right to write, and isn't
+/// lazy. Whether it is so; where it isn't, nothing changes.
+pub fn try_store(
+    processes: &mut Processes,
+    pid: Pid,
+    address: Vaddr,
+    size: Size,
+    value: u32,
+) -> bool
+    ensures live { result ≡ true → is_live processes.old.state pid ≡ true }
+    ensures plan { (result ≡ true) ↔ plan_at processes.old pid address size Access.Write ≡ Plan.Complete }
+    ensures state { result ≡ true → processes.new.state ≡ after_store processes.old.state pid address size value }
+    ensures roles { processes.new.roles ≡ processes.old.roles }
+    ensures none { result ≡ false → processes.new ≡ processes.old }
+{
+    is_aligned(address, size)
+        && in_user_range(page_of(address))
+        && processes.try_store(pid, address, size, value)
 }
 
 #[cfg(test)]

@@ -19,8 +19,8 @@ ghost use Rattle.kernel_calls.specs.Decisions.{decision_of, charge_after};
 use crate::calls::{Call, Decision, Event, Reply};
 use crate::decisions::decide_on;
 use alloc_table::Role;
-use fault_handler::{Plan, settle};
-use page_words::{Frame, Pid, Size, Vaddr};
+use fault_handler::{Plan, settle, try_load, try_store};
+use page_words::{Frame, Pid};
 use phys_memory::Memory;
 use process_table::{Processes, ProcessesFault};
 use quota_tree::Container;
@@ -91,43 +91,6 @@ fn complete(processes: &mut Processes, decision: &Decision)
     }
 }
 
-/// Loads from a page that is mapped. None, and nothing changes, where the load doesn't complete at once.
-fn load(processes: &mut Processes, pid: Pid, address: Vaddr, size: Size) -> Option<u32>
-    ensures live { IsSome result → is_live processes.old.state pid ≡ true }
-    ensures plan { IsSome result → plan_of processes.old.state pid address size access.Read ≡ plan.Complete }
-    ensures value { IfSome result (λ value. value ≡ loaded processes.old.state pid address size) }
-    ensures state { IsSome result → processes.new.state ≡ after_load processes.old.state pid address }
-    ensures none { IsNone result → processes.new ≡ processes.old }
-{
-    if !processes.live(pid) {
-        return None;
-    }
-    let plan = fault_handler::plan(processes, pid, address, size, Access::Read);
-    if plan != Plan::Complete {
-        return None;
-    }
-    Some(settle(processes, plan, pid, address, size, Access::Read, 0))
-}
-
-/// Stores to a page that is mapped with the right to write and has a frame. False, and nothing changes, where
-/// the store doesn't complete at once.
-fn store(processes: &mut Processes, pid: Pid, address: Vaddr, size: Size, value: u32) -> bool
-    ensures live { result ≡ true → is_live processes.old.state pid ≡ true }
-    ensures plan { result ≡ true → plan_of processes.old.state pid address size access.Write ≡ plan.Complete }
-    ensures state { result ≡ true → processes.new.state ≡ after_store processes.old.state pid address size value }
-    ensures none { result ≡ false → processes.new ≡ processes.old }
-{
-    if !processes.live(pid) {
-        return false;
-    }
-    let plan = fault_handler::plan(processes, pid, address, size, Access::Write);
-    if plan != Plan::Complete {
-        return false;
-    }
-    settle(processes, plan, pid, address, size, Access::Write, value);
-    true
-}
-
 /// Carries out a load or a store that completes at once. None, and nothing changes, for any other event.
 fn at_once(processes: &mut Processes, event: &Event) -> Option<Reply>
     ensures reply { IfSome result (λ reply. reply ≡ answer processes.old.state event.now) }
@@ -137,11 +100,11 @@ fn at_once(processes: &mut Processes, event: &Event) -> Option<Reply>
 {
     match event.call {
         Call::Load { addr, size } => {
-            let value = load(processes, event.pid, addr, size)?;
+            let value = try_load(processes, event.pid, addr, size)?;
             Some(Reply::Value(value))
         }
         Call::Store { addr, size, value } => {
-            if store(processes, event.pid, addr, size, value) {
+            if try_store(processes, event.pid, addr, size, value) {
                 Some(Reply::Done)
             } else {
                 None

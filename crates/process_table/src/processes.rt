@@ -1,6 +1,6 @@
 //! The type of the processes, and its calls.
 
-ghost use Rattle.std.specs.Prelude.{◌≡◌, ◌≢◌, ◌↔◌, ℕ, ◌+◌, ◌≤◌, ◌<◌, ◌%◌, Bool, true, false, not, Some, None, Ok, IsOk, IfOk, IsErrOf, length, is_some, replicate, slice_get};
+ghost use Rattle.std.specs.Prelude.{◌≡◌, ◌≢◌, ◌↔◌, ℕ, ◌+◌, ◌≤◌, ◌<◌, ◌%◌, Bool, true, false, not, Some, None, Ok, IsOk, IfOk, IfSome, IsSome, IsNone, IsErrOf, length, is_some, replicate, slice_get};
 ghost use Rattle.page_words.specs.Addresses.{page_number, byte_count, IsUserPage, is_user_page};
 ghost use Rattle.page_words.specs.FiniteMap as map;
 ghost use Rattle.alloc_table.specs.Roles.{opening_roles};
@@ -10,12 +10,12 @@ ghost use Rattle.std.specs.Option.{unwrap_or};
 ghost use Rattle.address_space.specs.View.{directory_of, total_cost};
 ghost use Rattle.quota_tree.specs.Containers.{IsLive, used_of, room_of, with_used, split_answer, after_split, opening};
 ghost use Rattle.process_table.specs.State.{is_live, is_mapped, has_no_room, container_of, open_with};
-ghost use Rattle.process_table.specs.Calls.{map_refusal, unmap_refusal, exit_refusal, after_map, after_unmap, after_protect, after_offer, after_withdraw, after_accept, after_spawn, after_exit, after_load, after_store, after_access, access_value, is_misaligned};
+ghost use Rattle.process_table.specs.Calls.{map_refusal, unmap_refusal, exit_refusal, after_map, after_unmap, after_protect, after_offer, after_withdraw, after_accept, after_spawn, after_exit, after_load, after_store, after_access, access_value, loaded, is_misaligned};
 ghost use Rattle.process_table.specs.TestAnswers.{translated, map_answer, unmap_answer, protect_answer, offer_answer, withdraw_answer, accept_answer, spawn_answer, exit_answer};
 ghost use Rattle.process_table.specs.View.{state_of, IsProcesses};
 ghost use Rattle.process_table.specs.Image.{StandsFor, image_of, memory_of};
 ghost use Rattle.address_space.specs.Image as memory;
-ghost use Rattle.address_space.specs.Image.{LeavesRoom, is_lazy_at};
+ghost use Rattle.address_space.specs.Image.{LeavesRoom, is_lazy_at, takes_stores};
 ghost use Rattle.process_table.specs.WellFormed.{IsWellFormed, total};
 ghost use Rattle.address_space.specs.Walks.{WalksAgree};
 ghost use Rattle.quota_tree.specs.Book.{number_of_children};
@@ -533,6 +533,36 @@ impl Processes {
             access,
             value,
         )
+    }
+
+    /// Loads, as `access` does, where the page is mapped. None where it isn't, and nothing changes. The address
+    /// is a multiple of the size, and lies in the user range.
+    pub fn try_load(&mut self, pid: Pid, address: Vaddr, size: Size) -> Option<u32>
+        requires user { IsUserPage (page_number address) }
+        requires aligned { is_misaligned address size ≡ false }
+        ensures mapped { is_some result ≡ is_mapped self.old.state (slot_at pid address) }
+        ensures live { IsSome result → is_live self.old.state pid ≡ true }
+        ensures value { IfSome result (λ value. value ≡ loaded self.old.state pid address size) }
+        ensures state { IsSome result → self.new.state ≡ after_load self.old.state pid address }
+        ensures roles { self.new.roles ≡ self.old.roles }
+        ensures none { IsNone result → self.new ≡ self.old }
+    {
+        self.spaces.try_read(pid, address, size)
+    }
+
+    /// Stores, as `access` does, where the page takes a store as memory stands: it is mapped, with the right to
+    /// write, and isn't lazy. Whether it is so; where it isn't, nothing changes. The address is a multiple of the
+    /// size, and lies in the user range.
+    pub fn try_store(&mut self, pid: Pid, address: Vaddr, size: Size, value: u32) -> bool
+        requires user { IsUserPage (page_number address) }
+        requires aligned { is_misaligned address size ≡ false }
+        ensures done { result ≡ takes_stores self.old.state.spaces (memory_of self.old) (slot_at pid address) }
+        ensures live { result ≡ true → is_live self.old.state pid ≡ true }
+        ensures state { result ≡ true → self.new.state ≡ after_store self.old.state pid address size value }
+        ensures roles { self.new.roles ≡ self.old.roles }
+        ensures none { result ≡ false → self.new ≡ self.old }
+    {
+        self.spaces.try_write(pid, address, size, value)
     }
 
     /// Whether a process's page is lazy: it has no frame of its own yet.

@@ -3,6 +3,7 @@ use Rattle.std.proofs.Common.{◌≡◌, ℕ, ◌+◌, ◌*◌, ◌/◌, ◌%◌
 use Rattle.std.specs.Prelude.{slice_index, slice_get, is_some}
 use Rattle.std.specs.Option.{option_and_then, option_map}
 use Rattle.std.proofs.lemmas.List.{get_or-drop}
+use Rattle.page_words.proofs.OptionLemmas.{is_some-map}
 use Rattle.page_words.specs.Addresses.{slot_number}
 use Rattle.page_words.specs.FiniteMap as map
 use Rattle.page_words.specs.FiniteMap.{same}
@@ -34,6 +35,16 @@ get-spaces_in directories bytes p page few low high =
     let slot : Slot = at_page p page in
     get-spaces_of (entries_in D m) m slot
     ∙ ap (option_map (cell_of (entries_in D m) m slot)) (get-entries_in D m slot ∙ ap (λ b. cond b (entry_in D m slot) None) (in_user_slots p page few low high))
+
+-- a slot is mapped where its entry is there
+pub mapped_read : (directories : List (Option ℕ)) (bytes : List ℕ) (p d page : ℕ) → directory_of directories p ≡ Some d → p < 64 → 0x40000 ≤ page → page < 0xf0000
+    → is_some (map.get (spaces_in directories bytes) (at_page p page)) ≡ is_some (entry_at (frame_bytes bytes) d page)
+mapped_read directories bytes p d page live few low high =
+    let m : Frames = frame_bytes bytes in
+    let x : Option PageEntry = option_and_then (λ d. entry_at m d page) (directory_of directories p) in
+    ap is_some (get-spaces_in directories bytes p page few low high)
+    ∙ is_some-map (cell_of (entries_in (directory_of directories) m) m (at_page p page)) x
+    ∙ ap (λ x. is_some (option_and_then (λ d. entry_at m d page) x)) live
 
 -- ---- Numbers in a page
 

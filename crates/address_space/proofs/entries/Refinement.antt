@@ -259,11 +259,11 @@ lazy_refines entries bytes slot write none clean =
     (λ q x is. others q x ∙ sym (get-spaces_of entries bytes q ∙ ap (option_map (cell_of entries bytes q)) is))
 
 -- what stands at a key already
-insert_there : (spaces : Spaces) (slot : Slot) (cell : Cell) → map.get spaces slot ≡ Some cell → map.insert spaces slot cell ≡ spaces
-insert_there spaces slot cell there = same_map _ _ (λ q. get-insert spaces slot cell q
+pub insert_there : {X : Type 0} (m : Map slot_order X) (slot : Slot) (x : X) → map.get m slot ≡ Some x → map.insert m slot x ≡ m
+insert_there m slot x there = same_map _ _ (λ q. get-insert m slot x q
     ∙ elim (same_or_not slot_order q slot) [
-      | inl h ↦ ap (λ b. cond b (Some cell) (map.get spaces q)) h.1 ∙ sym (ap (map.get spaces) h.0 ∙ there)
-      | inr h ↦ ap (λ b. cond b (Some cell) (map.get spaces q)) h
+      | inl h ↦ ap (λ b. cond b (Some x) (map.get m q)) h.1 ∙ sym (ap (map.get m) h.0 ∙ there)
+      | inr h ↦ ap (λ b. cond b (Some x) (map.get m q)) h
     ])
 
 -- a lazy page gets a frame of zeros that nothing names: the spaces stay

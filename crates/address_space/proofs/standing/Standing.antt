@@ -1,6 +1,6 @@
 -- Directories, memory and roles that agree stand for their spaces, and for no others.
 use Rattle.std.proofs.Common.{◌≡◌, ◌≢◌, ℕ, ◌+◌, ◌*◌, ◌<◌, ◌≤◌, Bool, true, false, cond, List, [], ◌∷◌, length, drop, refl, ap, sym, ◌∙◌, subst, arith, inl, inr, Option, Some, None, length-drop}
-use Rattle.std.specs.Prelude.{◌⊎◌, ◌↔◌, ◌&&◌, slice_get, slice_index, nat_lt, nat_le, IsTrue, MatchBool, ◌==◌, ◌||◌, unwrap_or, if◌then◌else◌}
+use Rattle.std.specs.Prelude.{◌⊎◌, ◌↔◌, ◌&&◌, not, is_some, slice_get, slice_index, nat_lt, nat_le, IsTrue, MatchBool, ◌==◌, ◌||◌, unwrap_or, if◌then◌else◌}
 use Rattle.std.specs.Cmp.{both_ways}
 use Rattle.std.specs.Option.{option_and_then, option_map}
 use Rattle.std.specs.List.{list_any}
@@ -18,16 +18,20 @@ use Rattle.alloc_table.specs.declared.Role.{Role}
 use Rattle.alloc_table.specs.declared.Role.TheVariants.{Directory, Table, Page}
 use Rattle.page_map.specs.declared.PageEntry.{PageEntry}
 use Rattle.page_map.specs.Entries.{Frames, dir_word, word_table, table_of, word_entry, entry_from, entry_at, is_lazy_entry}
-use Rattle.address_space.specs.Spaces.{Slot, slot_order, Cell, at_page}
+use Rattle.address_space.specs.Spaces.{Slot, slot_order, Cell, cell_or_fresh, at_page}
 use Rattle.address_space.specs.Slots.{user_slots}
 use Rattle.address_space.specs.Cells.{Entries, names, group_of, cell_of, spaces_of, holders_of}
-use Rattle.address_space.specs.Image.{Image, word_of, is_user_slot, named_by, table_at, own_frame, is_lazy_at, IsOneGroup, present_word, page_word, page_frame, IsSoundImage, SlotStands, StandsFor, StandsForOne}
+use Rattle.address_space.specs.Image.{Image, word_of, is_user_slot, named_by, table_at, own_frame, is_lazy_at, takes_stores, IsOneGroup, present_word, page_word, page_frame, IsSoundImage, SlotStands, StandsFor, StandsForOne}
 use Rattle.address_space.specs.View.{Directories, directory_of, table_in, entry_in, entries_in, spaces_in}
 use Rattle.address_space.specs.Sound.{IsSound, IsSpaces}
+use Rattle.address_space.specs.Changes.{takes_stores_through}
 use Rattle.address_space.proofs.entries.UserSlots.{in_user_slots}
 use Rattle.address_space.proofs.entries.EntrySteps.{get-entries_in, entry_by_table}
 use Rattle.address_space.proofs.entries.Refinement.{get-spaces_of, contains-holders_of, group-real}
+use Rattle.address_space.proofs.entries.Readings.{mapped_read}
 use Rattle.address_space.proofs.steps.Steps.{live_small}
+use Rattle.address_space.proofs.steps.Stores.{cell_read}
+use Rattle.address_space.proofs.steps.Openings.{no_cell}
 use borrow.Author.Tests.{eqb-true, eq-eqb}
 
 -- ---- One set of spaces at most
@@ -306,6 +310,36 @@ pub lazy_read : (directories : List (Option ℕ)) (bytes : List ℕ) (roles : Li
     → is_lazy_entry (entry_at (frame_bytes bytes) d page) ≡ is_lazy_at (image_of directories bytes roles) (at_page p page)
 lazy_read directories bytes roles p d page sound live =
     ap is_lazy_entry (sym (ap (option_and_then (λ d. entry_at (frame_bytes bytes) d page)) live)) ∙ sym (same_lazy directories bytes roles sound (at_page p page))
+
+-- whether the entry of a slot takes stores
+pub stores_read : (directories : List (Option ℕ)) (bytes : List ℕ) (roles : List Role) (p page : ℕ) → IsSound directories bytes roles → 0x40000 ≤ page → page < 0xf0000
+    → takes_stores_through (entry_in (directory_of directories) (frame_bytes bytes) (at_page p page)) ≡ takes_stores (spaces_in directories bytes) (image_of directories bytes roles) (at_page p page)
+stores_read directories bytes roles p page sound low high = by_directory (directory_of directories p) refl
+  where
+    m : Frames
+    m = frame_bytes bytes
+
+    slot : Slot
+    slot = at_page p page
+
+    others : Bool
+    others = (cell_or_fresh (spaces_in directories bytes) slot).write && not (is_lazy_at (image_of directories bytes roles) slot)
+
+    by_entry : (d : ℕ) → directory_of directories p ≡ Some d → (x : Option PageEntry) → entry_at m d page ≡ x → takes_stores_through x ≡ takes_stores (spaces_in directories bytes) (image_of directories bytes roles) slot
+    by_entry d live None is =
+        let few = live_small directories p d sound.pids live in
+        sym (ap (λ b. b && others) (mapped_read directories bytes p d page live few low high ∙ ap is_some is))
+    by_entry d live (Some e) is =
+        let few = live_small directories p d sound.pids live in
+        let there = mapped_read directories bytes p d page live few low high ∙ ap is_some is in
+        let write : (cell_or_fresh (spaces_in directories bytes) slot).write ≡ e.write = ap (λ (c : Cell). c.write) (cell_read directories bytes p d page e live few low high is) in
+        let lazy : is_lazy_at (image_of directories bytes roles) slot ≡ e.lazy = sym (lazy_read directories bytes roles p d page sound live) ∙ ap is_lazy_entry is in
+        sym (λ i. there i && (write i && not (lazy i)))
+
+    by_directory : (x : Option ℕ) → directory_of directories p ≡ x → takes_stores_through (entry_in (directory_of directories) m slot) ≡ takes_stores (spaces_in directories bytes) (image_of directories bytes roles) slot
+    by_directory None none =
+        ap (λ x. takes_stores_through (option_and_then (λ d. entry_at m d page) x)) none ∙ sym (ap (λ b. b && others) (ap is_some (no_cell directories bytes p page none)))
+    by_directory (Some d) live = ap (λ x. takes_stores_through (option_and_then (λ d. entry_at m d page) x)) live ∙ by_entry d live (entry_at m d page) refl
 
 -- a process without a directory has no lazy page
 pub lazy_none : (directories : List (Option ℕ)) (bytes : List ℕ) (roles : List Role) (p page : ℕ) → directory_of directories p ≡ None → is_lazy_at (image_of directories bytes roles) (at_page p page) ≡ false

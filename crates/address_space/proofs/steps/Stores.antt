@@ -26,12 +26,12 @@ use Rattle.address_space.proofs.entries.UserSlots.{in_user_slots}
 use Rattle.address_space.specs.Cells.{Entries, lazy_count, cell_of, spaces_of}
 use Rattle.address_space.specs.View.{Directories, Roles, directory_of, table_in, entry_in, entries_in, spaces_in, total_cost}
 use Rattle.address_space.specs.Sound.{Tables, Pages, HoldsPage, IsSound, InUseAt, Names, Inside, InUse}
-use Rattle.address_space.specs.Changes.{Touched, flagged}
+use Rattle.address_space.specs.Changes.{EntryPut, Touched, flagged}
 use Rattle.address_space.proofs.costs.CostSteps.{total-kept}
 use Rattle.address_space.proofs.entries.EntrySteps.{Loose, get-entries_in, entries-insert, tables-entry, use_kept}
 use Rattle.address_space.proofs.frames.FrameSteps.{loose-entry, loose-entries, tables-loose, use_loose}
 use Rattle.address_space.proofs.frames.PageSteps.{same_bytes, pages-same, no_table, lazy-same}
-use Rattle.address_space.proofs.entries.Refinement.{get-spaces_of, store_refines, flags_refine, cell_at}
+use Rattle.address_space.proofs.entries.Refinement.{get-spaces_of, insert_there, store_refines, flags_refine, cell_at}
 use Rattle.address_space.proofs.steps.Steps.{inside, holds_inside, live_small, page_loose, table_by_word}
 use Rattle.page_words.proofs.OptionLemmas.{is_some-map}
 use Rattle.page_words.proofs.OptionLemmas.{some_value}
@@ -149,6 +149,27 @@ entry_set directories bytes two roles p d page e e' sound live low high is_entry
       in_use = λ before q r. subst (λ x. InUseAt D x q r) (sym is) (use_kept D m R T p d page t (entry_word e') live f.there (entry_word-lt e' small) (entry_word-present e') q r (before q r));
     }
 
+-- the same, where an entry that stays isn't written
+pub entry_put : (directories : List (Option ℕ)) (bytes two : List ℕ) (roles : List Role) (p d page : ℕ) (e e' : PageEntry) → IsSound directories bytes roles → directory_of directories p ≡ Some d
+    → 0x40000 ≤ page → page < 0xf0000 → entry_at (frame_bytes bytes) d page ≡ Some e → IsKernelEntry e' → e'.frame ≡ e.frame
+    → EntryPut bytes d page e e' two → length two ≡ length bytes → EntrySet directories p page e e' bytes roles two
+unfolding spaces_in
+entry_put directories bytes two roles p d page e e' sound live low high is_entry rules kept (inr written) long_two =
+    entry_set directories bytes two roles p d page e e' sound live low high is_entry rules kept written long_two
+entry_put directories bytes two roles p d page e e' sound live low high is_entry rules kept (inl (same_entry, stays)) long_two =
+    let D : Directories = directory_of directories in
+    let E : Entries = entries_in D (frame_bytes bytes) in
+    let slot : Slot = at_page p page in
+    let there : map.get E slot ≡ Some e = get_user D (frame_bytes bytes) p d page e live (live_small directories p d sound.pids live) low high is_entry in
+    let back : map.insert E slot e' ≡ E = ap (map.insert E slot) same_entry ∙ insert_there E slot e there in
+    record {
+      sound = subst (λ b. IsSound directories b roles) (sym stays) sound;
+      named = there;
+      entries = ap (λ b. entries_in D (frame_bytes b)) stays ∙ sym back;
+      spaces = ap (spaces_in directories) stays ∙ ap (λ x. spaces_of x (frame_bytes bytes)) (sym back);
+      in_use = λ before. subst (λ b. InUse D (frame_bytes b)) (sym stays) before;
+    }
+
 -- the bytes of a page's own frame were written
 pub record FrameWritten (directories : List (Option ℕ)) (bytes : List ℕ) (roles : List Role) (one : List ℕ) : Type 0 where
   pub sound : IsSound directories one roles
@@ -183,7 +204,7 @@ frame_written directories bytes one roles f new sound loose long_new is long_one
 pub page_stored : (directories : List (Option ℕ)) (bytes one two : List ℕ) (roles : List Role) (p d page at : ℕ) (written : List ℕ) (e : PageEntry) → IsSound directories bytes roles → directory_of directories p ≡ Some d
     → 0x40000 ≤ page → page < 0xf0000 → entry_at (frame_bytes bytes) d page ≡ Some e → e.lazy ≡ false → length (write_at (frame_bytes bytes e.frame) at written) ≡ 4096
     → frame_bytes one ≡ with_frame (frame_bytes bytes) e.frame (write_at (frame_bytes bytes e.frame) at written) → length one ≡ length bytes
-    → frame_bytes two ≡ with_entry (frame_bytes one) (frame_number (dir_word (frame_bytes one) d (slot_number page))) page (record e { accessed = true; dirty = true }) → length two ≡ length one
+    → EntryPut one d page e (record e { accessed = true; dirty = true }) two → length two ≡ length one
     → Touched directories (stored (spaces_in directories bytes) (at_page p page) at written) bytes roles two
 unfolding spaces_in
 page_stored directories bytes one two roles p d page at written e sound live low high is_entry real long is1 long_one is_two long_two =
@@ -198,7 +219,7 @@ page_stored directories bytes one two roles p d page at written e sound live low
     let own = page_held directories bytes roles e.frame sound (sound.pages.pages slot e there) up in
     let w = frame_written directories bytes one roles e.frame (write_at (m e.frame) at written) sound (page_loose (slice_get roles) e.frame own.count own.page) long is1 long_one in
     let rules' : IsKernelEntry e' = record { frame = rules.frame; zero = rules.zero; clean = λ is. cc; right = rules.right; touched = λ _. refl } in
-    let h = entry_set directories one two roles p d page e e' w.sound live low high (w.entry p d page live ∙ is_entry) rules' refl is_two long_two in
+    let h = entry_put directories one two roles p d page e e' w.sound live low high (w.entry p d page live ∙ is_entry) rules' refl is_two long_two in
     let E2 : entries_in D (frame_bytes two) ≡ map.insert E slot e' = h.entries ∙ ap (λ x. map.insert x slot e') w.entries in
     record {
       sound = h.sound;
@@ -217,7 +238,7 @@ flagged_cell spaces slot cell write accessed is c same = ap (map.insert spaces s
 pub flags_set : (directories : List (Option ℕ)) (bytes two : List ℕ) (roles : List Role) (p d page : ℕ) (e : PageEntry) (write accessed : Bool) → IsSound directories bytes roles → directory_of directories p ≡ Some d
     → 0x40000 ≤ page → page < 0xf0000 → entry_at (frame_bytes bytes) d page ≡ Some e
     → (write ≡ true → e.may ≡ true) → (e.dirty ≡ true → accessed ≡ true)
-    → frame_bytes two ≡ with_entry (frame_bytes bytes) (frame_number (dir_word (frame_bytes bytes) d (slot_number page))) page (record e { write = write; accessed = accessed }) → length two ≡ length bytes
+    → EntryPut bytes d page e (record e { write = write; accessed = accessed }) two → length two ≡ length bytes
     → Touched directories (flagged (spaces_in directories bytes) (at_page p page) write accessed) bytes roles two
 unfolding spaces_in
 flags_set directories bytes two roles p d page e write accessed sound live low high is_entry right touched is_two long_two =
@@ -227,7 +248,7 @@ flags_set directories bytes two roles p d page e write accessed sound live low h
     let e' : PageEntry = record e { write = write; accessed = accessed } in
     let rules = entry_rules directories bytes roles p d page e sound live is_entry in
     let rules' : IsKernelEntry e' = record { frame = rules.frame; zero = rules.zero; clean = rules.clean; right = right; touched = touched } in
-    let h = entry_set directories bytes two roles p d page e e' sound live low high is_entry rules' refl is_two long_two in
+    let h = entry_put directories bytes two roles p d page e e' sound live low high is_entry rules' refl is_two long_two in
     let cell = cell_at E m slot e h.named in
     record {
       sound = h.sound;

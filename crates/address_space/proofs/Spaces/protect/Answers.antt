@@ -1,11 +1,11 @@
-use Rattle.std.proofs.Common.{arith, ◌≡◌, ◌∙◌, ap, sym, subst, true}
+use Rattle.std.proofs.Common.{◌≡◌, ap, sym, subst, true}
 use Rattle.std.specs.Prelude.{is_some}
 use Rattle.page_words.specs.FiniteMap as map
 use Rattle.address_space.specs.View.{View, spaces_in}
 use Rattle.address_space.proofs.steps.Stores.{mapped_slot, mapped_live, mapped_entry}
 use Rattle.address_space.specs.Spaces.{at_page}
 use Rattle.address_space.proofs.costs.AccessCosts.{kept}
-use Rattle.address_space.proofs.steps.CountSteps.{counted_keys}
+use Rattle.address_space.proofs.steps.Touches.{kept_touched}
 use Rattle.address_space.proofs.Spaces.protect.Goals as goal
 
 pub home-directory-requires : goal.home-directory-requires
@@ -20,15 +20,6 @@ set_right-requires-clause-mapped c =
 
 pub invariant_of-self : goal.invariant_of-self
 invariant_of-self c =
-    let cost = c.set_right.ensures.cost in
-    let weighs = c.self.invariant.spaces.weighs in
-    let within = c.self.invariant.spaces.within in
-    let lazy = c.set_right.ensures.lazy in
     let U : View → Type 0 = λ v. is_some (map.get v.spaces (at_page c.args.pid c.args.page)) ≡ true in
-    let there = subst U (sym c.self.view_is) c.requires.mapped in
-    let before = spaces_in c.self.inside.directories c.self.inside.memory in
-    let after = spaces_in c.self.inside.directories c.set_right.new.memory in
-    record {
-      spaces = record { sound = c.set_right.ensures.sound; in_use = c.set_right.ensures.in_use c.self.invariant.spaces.in_use; weighs = omega (arith, cost, weighs, lazy); within = omega (arith, cost, within) };
-      counted = counted_keys before after c.self.inside.frames c.self.inside.counts.items (λ q. ap (λ x. map.contains_key x q) c.set_right.ensures.spaces ∙ kept before (at_page c.args.pid c.args.page) _ there q) c.self.invariant.counted;
-    }
+    kept_touched c.self.inside.directories c.self.inside.memory c.set_right.new.memory c.self.inside.frames c.self.inside.counts.items _ c.self.invariant c.set_right.ensures
+    (kept (spaces_in c.self.inside.directories c.self.inside.memory) (at_page c.args.pid c.args.page) _ (subst U (sym c.self.view_is) c.requires.mapped))

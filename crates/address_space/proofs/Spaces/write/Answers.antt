@@ -1,4 +1,4 @@
-use Rattle.std.proofs.Common.{arith, ◌≡◌, ◌∙◌, ap, sym, subst, true, false}
+use Rattle.std.proofs.Common.{◌≡◌, ◌∙◌, ap, sym, subst, true, false}
 use Rattle.std.specs.Prelude.{is_some}
 use Rattle.page_words.specs.Addresses.{page_number, byte_count}
 use Rattle.page_words.specs.FiniteMap as map
@@ -8,7 +8,7 @@ use Rattle.address_space.specs.Image.{is_lazy_at}
 use Rattle.address_space.proofs.standing.Standing.{lazy_read}
 use Rattle.address_space.proofs.steps.Stores.{mapped_slot, mapped_live, mapped_entry}
 use Rattle.address_space.proofs.costs.AccessCosts.{kept, key-stored}
-use Rattle.address_space.proofs.steps.CountSteps.{counted_keys}
+use Rattle.address_space.proofs.steps.Touches.{kept_touched}
 use Rattle.address_space.proofs.Spaces.write.Goals as goal
 
 pub home-directory-requires : goal.home-directory-requires
@@ -30,16 +30,9 @@ store-requires-clause-real c =
 
 pub invariant_of-self : goal.invariant_of-self
 invariant_of-self c =
-    let cost = c.store.ensures.cost in
-    let weighs = c.self.invariant.spaces.weighs in
-    let within = c.self.invariant.spaces.within in
-    let lazy = c.store.ensures.lazy in
     let U : View → Type 0 = λ v. is_some (map.get v.spaces (slot_at c.args.pid c.args.address)) ≡ true in
     let before = spaces_in c.self.inside.directories c.self.inside.memory in
     let slot = at_page c.args.pid c.page_of-page.result in
     let there = subst (λ n. is_some (map.get before (at_page c.args.pid n)) ≡ true) (sym c.page_of-page.ensures.value) (subst U (sym c.self.view_is) c.requires.mapped) in
-    let after = spaces_in c.self.inside.directories c.store.new.memory in
-    record {
-      spaces = record { sound = c.store.ensures.sound; in_use = c.store.ensures.in_use c.self.invariant.spaces.in_use; weighs = omega (arith, cost, weighs, lazy); within = omega (arith, cost, within) };
-      counted = counted_keys before after c.self.inside.frames c.self.inside.counts.items (λ q. ap (λ x. map.contains_key x q) c.store.ensures.spaces ∙ key-stored before slot c.offset_of-at.result (bytes_of (byte_count c.args.size) c.args.value) (cell_or_fresh before slot) q ∙ kept before slot (cell_or_fresh before slot) there q) c.self.invariant.counted;
-    }
+    kept_touched c.self.inside.directories c.self.inside.memory c.store.new.memory c.self.inside.frames c.self.inside.counts.items _ c.self.invariant c.store.ensures
+    (λ q. key-stored before slot c.offset_of-at.result (bytes_of (byte_count c.args.size) c.args.value) (cell_or_fresh before slot) q ∙ kept before slot (cell_or_fresh before slot) there q)

@@ -1,0 +1,22 @@
+-- The type's invariant after an access, or after a change of rights.
+use Rattle.std.proofs.Common.{arith, ◌≡◌, ℕ, List, Option, ap, ◌∙◌}
+use Rattle.page_words.specs.FiniteMap as map
+use Rattle.alloc_table.specs.declared.Role.{Role}
+use Rattle.address_space.specs.Spaces.{Slot, Spaces}
+use Rattle.address_space.specs.View.{spaces_in}
+use Rattle.address_space.specs.Changes.{Touched}
+use Rattle.address_space.specs.Counts.{IsKept}
+use Rattle.address_space.proofs.steps.CountSteps.{counted_keys}
+
+-- where the same slots are mapped
+pub kept_touched : (directories : List (Option ℕ)) (bytes bytes' : List ℕ) (roles : List Role) (counts : List ℕ) (S' : Spaces) → IsKept directories bytes roles counts → Touched directories S' bytes roles bytes'
+    → ((q : Slot) → map.contains_key S' q ≡ map.contains_key (spaces_in directories bytes) q) → IsKept directories bytes' roles counts
+kept_touched directories bytes bytes' roles counts S' before touched keys =
+    let cost = touched.cost in
+    let weighs = before.spaces.weighs in
+    let within = before.spaces.within in
+    let lazy = touched.lazy in
+    record {
+      spaces = record { sound = touched.sound; in_use = touched.in_use before.spaces.in_use; weighs = omega (arith, cost, weighs, lazy); within = omega (arith, cost, within) };
+      counted = counted_keys (spaces_in directories bytes) (spaces_in directories bytes') roles counts (λ q. ap (λ x. map.contains_key x q) touched.spaces ∙ keys q) before.counted;
+    }

@@ -1,0 +1,34 @@
+use Rattle.std.proofs.Common.{◌≡◌, ◌∙◌, ap, sym, subst, refl, Bool, true, false, ◌&&◌, length}
+use Rattle.page_words.specs.Addresses.{offset_number, byte_count}
+use Rattle.table_walk.specs.declared.Access.TheVariants.{Write}
+use Rattle.address_space.specs.View as frames
+use Rattle.address_space.specs.Spaces.{cost, slot_at, bytes_of}
+use Rattle.address_space.proofs.costs.Totals.{cost-stored_of}
+use Rattle.process_table.specs.State.{State, is_mapped}
+use Rattle.process_table.specs.View.{IsWhole, state_of}
+use Rattle.process_table.specs.WellFormed.{IsWellFormed}
+use Rattle.process_table.proofs.Charged.{charged-same}
+use Rattle.process_table.proofs.Keeping.{keeps-access}
+use Rattle.process_table.proofs.processes.Processes.try_store.Goals as goal
+
+first : (a b : Bool) → (a && b) ≡ true → a ≡ true
+first true b h = refl
+first false b h = h
+
+pub invariant_of-self : goal.invariant_of-self
+invariant_of-self c = by c.try_write.result refl
+  where
+    s : State
+    s = state_of c.self.inside.spaces c.self.inside.quotas c.self.inside.offers
+
+    by : (x : Bool) → c.try_write.result ≡ x → IsWhole c.try_write.new.self c.self.inside.quotas c.self.inside.offers
+    by false is = subst (λ (v : frames.View). IsWhole v c.self.inside.quotas c.self.inside.offers) (sym (c.try_write.ensures.none is)) c.self.invariant
+    by true is =
+        let mapped : is_mapped s (slot_at c.args.pid c.args.address) ≡ true = first _ _ (sym c.try_write.ensures.done ∙ is) in
+        let after = c.try_write.ensures.spaces is in
+        record {
+          kept = charged-same c.self.inside.spaces c.try_write.new.self c.self.inside.quotas c.self.invariant.kept c.try_write.ensures.directories (ap length c.try_write.ensures.roles)
+              (λ q. ap (λ S. cost S q) after ∙ cost-stored_of c.self.inside.spaces.spaces (slot_at c.args.pid c.args.address) (offset_number c.args.address) (bytes_of (byte_count c.args.size) c.args.value) q mapped);
+          well_formed = subst IsWellFormed (λ i. record s { spaces = sym after i })
+              (keeps-access s c.args.pid c.args.address c.args.size Write c.args.value c.self.invariant.well_formed mapped c.requires.user c.requires.aligned);
+        }
