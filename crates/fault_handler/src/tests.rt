@@ -108,3 +108,37 @@ fn settles_with_the_value_read(rt: HostRuntime) -> Result<(), Fail> {
     assert_eq!(rt; read, 0x00c0_ffee);
     Ok(())
 }
+
+#[test]
+fn tries_what_completes_at_once(rt: HostRuntime) -> Result<(), Fail> {
+    let mut processes = Processes::new(rt.alloc(), 16)?;
+    let root = Pid::new(0).ok_or("no root")?;
+    let address = Vaddr(0x4000_0ffc);
+    let unmapped = try_load(&mut processes, root, address, Size::Four);
+    assert_eq!(rt; unmapped, None);
+    map_page(&rt, &mut processes, root, Page(0x40000), true);
+    assert!(rt; !try_store(&mut processes, root, address, Size::Four, 7));
+    let lazy = try_load(&mut processes, root, address, Size::Four);
+    assert_eq!(rt; lazy, Some(0));
+    accessed(
+        &rt,
+        &mut processes,
+        root,
+        address,
+        Access::Write,
+        0x00c0_ffee,
+    );
+    assert!(rt; try_store(&mut processes, root, address, Size::One, 0x1ff));
+    let stored = try_load(&mut processes, root, address, Size::Four);
+    assert_eq!(rt; stored, Some(0x00c0_ffff));
+    let odd = try_load(&mut processes, root, Vaddr(0x4000_0ffe), Size::Four);
+    assert_eq!(rt; odd, None);
+    let outside = Vaddr(0x3fff_fffc);
+    assert!(rt; !try_store(&mut processes, root, outside, Size::Four, 7));
+    assert!(rt; processes.can_protect(root, Page(0x40000), false).is_ok());
+    processes.protect(root, Page(0x40000), false);
+    assert!(rt; !try_store(&mut processes, root, address, Size::Four, 7));
+    let kept = try_load(&mut processes, root, address, Size::Four);
+    assert_eq!(rt; kept, Some(0x00c0_ffff));
+    Ok(())
+}
