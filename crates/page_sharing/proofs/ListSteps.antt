@@ -1,13 +1,15 @@
 -- What lists of offers answer as a map, and what they keep after an offer more and after some less.
-use Rattle.std.proofs.Common.{◌≡◌, ◌≢◌, ℕ, zero, suc, ◌+◌, ◌<◌, ◌≤◌, inl, inr, Bool, true, false, cond, not, ◌&&◌, ◌||◌, ◌==◌, nat_le, List, [], ◌∷◌, ◌++◌, length, filter, is_some, refl, sym, ap, ◌∙◌, Option, Some, None, arith, subst, length-append, length-set}
+use Rattle.std.proofs.Common.{◌≡◌, ◌≢◌, ℕ, zero, suc, ◌+◌, ◌<◌, ◌≤◌, ◌-◌, inl, inr, Bool, true, false, cond, not, ◌&&◌, ◌||◌, ◌==◌, nat_le, List, [], ◌∷◌, ◌++◌, length, filter, is_some, refl, sym, ap, ◌∙◌, Option, Some, None, arith, subst, drop, length-append, length-set}
 use Rattle.std.specs.Prelude.{find, IsOk}
 use Rattle.std.specs.Option.{option_map, option_or}
 use Rattle.std.specs.Ordering.{nat_cmp, ordering_then}
 use Rattle.std.specs.Cmp.{unsigned_tied, tied_then}
-use Rattle.std.proofs.lemmas.List.{get_or-set_same, get_or-set_other}
+use Rattle.std.proofs.lemmas.List.{get_or-set_same, get_or-set_other, get_or_past, get_or-drop}
+use Rattle.std.proofs.lemmas.List.Elements.{All-from_get_or}
+use Rattle.std.proofs.lemmas.List.Sums.{sum_by-le, get_or-le-sum_by}
 use Rattle.std.proofs.lemmas.List.Filters.{length-filter_both}
 use Rattle.std.proofs.lemmas.List.Folds.{find-append}
-use Rattle.std.proofs.lemmas.Bool.{eqb-true, eq-eqb, ne_eqb}
+use Rattle.std.proofs.lemmas.Bool.{eqb-true, eq-eqb, ne_eqb, cases_lt}
 use Rattle.std.proofs.lemmas.Bool.Decides.{nat_tests}
 use Rattle.arrayvec.specs.ArrayVec.{ArrayVec}
 use Rattle.page_words.specs.FiniteMap as map
@@ -16,7 +18,7 @@ use Rattle.page_words.proofs.MapLemmas.{get-insert, get-retain_keys, same_map, l
 use Rattle.page_words.proofs.SetLemmas.{same_sym, same_cases}
 use Rattle.page_sharing.specs.declared.Offer.{Offer}
 use Rattle.page_sharing.specs.Offers.{OfferKey, Offers, offer_of, offer_order, offer_answer, answered, limited, pending, without_page, without_process}
-use Rattle.page_sharing.specs.Listed.{is_of, offers_by, with_list, with_offers, offers_from, offers_in, IsDistinct, IsOffers}
+use Rattle.page_sharing.specs.Listed.{is_of, offers_by, with_list, with_offers, offers_from, offers_in, IsDistinct, IsOffers, all_pending}
 
 -- ---- Keys
 
@@ -115,6 +117,47 @@ len-pending lists kept p = ap map.len (pending_alone lists p) ∙ len-with_offer
 
 pub few_pending : (lists : List (ArrayVec Offer)) → IsOffers lists → (p : ℕ) → map.len (pending (offers_in lists) p) ≤ 32
 few_pending lists kept p = let a = len-pending lists kept p in let b = kept.few p in omega (arith, a, b)
+
+-- ---- How many all have pending
+
+abbrev no_list : ArrayVec Offer
+no_list = record { items = [] }
+
+abbrev size : ArrayVec Offer → ℕ
+size list = length list.items
+
+pub few_in_all : (lists : List (ArrayVec Offer)) → IsOffers lists → all_pending lists ≤ 2048
+few_in_all lists kept =
+    let places = kept.places in
+    let bound = sum_by-le size 32 lists (All-from_get_or (λ list. length list.items ≤ 32) lists no_list (λ p below. kept.few p)) in
+    omega (arith, places, bound)
+
+pub all_pending-none : (lists : List (ArrayVec Offer)) → ((p : ℕ) → offers_by lists p ≡ []) → all_pending lists ≡ 0
+all_pending-none lists none =
+    let bound = sum_by-le size 0 lists (All-from_get_or (λ list. length list.items ≤ 0) lists no_list (λ p below. (let e = ap length (none p) in omega (arith, e)))) in
+    omega (arith, bound)
+
+no_longer : (offers : List Offer) → length offers ≤ 0 → offers ≡ []
+no_longer [] h = refl
+no_longer (offer ∷ offers) h = absurd (omega arith)
+
+none_in_all : (lists : List (ArrayVec Offer)) → all_pending lists ≡ 0 → (p : ℕ) → offers_by lists p ≡ []
+none_in_all lists none p = elim (cases_lt p (length lists)) [
+  | inl below ↦ (let h = get_or-le-sum_by size lists p no_list below in no_longer (offers_by lists p) (omega (arith, h, none)))
+  | inr past ↦ ap (λ list. list.items) (get_or_past lists p no_list (omega (arith, past)))
+]
+
+pub none_behind : (lists : List (ArrayVec Offer)) (place : ℕ) → all_pending (drop place lists) ≡ 0 → (p : ℕ) → place ≤ p → offers_by lists p ≡ []
+none_behind lists place none p h =
+    let at : place + (p - place) ≡ p = omega arith in
+    ap (offers_by lists) (sym at)
+    ∙ ap (λ list. list.items) (sym (get_or-drop place lists (p - place) no_list))
+    ∙ none_in_all (drop place lists) none (p - place)
+
+pub offers_in-no_process : (lists : List (ArrayVec Offer)) (p : ℕ) → all_pending lists ≡ 0 → offers_in lists ≡ without_process (offers_in lists) p
+offers_in-no_process lists p none =
+    let is = offers_in-none lists (none_in_all lists none) in
+    is ∙ ap (λ offers. without_process offers p) (sym is)
 
 -- ---- One list is another
 

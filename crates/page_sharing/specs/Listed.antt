@@ -1,5 +1,5 @@
 -- The lists of offers, one for each process, as a finite map, and what they keep.
-use Rattle.std.specs.Prelude.{◌≡◌, ℕ, ◌+◌, ◌≤◌, ◌==◌, ◌&&◌, Bool, List, [], ◌∷◌, None, find, length, slice_index_or, slice_set}
+use Rattle.std.specs.Prelude.{◌≡◌, ℕ, ◌+◌, ◌≤◌, ◌==◌, ◌&&◌, Bool, List, [], ◌∷◌, None, find, length, sum_by, slice_index_or, slice_set}
 use Rattle.arrayvec.specs.ArrayVec.{ArrayVec}
 use Rattle.page_words.specs.FiniteMap as map
 use Rattle.page_sharing.specs.declared.Offer.{Offer}
@@ -16,6 +16,10 @@ offers_by lists p = (slice_index_or lists p (record { items = [] })).items
 -- the lists, where those by a process are these
 abbrev pub with_list : List (ArrayVec Offer) → ℕ → List Offer → List (ArrayVec Offer)
 with_list lists p offers = slice_set lists p (record { items = offers })
+
+-- how many offers all lists have
+abbrev pub all_pending : List (ArrayVec Offer) → ℕ
+all_pending lists = sum_by (λ list. length list.items) lists
 
 -- those of a process beside others
 abbrev pub with_offers : ℕ → List Offer → Offers → Offers
@@ -40,3 +44,8 @@ pub record IsOffers (lists : List (ArrayVec Offer)) : Type 0 where
   pub distinct : (p : ℕ) → IsDistinct (offers_by lists p)
   -- no process offers more
   pub few : (p : ℕ) → length (offers_by lists p) ≤ 32
+
+-- the lists keep their bounds, and the count is that of their offers
+pub record IsCounted (lists : List (ArrayVec Offer)) (count : ℕ) : Type 0 where
+  pub bounds : IsOffers lists
+  pub counted : count ≡ all_pending lists

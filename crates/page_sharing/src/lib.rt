@@ -4,11 +4,11 @@
 //! goes with it. A process has at most 32 offers pending, which stand in a list of its own.
 #![tactic(auto)]
 
-ghost use Rattle.std.specs.Prelude.{◌≡◌, ℕ, ◌<◌, ◌≤◌, ◌==◌, ◌&&◌, ◌↔◌, not, false, [], ◌∷◌, ◌++◌, IsErrOf, IfErr, IfOk, IsOk, OnOk, OnErr, Some, filter, find, length, nat_le};
+ghost use Rattle.std.specs.Prelude.{◌≡◌, ℕ, ◌+◌, ◌<◌, ◌≤◌, ◌==◌, ◌&&◌, ◌↔◌, not, false, [], ◌∷◌, ◌++◌, IsErrOf, IfErr, IfOk, IsOk, OnOk, OnErr, Some, filter, find, length, nat_le};
 ghost use Rattle.std.specs.Option.{option_map};
 ghost use Rattle.page_words.specs.FiniteMap as map;
 ghost use Rattle.page_sharing.specs.Offers.{offer_of, offer_answer, pending, without_page, without_process};
-ghost use Rattle.page_sharing.specs.Listed.{is_of, offers_by, with_list};
+ghost use Rattle.page_sharing.specs.Listed.{is_of, offers_by, with_list, all_pending};
 
 use arrayvec::ArrayVec;
 use page_words::{Page, Pid};
@@ -68,6 +68,8 @@ type OfferLists = [OfferList; MOST_PROCESSES];
 #[derive(Debug, Drop)]
 pub struct Offers {
     lists: OfferLists,
+    /// How many offers all lists have.
+    count: u32,
 }
 
 impl Model for Offers {
@@ -77,11 +79,11 @@ impl Model for Offers {
 
     ghost coded = { offers_code };
 
-    ghost use Rattle.page_sharing.specs.Listed.{offers_in, IsOffers};
+    ghost use Rattle.page_sharing.specs.Listed.{offers_in, IsCounted};
 
     ghost view = { λ offers. offers_in offers.lists };
 
-    ghost invariant = { λ offers. IsOffers offers.lists };
+    ghost invariant = { λ offers. IsCounted offers.lists offers.count };
 }
 
 fn right_of(offers: &[Offer], page: Page, target: Pid) -> Option<bool>
@@ -93,24 +95,46 @@ fn right_of(offers: &[Offer], page: Page, target: Pid) -> Option<bool>
         .map(|offer| offer.write)
 }
 
-fn keep_other_offers(offers: &mut OfferList, page: Page, target: Pid)
-    ensures { offers.new.items ≡ filter (λ offer. not (is_of page target offer)) offers.old.items }
+/// Gives how many went.
+fn keep_other_offers(offers: &mut OfferList, page: Page, target: Pid) -> u32
+    ensures kept { offers.new.items ≡ filter (λ offer. not (is_of page target offer)) offers.old.items }
+    ensures gone { result + length offers.new.items ≡ length offers.old.items }
 {
+    let before = offers.len();
     offers.retain(|offer| !offer.is_of(page, target));
+    (before - offers.len()) as u32
 }
 
-fn keep_other_pages(offers: &mut OfferList, page: Page)
-    ensures { offers.new.items ≡ filter (λ offer. not (offer.page == page)) offers.old.items }
+/// Gives how many went.
+fn keep_other_pages(offers: &mut OfferList, page: Page) -> u32
+    ensures kept { offers.new.items ≡ filter (λ offer. not (offer.page == page)) offers.old.items }
+    ensures gone { result + length offers.new.items ≡ length offers.old.items }
 {
+    let before = offers.len();
     offers.retain(|offer| offer.page != page);
+    (before - offers.len()) as u32
 }
 
-// Out of line, so that the loop over all lists passes over an empty one in a few instructions.
+/// Gives how many went.
+// Out of line, so that the loop over the lists passes over an empty one in a few instructions.
 #[inline(never)]
-fn keep_other_targets(offers: &mut OfferList, target: Pid)
-    ensures { offers.new.items ≡ filter (λ offer. not (offer.target == target)) offers.old.items }
+fn keep_other_targets(offers: &mut OfferList, target: Pid) -> u32
+    ensures kept { offers.new.items ≡ filter (λ offer. not (offer.target == target)) offers.old.items }
+    ensures gone { result + length offers.new.items ≡ length offers.old.items }
 {
+    let before = offers.len();
     offers.retain(|offer| offer.target != target);
+    (before - offers.len()) as u32
+}
+
+/// Gives how many went.
+fn keep_none(offers: &mut OfferList) -> u32
+    ensures kept { offers.new.items ≡ [] }
+    ensures gone { result + length offers.new.items ≡ length offers.old.items }
+{
+    let gone = offers.len() as u32;
+    offers.clear();
+    gone
 }
 
 /// No process has an offer pending.
@@ -139,41 +163,78 @@ fn add_offer(lists: &mut OfferLists, giver: Pid, offer: Offer)
     requires { length (offers_by lists.old giver) < MOST_PENDING }
     ensures listed { giver < length lists.old }
     ensures list { lists.new ≡ with_list lists.old giver (offers_by lists.old giver ++ offer ∷ []) }
+    ensures came { all_pending lists.new ≡ all_pending lists.old + 1 }
 {
     lists[giver.number() as usize].push(offer);
 }
 
-fn remove_offer(lists: &mut OfferLists, giver: Pid, page: Page, target: Pid)
+/// Takes an offer out, and gives how many went.
+fn remove_offer(lists: &mut OfferLists, giver: Pid, page: Page, target: Pid) -> u32
     ensures listed { giver < length lists.old }
     ensures list { lists.new ≡ with_list lists.old giver (filter (λ offer. not (is_of page target offer)) (offers_by lists.old giver)) }
+    ensures gone { result + all_pending lists.new ≡ all_pending lists.old }
 {
-    keep_other_offers(&mut lists[giver.number() as usize], page, target);
+    keep_other_offers(&mut lists[giver.number() as usize], page, target)
 }
 
-fn remove_page(lists: &mut OfferLists, giver: Pid, page: Page)
+/// Takes the offers of a page out, and gives how many went.
+fn remove_page(lists: &mut OfferLists, giver: Pid, page: Page) -> u32
     ensures listed { giver < length lists.old }
     ensures list { lists.new ≡ with_list lists.old giver (filter (λ offer. not (offer.page == page)) (offers_by lists.old giver)) }
+    ensures gone { result + all_pending lists.new ≡ all_pending lists.old }
 {
-    keep_other_pages(&mut lists[giver.number() as usize], page);
+    keep_other_pages(&mut lists[giver.number() as usize], page)
 }
 
-fn remove_all_by(lists: &mut OfferLists, giver: Pid)
+/// Takes the offers by a process out, and gives how many went.
+fn remove_all_by(lists: &mut OfferLists, giver: Pid) -> u32
     ensures listed { giver < length lists.old }
     ensures list { lists.new ≡ with_list lists.old giver [] }
+    ensures gone { result + all_pending lists.new ≡ all_pending lists.old }
 {
-    lists[giver.number() as usize].clear();
+    keep_none(&mut lists[giver.number() as usize])
 }
 
-/// Takes the offers to a process out of each list.
-fn remove_all_to(lists: &mut OfferLists, target: Pid)
+/// How many offers a list has.
+fn pending_at(lists: &OfferLists, place: usize) -> u32
+    requires { place < MOST_PROCESSES }
+    ensures { result ≡ length (offers_by lists.now place) }
+{
+    lists[place].len() as u32
+}
+
+/// Takes the offers to a process out of a list, and gives how many went.
+fn remove_to(lists: &mut OfferLists, place: usize, target: Pid) -> u32
+    requires { place < MOST_PROCESSES }
+    ensures list { lists.new ≡ with_list lists.old place (filter (λ offer. not (offer.target == target)) (offers_by lists.old place)) }
+    ensures gone { result + all_pending lists.new ≡ all_pending lists.old }
+{
+    keep_other_targets(&mut lists[place], target)
+}
+
+/// Takes the offers to a process out of each list, and gives how many went.
+///
+/// The lists have `count` offers, so that none is behind the list where that many were seen.
+fn remove_all_to(lists: &mut OfferLists, target: Pid, count: u32) -> u32
+    requires { count ≡ all_pending lists.old }
     ensures offers { (p : ℕ) → offers_by lists.new p ≡ filter (λ offer. not (offer.target == target)) (offers_by lists.old p) }
     ensures places { length lists.new ≡ length lists.old }
+    ensures gone { result + all_pending lists.new ≡ all_pending lists.old }
 {
-    for list in lists.iter_mut() {
-        if !list.is_empty() {
-            keep_other_targets(list, target);
+    let mut unseen = count;
+    let mut gone = 0;
+    for place in 0..MOST_PROCESSES {
+        if unseen == 0 {
+            break;
         }
+        let pending = pending_at(lists, place);
+        if pending == 0 {
+            continue;
+        }
+        unseen -= pending;
+        gone += remove_to(lists, place, target);
     }
+    gone
 }
 
 impl Offers {
@@ -181,7 +242,10 @@ impl Offers {
     pub fn new() -> Offers
         ensures { result ≡ map.empty }
     {
-        Offers { lists: no_offers() }
+        Offers {
+            lists: no_offers(),
+            count: 0,
+        }
     }
 
     /// Whether a process may offer a page to another.
@@ -211,6 +275,7 @@ impl Offers {
             write,
         };
         add_offer(&mut self.lists, giver, offer);
+        self.count += 1;
     }
 
     /// The right of a pending offer: whether the target may write. None where it isn't pending.
@@ -243,7 +308,7 @@ impl Offers {
         let Some(write) = self.get(giver, page, target) else {
             return Err(OfferFault::NoOffer);
         };
-        remove_offer(&mut self.lists, giver, page, target);
+        self.count -= remove_offer(&mut self.lists, giver, page, target);
         Ok(write)
     }
 
@@ -251,15 +316,18 @@ impl Offers {
     pub fn drop_page(&mut self, pid: Pid, page: Page)
         ensures { self.new ≡ without_page self.old pid page }
     {
-        remove_page(&mut self.lists, pid, page);
+        self.count -= remove_page(&mut self.lists, pid, page);
     }
 
     /// Drops the offers by a process and those to it.
     pub fn drop_process(&mut self, pid: Pid)
         ensures { self.new ≡ without_process self.old pid }
     {
-        remove_all_by(&mut self.lists, pid);
-        remove_all_to(&mut self.lists, pid);
+        if self.count == 0 {
+            return;
+        }
+        self.count -= remove_all_by(&mut self.lists, pid);
+        self.count -= remove_all_to(&mut self.lists, pid, self.count);
     }
 
     /// No process has more than 32 offers pending.

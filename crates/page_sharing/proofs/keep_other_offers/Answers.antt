@@ -2,5 +2,5 @@ use Rattle.std.proofs.Common.{rules}
 use Rattle.arrayvec.proofs.ArrayVecLemmas.{filter-from_retain}
 use Rattle.page_sharing.proofs.keep_other_offers.Goals as goal
 
-pub returns : goal.returns
-returns c = filter-from_retain _ _ _ (λ x b f' y called. search rules) _ _ c.retain.ensures.filtered
+pub returns-clause-kept : goal.returns-clause-kept
+returns-clause-kept c = filter-from_retain _ _ _ (λ x b f' y called. search rules) _ _ c.retain.ensures.filtered

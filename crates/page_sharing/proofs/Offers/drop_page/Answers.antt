@@ -1,11 +1,14 @@
-use Rattle.std.proofs.Common.{ap, ◌∙◌}
+use Rattle.std.proofs.Common.{ap, ◌∙◌, arith}
 use Rattle.page_sharing.specs.Offers.{without_page}
 use Rattle.page_sharing.specs.Listed.{offers_in}
 use Rattle.page_sharing.proofs.ListSteps.{kept-remove_page, offers_in-remove_page}
 use Rattle.page_sharing.proofs.Offers.drop_page.Goals as goal
 
 pub invariant_of-self : goal.invariant_of-self
-invariant_of-self c = rw c.remove_page.ensures.list (kept-remove_page c.self.inside.lists c.args.pid c.remove_page.ensures.listed c.args.page c.self.invariant)
+invariant_of-self c = record {
+  bounds = rw c.remove_page.ensures.list (kept-remove_page c.self.inside.lists c.args.pid c.remove_page.ensures.listed c.args.page c.self.invariant.bounds);
+  counted = omega (arith, c.self.invariant.counted, c.remove_page.ensures.gone);
+}
 
 pub returns : goal.returns
 returns c =

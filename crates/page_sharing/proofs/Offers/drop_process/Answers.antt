@@ -1,13 +1,26 @@
-use Rattle.std.proofs.Common.{filter, not, ◌==◌, ap, ◌∙◌}
+use Rattle.std.proofs.Common.{◌≡◌, filter, not, ◌==◌, ap, ◌∙◌, sym, arith}
 use Rattle.page_sharing.specs.Offers.{without_process}
-use Rattle.page_sharing.specs.Listed.{offers_by}
-use Rattle.page_sharing.proofs.ListSteps.{kept-clear, kept-remove_target, offers_in-remove_process}
+use Rattle.page_sharing.specs.Listed.{offers_by, all_pending}
+use Rattle.page_sharing.proofs.ListSteps.{kept-clear, kept-remove_target, offers_in-remove_process, offers_in-no_process}
 use Rattle.page_sharing.proofs.Offers.drop_process.Goals as goal
 
+pub returns-then-self-eq0 : goal.returns-then-self-eq0
+returns-then-self-eq0 c =
+    let none : all_pending c.self.inside.lists ≡ 0 = omega (arith, c.self.invariant.counted, c.if-self-eq0.true) in
+    sym c.self.view_is
+    ∙ offers_in-no_process c.self.inside.lists c.args.pid none
+    ∙ ap (λ view. without_process view c.args.pid) c.self.view_is
+
+pub remove_all_to-requires : goal.remove_all_to-requires
+remove_all_to-requires c = omega (arith, c.self.invariant.counted, c.remove_all_by.ensures.gone)
+
 pub invariant_of-self : goal.invariant_of-self
-invariant_of-self c =
-    kept-remove_target c.remove_all_by.new.lists c.remove_all_to.new.lists c.args.pid c.remove_all_to.ensures.offers c.remove_all_to.ensures.places
-    (rw c.remove_all_by.ensures.list (kept-clear c.self.inside.lists c.args.pid c.remove_all_by.ensures.listed c.self.invariant))
+invariant_of-self c = record {
+  bounds =
+      kept-remove_target c.remove_all_by.new.lists c.remove_all_to.new.lists c.args.pid c.remove_all_to.ensures.offers c.remove_all_to.ensures.places
+      (rw c.remove_all_by.ensures.list (kept-clear c.self.inside.lists c.args.pid c.remove_all_by.ensures.listed c.self.invariant.bounds));
+  counted = omega (arith, c.self.invariant.counted, c.remove_all_by.ensures.gone, c.remove_all_to.ensures.gone);
+}
 
 pub returns : goal.returns
 returns c =

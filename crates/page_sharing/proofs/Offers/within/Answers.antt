@@ -7,4 +7,4 @@ use Rattle.page_sharing.proofs.Offers.within.Goals as goal
 pub returns : goal.returns
 returns c =
     let P : Offers → Type 0 = λ view. (p : ℕ) → map.len (pending view p) ≤ 32 in
-    subst P c.self.view_is (few_pending c.self.inside.lists c.self.invariant)
+    subst P c.self.view_is (few_pending c.self.inside.lists c.self.invariant.bounds)
