@@ -366,7 +366,9 @@ pub fn pages(memory: &Memory, directory: Frame) -> u32
 }
 
 /// The least mapped page of a slot from a first page on.
-fn next_in_slot(memory: &Memory, directory: Frame, slot: u32, first: u32) -> Option<u32>
+// Out of line, so that `next_entry` passes over a slot without a table in a few instructions.
+#[inline(never)]
+fn next_in_table(memory: &Memory, directory: Frame, slot: u32, first: u32) -> Option<u32>
     requires slot { slot < 1024 }
     requires map { IsPageMap memory.now directory }
     ensures within { IfSome result (λ page. (first ≤ page) × (1024 * slot ≤ page) × (page < 1024 * slot + 1024)) }
@@ -377,6 +379,22 @@ fn next_in_slot(memory: &Memory, directory: Frame, slot: u32, first: u32) -> Opt
     let table = table(memory, directory, slot)?;
     let index = next_present(memory, table, first.saturating_sub(slot * 1024))?;
     Some(slot * 1024 + index)
+}
+
+/// The same, where most slots have no table.
+fn next_in_slot(memory: &Memory, directory: Frame, slot: u32, first: u32) -> Option<u32>
+    requires slot { slot < 1024 }
+    requires map { IsPageMap memory.now directory }
+    ensures within { IfSome result (λ page. (first ≤ page) × (1024 * slot ≤ page) × (page < 1024 * slot + 1024)) }
+    ensures mapped { IfSome result (λ page. is_some (entry_at (frame_bytes memory.now) directory page) ≡ true) }
+    ensures least { IfSome result (λ page. (p : ℕ) → first ≤ p → 1024 * slot ≤ p → p < page → is_some (entry_at (frame_bytes memory.now) directory p) ≡ false) }
+    ensures none { IfNone result ((p : ℕ) → first ≤ p → 1024 * slot ≤ p → p < 1024 * slot + 1024 → is_some (entry_at (frame_bytes memory.now) directory p) ≡ false) }
+{
+    if has_table(memory, directory, slot) {
+        next_in_table(memory, directory, slot, first)
+    } else {
+        None
+    }
 }
 
 /// The least mapped page from a first page of the user range on.
