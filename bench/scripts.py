@@ -165,6 +165,24 @@ def held(holders):
     return Round(MOST_FRAMES, first, call(0, f"info {FIRST_PAGE:x}"), 1)
 
 
+def protected(others):
+    """The right to write to a page is taken away and given back."""
+    first = "".join(call(0, f"map {FIRST_PAGE + i:x} rw") for i in range(1 + others))
+    return Round(MOST_FRAMES, first, call(0, f"protect {FIRST_PAGE:x} ro") + call(0, f"protect {FIRST_PAGE:x} rw"), 2)
+
+
+def accepted(holders):
+    """A process that has a page beside it joins the holders of a page of process 0, and leaves them."""
+    first = held(holders).first + family(1) + call(holders, f"map {FIRST_PAGE + 1:x} rw")
+    joins = call(0, f"offer {FIRST_PAGE:x} {holders} rw") + call(holders, f"accept 0 {FIRST_PAGE:x} {FIRST_PAGE:x}")
+    return Round(MOST_FRAMES, first, joins + call(holders, f"unmap {FIRST_PAGE:x}"), 3)
+
+
+def charges(processes):
+    """Each process but 0 asks for its quota in turn."""
+    return Round(MOST_FRAMES, family(processes), "".join(call(1 + i, "quota") for i in range(processes)), processes)
+
+
 # What is done over and over, what grows, and at which sizes it is measured.
 GROWTH = (
     ("map, unmap", "frames, all but one in use", mapped, (16, 256, 1024, 4096)),
@@ -177,6 +195,9 @@ GROWTH = (
     ("spawn, exit", "offers of others", exits_beside, (0, 32, 256, 1984)),
     ("load", "processes in turn", loads, (1, 8, 32, 63)),
     ("info", "holders of the page", held, (1, 8, 32, 64)),
+    ("protect, protect", "other pages of the process", protected, (0, 32, 1023, 4000)),
+    ("offer, accept, unmap", "holders of the page", accepted, (1, 8, 32, 63)),
+    ("quota", "processes in turn", charges, (1, 8, 32, 63)),
 )
 
 
