@@ -1,3 +1,4 @@
+pub mod DigitTable
 pub mod NumberLemmas
 pub mod TokenLemmas
 pub mod LineLemmas

@@ -1,26 +1,37 @@
 //! Numbers as a script writes them.
 
-ghost use Rattle.std.specs.Prelude.{◌≡◌, ◌≤◌};
+ghost use Rattle.std.specs.Prelude.{◌≡◌, ◌≤◌, slice_index};
 ghost use Rattle.std.specs.Char.{digit_value};
 ghost use Rattle.script_run.specs.Numbers.{number_of, decimal_number, hexadecimal_number};
 
-/// What a byte is worth as a digit, a letter of either case behind the nine; 36 where it is neither.
+/// What each byte is worth as a digit, a letter of either case behind the nine; 36 where it is neither.
+const DIGITS: [u8; 256] = [
+    36, 36, 36, 36, 36, 36, 36, 36, 36, 36, 36, 36, 36, 36, 36, 36, 36, 36, 36, 36, 36, 36, 36, 36,
+    36, 36, 36, 36, 36, 36, 36, 36, 36, 36, 36, 36, 36, 36, 36, 36, 36, 36, 36, 36, 36, 36, 36, 36,
+    0, 1, 2, 3, 4, 5, 6, 7, 8, 9, 36, 36, 36, 36, 36, 36, 36, 10, 11, 12, 13, 14, 15, 16, 17, 18,
+    19, 20, 21, 22, 23, 24, 25, 26, 27, 28, 29, 30, 31, 32, 33, 34, 35, 36, 36, 36, 36, 36, 36, 10,
+    11, 12, 13, 14, 15, 16, 17, 18, 19, 20, 21, 22, 23, 24, 25, 26, 27, 28, 29, 30, 31, 32, 33, 34,
+    35, 36, 36, 36, 36, 36, 36, 36, 36, 36, 36, 36, 36, 36, 36, 36, 36, 36, 36, 36, 36, 36, 36, 36,
+    36, 36, 36, 36, 36, 36, 36, 36, 36, 36, 36, 36, 36, 36, 36, 36, 36, 36, 36, 36, 36, 36, 36, 36,
+    36, 36, 36, 36, 36, 36, 36, 36, 36, 36, 36, 36, 36, 36, 36, 36, 36, 36, 36, 36, 36, 36, 36, 36,
+    36, 36, 36, 36, 36, 36, 36, 36, 36, 36, 36, 36, 36, 36, 36, 36, 36, 36, 36, 36, 36, 36, 36, 36,
+    36, 36, 36, 36, 36, 36, 36, 36, 36, 36, 36, 36, 36, 36, 36, 36, 36, 36, 36, 36, 36, 36, 36, 36,
+    36, 36, 36, 36, 36, 36, 36, 36, 36, 36, 36, 36, 36, 36,
+];
+
+/// What a table of 256 bytes has at a byte.
+fn look_up(table: &[u8; 256], byte: u8) -> u8
+    ensures { result ≡ slice_index table.now byte }
+{
+    table[byte as usize]
+}
+
+/// What a byte is worth as a digit: a table, so that no digit asks for a branch.
 fn digit_of(byte: u8) -> u8
     ensures value { result ≡ digit_value byte }
     ensures bound { result ≤ 36 }
 {
-    let decimal = byte.wrapping_sub(b'0');
-    let lower = byte.wrapping_sub(b'a');
-    let upper = byte.wrapping_sub(b'A');
-    if decimal < 10 {
-        decimal
-    } else if lower < 26 {
-        lower + 10
-    } else if upper < 26 {
-        upper + 10
-    } else {
-        36
-    }
+    look_up(&DIGITS, byte)
 }
 
 /// The number that one to `most` digits of this radix write, leading zeros among them; None for any

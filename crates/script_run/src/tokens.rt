@@ -3,11 +3,22 @@
 ghost use Rattle.std.specs.Prelude.{◌≡◌, [], ◌∷◌, MatchOption, position};
 ghost use Rattle.script_run.specs.Tokens.{is_space, is_visible, tokens_of};
 
-/// Where the first byte other than a space stands.
-fn first_visible(bytes: &[u8]) -> Option<usize>
+/// Where the first byte other than a space stands, wherever that is.
+fn seek_visible(bytes: &[u8]) -> Option<usize>
     ensures { result ≡ position is_visible bytes.now }
 {
     bytes.iter().position(|byte| *byte != b' ')
+}
+
+/// Where the first byte other than a space stands: most often it is the first or the second.
+fn first_visible(bytes: &[u8]) -> Option<usize>
+    ensures { result ≡ position is_visible bytes.now }
+{
+    match bytes {
+        [first, ..] if *first != b' ' => Some(0),
+        [_, second, ..] if *second != b' ' => Some(1),
+        _ => seek_visible(bytes),
+    }
 }
 
 /// Where the first space stands.
