@@ -95,7 +95,7 @@ fn right_of(offers: &[Offer], page: Page, target: Pid) -> Option<bool>
         .map(|offer| offer.write)
 }
 
-/// Gives how many went.
+/// Takes one offer out of a list, and gives how many went.
 fn keep_other_offers(offers: &mut OfferList, page: Page, target: Pid) -> u32
     ensures kept { offers.new.items ≡ filter (λ offer. not (is_of page target offer)) offers.old.items }
     ensures gone { result + length offers.new.items ≡ length offers.old.items }
@@ -105,7 +105,7 @@ fn keep_other_offers(offers: &mut OfferList, page: Page, target: Pid) -> u32
     (before - offers.len()) as u32
 }
 
-/// Gives how many went.
+/// Takes the offers of a page out of a list, and gives how many went.
 fn keep_other_pages(offers: &mut OfferList, page: Page) -> u32
     ensures kept { offers.new.items ≡ filter (λ offer. not (offer.page == page)) offers.old.items }
     ensures gone { result + length offers.new.items ≡ length offers.old.items }
@@ -115,7 +115,7 @@ fn keep_other_pages(offers: &mut OfferList, page: Page) -> u32
     (before - offers.len()) as u32
 }
 
-/// Gives how many went.
+/// Takes the offers to a process out of a list, and gives how many went.
 // Out of line, so that the loop over the lists passes over an empty one in a few instructions.
 #[inline(never)]
 fn keep_other_targets(offers: &mut OfferList, target: Pid) -> u32
@@ -127,7 +127,7 @@ fn keep_other_targets(offers: &mut OfferList, target: Pid) -> u32
     (before - offers.len()) as u32
 }
 
-/// Gives how many went.
+/// Takes all offers out of a list, and gives how many went.
 fn keep_none(offers: &mut OfferList) -> u32
     ensures kept { offers.new.items ≡ [] }
     ensures gone { result + length offers.new.items ≡ length offers.old.items }

@@ -1,4 +1,5 @@
-use Rattle.std.proofs.Common.{◌≡◌, ◌∙◌, ◌<◌, ◌≤◌, ◌&&◌, sym, subst, refl, Bool, true, false, List, ℕ}
+use Rattle.std.proofs.Common.{◌≡◌, ◌∙◌, ◌<◌, ◌≤◌, sym, subst, refl, Bool, true, false, List, ℕ}
+use Rattle.std.proofs.lemmas.Bool.{and_parts}
 use Rattle.page_words.specs.Addresses.{byte_count}
 use Rattle.page_words.specs.FiniteMap as map
 use Rattle.address_space.specs.Spaces.{at_page, slot_at, cell_or_fresh, bytes_of}
@@ -10,10 +11,6 @@ use Rattle.address_space.proofs.standing.Standing.{stores_read}
 use Rattle.address_space.proofs.steps.Touches.{kept_touched}
 use Rattle.address_space.proofs.Spaces.try_write.Goals as goal
 
-first : (a b : Bool) → (a && b) ≡ true → a ≡ true
-first true b h = refl
-first false b h = h
-
 pub invariant_of-self : goal.invariant_of-self
 invariant_of-self c = by c.try_store.result refl
   where
@@ -24,7 +21,7 @@ invariant_of-self c = by c.try_store.result refl
         let before = spaces_in c.self.inside.directories c.self.inside.memory in
         let slot = at_page c.args.pid c.page_of.result in
         let takes = sym (c.try_store.ensures.done ∙ stores_read c.self.inside.directories c.self.inside.memory c.self.inside.frames c.args.pid c.page_of.result c.self.invariant.spaces.sound (subst (λ n. 0x40000 ≤ n) (sym c.page_of.ensures.value) c.requires.user.0) (subst (λ n. n < 0xf0000) (sym c.page_of.ensures.value) c.requires.user.1)) ∙ is in
-        let there : map.contains_key before slot ≡ true = first (map.contains_key before slot) _ takes in
+        let there : map.contains_key before slot ≡ true = (and_parts (map.contains_key before slot) _ takes).0 in
         kept_touched c.self.inside.directories c.self.inside.memory c.try_store.new.memory c.self.inside.frames c.self.inside.counts.items _ c.self.invariant (c.try_store.ensures.stored is)
         (λ q. key-stored before slot c.offset_of.result (bytes_of (byte_count c.args.size) c.args.value) (cell_or_fresh before slot) q ∙ kept before slot (cell_or_fresh before slot) there q)
 

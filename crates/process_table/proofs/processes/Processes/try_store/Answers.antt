@@ -1,4 +1,5 @@
-use Rattle.std.proofs.Common.{◌≡◌, ◌∙◌, ap, sym, subst, refl, Bool, true, false, ◌&&◌, length}
+use Rattle.std.proofs.Common.{◌≡◌, ◌∙◌, ap, sym, subst, refl, Bool, true, false, length}
+use Rattle.std.proofs.lemmas.Bool.{and_parts}
 use Rattle.page_words.specs.Addresses.{offset_number, byte_count}
 use Rattle.table_walk.specs.declared.Access.TheVariants.{Write}
 use Rattle.address_space.specs.View as frames
@@ -11,10 +12,6 @@ use Rattle.process_table.proofs.Charged.{charged-same}
 use Rattle.process_table.proofs.Keeping.{keeps-access}
 use Rattle.process_table.proofs.processes.Processes.try_store.Goals as goal
 
-first : (a b : Bool) → (a && b) ≡ true → a ≡ true
-first true b h = refl
-first false b h = h
-
 pub invariant_of-self : goal.invariant_of-self
 invariant_of-self c = by c.try_write.result refl
   where
@@ -24,7 +21,7 @@ invariant_of-self c = by c.try_write.result refl
     by : (x : Bool) → c.try_write.result ≡ x → IsWhole c.try_write.new.self c.self.inside.quotas c.self.inside.offers
     by false is = subst (λ (v : frames.View). IsWhole v c.self.inside.quotas c.self.inside.offers) (sym (c.try_write.ensures.none is)) c.self.invariant
     by true is =
-        let mapped : is_mapped s (slot_at c.args.pid c.args.address) ≡ true = first _ _ (sym c.try_write.ensures.done ∙ is) in
+        let mapped : is_mapped s (slot_at c.args.pid c.args.address) ≡ true = (and_parts (is_mapped s (slot_at c.args.pid c.args.address)) _ (sym c.try_write.ensures.done ∙ is)).0 in
         let after = c.try_write.ensures.spaces is in
         record {
           kept = charged-same c.self.inside.spaces c.try_write.new.self c.self.inside.quotas c.self.invariant.kept c.try_write.ensures.directories (ap length c.try_write.ensures.roles)
