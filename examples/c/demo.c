@@ -120,7 +120,7 @@ static void asks(void) {
 
 static void runs(void) {
     struct tower_event events[3] = {
-        {.call = TOWER_LOAD, .flag = 4, .first = ADDRESS + 8}, {.call = 12}, {.pid = 64, .call = TOWER_QUOTA}};
+        {.call = TOWER_LOAD, .flag = 4, .first = ADDRESS + 8}, {.call = 13}, {.pid = 64, .call = TOWER_QUOTA}};
     struct tower_reply replies[3] = {{0}};
     expect(!tower_run(&tower, events, 3, replies, 2), "three events want three replies");
     expect(tower_run(&tower, events, 3, replies, 3), "three events are run");

@@ -8,12 +8,12 @@
 
 #include "tower.h"
 
-static const char *const calls[] = {"load",  "store",    "map",    "unmap", "protect", "info",
-                                    "offer", "withdraw", "accept", "spawn", "exit",    "quota"};
+static const char *const calls[] = {"load",   "store", "map",  "unmap", "protect", "info", "offer", "withdraw",
+                                    "accept", "spawn", "exit", "quota", "fork"};
 
 static const char *const causes[] = {
-    "",       "NoProcess", "BadPage",  "Misaligned",   "NotMapped",     "Mapped",  "Quota",     "Rights",   "SelfOffer",
-    "NoTarget", "OfferPending", "TooManyOffers", "NoOffer", "TableFull", "BadQuota", "HasChildren", "RootExit"};
+    "",       "NoProcess", "BadPage",  "",             "NotMapped",     "Mapped",  "Quota",     "Rights",   "SelfOffer",
+    "NoTarget", "OfferPending", "TooManyOffers", "NoOffer", "TableFull", "BadQuota", "HasChildren", "RootExit", "TooSmall"};
 
 /* What is left of a line. */
 struct tokens {
@@ -54,7 +54,7 @@ static uint8_t next_right(struct tokens *line) {
 static uint8_t next_call(struct tokens *line) {
     const char *word = next_word(line);
     uint8_t call = 0;
-    while (call < 12 && strcmp(word, calls[call]) != 0) {
+    while (call < 13 && strcmp(word, calls[call]) != 0) {
         call++;
     }
     return call;
@@ -89,6 +89,7 @@ static void take_operands(struct tokens *line, struct tower_event *event) {
         event->third = next_number(line, 16);
         break;
     case TOWER_SPAWN:
+    case TOWER_FORK:
         event->first = next_number(line, 10);
         break;
     }

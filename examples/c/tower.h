@@ -38,8 +38,8 @@ enum tower_status {
 
 /* The calls, and what each takes:    flag                first          second    third  */
 enum tower_call {
-    TOWER_LOAD = 0,                /* size, 1 or 4        address                         */
-    TOWER_STORE = 1,               /* size, 1 or 4        address        value            */
+    TOWER_LOAD = 0,                /* size, 1, 2 or 4     address                         */
+    TOWER_STORE = 1,               /* size, 1, 2 or 4     address        value            */
     TOWER_MAP = 2,                 /* may write, 0 or 1   page                            */
     TOWER_UNMAP = 3,               /*                     page                            */
     TOWER_PROTECT = 4,             /* may write, 0 or 1   page                            */
@@ -50,6 +50,7 @@ enum tower_call {
     TOWER_SPAWN = 9,               /*                     quota                           */
     TOWER_EXIT = 10,
     TOWER_QUOTA = 11,
+    TOWER_FORK = 12,               /*                     quota                           */
 };
 
 /* One event. A page is an address without its last 12 bits, a process 0 to 63. What a call does not take
@@ -93,6 +94,7 @@ enum tower_cause {
     TOWER_BAD_QUOTA = 14,
     TOWER_HAS_CHILDREN = 15,
     TOWER_ROOT_EXIT = 16,
+    TOWER_TOO_SMALL = 17,
 };
 
 /* One reply. What its kind does not tell is 0. */

@@ -1,10 +1,13 @@
 -- Lemmas on what processes cost.
 pub mod AccessCosts
+pub mod AccessNeeds
 pub mod Beside
 pub mod ChargeLemmas
+pub mod Copied
 pub mod CostSteps
 pub mod Costed
 pub mod Costs
 pub mod MapFirst
 pub mod Relief
+pub mod Sizes
 pub mod Totals

@@ -1,9 +1,12 @@
 -- What each step of the code leaves.
+pub mod Bytes
+pub mod Copies
 pub mod CountSteps
 pub mod Departures
 pub mod Joins
 pub mod LazyFilling
 pub mod Leaves
+pub mod Looks
 pub mod Openings
 pub mod Steps
 pub mod Stores

@@ -1,4 +1,5 @@
 -- What each change of directories, memory and roles leaves.
+use Rattle.std.specs.Option.{option_map}
 use Rattle.std.specs.Prelude.{◌≡◌, ◌≢◌, ◌⊎◌, ℕ, ◌+◌, ◌<◌, ◌≤◌, Bool, true, false, not, ◌&&◌, List, length, Option, Some, None, is_some}
 use Rattle.page_words.specs.Addresses.{slot_number}
 use Rattle.page_words.specs.Words.{frame_number}
@@ -6,10 +7,11 @@ use Rattle.phys_memory.specs.Bytes.{frame_bytes}
 use Rattle.alloc_table.specs.declared.Role.{Role}
 use Rattle.alloc_table.specs.Roles.{IsReleased}
 use Rattle.page_map.specs.declared.PageEntry.{PageEntry}
-use Rattle.page_map.specs.Entries.{dir_word, with_entry}
+use Rattle.page_map.specs.Entries.{dir_word, with_entry, is_lazy_entry}
 use Rattle.page_words.specs.FiniteMap as map
-use Rattle.address_space.specs.Spaces.{cell_or_fresh, Slot, Spaces, need, fresh, joined, without, is_slot, is_of, at_page}
-use Rattle.address_space.specs.Cells.{lazy_count}
+use Rattle.page_words.specs.FiniteSet as set
+use Rattle.address_space.specs.Spaces.{cell_or_fresh, Slot, Spaces, need, fresh, joined, without, is_slot, is_of, at_page, copy_of, copied}
+use Rattle.address_space.specs.Cells.{holders_of, lazy_count}
 use Rattle.address_space.specs.View.{table_in, total_cost, spaces_in, entries_in, entry_in, directory_of}
 use Rattle.address_space.specs.Sound.{InUse, IsSound, InUseAt, weight_in, IsSpaces}
 
@@ -68,13 +70,16 @@ pub record Touched (directories : List (Option ℕ)) (spaces' : Spaces) (bytes :
   pub spaces : spaces_in directories bytes' ≡ spaces'
   pub cost : total_cost directories (spaces_in directories bytes') ≡ total_cost directories (spaces_in directories bytes)
   pub in_use : InUse (directory_of directories) (frame_bytes bytes) → InUse (directory_of directories) (frame_bytes bytes')
-  pub lazy : lazy_count (entries_in (directory_of directories) (frame_bytes bytes')) ≡ lazy_count (entries_in (directory_of directories) (frame_bytes bytes))
+  -- the same slots are lazy: those that name frame 0
+  pub lazy : holders_of (entries_in (directory_of directories) (frame_bytes bytes')) 0 ≡ holders_of (entries_in (directory_of directories) (frame_bytes bytes)) 0
 
 -- a lazy page got a frame of its own
 pub record PageFilled (directories : List (Option ℕ)) (p page : ℕ) (bytes : List ℕ) (roles : List Role) (bytes' : List ℕ) (roles' : List Role) : Type 0 where
   pub after : IsSpaces directories bytes' roles'
   pub spaces : spaces_in directories bytes' ≡ spaces_in directories bytes
   pub real : (e : PageEntry) × (entry_in (directory_of directories) (frame_bytes bytes') (at_page p page) ≡ Some e) × (e.lazy ≡ false)
+  -- no other slot became lazy
+  pub fewer : (q : Slot) → set.contains (holders_of (entries_in (directory_of directories) (frame_bytes bytes)) 0) q ≡ false → set.contains (holders_of (entries_in (directory_of directories) (frame_bytes bytes')) 0) q ≡ false
   pub length : length roles' ≡ length roles
 
 -- a process got a blank directory
@@ -136,4 +141,36 @@ pub record SpaceDropped (directories : List (Option ℕ)) (p : ℕ) (bytes : Lis
   pub spaces : spaces_in directories' bytes' ≡ without (spaces_in directories bytes) (is_of p)
   pub none : directory_of directories' p ≡ None
   pub others : (q : ℕ) → q ≢ p → directory_of directories' q ≡ directory_of directories q
+  pub length : length roles' ≡ length roles
+
+-- a page of a process has a copy at the same page of another, which is lazy where the page is
+pub record SlotCopied (directories : List (Option ℕ)) (from to page : ℕ) (bytes : List ℕ) (roles : List Role) (bytes' : List ℕ) (roles' : List Role) : Type 0 where
+  pub slot : SlotAdded directories to page bytes roles bytes' roles'
+  pub spaces : spaces_in directories bytes' ≡ map.insert (spaces_in directories bytes) (at_page to page) (copy_of (at_page to page) (cell_or_fresh (spaces_in directories bytes) (at_page from page)))
+  pub entries : (e : PageEntry) × (entries_in (directory_of directories) (frame_bytes bytes') ≡ map.insert (entries_in (directory_of directories) (frame_bytes bytes)) (at_page to page) e) × (e.lazy ≡ is_lazy_entry (entry_in (directory_of directories) (frame_bytes bytes) (at_page from page)))
+
+-- the same, where the frames and the costs agree again
+pub record PageCopied (directories : List (Option ℕ)) (from to page : ℕ) (bytes : List ℕ) (roles : List Role) (bytes' : List ℕ) (roles' : List Role) : Type 0 where
+  pub after : IsSpaces directories bytes' roles'
+  pub spaces : spaces_in directories bytes' ≡ map.insert (spaces_in directories bytes) (at_page to page) (copy_of (at_page to page) (cell_or_fresh (spaces_in directories bytes) (at_page from page)))
+  pub entries : (e : PageEntry) × (entries_in (directory_of directories) (frame_bytes bytes') ≡ map.insert (entries_in (directory_of directories) (frame_bytes bytes)) (at_page to page) e) × (e.lazy ≡ is_lazy_entry (entry_in (directory_of directories) (frame_bytes bytes) (at_page from page)))
+  pub length : length roles' ≡ length roles
+
+-- the pages of a process below one have copies at another's, which had none
+pub record CopiedBelow (directories : List (Option ℕ)) (from to next : ℕ) (bytes : List ℕ) (roles : List Role) (bytes' : List ℕ) (roles' : List Role) : Type 0 where
+  pub after : IsSpaces directories bytes' roles'
+  pub others : (slot : Slot) → slot.pid ≢ to → map.get (spaces_in directories bytes') slot ≡ map.get (spaces_in directories bytes) slot
+  pub below : (page : ℕ) → page < next → map.get (spaces_in directories bytes') (at_page to page) ≡ option_map (copy_of (at_page to page)) (map.get (spaces_in directories bytes) (at_page from page))
+  pub rest : (page : ℕ) → next ≤ page → map.get (spaces_in directories bytes') (at_page to page) ≡ None
+  pub other_entries : (slot : Slot) → slot.pid ≢ to → map.get (entries_in (directory_of directories) (frame_bytes bytes')) slot ≡ map.get (entries_in (directory_of directories) (frame_bytes bytes)) slot
+  pub lazy : (page : ℕ) → page < next → is_lazy_entry (map.get (entries_in (directory_of directories) (frame_bytes bytes')) (at_page to page)) ≡ is_lazy_entry (map.get (entries_in (directory_of directories) (frame_bytes bytes)) (at_page from page))
+  pub length : length roles' ≡ length roles
+  pub low : 0x40000 ≤ next
+  pub high : next ≤ 0xf0000
+
+-- all pages of a process have copies at another's
+pub record PagesCopied (directories : List (Option ℕ)) (from to : ℕ) (bytes : List ℕ) (roles : List Role) (bytes' : List ℕ) (roles' : List Role) : Type 0 where
+  pub after : IsSpaces directories bytes' roles'
+  pub spaces : spaces_in directories bytes' ≡ copied (spaces_in directories bytes) from to
+  pub lazy : (page : ℕ) → is_lazy_entry (entry_in (directory_of directories) (frame_bytes bytes') (at_page to page)) ≡ is_lazy_entry (entry_in (directory_of directories) (frame_bytes bytes) (at_page from page))
   pub length : length roles' ≡ length roles

@@ -1,11 +1,14 @@
 -- Address spaces: a finite map from slots to cells, and what they cost. No frame, word or count is in it.
-use Rattle.std.proofs.Common.{◌≡◌, ℕ, zero, suc, ◌+◌, ◌*◌, ◌/◌, ◌%◌, Bool, true, false, not, if◌then◌else◌, ◌==◌, List, [], ◌∷◌, ◌++◌, map, length, take, drop, replicate, refl, unwrap_or}
+use Rattle.std.proofs.Common.{◌≡◌, ℕ, zero, suc, ◌+◌, ◌*◌, ◌/◌, ◌%◌, Bool, true, false, not, if◌then◌else◌, ◌==◌, List, [], ◌∷◌, ◌++◌, map, length, take, drop, replicate, refl, Option, unwrap_or}
 use Rattle.std.specs.declared.cmp.Ordering.{Ordering}
 use Rattle.std.specs.declared.cmp.Ordering.TheVariants.{Less, Equal, Greater}
 use Rattle.std.specs.Ordering.{nat_cmp, then_cmp, on, ordering_then}
 use Rattle.std.specs.Cmp.{IsTotalOrder, nat_cmp_total, on_total, then_total}
+use Rattle.std.specs.Option.{option_map}
 use Rattle.std.specs.FinMap.{IsAntisymmetric, nat_cmp-IsAntisymmetric}
-use Rattle.page_words.specs.Addresses.{slot_number, page_number}
+use Rattle.std.specs.Prelude.{slice_index}
+use Rattle.page_words.specs.Addresses.{slot_number, page_number, offset_number, touched}
+use Rattle.page_words.specs.declared.addresses.Size.{Size}
 use Rattle.page_words.specs.FiniteMap as map
 use Rattle.page_words.specs.FiniteMap.{Order, Map, nat_order, same}
 use Rattle.page_words.specs.FiniteSet as set
@@ -121,6 +124,22 @@ cost spaces p = cost_of (pages_of spaces p)
 abbrev pub need : Spaces → ℕ → ℕ → ℕ
 need spaces p page = if set.contains (regions_of (pages_of spaces p)) (slot_number page) then 1 else 2
 
+-- what a process needs for a page: nothing where it is mapped
+abbrev pub page_need : Spaces → ℕ → ℕ → ℕ
+page_need spaces p page = if map.contains_key spaces (at_page p page) then 0 else need spaces p page
+
+-- the pages of a list that a process has not mapped
+abbrev pub missing : Spaces → ℕ → List ℕ → Set nat_order
+missing spaces p pages = set.retain (set.from_list pages) (λ page. not (map.contains_key spaces (at_page p page)))
+
+-- what a process needs to map these pages too: one for each, and one for each of their regions in which it has no page
+abbrev pub need_of : Spaces → ℕ → Set nat_order → ℕ
+need_of spaces p pages = set.len pages + set.len (set.retain (regions_of pages) (λ region. not (set.contains (regions_of (pages_of spaces p)) region)))
+
+-- what a process needs for an access: to map the pages that it touches and that are not mapped
+abbrev pub access_need : Spaces → ℕ → ℕ → Size → ℕ
+access_need spaces p address size = need_of spaces p (missing spaces p (touched address size))
+
 -- ---- Bytes and numbers
 
 -- the low bytes of a number, the lowest first
@@ -161,6 +180,37 @@ stored spaces slot at new =
     let cell = cell_or_fresh spaces slot in
     store_in spaces slot cell (write_at cell.bytes at new)
 
+-- ---- Accesses, which may touch two pages
+
+-- the byte at an address of a process, 0 where nothing is mapped
+abbrev pub byte_at : Spaces → ℕ → ℕ → ℕ
+byte_at spaces p address = slice_index (cell_or_fresh spaces (slot_at p address)).bytes (offset_number address)
+
+-- the number of the bytes at these addresses, the lowest first
+abbrev pub number_of : Spaces → ℕ → List ℕ → ℕ
+number_of spaces p addresses = value_of (map (byte_at spaces p) addresses)
+
+-- a page of a process is mapped: it stays as it is, or is fresh
+abbrev pub with_page : Spaces → ℕ → ℕ → Spaces
+with_page spaces p page = if map.contains_key spaces (at_page p page) then spaces else map.insert spaces (at_page p page) (fresh (at_page p page) true)
+
+-- each of these pages is mapped
+abbrev pub with_pages : Spaces → ℕ → List ℕ → Spaces
+with_pages spaces p [] = spaces
+with_pages spaces p (page ∷ pages) = with_pages (with_page spaces p page) p pages
+
+-- after a load through these pages: accessed is set in the slot of each
+abbrev pub all_accessed : Spaces → ℕ → List ℕ → Spaces
+all_accessed spaces p [] = spaces
+all_accessed spaces p (page ∷ pages) = all_accessed (accessed spaces (at_page p page)) p pages
+
+-- after a store of these bytes from an address on, one after the other
+abbrev pub all_stored : Spaces → ℕ → ℕ → List ℕ → Spaces
+all_stored spaces p address [] = spaces
+all_stored spaces p address (byte ∷ bytes) = all_stored (stored spaces (slot_at p address) (offset_number address) (byte ∷ [])) p (address + 1) bytes
+
+-- ---- Joins
+
 -- a slot joins the group of a cell, with this right
 abbrev pub join_in : Spaces → Cell → Slot → Bool → Spaces
 join_in spaces cell slot right =
@@ -170,3 +220,16 @@ join_in spaces cell slot right =
 -- after a slot has joined the group of another, with this right
 abbrev pub joined : Spaces → Slot → Slot → Bool → Spaces
 joined spaces giver slot right = join_in spaces (cell_or_fresh spaces giver) slot right
+
+-- a copy of a cell for a slot: the same bytes and rights, untouched, in a group of its own
+abbrev pub copy_of : Slot → Cell → Cell
+copy_of slot cell = record cell { accessed = false; dirty = false; holders = set.insert set.empty slot }
+
+-- what stands at a slot after all pages of a process were copied to another: at the other's, copies of what the
+-- process has at the same pages
+abbrev pub copied_at : Spaces → ℕ → ℕ → Slot → Option Cell
+copied_at spaces from to slot = if is_of to slot then option_map (copy_of slot) (map.get spaces (at_page from slot.page)) else map.get spaces slot
+
+-- after all pages of a process were copied to the same pages of another, which had none
+abbrev pub copied : Spaces → ℕ → ℕ → Spaces
+copied spaces from to = map.collect (copied_at spaces from to) (map.keys spaces ++ map (λ slot. at_page to slot.page) (map.keys spaces))

@@ -1,6 +1,6 @@
 //! What goes through a mapped slot: loads and stores, looks that set no flag, and changes of the right to write.
 
-ghost use Rattle.std.specs.Prelude.{◌≡◌, ◌*◌, ◌<◌, ◌%◌, ◌^◌, Some, IfSome, IsSome, IsNone, length, slice_set, is_some, true, false};
+ghost use Rattle.std.specs.Prelude.{◌≡◌, ◌+◌, ◌<◌, ◌≤◌, ◌^◌, [], ◌∷◌, Some, IfSome, IsSome, IsNone, length, slice_index, is_some, true, false};
 ghost use Rattle.page_words.specs.Addresses.{slot_number, byte_count, IsUserPage};
 ghost use Rattle.page_words.specs.Words.{is_present};
 ghost use Rattle.page_words.specs.FiniteMap as map;
@@ -17,41 +17,90 @@ use page_map::PageEntry;
 use page_words::{Frame, Page, Pid, Size};
 use phys_memory::Memory;
 
-/// The number in some bytes of a page: one byte, or a word at a multiple of four.
+/// The number of two bytes, the lowest first.
+pub fn of_two(first: u8, second: u8) -> u32
+    ensures value { result ≡ value_of (first ∷ second ∷ []) }
+    ensures bound { result < 2 ^ 16 }
+{
+    u32::from(first) + 256 * u32::from(second)
+}
+
+/// The number in some bytes that lie in one page.
 fn number_at(memory: &Memory, frame: Frame, at: u32, size: Size) -> u32
     requires frame { Inside memory.now frame }
-    requires inside { at < 4096 }
-    requires aligned { at % byte_count size ≡ 0 }
+    requires inside { at + byte_count size ≤ 4096 }
     ensures { result ≡ value_of (bytes_at (frame_bytes memory.now frame) at (byte_count size)) }
 {
     let place = frame.0 as usize * 4096 + at as usize;
     match size {
         Size::One => u32::from(memory.read_byte(place)),
+        Size::Two => of_two(memory.read_byte(place), memory.read_byte(place + 1)),
         Size::Four => memory.read_word(place),
     }
 }
 
-/// The number that a mapped slot has at a place. It sets no flag.
+/// The byte at a place of a frame.
+fn byte_of(memory: &Memory, frame: Frame, at: u32) -> u8
+    requires frame { Inside memory.now frame }
+    requires inside { at < 4096 }
+    ensures { result ≡ slice_index (frame_bytes memory.now frame) at }
+{
+    memory.read_byte(frame.0 as usize * 4096 + at as usize)
+}
+
+/// The entry of a process's page, where it is mapped.
+fn entry_of(
+    memory: &Memory,
+    frames: &FrameTable,
+    directories: &Directories,
+    pid: Pid,
+    page: Page,
+) -> Option<PageEntry>
+    requires sound { IsSound directories.now memory.now frames.now }
+    requires user { IsUserPage page }
+    ensures { result ≡ entry_in (directory_of directories.now) (frame_bytes memory.now) (at_page pid page) }
+{
+    let directory = space_of(directories, pid)?;
+    page_map::entry(memory, directory, page)
+}
+
+/// The byte that a page of a process has at a place, 0 where it isn't mapped. It sets no flag.
+pub fn byte_in(
+    memory: &Memory,
+    frames: &FrameTable,
+    directories: &Directories,
+    pid: Pid,
+    page: Page,
+    at: u32,
+) -> u8
+    requires sound { IsSound directories.now memory.now frames.now }
+    requires user { IsUserPage page }
+    requires inside { at < 4096 }
+    ensures { result ≡ slice_index (cell_or_fresh (spaces_in directories.now memory.now) (at_page pid page)).bytes at }
+{
+    match entry_of(memory, frames, directories, pid, page) {
+        Some(entry) => byte_of(memory, entry.frame, at),
+        None => 0,
+    }
+}
+
+/// The number that a slot has at a place, where it is mapped. It sets no flag.
 pub fn look(
     memory: &Memory,
     frames: &FrameTable,
     directories: &Directories,
     pid: Pid,
-    directory: Frame,
     page: Page,
     at: u32,
     size: Size,
-) -> u32
+) -> Option<u32>
     requires sound { IsSound directories.now memory.now frames.now }
-    requires live { directory_of directories.now pid ≡ Some directory }
     requires user { IsUserPage page }
-    requires mapped { is_some (entry_at (frame_bytes memory.now) directory page) ≡ true }
-    requires inside { at < 4096 }
-    requires aligned { at % byte_count size ≡ 0 }
-    ensures { result ≡ value_of (bytes_at (cell_or_fresh (spaces_in directories.now memory.now) (at_page pid page)).bytes at (byte_count size)) }
+    requires inside { at + byte_count size ≤ 4096 }
+    ensures { IfSome result (λ value. value ≡ value_of (bytes_at (cell_or_fresh (spaces_in directories.now memory.now) (at_page pid page)).bytes at (byte_count size))) }
 {
-    let entry = page_map::entry(memory, directory, page).unwrap();
-    number_at(memory, entry.frame, at, size)
+    let entry = entry_of(memory, frames, directories, pid, page)?;
+    Some(number_at(memory, entry.frame, at, size))
 }
 
 /// Sets three flags of a mapped page's entry. A word that stays as it is isn't written.
@@ -121,8 +170,7 @@ fn load_through(
     requires live { directory_of directories.now pid ≡ Some directory }
     requires user { IsUserPage page }
     requires here { entry_at (frame_bytes memory.old) directory page ≡ Some entry }
-    requires inside { at < 4096 }
-    requires aligned { at % byte_count size ≡ 0 }
+    requires inside { at + byte_count size ≤ 4096 }
     ensures value { result ≡ value_of (bytes_at (cell_or_fresh (spaces_in directories.now memory.old) (at_page pid page)).bytes at (byte_count size)) }
     ensures touched { Touched directories.now (accessed (spaces_in directories.now memory.old) (at_page pid page)) memory.old frames.now memory.new }
 {
@@ -154,8 +202,7 @@ pub fn load(
 ) -> Option<u32>
     requires sound { IsSound directories.now memory.old frames.now }
     requires user { IsUserPage page }
-    requires inside { at < 4096 }
-    requires aligned { at % byte_count size ≡ 0 }
+    requires inside { at + byte_count size ≤ 4096 }
     ensures mapped { is_some result ≡ is_some (map.get (spaces_in directories.now memory.old) (at_page pid page)) }
     ensures value { IfSome result (λ value. value ≡ value_of (bytes_at (cell_or_fresh (spaces_in directories.now memory.old) (at_page pid page)).bytes at (byte_count size))) }
     ensures touched { IsSome result → Touched directories.now (accessed (spaces_in directories.now memory.old) (at_page pid page)) memory.old frames.now memory.new }
@@ -177,26 +224,40 @@ pub fn load(
 }
 
 /// Writes the lowest byte of a number.
-fn put_byte(memory: &mut Memory, place: usize, value: u32)
-    requires { place < length memory.old }
-    ensures bytes { memory.new ≡ slice_set memory.old place (value % 256) }
-    ensures length { length memory.new ≡ length memory.old }
-{
-    memory.write_byte(place, (value % 256) as u8);
-}
-
-/// The frame, the place in it and the bytes of a store: one byte, or a word at a multiple of four.
-fn put_bytes(memory: &mut Memory, frame: Frame, at: u32, size: Size, value: u32)
+fn put_byte(memory: &mut Memory, frame: Frame, at: u32, value: u32)
     requires frame { Inside memory.old frame }
     requires inside { at < 4096 }
-    requires aligned { at % byte_count size ≡ 0 }
-    ensures frames { frame_bytes memory.new ≡ with_frame (frame_bytes memory.old) frame (write_at (frame_bytes memory.old frame) at (bytes_of (byte_count size) value)) }
+    ensures frames { frame_bytes memory.new ≡ with_frame (frame_bytes memory.old) frame (write_at (frame_bytes memory.old frame) at (bytes_of 1 value)) }
     ensures length { length memory.new ≡ length memory.old }
 {
     let place = frame.0 as usize * 4096 + at as usize;
+    memory.write_byte(place, (value % 256) as u8);
+}
+
+/// Writes the lowest four bytes of a number.
+fn put_word(memory: &mut Memory, frame: Frame, at: u32, value: u32)
+    requires frame { Inside memory.old frame }
+    requires inside { at + 4 ≤ 4096 }
+    ensures frames { frame_bytes memory.new ≡ with_frame (frame_bytes memory.old) frame (write_at (frame_bytes memory.old frame) at (bytes_of 4 value)) }
+    ensures length { length memory.new ≡ length memory.old }
+{
+    memory.write_word(frame.0 as usize * 4096 + at as usize, value);
+}
+
+/// The frame, the place in it and the bytes of a store that lie in one page.
+fn put_bytes(memory: &mut Memory, frame: Frame, at: u32, size: Size, value: u32)
+    requires frame { Inside memory.old frame }
+    requires inside { at + byte_count size ≤ 4096 }
+    ensures frames { frame_bytes memory.new ≡ with_frame (frame_bytes memory.old) frame (write_at (frame_bytes memory.old frame) at (bytes_of (byte_count size) value)) }
+    ensures length { length memory.new ≡ length memory.old }
+{
     match size {
-        Size::One => put_byte(memory, place, value),
-        Size::Four => memory.write_word(place, value),
+        Size::One => put_byte(memory, frame, at, value),
+        Size::Two => {
+            put_byte(memory, frame, at, value);
+            put_byte(memory, frame, at + 1, value / 256);
+        }
+        Size::Four => put_word(memory, frame, at, value),
     }
 }
 
@@ -218,8 +279,7 @@ fn store_through(
     requires user { IsUserPage page }
     requires here { entry_at (frame_bytes memory.old) directory page ≡ Some entry }
     requires real { entry.lazy ≡ false }
-    requires inside { at < 4096 }
-    requires aligned { at % byte_count size ≡ 0 }
+    requires inside { at + byte_count size ≤ 4096 }
     ensures { Touched directories.now (stored (spaces_in directories.now memory.old) (at_page pid page) at (bytes_of (byte_count size) value)) memory.old frames.now memory.new }
 {
     put_bytes(memory, entry.frame, at, size, value);
@@ -243,8 +303,7 @@ pub fn store(
     requires user { IsUserPage page }
     requires mapped { is_some (entry_at (frame_bytes memory.old) directory page) ≡ true }
     requires real { is_lazy_entry (entry_at (frame_bytes memory.old) directory page) ≡ false }
-    requires inside { at < 4096 }
-    requires aligned { at % byte_count size ≡ 0 }
+    requires inside { at + byte_count size ≤ 4096 }
     ensures { Touched directories.now (stored (spaces_in directories.now memory.old) (at_page pid page) at (bytes_of (byte_count size) value)) memory.old frames.now memory.new }
 {
     let entry = page_map::entry(memory, directory, page).unwrap();
@@ -276,8 +335,7 @@ pub fn try_store(
 ) -> bool
     requires sound { IsSound directories.now memory.old frames.now }
     requires user { IsUserPage page }
-    requires inside { at < 4096 }
-    requires aligned { at % byte_count size ≡ 0 }
+    requires inside { at + byte_count size ≤ 4096 }
     ensures done { result ≡ takes_stores_through (entry_in (directory_of directories.now) (frame_bytes memory.old) (at_page pid page)) }
     ensures stored { result ≡ true → Touched directories.now (stored (spaces_in directories.now memory.old) (at_page pid page) at (bytes_of (byte_count size) value)) memory.old frames.now memory.new }
     ensures none { result ≡ false → memory.new ≡ memory.old }

@@ -6,13 +6,13 @@
 //! costs allows.
 #![tactic(auto)]
 
-ghost use Rattle.std.specs.Prelude.{◌≡◌, ◌≢◌, ◌↔◌, IfOk, IfSome, IsSome, IsNone, IsErrOf, replicate, ℕ, ◌+◌, ◌*◌, ◌<◌, ◌≤◌, ◌%◌, Some, None, length, slice_get, slice_set, is_some, true, false};
-ghost use Rattle.page_words.specs.Addresses.{slot_number, page_number, offset_number, byte_count, IsUserPage};
+ghost use Rattle.std.specs.Prelude.{◌≡◌, ◌≢◌, ◌↔◌, IfOk, IfSome, IsSome, IsNone, IsErrOf, replicate, ℕ, ◌+◌, ◌*◌, ◌/◌, ◌%◌, ◌^◌, ◌<◌, ◌≤◌, [], ◌∷◌, Some, None, length, slice_get, slice_set, is_some, true, false, not, ◌&&◌, ◌==◌};
+ghost use Rattle.page_words.specs.Addresses.{slot_number, page_number, offset_number, byte_count, covered, second_page, touched, EachTouched, IsUserPage};
 ghost use Rattle.phys_memory.specs.Bytes.{blank_bytes, frame_bytes, with_frame};
 ghost use Rattle.alloc_table.specs.Roles.{free_frames, frames_in_use, CanBeTaken, IsTaken, IsPageBelow, IsInUse, opening_roles};
 ghost use Rattle.page_map.specs.Entries.{table_of, entry_at, is_lazy_entry, IsPageMap};
 ghost use Rattle.page_words.specs.FiniteMap as map;
-ghost use Rattle.address_space.specs.Spaces.{need, fresh, joined, stored, write_at, bytes_of, without, slot_at, value_of, bytes_at, cell_or_fresh, accessed, protected, cost, is_slot, is_of, at_page};
+ghost use Rattle.address_space.specs.Spaces.{Slot, need, page_need, access_need, with_page, fresh, joined, byte_at, number_of, all_accessed, all_stored, stored, write_at, bytes_of, without, slot_at, value_of, bytes_at, cell_or_fresh, accessed, protected, cost, is_slot, is_of, at_page, copied};
 ghost use Rattle.address_space.specs.Image.{StandsFor, StandsForOne, LeavesRoom, image_of, is_lazy_at, takes_stores};
 ghost use Rattle.address_space.specs.Walks.{WalksAgree};
 ghost use Rattle.address_space.specs.Shown.{shown};
@@ -24,6 +24,7 @@ ghost use Rattle.address_space.specs.Changes.{table_need, TableGiven, PageAdded,
 
 mod accesses;
 mod charges;
+mod copies;
 mod drops;
 mod fills;
 mod region_counts;
@@ -31,7 +32,8 @@ mod region_counts;
 use alloc_table::{FrameTable, Role};
 use page_map::PageEntry;
 use page_words::{
-    Frame, MAX_FRAMES, MIN_FRAMES, Page, Pid, Size, Vaddr, offset_of, page_of, slot_of,
+    Frame, MAX_FRAMES, MIN_FRAMES, Page, Pid, Size, Vaddr, offset_of, page_of, second_page, slot_of,
+    start_of,
 };
 use phys_memory::Memory;
 use std::alloc::Global;
@@ -494,6 +496,32 @@ impl Spaces {
         );
     }
 
+    /// Copies each page of a process to the same page of another, whose space is as `fresh` leaves it: equal bytes and
+    /// rights, untouched, in groups of their own. The copy of a lazy page is lazy.
+    pub fn copy_space(&mut self, from: Pid, to: Pid)
+        requires from { is_some (directory_of self.old.directories from) ≡ true }
+        requires live { is_some (directory_of self.old.directories to) ≡ true }
+        requires empty { (page : ℕ) → map.get self.old.spaces (at_page to page) ≡ None }
+        requires room { cost self.old.spaces from + total_cost self.old.directories self.old.spaces ≤ length self.old.roles }
+        ensures spaces { self.new.spaces ≡ copied self.old.spaces from to }
+        ensures lazy { (page : ℕ) → is_lazy_at (image_of self.new) (at_page to page) ≡ is_lazy_at (image_of self.old) (at_page from page) }
+        ensures directories { self.new.directories ≡ self.old.directories }
+        ensures frames { length self.new.roles ≡ length self.old.roles }
+    {
+        let source = home(&self.directories, from);
+        let target = home(&self.directories, to);
+        copies::copy_pages(
+            &mut self.memory,
+            &mut self.frames,
+            &self.directories,
+            &mut self.counts,
+            from,
+            source,
+            to,
+            target,
+        );
+    }
+
     /// Whether a slot has a lazy page, which has no frame of its own yet.
     pub fn is_lazy(&self, pid: Pid, page: Page) -> bool
         requires user { IsUserPage page }
@@ -502,13 +530,15 @@ impl Spaces {
         fills::is_lazy_in(&self.memory, &self.frames, &self.directories, pid, page)
     }
 
-    /// Gives a lazy page a frame of its own; any other stays as it is. What is mapped stays the same.
+    /// Gives a lazy page a frame of its own; any other stays as it is, and none becomes lazy. What is mapped stays
+    /// the same.
     pub fn fill(&mut self, pid: Pid, page: Page)
         requires mapped { is_some (map.get self.old.spaces (at_page pid page)) ≡ true }
         requires user { IsUserPage page }
         ensures spaces { self.new.spaces ≡ self.old.spaces }
         ensures directories { self.new.directories ≡ self.old.directories }
         ensures real { is_lazy_at (image_of self.new) (at_page pid page) ≡ false }
+        ensures others { (slot : Slot) → is_lazy_at (image_of self.old) slot ≡ false → is_lazy_at (image_of self.new) slot ≡ false }
         ensures frames { length self.new.roles ≡ length self.old.roles }
     {
         if fills::is_lazy_in(&self.memory, &self.frames, &self.directories, pid, page) {
@@ -524,15 +554,16 @@ impl Spaces {
         }
     }
 
-    /// Stores through a mapped slot that isn't lazy, and sets accessed and dirty in it.
-    pub fn write(&mut self, pid: Pid, address: Vaddr, size: Size, value: u32)
+    /// Stores bytes that lie in one page, which is mapped and isn't lazy, and sets accessed and dirty in its slot.
+    fn write_in_page(&mut self, pid: Pid, address: Vaddr, size: Size, value: u32)
+        requires within { second_page address size ≡ None }
         requires mapped { is_some (map.get self.old.spaces (slot_at pid address)) ≡ true }
         requires user { IsUserPage (page_number address) }
         requires real { is_lazy_at (image_of self.old) (slot_at pid address) ≡ false }
-        requires aligned { address % byte_count size ≡ 0 }
         ensures spaces { self.new.spaces ≡ stored self.old.spaces (slot_at pid address) (offset_number address) (bytes_of (byte_count size) value) }
         ensures directories { self.new.directories ≡ self.old.directories }
         ensures roles { self.new.roles ≡ self.old.roles }
+        ensures lazy { (slot : Slot) → is_lazy_at (image_of self.new) slot ≡ is_lazy_at (image_of self.old) slot }
     {
         let directory = home(&self.directories, pid);
         let page = page_of(address);
@@ -550,11 +581,70 @@ impl Spaces {
         );
     }
 
-    /// Stores, as `write` does, where the slot takes a store as memory stands: it is mapped, with the right to
-    /// write, and isn't lazy. Whether it is so; where it isn't, nothing changes.
+    /// Stores the lowest byte of a number, and gives the number without it and the address behind it.
+    fn write_byte(&mut self, pid: Pid, address: Vaddr, value: u32) -> (Vaddr, u32)
+        requires mapped { is_some (map.get self.old.spaces (slot_at pid address)) ≡ true }
+        requires user { IsUserPage (page_number address) }
+        requires real { is_lazy_at (image_of self.old) (slot_at pid address) ≡ false }
+        ensures address { result.0 ≡ address + 1 }
+        ensures value { result.1 ≡ value / 256 }
+        ensures spaces { self.new.spaces ≡ stored self.old.spaces (slot_at pid address) (offset_number address) (value % 256 ∷ []) }
+        ensures directories { self.new.directories ≡ self.old.directories }
+        ensures roles { self.new.roles ≡ self.old.roles }
+        ensures mapped { (slot : Slot) → map.contains_key self.new.spaces slot ≡ map.contains_key self.old.spaces slot }
+        ensures lazy { (slot : Slot) → is_lazy_at (image_of self.new) slot ≡ is_lazy_at (image_of self.old) slot }
+    {
+        self.write_in_page(pid, address, Size::One, value);
+        (Vaddr(address.0 + 1), value / 256)
+    }
+
+    /// Stores through mapped slots that aren't lazy, one or two by where the bytes lie, and sets accessed and
+    /// dirty in each.
+    pub fn write(&mut self, pid: Pid, address: Vaddr, size: Size, value: u32)
+        requires mapped { EachTouched address size (λ page. is_some (map.get self.old.spaces (at_page pid page)) ≡ true) }
+        requires user { EachTouched address size IsUserPage }
+        requires real { EachTouched address size (λ page. is_lazy_at (image_of self.old) (at_page pid page) ≡ false) }
+        ensures spaces { self.new.spaces ≡ all_stored self.old.spaces pid address (bytes_of (byte_count size) value) }
+        ensures directories { self.new.directories ≡ self.old.directories }
+        ensures roles { self.new.roles ≡ self.old.roles }
+    {
+        match second_page(address, size) {
+            None => self.write_in_page(pid, address, size, value),
+            Some(_) => self.write_by_bytes(pid, address, size, value),
+        }
+    }
+
+    /// Stores byte by byte.
+    fn write_by_bytes(&mut self, pid: Pid, address: Vaddr, size: Size, value: u32)
+        requires mapped { EachTouched address size (λ page. is_some (map.get self.old.spaces (at_page pid page)) ≡ true) }
+        requires user { EachTouched address size IsUserPage }
+        requires real { EachTouched address size (λ page. is_lazy_at (image_of self.old) (at_page pid page) ≡ false) }
+        ensures spaces { self.new.spaces ≡ all_stored self.old.spaces pid address (bytes_of (byte_count size) value) }
+        ensures directories { self.new.directories ≡ self.old.directories }
+        ensures roles { self.new.roles ≡ self.old.roles }
+    {
+        match size {
+            Size::One => {
+                self.write_byte(pid, address, value);
+            }
+            Size::Two => {
+                let (second, rest) = self.write_byte(pid, address, value);
+                self.write_byte(pid, second, rest);
+            }
+            Size::Four => {
+                let (second, rest) = self.write_byte(pid, address, value);
+                let (third, rest) = self.write_byte(pid, second, rest);
+                let (fourth, rest) = self.write_byte(pid, third, rest);
+                self.write_byte(pid, fourth, rest);
+            }
+        }
+    }
+
+    /// Stores bytes that lie in one page, as `write` does, where the slot takes a store as memory stands: it is
+    /// mapped, with the right to write, and isn't lazy. Whether it is so; where it isn't, nothing changes.
     pub fn try_write(&mut self, pid: Pid, address: Vaddr, size: Size, value: u32) -> bool
         requires user { IsUserPage (page_number address) }
-        requires aligned { address % byte_count size ≡ 0 }
+        requires within { second_page address size ≡ None }
         ensures done { result ≡ takes_stores self.old.spaces (image_of self.old) (slot_at pid address) }
         ensures spaces { result ≡ true → self.new.spaces ≡ stored self.old.spaces (slot_at pid address) (offset_number address) (bytes_of (byte_count size) value) }
         ensures directories { self.new.directories ≡ self.old.directories }
@@ -591,6 +681,60 @@ impl Spaces {
         need_in(&self.memory, &self.frames, &self.directories, pid, page)
     }
 
+    /// What a process needs for a page: nothing where it is mapped.
+    fn page_need(&self, pid: Pid, page: Page) -> u32
+        requires live { is_some (directory_of self.now.directories pid) ≡ true }
+        requires user { IsUserPage page }
+        ensures value { result ≡ page_need self.now.spaces pid page }
+        ensures most { result ≤ 2 }
+    {
+        match self.cell(pid, page) {
+            Some(_) => 0,
+            None => self.need(pid, page),
+        }
+    }
+
+    /// What a process needs for a page once it has mapped another, which lies in the same region of 1,024 pages or
+    /// in the next.
+    fn need_behind(&self, pid: Pid, page: Page, second: Page) -> u32
+        requires live { is_some (directory_of self.now.directories pid) ≡ true }
+        requires user { IsUserPage page }
+        requires second { IsUserPage second }
+        requires apart { second ≢ page }
+        ensures value { result ≡ page_need (with_page self.now.spaces pid page) pid second }
+        ensures most { result ≤ 2 }
+    {
+        match self.cell(pid, second) {
+            Some(_) => 0,
+            None if self.opens_region_of(pid, page, second) => 1,
+            None => self.need(pid, second),
+        }
+    }
+
+    /// Whether a page is not mapped, and lies in the same region of 1,024 pages as another.
+    fn opens_region_of(&self, pid: Pid, page: Page, second: Page) -> bool
+        requires { IsUserPage page }
+        ensures { result ≡ (not (map.contains_key self.now.spaces (at_page pid page)) && (slot_number page == slot_number second)) }
+    {
+        self.cell(pid, page).is_none() && slot_of(page) == slot_of(second)
+    }
+
+    /// What a process needs for an access: 1 for each page that it touches and that is not mapped, and 1 for each of
+    /// their regions of 1,024 pages in which the process has none.
+    pub fn access_need(&self, pid: Pid, address: Vaddr, size: Size) -> u32
+        requires live { is_some (directory_of self.now.directories pid) ≡ true }
+        requires user { EachTouched address size IsUserPage }
+        ensures value { result ≡ access_need self.now.spaces pid address size }
+        ensures most { result ≤ 4 }
+    {
+        let page = page_of(address);
+        let first = self.page_need(pid, page);
+        match second_page(address, size) {
+            None => first,
+            Some(second) => first + self.need_behind(pid, page, second),
+        }
+    }
+
     /// What a process is charged for: 1 for its directory, 1 for each region of 1,024 pages with a
     /// mapped page, 1 for each mapped page.
     pub fn cost(&self, pid: Pid) -> u32
@@ -617,47 +761,109 @@ impl Spaces {
         )
     }
 
-    /// The number at an address of a mapped page, the lowest byte first. It sets no flag.
-    pub fn peek(&self, pid: Pid, address: Vaddr, size: Size) -> u32
-        requires mapped { is_some (map.get self.now.spaces (slot_at pid address)) ≡ true }
-        requires user { IsUserPage (page_number address) }
-        requires aligned { address % byte_count size ≡ 0 }
-        ensures { result ≡ value_of (bytes_at (cell_or_fresh self.now.spaces (slot_at pid address)).bytes (offset_number address) (byte_count size)) }
+    /// The byte at an address, 0 where no page is mapped. It sets no flag.
+    fn byte(&self, pid: Pid, address: Vaddr) -> u8
+        requires { IsUserPage (page_number address) }
+        ensures { result ≡ byte_at self.now.spaces pid address }
     {
-        let directory = home(&self.directories, pid);
-        let page = page_of(address);
+        accesses::byte_in(
+            &self.memory,
+            &self.frames,
+            &self.directories,
+            pid,
+            page_of(address),
+            offset_of(address),
+        )
+    }
+
+    /// The number at an address, where its bytes lie in one page and it is mapped.
+    fn look(&self, pid: Pid, address: Vaddr, size: Size) -> Option<u32>
+        requires { IsUserPage (page_number address) }
+        ensures { IfSome result (λ value. value ≡ number_of self.now.spaces pid (covered address size)) }
+    {
+        if second_page(address, size).is_some() {
+            return None;
+        }
         accesses::look(
             &self.memory,
             &self.frames,
             &self.directories,
             pid,
-            directory,
-            page,
+            page_of(address),
             offset_of(address),
             size,
         )
     }
 
-    /// The number at an address of a mapped page; accessed is set in its slot.
+    /// The number at an address, byte by byte.
+    fn by_bytes(&self, pid: Pid, address: Vaddr, size: Size) -> u32
+        requires { EachTouched address size IsUserPage }
+        ensures { result ≡ number_of self.now.spaces pid (covered address size) }
+    {
+        match size {
+            Size::One => u32::from(self.byte(pid, address)),
+            Size::Two => self.two_bytes(pid, address),
+            Size::Four => {
+                let low = self.two_bytes(pid, address);
+                let high = self.two_bytes(pid, Vaddr(address.0 + 2));
+                low + 65536 * high
+            }
+        }
+    }
+
+    /// The number in the two bytes from an address on.
+    fn two_bytes(&self, pid: Pid, address: Vaddr) -> u32
+        requires first { IsUserPage (page_number address) }
+        requires second { IsUserPage (page_number (address + 1)) }
+        ensures value { result ≡ byte_at self.now.spaces pid address + 256 * byte_at self.now.spaces pid (address + 1) }
+        ensures bound { result < 2 ^ 16 }
+    {
+        accesses::of_two(
+            self.byte(pid, address),
+            self.byte(pid, Vaddr(address.0 + 1)),
+        )
+    }
+
+    /// The number at an address, the lowest byte first: 0 for each byte whose page isn't mapped. The bytes may lie
+    /// in two pages. It sets no flag.
+    pub fn peek(&self, pid: Pid, address: Vaddr, size: Size) -> u32
+        requires { EachTouched address size IsUserPage }
+        ensures { result ≡ number_of self.now.spaces pid (covered address size) }
+    {
+        match self.look(pid, address, size) {
+            Some(value) => value,
+            None => self.by_bytes(pid, address, size),
+        }
+    }
+
+    /// The number at an address of mapped pages, one or two by where the bytes lie; accessed is set in the slot of
+    /// each.
     pub fn read(&mut self, pid: Pid, address: Vaddr, size: Size) -> u32
-        requires mapped { is_some (map.get self.old.spaces (slot_at pid address)) ≡ true }
-        requires user { IsUserPage (page_number address) }
-        requires aligned { address % byte_count size ≡ 0 }
-        ensures value { result ≡ value_of (bytes_at (cell_or_fresh self.old.spaces (slot_at pid address)).bytes (offset_number address) (byte_count size)) }
-        ensures spaces { self.new.spaces ≡ accessed self.old.spaces (slot_at pid address) }
+        requires mapped { EachTouched address size (λ page. is_some (map.get self.old.spaces (at_page pid page)) ≡ true) }
+        requires user { EachTouched address size IsUserPage }
+        ensures value { result ≡ number_of self.old.spaces pid (covered address size) }
+        ensures spaces { self.new.spaces ≡ all_accessed self.old.spaces pid (touched address size) }
         ensures directories { self.new.directories ≡ self.old.directories }
         ensures roles { self.new.roles ≡ self.old.roles }
     {
-        self.try_read(pid, address, size).unwrap()
+        match second_page(address, size) {
+            None => self.try_read(pid, address, size).unwrap(),
+            Some(second) => {
+                let value = self.by_bytes(pid, address, size);
+                self.try_read(pid, address, Size::One).unwrap();
+                self.try_read(pid, start_of(second), Size::One).unwrap();
+                value
+            }
+        }
     }
 
-    /// The number at an address, as `read` gives it, where the page is mapped. None where it isn't, and nothing
-    /// changes.
+    /// The number at an address, as `read` gives it, where the bytes lie in one page and it is mapped. None where it
+    /// isn't, and nothing changes.
     pub fn try_read(&mut self, pid: Pid, address: Vaddr, size: Size) -> Option<u32>
+        requires within { second_page address size ≡ None }
         requires user { IsUserPage (page_number address) }
-        requires aligned { address % byte_count size ≡ 0 }
         ensures mapped { is_some result ≡ map.contains_key self.old.spaces (slot_at pid address) }
-        ensures value { IfSome result (λ value. value ≡ value_of (bytes_at (cell_or_fresh self.old.spaces (slot_at pid address)).bytes (offset_number address) (byte_count size))) }
+        ensures value { IfSome result (λ value. value ≡ number_of self.old.spaces pid (covered address size)) }
         ensures spaces { IsSome result → self.new.spaces ≡ accessed self.old.spaces (slot_at pid address) }
         ensures directories { self.new.directories ≡ self.old.directories }
         ensures roles { self.new.roles ≡ self.old.roles }

@@ -1,45 +1,80 @@
 -- What an access of a live process comes to.
-use Rattle.std.proofs.Common.{ℕ, Bool, true, false, not, ◌&&◌, if◌then◌else◌}
-use Rattle.page_words.specs.Addresses.{page_number, is_user_page}
+use Rattle.std.proofs.Common.{ℕ, Bool, true, false, not, ◌&&◌, if◌then◌else◌, Option, Some, None}
+use Rattle.std.specs.Prelude.{find}
+use Rattle.std.specs.Option.{option_map}
+use Rattle.page_words.specs.Addresses.{page_number, covered, second_page, is_user_page}
 use Rattle.page_words.specs.declared.addresses.Size.{Size}
-use Rattle.address_space.specs.Spaces.{cell_or_fresh, slot_at}
+use Rattle.address_space.specs.Spaces.{Slot, cell_or_fresh, at_page, slot_at}
 use Rattle.table_walk.specs.declared.Access.{Access}
 use Rattle.table_walk.specs.Walk.{is_write, page_fault}
 use Rattle.address_space.specs.Image.{is_lazy_at}
-use Rattle.process_table.specs.State.{State, is_mapped, has_no_room}
+use Rattle.process_table.specs.State.{State, is_mapped, lacks_room}
 use Rattle.process_table.specs.View.{View}
 use Rattle.process_table.specs.Image.{memory_of}
-use Rattle.process_table.specs.Calls.{is_misaligned}
-use Rattle.process_table.specs.declared.causes.Cause.TheVariants.{Misaligned, Quota}
+use Rattle.process_table.specs.declared.causes.Cause.TheVariants.{Quota}
+use Rattle.fault_handler.specs.declared.plans.PageStep.{PageStep}
+use Rattle.fault_handler.specs.declared.plans.PageStep.TheVariants as step
 use Rattle.fault_handler.specs.declared.plans.Plan.{Plan}
 use Rattle.fault_handler.specs.declared.plans.Plan.TheVariants as plan
 
--- the first line that applies
-abbrev pub plan_of : State → ℕ → ℕ → Size → Access → Plan
-plan_of s p address size access =
-    if is_misaligned address size then plan.Refused Misaligned else
-    if not (is_user_page (page_number address)) then plan.Fault (page_fault address access false) else
-    if is_mapped s (slot_at p address) then
-    if is_write access && not (cell_or_fresh s.spaces (slot_at p address)).write then plan.Fault (page_fault address access true) else plan.Complete
-    else
-    if has_no_room s (slot_at p address) then plan.Refused Quota else
-    plan.MapZero
+-- the first byte of an access that lies outside the user range
+abbrev pub outside : ℕ → Size → Option ℕ
+outside address size = find (λ a. not (is_user_page (page_number a))) (covered address size)
 
--- the plan of an access, where the page may be lazy: a write that is allowed gives such a page its frame first
-abbrev pub with_fill : Bool → Access → Plan → Plan
-with_fill lazy access plan.Complete = if is_write access && lazy then plan.Fill else plan.Complete
-with_fill lazy access plan.MapZero = plan.MapZero
-with_fill lazy access plan.Fill = plan.Fill
-with_fill lazy access (plan.Fault fault) = plan.Fault fault
-with_fill lazy access (plan.Refused cause) = plan.Refused cause
+-- a slot is mapped without the right to write
+abbrev pub is_read_only : State → Slot → Bool
+is_read_only s slot = is_mapped s slot && not (cell_or_fresh s.spaces slot).write
+
+-- the first byte of an access that lies in a page that is mapped without the right to write
+abbrev pub read_only : State → ℕ → ℕ → Size → Option ℕ
+read_only s p address size = find (λ a. is_read_only s (slot_at p a)) (covered address size)
+
+-- the first byte of a write that its process may not write
+abbrev pub forbidden : State → ℕ → ℕ → Size → Access → Option ℕ
+forbidden s p address size access = if is_write access then read_only s p address size else None
+
+-- a fault at this byte, where there is one, and else this plan
+abbrev pub fault_or : Option ℕ → Access → Bool → Plan → Plan
+fault_or None access present otherwise = otherwise
+fault_or (Some address) access present otherwise = plan.Fault (page_fault address access present)
+
+-- the first line that applies, by the steps that pages take
+abbrev pub planned_by : (ℕ → PageStep) → State → ℕ → ℕ → Size → Access → Plan
+planned_by steps s p address size access =
+    fault_or (outside address size) access false
+    (fault_or (forbidden s p address size access) access true
+    (if lacks_room s p address size then plan.Refused Quota else plan.Ready (steps (page_number address)) (option_map steps (second_page address size))))
+
+-- the step of a page by the state alone
+abbrev pub step_of : State → ℕ → ℕ → PageStep
+step_of s p page = if is_mapped s (at_page p page) then step.Complete else step.MapZero
+
+-- the step of a page as memory stands: a page that is written gets its frame first, where it is lazy
+abbrev pub step_at : View → ℕ → Access → ℕ → PageStep
+step_at v p access page =
+    if not (is_mapped v.state (at_page p page)) then step.MapZero else
+    if is_write access && is_lazy_at (memory_of v) (at_page p page) then step.Fill else
+    step.Complete
+
+-- the plan of an access by the state alone, which maps pages and fills none
+abbrev pub plan_of : State → ℕ → ℕ → Size → Access → Plan
+plan_of s p address size access = planned_by (step_of s p) s p address size access
 
 -- the plan of an access as memory stands
 abbrev pub plan_at : View → ℕ → ℕ → Size → Access → Plan
-plan_at v p address size access = with_fill (is_lazy_at (memory_of v) (slot_at p address)) access (plan_of v.state p address size access)
+plan_at v p address size access = planned_by (step_at v p access) v.state p address size access
 
 -- neither a refusal nor a fault
 abbrev pub goes_on : Plan → Bool
-goes_on plan.Complete = true
-goes_on plan.MapZero = true
-goes_on plan.Fill = true
+goes_on (plan.Ready first second) = true
 goes_on _ = false
+
+-- the access completes as memory stands, in one page
+abbrev pub at_once : Plan
+at_once = plan.Ready step.Complete None
+
+-- the access completes as memory stands, in one page or in two
+abbrev pub takes_no_frame : Plan → Bool
+takes_no_frame (plan.Ready step.Complete None) = true
+takes_no_frame (plan.Ready step.Complete (Some step.Complete)) = true
+takes_no_frame _ = false

@@ -1,107 +1,233 @@
 //! An access of a process: what it comes to, and how that is carried out.
 //!
 //! A plan is made of a state before anything changes. It is a refusal or a page fault, which change
-//! nothing; or the access completes, at once or after its page has been mapped.
+//! nothing; or the access completes, at once or after its pages, one or two by where its bytes lie, have been
+//! mapped or filled.
 #![tactic(auto)]
 
-ghost use Rattle.std.specs.Prelude.{◌≡◌, ◌≢◌, ◌↔◌, Bool, true, false, not, IsOk, IfSome, IsSome, IsNone};
-ghost use Rattle.page_words.specs.Addresses.{page_number, IsUserPage};
-ghost use Rattle.address_space.specs.Spaces.{slot_at};
-ghost use Rattle.process_table.specs.State.{is_live, is_mapped};
+ghost use Rattle.std.specs.Prelude.{◌≡◌, ◌≢◌, ◌≤◌, ◌↔◌, ℕ, Bool, true, false, not, IsOk, IfSome, IsSome, IsNone, Some, None};
+ghost use Rattle.std.specs.Option.{option_map};
+ghost use Rattle.page_words.specs.Addresses.{page_number, second_page, touched, EachTouched, IsUserPage};
+ghost use Rattle.address_space.specs.Spaces.{at_page, slot_at, page_need, with_page, with_pages};
+ghost use Rattle.process_table.specs.State.{is_live, is_mapped, lacks_room, room};
 ghost use Rattle.process_table.specs.TestAnswers.{map_answer};
-ghost use Rattle.process_table.specs.Calls.{is_misaligned, loaded, access_value, after_access, after_load, after_store, after_map};
+ghost use Rattle.process_table.specs.Calls.{loaded, access_value, after_access, after_load, after_store, after_map};
 ghost use Rattle.address_space.specs.Image.{is_lazy_at};
 ghost use Rattle.process_table.specs.Image.{memory_of};
-ghost use Rattle.fault_handler.specs.Plans.{plan_of, plan_at, goes_on};
+ghost use Rattle.fault_handler.specs.Plans.{outside, is_read_only, read_only, forbidden, step_at, plan_of, plan_at, goes_on, at_once, takes_no_frame};
+ghost use Rattle.process_table.specs.View.{View};
+ghost use Rattle.table_walk.specs.declared.Access.{Access};
+ghost use Rattle.fault_handler.specs.declared.plans.Plan.TheVariants as plan;
+ghost use Rattle.fault_handler.specs.declared.plans.PageStep.TheVariants as step;
 
 mod plans;
 
-use page_words::{Page, Pid, Size, Vaddr, in_user_range, page_of};
-pub use plans::Plan;
+use page_words::{Page, Pid, Size, Vaddr, in_user_range, page_of, second_page, start_of};
+pub use plans::{PageStep, Plan};
 use process_table::{Cause, Processes};
 use table_walk::{Access, PageFault};
 
-fn is_aligned(address: Vaddr, size: Size) -> bool
-    ensures { result ≡ not (is_misaligned address size) }
+/// The first byte of an access that lies outside the user range.
+fn outside(address: Vaddr, size: Size) -> Option<Vaddr>
+    ensures { result ≡ outside address size }
 {
-    address.0 % size.bytes() == 0
+    if !in_user_range(page_of(address)) {
+        return Some(address);
+    }
+    match second_page(address, size) {
+        Some(second) if !in_user_range(second) => Some(start_of(second)),
+        _ => None,
+    }
 }
 
-/// What an access of a live process comes to, whether its page is lazy or not.
-///
-/// The first that applies: Misaligned where the address is no multiple of the size; a fault of code 4
-/// (a read) or 6 (a write) outside the user range; a fault of code 7 for a write where the page is
-/// mapped without the right to write; Quota where the page is not mapped and there is no room for it.
-fn outcome(processes: &Processes, pid: Pid, address: Vaddr, size: Size, access: Access) -> Plan
-    requires live { is_live processes.now.state pid ≡ true }
-    ensures { result ≡ plan_of processes.now.state pid address size access }
+/// Whether a page is mapped without the right to write.
+fn is_read_only(processes: &Processes, pid: Pid, page: Page) -> bool
+    requires { IsUserPage page }
+    ensures { result ≡ is_read_only processes.now.state (at_page pid page) }
 {
-    if !is_aligned(address, size) {
-        return Plan::Refused(Cause::Misaligned);
-    }
-    let page = page_of(address);
-    if !in_user_range(page) {
-        return Plan::Fault(PageFault::new(address, access, false));
-    }
     match processes.spaces().cell(pid, page) {
-        Some(cell) if access == Access::Write && !cell.write => {
-            Plan::Fault(PageFault::new(address, access, true))
-        }
-        Some(_) => Plan::Complete,
-        None if processes.can_map(pid, page).is_err() => Plan::Refused(Cause::Quota),
-        None => Plan::MapZero,
+        Some(cell) => !cell.write,
+        None => false,
+    }
+}
+
+/// The first byte of an access that lies in a page that is mapped without the right to write.
+fn read_only(processes: &Processes, pid: Pid, address: Vaddr, size: Size) -> Option<Vaddr>
+    requires { EachTouched address size IsUserPage }
+    ensures { result ≡ read_only processes.now.state pid address size }
+{
+    if is_read_only(processes, pid, page_of(address)) {
+        return Some(address);
+    }
+    match second_page(address, size) {
+        Some(second) if is_read_only(processes, pid, second) => Some(start_of(second)),
+        _ => None,
+    }
+}
+
+/// The first byte of a write that its process may not write.
+fn forbidden(
+    processes: &Processes,
+    pid: Pid,
+    address: Vaddr,
+    size: Size,
+    access: Access,
+) -> Option<Vaddr>
+    requires { EachTouched address size IsUserPage }
+    ensures { result ≡ forbidden processes.now.state pid address size access }
+{
+    match access {
+        Access::Read => None,
+        Access::Write => read_only(processes, pid, address, size),
+    }
+}
+
+/// What a page comes to under an access that it may have.
+fn step_of(processes: &Processes, pid: Pid, access: Access, page: Page) -> PageStep
+    requires { IsUserPage page }
+    ensures { result ≡ step_at processes.now pid access page }
+{
+    if processes.spaces().cell(pid, page).is_none() {
+        PageStep::MapZero
+    } else if access == Access::Write && processes.is_lazy(pid, page) {
+        PageStep::Fill
+    } else {
+        PageStep::Complete
+    }
+}
+
+/// What the second page of an access comes to, where there is one.
+fn second_step(
+    processes: &Processes,
+    pid: Pid,
+    address: Vaddr,
+    size: Size,
+    access: Access,
+) -> Option<PageStep>
+    requires { EachTouched address size IsUserPage }
+    ensures { result ≡ option_map (step_at processes.now pid access) (second_page address size) }
+{
+    match second_page(address, size) {
+        Some(second) => Some(step_of(processes, pid, access, second)),
+        None => None,
     }
 }
 
 /// What an access of a live process comes to.
 ///
-/// The first that applies: Misaligned where the address is no multiple of the size; a fault of code 4
-/// (a read) or 6 (a write) outside the user range; a fault of code 7 for a write where the page is
-/// mapped without the right to write; Quota where the page is not mapped and there is no room for it.
-/// A write that is allowed to a lazy page fills it first.
+/// The first that applies: a fault of code 4 (a read) or 6 (a write) at the first byte outside the user range; a
+/// fault of code 7 for a write at the first byte in a page that is mapped without the right to write; Quota where
+/// there is no room for the pages that are not mapped. A page that is not mapped is mapped first, and a lazy page
+/// that is written is filled first.
 pub fn plan(processes: &Processes, pid: Pid, address: Vaddr, size: Size, access: Access) -> Plan
     requires live { is_live processes.now.state pid ≡ true }
     ensures { result ≡ plan_at processes.now pid address size access }
 {
-    let plan = outcome(processes, pid, address, size, access);
-    if plan == Plan::Complete
-        && access == Access::Write
-        && processes.is_lazy(pid, page_of(address))
-    {
-        Plan::Fill
-    } else {
-        plan
+    match outside(address, size) {
+        Some(byte) => Plan::Fault(PageFault::new(byte, access, false)),
+        None => plan_within(processes, pid, address, size, access),
     }
 }
 
-/// Gives the page of a write a frame of its own, where it may be lazy: a write that completes at once
-/// is to a page that has one.
-fn fill_first(processes: &mut Processes, plan: &Plan, pid: Pid, address: Vaddr, access: Access)
-    requires mapped { is_mapped processes.old.state (slot_at pid address) ≡ true }
-    requires user { IsUserPage (page_number address) }
-    requires complete { plan.now ≡ Plan.Complete → access ≡ Access.Write → is_lazy_at (memory_of processes.old) (slot_at pid address) ≡ false }
+/// What an access of a live process to pages of the user range comes to.
+fn plan_within(
+    processes: &Processes,
+    pid: Pid,
+    address: Vaddr,
+    size: Size,
+    access: Access,
+) -> Plan
+    requires live { is_live processes.now.state pid ≡ true }
+    requires within { outside address size ≡ None }
+    ensures { result ≡ plan_at processes.now pid address size access }
+{
+    match forbidden(processes, pid, address, size, access) {
+        Some(byte) => Plan::Fault(PageFault::new(byte, access, true)),
+        None if processes.lacks_room(pid, address, size) => Plan::Refused(Cause::Quota),
+        None => Plan::Ready {
+            first: step_of(processes, pid, access, page_of(address)),
+            second: second_step(processes, pid, address, size, access),
+        },
+    }
+}
+
+/// Whether an access completes as memory stands.
+fn is_at_once(plan: &Plan) -> bool
+    ensures { result ≡ takes_no_frame plan.now }
+{
+    matches!(
+        plan,
+        Plan::Ready {
+            first: PageStep::Complete,
+            second: None | Some(PageStep::Complete),
+        }
+    )
+}
+
+/// Maps a page, where it isn't mapped.
+fn map_missing(processes: &mut Processes, pid: Pid, page: Page)
+    requires user { IsUserPage page }
+    requires room { page_need processes.old.state.spaces pid page ≤ room processes.old.state pid }
+    ensures { processes.new.state ≡ record processes.old.state { spaces = with_page processes.old.state.spaces pid page } }
+{
+    if processes.spaces().cell(pid, page).is_none() {
+        processes.map(pid, page, true);
+    }
+}
+
+/// Maps the pages that an access touches and that aren't mapped.
+fn map_pages(processes: &mut Processes, pid: Pid, address: Vaddr, size: Size)
+    requires user { EachTouched address size IsUserPage }
+    requires room { lacks_room processes.old.state pid address size ≡ false }
+    ensures { processes.new.state ≡ record processes.old.state { spaces = with_pages processes.old.state.spaces pid (touched address size) } }
+{
+    map_missing(processes, pid, page_of(address));
+    match second_page(address, size) {
+        Some(second) => map_missing(processes, pid, second),
+        None => {}
+    }
+}
+
+/// Gives each page that a write touches a frame of its own, where it is lazy.
+fn fill_pages(processes: &mut Processes, pid: Pid, address: Vaddr, size: Size)
+    requires mapped { EachTouched address size (λ page. is_mapped processes.old.state (at_page pid page) ≡ true) }
     ensures state { processes.new.state ≡ processes.old.state }
-    ensures complete { plan.now ≡ Plan.Complete → processes.new ≡ processes.old }
-    ensures real { access ≡ Access.Write → is_lazy_at (memory_of processes.new) (slot_at pid address) ≡ false }
+    ensures real { EachTouched address size (λ page. is_lazy_at (memory_of processes.new) (at_page pid page) ≡ false) }
 {
-    if access == Access::Write && *plan != Plan::Complete {
-        processes.fill(pid, page_of(address));
+    processes.fill(pid, page_of(address));
+    match second_page(address, size) {
+        Some(second) => processes.fill(pid, second),
+        None => {}
     }
 }
 
-/// Maps the page of an access that is to be mapped first.
-fn map_first(processes: &mut Processes, plan: &Plan, pid: Pid, address: Vaddr)
-    requires page { plan.now ≡ Plan.MapZero → IsOk (map_answer processes.old.state pid (page_number address)) }
-    ensures other { plan.now ≢ Plan.MapZero → processes.new ≡ processes.old }
-    ensures mapped { plan.now ≡ Plan.MapZero → processes.new.state ≡ after_map processes.old.state pid (page_number address) true }
+/// Maps and fills the pages of an access, as its plan says.
+fn make_ready(
+    processes: &mut Processes,
+    plan: &Plan,
+    pid: Pid,
+    address: Vaddr,
+    size: Size,
+    access: Access,
+)
+    requires plan { plan.now ≡ plan_at processes.old pid address size access }
+    requires ready { goes_on plan.now ≡ true }
+    ensures state { processes.new.state ≡ record processes.old.state { spaces = with_pages processes.old.state.spaces pid (touched address size) } }
+    ensures real { access ≡ Access.Write → EachTouched address size (λ page. is_lazy_at (memory_of processes.new) (at_page pid page) ≡ false) }
+    ensures at_once { takes_no_frame plan.now ≡ true → processes.new ≡ processes.old }
 {
-    if *plan == Plan::MapZero {
-        processes.map(pid, page_of(address), true);
+    if is_at_once(plan) {
+        return;
+    }
+    map_pages(processes, pid, address, size);
+    match access {
+        Access::Read => {}
+        Access::Write => fill_pages(processes, pid, address, size),
     }
 }
 
 /// Carries out an access that completes, by the plan of this state: the value read, or 0 after a write.
-/// An access that completes at once takes no frame.
+/// An access that completes as memory stands takes no frame.
 pub fn settle(
     processes: &mut Processes,
     plan: Plan,
@@ -112,35 +238,43 @@ pub fn settle(
     value: u32,
 ) -> u32
     requires plan { plan ≡ plan_at processes.old pid address size access }
-    requires completes { goes_on plan ≡ true }
+    requires ready { goes_on plan ≡ true }
     ensures value { result ≡ access_value processes.old.state pid address size access }
     ensures state { processes.new.state ≡ after_access processes.old.state pid address size access value }
-    ensures frames { plan ≡ Plan.Complete → processes.new.roles ≡ processes.old.roles }
+    ensures frames { takes_no_frame plan ≡ true → processes.new.roles ≡ processes.old.roles }
 {
-    map_first(processes, &plan, pid, address);
-    fill_first(processes, &plan, pid, address, access);
+    make_ready(processes, &plan, pid, address, size, access);
     processes.access(pid, address, size, access, value)
 }
 
-/// Loads where the load completes as memory stands: its page is mapped. None where it doesn't, and nothing
-/// changes.
+/// Whether the bytes of an access lie in one page of the user range.
+fn is_in_page(address: Vaddr, size: Size) -> bool
+    ensures within { result ≡ true → second_page address size ≡ None }
+    ensures user { result ≡ true → IsUserPage (page_number address) }
+    ensures plan { (s : View) (p : ℕ) (access : Access) → result ≡ false → plan_at s p address size access ≢ at_once }
+{
+    in_user_range(page_of(address)) && second_page(address, size).is_none()
+}
+
+/// Loads where the load completes as memory stands: its bytes lie in one page, which is mapped. None where it
+/// doesn't, and nothing changes.
 pub fn try_load(processes: &mut Processes, pid: Pid, address: Vaddr, size: Size) -> Option<u32>
     ensures live { IsSome result → is_live processes.old.state pid ≡ true }
-    ensures plan { IsSome result ↔ plan_at processes.old pid address size Access.Read ≡ Plan.Complete }
+    ensures plan { IsSome result ↔ plan_at processes.old pid address size Access.Read ≡ at_once }
     ensures value { IfSome result (λ value. value ≡ loaded processes.old.state pid address size) }
-    ensures state { IsSome result → processes.new.state ≡ after_load processes.old.state pid address }
+    ensures state { IsSome result → processes.new.state ≡ after_load processes.old.state pid address size }
     ensures roles { processes.new.roles ≡ processes.old.roles }
     ensures none { IsNone result → processes.new ≡ processes.old }
 {
-    if is_aligned(address, size) && in_user_range(page_of(address)) {
+    if is_in_page(address, size) {
         processes.try_load(pid, address, size)
     } else {
         None
     }
 }
 
-/// Stores where the store completes as memory stands: its page is mapped, with the right to write, and isn't
-/// lazy. Whether it is so; where it isn't, nothing changes.
+/// Stores where the store completes as memory stands: its bytes lie in one page, which is mapped, with the right to
+/// write, and isn't lazy. Whether it is so; where it isn't, nothing changes.
 pub fn try_store(
     processes: &mut Processes,
     pid: Pid,
@@ -149,14 +283,12 @@ pub fn try_store(
     value: u32,
 ) -> bool
     ensures live { result ≡ true → is_live processes.old.state pid ≡ true }
-    ensures plan { (result ≡ true) ↔ plan_at processes.old pid address size Access.Write ≡ Plan.Complete }
+    ensures plan { (result ≡ true) ↔ plan_at processes.old pid address size Access.Write ≡ at_once }
     ensures state { result ≡ true → processes.new.state ≡ after_store processes.old.state pid address size value }
     ensures roles { processes.new.roles ≡ processes.old.roles }
     ensures none { result ≡ false → processes.new ≡ processes.old }
 {
-    is_aligned(address, size)
-        && in_user_range(page_of(address))
-        && processes.try_store(pid, address, size, value)
+    is_in_page(address, size) && processes.try_store(pid, address, size, value)
 }
 
 #[cfg(test)]

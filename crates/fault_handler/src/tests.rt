@@ -36,10 +36,15 @@ fn accessed(
     assert!(rt; processes.live(pid));
     let plan = plan(processes, pid, address, Size::Four, access);
     match plan {
-        Plan::Complete => settle(processes, plan, pid, address, Size::Four, access, value),
-        Plan::MapZero => settle(processes, plan, pid, address, Size::Four, access, value),
-        Plan::Fill => settle(processes, plan, pid, address, Size::Four, access, value),
+        Plan::Ready { .. } => settle(processes, plan, pid, address, Size::Four, access, value),
         _ => 0xffff_ffff,
+    }
+}
+
+fn one(first: PageStep) -> Plan {
+    Plan::Ready {
+        first,
+        second: None,
     }
 }
 
@@ -60,19 +65,19 @@ fn plans_by_the_first_line_that_applies(rt: HostRuntime) -> Result<(), Fail> {
         Size::Four,
         Access::Read,
     );
-    assert_eq!(rt; odd, Plan::Refused(Cause::Misaligned));
+    assert_eq!(rt; odd, fault(Vaddr(0x3fff_fffe), 4));
     let read = planned(&rt, &processes, root, below, Size::Four, Access::Read);
     assert_eq!(rt; read, fault(below, 4));
     let written = planned(&rt, &processes, root, below, Size::Four, Access::Write);
     assert_eq!(rt; written, fault(below, 6));
     let there = Vaddr(0x4000_0002);
     let fresh = planned(&rt, &processes, root, there, Size::One, Access::Write);
-    assert_eq!(rt; fresh, Plan::MapZero);
+    assert_eq!(rt; fresh, one(PageStep::MapZero));
     map_page(&rt, &mut processes, root, Page(0x40000), false);
     let right = planned(&rt, &processes, root, there, Size::One, Access::Write);
     assert_eq!(rt; right, fault(there, 7));
     let again = planned(&rt, &processes, root, there, Size::One, Access::Read);
-    assert_eq!(rt; again, Plan::Complete);
+    assert_eq!(rt; again, one(PageStep::Complete));
     for page in 0x40001..0x4000d {
         map_page(&rt, &mut processes, root, Page(page), true);
     }

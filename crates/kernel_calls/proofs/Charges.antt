@@ -6,7 +6,8 @@ use Rattle.page_words.proofs.MapLemmas.{get-insert, get-retain_keys, same_itself
 use Rattle.address_space.specs.Spaces.{Slot, Cell, slot_order, cost, fresh, at_page}
 use Rattle.address_space.proofs.costs.AccessCosts.{cost-same}
 use Rattle.process_table.specs.State.{State, is_live, child_of}
-use Rattle.process_table.specs.Calls.{after_map, after_spawn, after_exit}
+use Rattle.process_table.specs.Calls.{fork_refusal, after_map, after_spawn, after_fork, after_exit}
+use Rattle.process_table.proofs.Forks.{fork-cost}
 use Rattle.quota_tree.proofs.BookFacts.{contains_key-insert}
 
 -- a page is charged whatever its right
@@ -29,6 +30,14 @@ map_charge s p page write = cost-same (after_map s p page write).spaces (after_m
 -- a process that has a child is live
 pub spawn_lives : (s : State) (p quota : ℕ) → is_live s p ≡ true → is_live (after_spawn s p quota) p ≡ true
 spawn_lives s p quota live = contains_key-insert s.book (child_of s) (record { parent = p; quota = quota }) p live
+
+-- a process that was copied is live
+pub fork_lives : (s : State) (p quota : ℕ) → is_live s p ≡ true → is_live (after_fork s p quota) p ≡ true
+fork_lives s p quota live = contains_key-insert s.book (child_of s) (record { parent = p; quota = quota }) p live
+
+-- and is charged what it was
+pub fork_charge : (s : State) (p quota : ℕ) → is_live s p ≡ true → fork_refusal s p quota ≡ None → cost (after_fork s p quota).spaces p ≡ cost s.spaces p
+fork_charge = fork-cost
 
 -- a process that has gone is not live
 pub exit_gone : (s : State) (p : ℕ) → is_live (after_exit s p) p ≡ false

@@ -7,26 +7,23 @@ use Rattle.address_space.specs.Spaces.{cost, at_page}
 use Rattle.quota_tree.specs.declared.Container.{Container}
 use Rattle.quota_tree.specs.Book.{Member}
 use Rattle.process_table.specs.State.{State, is_live, child_of, container_of, shown}
-use Rattle.process_table.specs.Calls.{map_refusal, protect_refusal, offer_refusal, spawn_refusal, after_map, after_protect}
+use Rattle.process_table.specs.Calls.{map_refusal, protect_refusal, offer_refusal, spawn_refusal, fork_refusal, after_map, after_protect, after_fork}
 use Rattle.address_space.proofs.costs.Totals.{cost-protected_of}
 use Rattle.process_table.proofs.Refusals.{may_protect}
-use Rattle.process_table.specs.TestAnswers.{first_cause, number_unless, child_unless, map_answer, protect_answer, offer_answer, spawn_answer}
+use Rattle.process_table.specs.TestAnswers.{first_cause, number_unless, child_unless, map_answer, protect_answer, offer_answer, spawn_answer, fork_answer}
 use Rattle.process_table.specs.declared.causes.Cause.{Cause}
 use Rattle.process_table.specs.declared.causes.Cause.TheVariants as cause
-use Rattle.address_space.specs.Image.{is_lazy_at}
 use Rattle.process_table.specs.View.{View}
-use Rattle.process_table.specs.Image.{memory_of}
-use Rattle.fault_handler.specs.Plans.{plan_of, plan_at, goes_on}
-use Rattle.fault_handler.proofs.Settled.{fill_goes_on}
+use Rattle.fault_handler.specs.Plans.{plan_of, plan_at, step_of, step_at, goes_on}
+use Rattle.fault_handler.proofs.Settled.{same_stops}
 use Rattle.fault_handler.specs.declared.plans.Plan.{Plan}
 use Rattle.fault_handler.specs.declared.plans.Plan.TheVariants as plan
 use Rattle.page_words.specs.declared.addresses.Size.{Size}
-use Rattle.address_space.specs.Spaces.{slot_at}
 use Rattle.table_walk.specs.declared.Access.{Access}
 use Rattle.table_walk.specs.declared.Access.TheVariants.{Read, Write}
 use Rattle.kernel_calls.specs.Machine.{answer, answer_of, after, next, completes, refused_or, planned_or}
 use Rattle.kernel_calls.specs.Decisions.{decision_of, plan_of_call, plan_of_event, refused_plan, charge_in, charge_after, tested, spawned}
-use Rattle.kernel_calls.proofs.Charges.{map_charge, spawn_lives}
+use Rattle.kernel_calls.proofs.Charges.{map_charge, spawn_lives, fork_lives, fork_charge}
 use Rattle.kernel_calls.specs.declared.calls.Call.{Call}
 use Rattle.kernel_calls.specs.declared.calls.Call.TheVariants as call
 use Rattle.kernel_calls.specs.declared.calls.Event.{Event}
@@ -37,13 +34,11 @@ use Rattle.kernel_calls.specs.declared.calls.Reply.TheVariants as reply
 goes-planned : (x : Plan) (r : Reply) → completes r ≡ true → goes_on x ≡ completes (planned_or x r)
 goes-planned (plan.Refused k) r h = refl
 goes-planned (plan.Fault f) r h = refl
-goes-planned plan.Complete r h = sym h
-goes-planned plan.MapZero r h = sym h
-goes-planned plan.Fill r h = sym h
+goes-planned (plan.Ready first second) r h = sym h
 
 -- whether a page is lazy has no say in whether an access goes on
 goes-at : (v : View) (p address : ℕ) (size : Size) (access : Access) (r : Reply) → completes r ≡ true → goes_on (plan_at v p address size access) ≡ completes (planned_or (plan_of v.state p address size access) r)
-goes-at v p address size access r h = fill_goes_on (is_lazy_at (memory_of v) (slot_at p address)) access (plan_of v.state p address size access) ∙ goes-planned (plan_of v.state p address size access) r h
+goes-at v p address size access r h = same_stops (step_at v p access) (step_of v.state p) v.state p address size access ∙ goes-planned (plan_of v.state p address size access) r h
 
 goes-refused : (x : Option Cause) (r : Reply) → completes r ≡ true → goes_on (refused_plan x) ≡ completes (refused_or x r)
 goes-refused (Some k) r h = refl
@@ -60,6 +55,7 @@ goes-call v p (call.Offer page target write) = goes-refused _ _ refl
 goes-call v p (call.Withdraw page target) = goes-refused _ _ refl
 goes-call v p (call.Accept giver giver_page page) = goes-refused _ _ refl
 goes-call v p (call.Spawn quota) = goes-refused _ _ refl
+goes-call v p (call.Fork quota) = goes-refused _ _ refl
 goes-call v p call.Exit = goes-refused _ _ refl
 goes-call v p call.Quota = refl
 
@@ -83,6 +79,15 @@ next-goes s e h = ap (λ b. if b then after s e.pid e.call else s) h
 -- a spawn that goes on may be
 pub spawn-ok : (v : View) (e : Event) (quota : ℕ) → e.call ≡ call.Spawn quota → goes_on (plan_of_event v e) ≡ true → IsOk (spawn_answer v.state e.pid quota)
 spawn-ok v e quota is g = by (is_live v.state e.pid) (spawn_refusal v.state e.pid quota) (sym (ap (λ c. goes_on (if is_live v.state e.pid then plan_of_call v e.pid c else plan.Refused cause.NoProcess)) is) ∙ g)
+  where
+    by : (b : Bool) (x : Option Cause) → goes_on (if b then refused_plan x else plan.Refused cause.NoProcess) ≡ true → IsOk (child_unless (if b then x else Some cause.NoProcess) (child_of v.state))
+    by true None h = refl
+    by true (Some k) h = cc
+    by false x h = cc
+
+-- and so may a fork
+pub fork-goes : (v : View) (e : Event) (quota : ℕ) → e.call ≡ call.Fork quota → goes_on (plan_of_event v e) ≡ true → IsOk (fork_answer v.state e.pid quota)
+fork-goes v e quota is g = by (is_live v.state e.pid) (fork_refusal v.state e.pid quota) (sym (ap (λ c. goes_on (if is_live v.state e.pid then plan_of_call v e.pid c else plan.Refused cause.NoProcess)) is) ∙ g)
   where
     by : (b : Bool) (x : Option Cause) → goes_on (if b then refused_plan x else plan.Refused cause.NoProcess) ≡ true → IsOk (child_unless (if b then x else Some cause.NoProcess) (child_of v.state))
     by true None h = refl
@@ -148,21 +153,30 @@ decided-offer v e page target write used is live used_is =
     decided-test v e (offer_refusal v.state e.pid page target write) (cost v.state.spaces e.pid) used live used_is (ap (plan_of_call v e.pid) is) (ap (answer_of v.state e.pid) is)
     (λ _. ap (λ c. charge_in (after v.state e.pid c) e.pid) is ∙ ap (λ b. if b then cost v.state.spaces e.pid else 0) live)
 
-pub decided-spawn : (v : View) (e : Event) (quota used : ℕ) → e.call ≡ call.Spawn quota → is_live v.state e.pid ≡ true → used ≡ cost v.state.spaces e.pid
-    → spawned e (spawn_answer v.state e.pid quota) used ≡ decision_of v e
-decided-spawn v e quota used is live used_is =
+-- the child or refused, as the test of the call answers
+decided-child : (v : View) (e : Event) (x : Option Cause) (used : ℕ) → is_live v.state e.pid ≡ true → used ≡ cost v.state.spaces e.pid
+    → plan_of_call v e.pid e.call ≡ refused_plan x → answer_of v.state e.pid e.call ≡ refused_or x (reply.Child (child_of v.state))
+    → (x ≡ None → charge_in (after v.state e.pid e.call) e.pid ≡ cost v.state.spaces e.pid)
+    → spawned e (child_unless (first_cause v.state e.pid x) (child_of v.state)) used ≡ decision_of v e
+decided-child v e x used live used_is plan_is reply_is charged =
     (λ i. spawned e (child_unless (first-cause v.state e.pid x live i) (child_of v.state)) (used_is i)) ∙ by x
-    ∙ sym (decided v e x (reply.Child (child_of v.state)) (cost v.state.spaces e.pid) live refl (ap (plan_of_call v e.pid) is) (ap (answer_of v.state e.pid) is) (λ _. charged))
+    ∙ sym (decided v e x (reply.Child (child_of v.state)) (cost v.state.spaces e.pid) live refl plan_is reply_is charged)
   where
-    x : Option Cause
-    x = spawn_refusal v.state e.pid quota
-
-    charged : charge_in (after v.state e.pid e.call) e.pid ≡ cost v.state.spaces e.pid
-    charged = ap (λ c. charge_in (after v.state e.pid c) e.pid) is ∙ ap (λ b. if b then cost v.state.spaces e.pid else 0) (spawn_lives v.state e.pid quota live)
-
     by : (y : Option Cause) → spawned e (child_unless y (child_of v.state)) (cost v.state.spaces e.pid) ≡ record { event = e; plan = refused_plan y; reply = refused_or y (reply.Child (child_of v.state)); used_after = used-by y (cost v.state.spaces e.pid) (cost v.state.spaces e.pid) }
     by (Some k) = refl
     by None = refl
+
+pub decided-spawn : (v : View) (e : Event) (quota used : ℕ) → e.call ≡ call.Spawn quota → is_live v.state e.pid ≡ true → used ≡ cost v.state.spaces e.pid
+    → spawned e (spawn_answer v.state e.pid quota) used ≡ decision_of v e
+decided-spawn v e quota used is live used_is =
+    decided-child v e (spawn_refusal v.state e.pid quota) used live used_is (ap (plan_of_call v e.pid) is) (ap (answer_of v.state e.pid) is)
+    (λ _. ap (λ c. charge_in (after v.state e.pid c) e.pid) is ∙ ap (λ b. if b then cost v.state.spaces e.pid else 0) (spawn_lives v.state e.pid quota live))
+
+pub decided-fork : (v : View) (e : Event) (quota used : ℕ) → e.call ≡ call.Fork quota → is_live v.state e.pid ≡ true → used ≡ cost v.state.spaces e.pid
+    → spawned e (fork_answer v.state e.pid quota) used ≡ decision_of v e
+decided-fork v e quota used is live used_is =
+    decided-child v e (fork_refusal v.state e.pid quota) used live used_is (ap (plan_of_call v e.pid) is) (ap (answer_of v.state e.pid) is)
+    (λ allowed. ap (λ c. charge_in (after v.state e.pid c) e.pid) is ∙ ap (λ b. if b then cost (after_fork v.state e.pid quota).spaces e.pid else 0) (fork_lives v.state e.pid quota live) ∙ fork_charge v.state e.pid quota live allowed)
 
 -- a live process's container tells its cost
 pub used-container : (s : State) (p : ℕ) (c : Container) → container_of s p ≡ Some c → c.used ≡ cost s.spaces p

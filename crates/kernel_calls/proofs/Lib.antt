@@ -1,5 +1,5 @@
 pub mod Charges
 pub mod Decided
+pub mod Isolated
 pub mod Planned
 pub mod Runs
-pub mod Zeros

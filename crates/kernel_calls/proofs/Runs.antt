@@ -1,28 +1,23 @@
 -- Each event keeps states well formed and leaves the root's entry in the book, and so does every run.
-use Rattle.std.proofs.Common.{◌≡◌, ℕ, ◌+◌, ◌⊎◌, ◌&&◌, Bool, true, false, not, refl, sym, ap, subst, ◌∙◌, List, [], ◌∷◌, ◌++◌, Option, Some, None, unwrap_or, inl, inr, arith}
+use Rattle.std.proofs.Common.{◌≡◌, ℕ, ◌+◌, Bool, true, false, refl, sym, ap, subst, ◌∙◌, List, [], ◌∷◌, ◌++◌, Option, Some, None, unwrap_or, arith}
 use Rattle.std.specs.Prelude.{if◌then◌else◌}
 use Rattle.std.specs.Option.{option_map}
-use Rattle.page_words.specs.Addresses.{page_number, is_user_page}
-use Rattle.page_words.specs.declared.addresses.Size.{Size}
 use Rattle.page_words.specs.FiniteMap as map
-use Rattle.address_space.specs.Spaces.{cell_or_fresh, slot_at}
 use Rattle.quota_tree.specs.Book.{Member, quota_of}
-use Rattle.table_walk.specs.declared.Access.{Access}
 use Rattle.table_walk.specs.declared.Access.TheVariants.{Read, Write}
-use Rattle.table_walk.specs.Walk.{page_fault, is_write}
-use Rattle.process_table.specs.State.{State, open_with, is_live, is_mapped, has_no_room}
-use Rattle.process_table.specs.Calls.{is_misaligned, map_refusal, protect_refusal, offer_refusal, accept_refusal, spawn_refusal, exit_refusal}
-use Rattle.process_table.specs.Laws.{IsReachable}
+use Rattle.process_table.specs.State.{State, open_with, is_live}
+use Rattle.process_table.specs.Calls.{map_refusal, protect_refusal, offer_refusal, accept_refusal, spawn_refusal, exit_refusal, fork_refusal}
 use Rattle.process_table.specs.WellFormed.{IsWellFormed}
 use Rattle.process_table.specs.declared.causes.Cause.{Cause}
 use Rattle.process_table.specs.declared.causes.Cause.TheVariants as cause
+use Rattle.process_table.proofs.Forks.{well_formed-fork, root-fork}
 use Rattle.process_table.proofs.BookLaws.{well_formed-open, well_formed-unmap, well_formed-spawn, well_formed-exit, root-spawn, root-exit, total-within}
 use Rattle.process_table.proofs.SpaceLaws.{well_formed-map, well_formed-load, well_formed-store}
 use Rattle.process_table.proofs.SharingLaws.{well_formed-protect, well_formed-offer, well_formed-withdraw, well_formed-accept}
-use Rattle.fault_handler.specs.Plans.{plan_of, goes_on}
+use Rattle.fault_handler.specs.Plans.{plan_of, step_of, goes_on}
 use Rattle.fault_handler.specs.declared.plans.Plan.{Plan}
 use Rattle.fault_handler.specs.declared.plans.Plan.TheVariants as plan
-use Rattle.fault_handler.proofs.Settled.{reached}
+use Rattle.fault_handler.proofs.Settled.{ready, all_user}
 use Rattle.kernel_calls.specs.Machine.{answer, answer_of, answers, after, next, end_of, completes, refused_or, planned_or}
 use Rattle.kernel_calls.specs.Laws.{RunsStayWellFormed}
 use Rattle.kernel_calls.specs.declared.calls.Call.{Call}
@@ -31,7 +26,6 @@ use Rattle.kernel_calls.specs.declared.calls.Event.{Event}
 use Rattle.kernel_calls.specs.declared.calls.Reply.{Reply}
 use Rattle.kernel_calls.specs.declared.calls.Reply.TheVariants as reply
 use Rattle.kernel_calls.proofs.Decided.{next-stays, next-goes}
-use Rattle.process_table.proofs.Keeping.{aligned_is}
 
 -- ---- Runs, one behind another
 
@@ -44,7 +38,7 @@ end_of-append s [] ys = refl
 end_of-append s (x ∷ xs) ys = end_of-append (next s x) xs ys
 
 -- a call that completes has no cause to be refused
-not-refused : (x : Option Cause) (r : Reply) → completes (refused_or x r) ≡ true → x ≡ None
+pub not-refused : (x : Option Cause) (r : Reply) → completes (refused_or x r) ≡ true → x ≡ None
 not-refused None r h = refl
 not-refused (Some k) r h = cc
 
@@ -52,27 +46,7 @@ not-refused (Some k) r h = cc
 went-on : (x : Plan) (r : Reply) → completes (planned_or x r) ≡ true → goes_on x ≡ true
 went-on (plan.Refused k) r h = h
 went-on (plan.Fault f) r h = h
-went-on plan.Complete r h = refl
-went-on plan.MapZero r h = refl
-went-on plan.Fill r h = refl
-
--- an access that goes on is to a mapped page, or there is room for it
-reachable : (s : State) (p address : ℕ) (size : Size) (access : Access) → goes_on (plan_of s p address size access) ≡ true → IsReachable s (slot_at p address)
-reachable s p address size access g =
-    by (is_misaligned address size) (is_user_page (page_number address)) (is_mapped s (slot_at p address)) (is_write access && not (cell_or_fresh s.spaces (slot_at p address)).write) (has_no_room s (slot_at p address)) g
-  where
-    by : (a b m w r : Bool) → goes_on (
-        if a then plan.Refused cause.Misaligned else
-        if not b then plan.Fault (page_fault address access false) else
-        if m then if w then plan.Fault (page_fault address access true) else plan.Complete
-        else
-        if r then plan.Refused cause.Quota else
-        plan.MapZero) ≡ true → (m ≡ true) ⊎ (r ≡ false)
-    by true b m w r h = cc
-    by false false m w r h = cc
-    by false true true w r h = inl refl
-    by false true false w true h = cc
-    by false true false w false h = inr refl
+went-on (plan.Ready first second) r h = refl
 
 -- a well formed state, whose root has the entry that it has in another
 abbrev pub IsKept : State → State → Type 0
@@ -80,12 +54,11 @@ IsKept s t = IsWellFormed t × (map.get t.book 0 ≡ map.get s.book 0)
 
 kept-call : (s : State) (p : ℕ) (c : Call) → IsWellFormed s → is_live s p ≡ true → completes (answer_of s p c) ≡ true → IsKept s (after s p c)
 kept-call s p (call.Load address size) w live h =
-    let g = went-on (plan_of s p address size Read) _ h in
-    (well_formed-load s p address w live (reached s p address size Read g).1 (reachable s p address size Read g), refl)
+    let g = ready (step_of s p) s p address size Read (went-on (plan_of s p address size Read) _ h) in
+    (well_formed-load s p address size w live (all_user address size g.outside) g.room, refl)
 kept-call s p (call.Store address size value) w live h =
-    let g = went-on (plan_of s p address size Write) _ h in
-    let r = reached s p address size Write g in
-    (well_formed-store s p address size value w live r.1 (aligned_is address size r.0) (reachable s p address size Write g), refl)
+    let g = ready (step_of s p) s p address size Write (went-on (plan_of s p address size Write) _ h) in
+    (well_formed-store s p address size value w live (all_user address size g.outside) g.room, refl)
 kept-call s p (call.Map page write) w live h = (well_formed-map s p page write w live (not-refused (map_refusal s p page) _ h), refl)
 kept-call s p (call.Unmap page) w live h = (well_formed-unmap s p page w, refl)
 kept-call s p (call.Protect page write) w live h = (well_formed-protect s p page write w live (not-refused (protect_refusal s p page write) _ h), refl)
@@ -96,12 +69,15 @@ kept-call s p (call.Accept giver giver_page page) w live h = (well_formed-accept
 kept-call s p (call.Spawn quota) w live h =
     let a = not-refused (spawn_refusal s p quota) _ h in
     (well_formed-spawn s p quota w live a, root-spawn s p quota w live a)
+kept-call s p (call.Fork quota) w live h =
+    let a = not-refused (fork_refusal s p quota) _ h in
+    (well_formed-fork s p quota w live a, root-fork s p quota w live a)
 kept-call s p call.Exit w live h =
     let a = not-refused (exit_refusal s p) _ h in
     (well_formed-exit s p w live a, root-exit s p w live a)
 kept-call s p call.Quota w live h = (w, refl)
 
-kept-next : (s : State) (e : Event) → IsWellFormed s → IsKept s (next s e)
+pub kept-next : (s : State) (e : Event) → IsWellFormed s → IsKept s (next s e)
 kept-next s e w = by (completes (answer s e)) refl
   where
     live : (b : Bool) → completes (if b then answer_of s e.pid e.call else reply.Refused cause.NoProcess) ≡ true → (b ≡ true) × (completes (answer_of s e.pid e.call) ≡ true)
@@ -112,7 +88,7 @@ kept-next s e w = by (completes (answer s e)) refl
     by true h = let l = live (is_live s e.pid) h in subst (IsKept s) (sym (next-goes s e h)) (kept-call s e.pid e.call w l.0 l.1)
     by false h = subst (IsKept s) (sym (next-stays s e h)) (w, refl)
 
-kept-run : (s : State) (events : List Event) → IsWellFormed s → IsKept s (end_of s events)
+pub kept-run : (s : State) (events : List Event) → IsWellFormed s → IsKept s (end_of s events)
 kept-run s [] w = (w, refl)
 kept-run s (e ∷ events) w =
     let a = kept-next s e w in

@@ -5,10 +5,10 @@ use Rattle.address_space.specs.Spaces.{cost}
 use Rattle.quota_tree.specs.declared.Container.{Container}
 use Rattle.process_table.specs.State.{State, is_live}
 use Rattle.process_table.specs.View.{View}
-use Rattle.process_table.specs.Calls.{map_refusal, unmap_refusal, protect_refusal, offer_refusal, withdraw_refusal, accept_refusal, spawn_refusal, exit_refusal}
+use Rattle.process_table.specs.Calls.{map_refusal, unmap_refusal, protect_refusal, offer_refusal, withdraw_refusal, accept_refusal, spawn_refusal, fork_refusal, exit_refusal}
 use Rattle.process_table.specs.declared.causes.Cause.{Cause}
 use Rattle.process_table.specs.declared.causes.Cause.TheVariants as cause
-use Rattle.fault_handler.specs.Plans.{plan_at}
+use Rattle.fault_handler.specs.Plans.{plan_at, at_once}
 use Rattle.fault_handler.specs.declared.plans.Plan.{Plan}
 use Rattle.fault_handler.specs.declared.plans.Plan.TheVariants as plan
 use Rattle.table_walk.specs.declared.Access.TheVariants.{Read, Write}
@@ -23,7 +23,7 @@ use Rattle.kernel_calls.specs.declared.calls.Reply.TheVariants as reply
 -- a refusal where there is a cause
 abbrev pub refused_plan : Option Cause → Plan
 refused_plan (Some cause) = plan.Refused cause
-refused_plan None = plan.Complete
+refused_plan None = at_once
 
 -- what a call of a live process comes to, as memory stands
 abbrev pub plan_of_call : View → ℕ → Call → Plan
@@ -37,8 +37,9 @@ plan_of_call v p (call.Offer page target write) = refused_plan (offer_refusal v.
 plan_of_call v p (call.Withdraw page target) = refused_plan (withdraw_refusal v.state p page target)
 plan_of_call v p (call.Accept giver giver_page page) = refused_plan (accept_refusal v.state p giver giver_page page)
 plan_of_call v p (call.Spawn quota) = refused_plan (spawn_refusal v.state p quota)
+plan_of_call v p (call.Fork quota) = refused_plan (fork_refusal v.state p quota)
 plan_of_call v p call.Exit = refused_plan (exit_refusal v.state p)
-plan_of_call v p call.Quota = plan.Complete
+plan_of_call v p call.Quota = at_once
 
 abbrev pub plan_of_event : View → Event → Plan
 plan_of_event v e = if is_live v.state e.pid then plan_of_call v e.pid e.call else plan.Refused cause.NoProcess
@@ -63,14 +64,14 @@ refusal_of e cause used = record { event = e; plan = plan.Refused cause; reply =
 
 -- a reply, with the charge afterwards
 abbrev pub reply_of : Event → Reply → ℕ → Decision
-reply_of e r used = record { event = e; plan = plan.Complete; reply = r; used_after = used }
+reply_of e r used = record { event = e; plan = at_once; reply = r; used_after = used }
 
 -- done with the charge that the test gives, or refused
 abbrev pub tested : Event → Result ℕ Cause → ℕ → Decision
 tested e (Err cause) used = refusal_of e cause used
 tested e (Ok charge) used = reply_of e reply.Done charge
 
--- the child that the test gives, or refused
+-- the child that the test of a spawn or a fork gives, or refused
 abbrev pub spawned : Event → Result Pid Cause → ℕ → Decision
 spawned e (Err cause) used = refusal_of e cause used
 spawned e (Ok child) used = reply_of e (reply.Child child) used
@@ -79,9 +80,7 @@ spawned e (Ok child) used = reply_of e (reply.Child child) used
 abbrev pub planned : Event → Plan → Reply → ℕ → ℕ → Decision
 planned e (plan.Refused cause) r charge used = refusal_of e cause used
 planned e (plan.Fault fault) r charge used = record { event = e; plan = plan.Fault fault; reply = reply.Fault fault.addr fault.code; used_after = used }
-planned e plan.Complete r charge used = record { event = e; plan = plan.Complete; reply = r; used_after = charge }
-planned e plan.MapZero r charge used = record { event = e; plan = plan.MapZero; reply = r; used_after = charge }
-planned e plan.Fill r charge used = record { event = e; plan = plan.Fill; reply = r; used_after = charge }
+planned e (plan.Ready first second) r charge used = record { event = e; plan = plan.Ready first second; reply = r; used_after = charge }
 
 -- the reply to a process that asks for its quota
 abbrev pub told : Container → Reply

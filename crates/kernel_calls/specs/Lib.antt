@@ -1,6 +1,10 @@
 pub mod Decisions
+pub mod Isolation
 pub mod Laws
 pub mod Machine
+pub mod WorkedAccesses
+pub mod WorkedForks
+pub mod WorkedIsolation
 pub mod WorkedProcesses
 pub mod WorkedRuns
 pub mod WorkedSharing

@@ -4,7 +4,7 @@ use Rattle.page_words.specs.FiniteSet as set
 use Rattle.address_space.specs.Spaces.{Cell, cell_or_fresh, cost, at_page}
 use Rattle.quota_tree.specs.Book.{given, quota_of}
 use Rattle.process_table.specs.State.{State, is_live, child_of}
-use Rattle.process_table.specs.Calls.{map_refusal, unmap_refusal, protect_refusal, offer_refusal, withdraw_refusal, accept_refusal, spawn_refusal, exit_refusal, loaded, after_load, after_store, after_map, after_unmap, after_protect, after_offer, after_withdraw, after_accept, after_spawn, after_exit}
+use Rattle.process_table.specs.Calls.{map_refusal, unmap_refusal, protect_refusal, offer_refusal, withdraw_refusal, accept_refusal, spawn_refusal, fork_refusal, exit_refusal, loaded, after_load, after_store, after_map, after_unmap, after_protect, after_offer, after_withdraw, after_accept, after_spawn, after_fork, after_exit}
 use Rattle.process_table.specs.declared.causes.Cause.{Cause}
 use Rattle.process_table.specs.declared.causes.Cause.TheVariants as cause
 use Rattle.fault_handler.specs.Plans.{plan_of}
@@ -26,9 +26,7 @@ refused_or None otherwise = otherwise
 abbrev pub planned_or : Plan → Reply → Reply
 planned_or (plan.Refused cause) otherwise = reply.Refused cause
 planned_or (plan.Fault fault) otherwise = reply.Fault fault.addr fault.code
-planned_or plan.Complete otherwise = otherwise
-planned_or plan.MapZero otherwise = otherwise
-planned_or plan.Fill otherwise = otherwise
+planned_or (plan.Ready first second) otherwise = otherwise
 
 -- a cell's flags, and the size of its group
 abbrev pub info_of : Cell → Reply
@@ -46,6 +44,7 @@ answer_of s p (call.Offer page target write) = refused_or (offer_refusal s p pag
 answer_of s p (call.Withdraw page target) = refused_or (withdraw_refusal s p page target) reply.Done
 answer_of s p (call.Accept giver giver_page page) = refused_or (accept_refusal s p giver giver_page page) reply.Done
 answer_of s p (call.Spawn quota) = refused_or (spawn_refusal s p quota) (reply.Child (child_of s))
+answer_of s p (call.Fork quota) = refused_or (fork_refusal s p quota) (reply.Child (child_of s))
 answer_of s p call.Exit = refused_or (exit_refusal s p) reply.Done
 answer_of s p call.Quota = reply.Quota (quota_of s.book p) (cost s.spaces p) (given s.book p)
 
@@ -55,7 +54,7 @@ answer s e = if is_live s e.pid then answer_of s e.pid e.call else reply.Refused
 
 -- the state after a call that is neither refused nor a fault
 abbrev pub after : State → ℕ → Call → State
-after s p (call.Load addr size) = after_load s p addr
+after s p (call.Load addr size) = after_load s p addr size
 after s p (call.Store addr size value) = after_store s p addr size value
 after s p (call.Map page write) = after_map s p page write
 after s p (call.Unmap page) = after_unmap s p page
@@ -65,6 +64,7 @@ after s p (call.Offer page target write) = after_offer s p page target write
 after s p (call.Withdraw page target) = after_withdraw s p page target
 after s p (call.Accept giver giver_page page) = after_accept s p giver giver_page page
 after s p (call.Spawn quota) = after_spawn s p quota
+after s p (call.Fork quota) = after_fork s p quota
 after s p call.Exit = after_exit s p
 after s p call.Quota = s
 

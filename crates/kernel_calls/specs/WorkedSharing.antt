@@ -159,11 +159,11 @@ RefusalsInOrder = Gives 16
     (event 0 0 (call.Withdraw 0x40000 1)) ∷
     [])
     ((reply.Refused cause.NoProcess) ∷
-    (reply.Refused cause.Misaligned) ∷
-    (reply.Refused cause.Misaligned) ∷
+    (reply.Value 0x0) ∷
+    (reply.Fault 0x3ffffffe 4) ∷
     (reply.Refused cause.BadPage) ∷
     (reply.Refused cause.BadPage) ∷
-    (reply.Refused cause.NotMapped) ∷
+    reply.Done ∷
     reply.Done ∷
     (reply.Refused cause.SelfOffer) ∷
     (reply.Refused cause.NoTarget) ∷

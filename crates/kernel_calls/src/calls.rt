@@ -6,12 +6,12 @@ use process_table::Cause;
 /// What a process asks of the kernel.
 #[derive(Clone, Copy, Debug, PartialEq, Eq)]
 pub enum Call {
-    /// Reads `size` bytes at an address, which is a multiple of the size.
+    /// Reads `size` bytes at an address. They may lie in two pages.
     Load {
         addr: Vaddr,
         size: Size,
     },
-    /// Writes the low `size` bytes of the value at an address, which is a multiple of the size.
+    /// Writes the low `size` bytes of the value at an address. They may lie in two pages.
     Store {
         addr: Vaddr,
         size: Size,
@@ -54,6 +54,10 @@ pub enum Call {
     },
     /// Makes a child with that quota, in frames, and an empty space.
     Spawn {
+        quota: u32,
+    },
+    /// Makes a child with that quota, in frames, and a copy of each of the process's pages.
+    Fork {
         quota: u32,
     },
     /// Ends the process, whose quota returns to its parent.
@@ -107,8 +111,8 @@ pub enum Reply {
 #[derive(Clone, Copy, Debug, PartialEq, Eq)]
 pub struct Decision {
     pub event: Event,
-    /// What the call comes to: that of a call which is neither refused nor a fault is Complete, and where
-    /// an access maps its page or gives it a frame first, MapZero or Fill.
+    /// What the call comes to: that of a call which is neither refused nor a fault is Ready, and where an
+    /// access maps a page or gives it a frame first, the page's step is MapZero or Fill.
     pub plan: Plan,
     pub reply: Reply,
     /// The charge of the event's process after it, in frames; 0 where it is not live then.

@@ -13,7 +13,7 @@ ghost use Rattle.kernel_calls.specs.Machine.{info_of};
 ghost use Rattle.kernel_calls.specs.Decisions.{decision_of, refusal_of, reply_of, tested, spawned, planned, told};
 
 use crate::calls::{Call, Decision, Event, Reply};
-use fault_handler::Plan;
+use fault_handler::{PageStep, Plan};
 use page_words::{Page, Pid, Size, Vaddr};
 use process_table::{Cause, Processes};
 use quota_tree::Container;
@@ -35,7 +35,10 @@ fn answered(event: &Event, reply: Reply, used_after: u32) -> Decision
 {
     Decision {
         event: *event,
-        plan: Plan::Complete,
+        plan: Plan::Ready {
+            first: PageStep::Complete,
+            second: None,
+        },
         reply,
         used_after,
     }
@@ -60,7 +63,7 @@ fn done_or_refused(event: &Event, test: Result<u32, Cause>, used: u32) -> Decisi
     }
 }
 
-/// The child that the test of a spawn gives, or a refusal.
+/// The child that the test of a spawn or a fork gives, or a refusal.
 fn child_or_refused(event: &Event, test: Result<Pid, Cause>, used: u32) -> Decision
     ensures { result ≡ spawned event.now test used }
 {
@@ -89,9 +92,7 @@ fn by_plan(event: &Event, plan: &Plan, reply: &Reply, charge: u32, used: u32) ->
     match plan {
         Plan::Refused(cause) => refusal(event, *cause, used),
         Plan::Fault(fault) => made(event, plan, &fault_told(fault), used),
-        Plan::Complete => made(event, plan, reply, charge),
-        Plan::MapZero => made(event, plan, reply, charge),
-        Plan::Fill => made(event, plan, reply, charge),
+        Plan::Ready { .. } => made(event, plan, reply, charge),
     }
 }
 
@@ -107,12 +108,10 @@ fn charge_by(
 ) -> u32
     requires live { is_live processes.now.state pid ≡ true }
     requires plan { plan.now ≡ plan_at processes.now pid address size access }
-    ensures { goes_on plan.now ≡ true → result ≡ cost (after_load processes.now.state pid address).spaces pid }
+    ensures { goes_on plan.now ≡ true → result ≡ cost (after_load processes.now.state pid address size).spaces pid }
 {
     match plan {
-        Plan::Complete => processes.access_charge(pid, address, size),
-        Plan::MapZero => processes.access_charge(pid, address, size),
-        Plan::Fill => processes.access_charge(pid, address, size),
+        Plan::Ready { .. } => processes.access_charge(pid, address, size),
         Plan::Refused(_) => used,
         Plan::Fault(_) => used,
     }
@@ -124,9 +123,7 @@ fn value_by(processes: &Processes, plan: &Plan, pid: Pid, address: Vaddr, size: 
     ensures { goes_on plan.now ≡ true → result ≡ loaded processes.now.state pid address size }
 {
     match plan {
-        Plan::Complete => processes.spaces().peek(pid, address, size),
-        Plan::MapZero => 0,
-        Plan::Fill => 0,
+        Plan::Ready { .. } => processes.spaces().peek(pid, address, size),
         Plan::Refused(_) => 0,
         Plan::Fault(_) => 0,
     }
@@ -246,6 +243,7 @@ fn decide_live(processes: &Processes, event: &Event, container: &Container) -> D
             done_or_refused(event, test, used)
         }
         Call::Spawn { quota } => child_or_refused(event, processes.can_spawn(pid, quota), used),
+        Call::Fork { quota } => child_or_refused(event, processes.can_fork(pid, quota), used),
         Call::Exit => done_or_refused(event, processes.can_exit(pid), used),
         Call::Quota => answered(event, quota_told(container), used),
     }

@@ -13,6 +13,7 @@ ghost use Rattle.address_space.specs.Image.{LeavesRoom};
 ghost use Rattle.address_space.specs.Spaces.{zeros};
 ghost use Rattle.phys_memory.specs.Bytes.{frame_bytes};
 ghost use Rattle.fault_handler.specs.Plans.{goes_on, plan_of};
+ghost use Rattle.kernel_calls.specs.Isolation.{IsIsolated};
 ghost use Rattle.kernel_calls.specs.Machine.{answer, after, next, answers, end_of, completes};
 ghost use Rattle.kernel_calls.specs.Decisions.{decision_of, charge_after};
 
@@ -86,12 +87,15 @@ fn complete(processes: &mut Processes, decision: &Decision)
         Call::Spawn { quota } => {
             processes.spawn(pid, quota);
         }
+        Call::Fork { quota } => {
+            processes.fork(pid, quota);
+        }
         Call::Exit => processes.exit(pid),
         Call::Quota => {}
     }
 }
 
-/// Carries out a load or a store that completes at once. None, and nothing changes, for any other event.
+/// Carries out a load or a store that completes at once, in one page. None, and nothing changes, for any other event.
 fn at_once(processes: &mut Processes, event: &Event) -> Option<Reply>
     ensures reply { IfSome result (λ reply. reply ≡ answer processes.old.state event.now) }
     ensures completes { IfSome result (λ reply. completes reply ≡ true) }
@@ -123,9 +127,7 @@ fn carry_out(processes: &mut Processes, decision: &Decision)
     match decision.plan {
         Plan::Refused(_) => {}
         Plan::Fault(_) => {}
-        Plan::Complete => complete(processes, decision),
-        Plan::MapZero => complete(processes, decision),
-        Plan::Fill => complete(processes, decision),
+        Plan::Ready { .. } => complete(processes, decision),
     }
 }
 
@@ -185,17 +187,28 @@ impl Core {
         self.commit(decision)
     }
 
-    /// Carries out events in order, and writes the reply to each in its place.
+    /// Carries out events in order, and writes the reply to each in its place. What a process is told that
+    /// was made on the way, and that involves no other, is what it would be told alone.
     pub fn run(&mut self, events: &[Event], replies: &mut [Reply])
         requires { length events.now ≡ length replies.old }
         ensures replies { replies.new ≡ answers self.old.state events.now }
         ensures state { self.new.state ≡ end_of self.old.state events.now }
         ensures stands { StandsFor (image_of self.new) self.new.state }
+        ensures isolated { IsIsolated self.old.state events.now replies.new }
+    {
+        self.stands();
+        self.run_all(events, replies);
+        self.stands();
+    }
+
+    fn run_all(&mut self, events: &[Event], replies: &mut [Reply])
+        requires { length events.now ≡ length replies.old }
+        ensures replies { replies.new ≡ answers self.old.state events.now }
+        ensures state { self.new.state ≡ end_of self.old.state events.now }
     {
         for (i, event) in events.iter().enumerate() {
             replies[i] = self.step(event);
         }
-        self.stands();
     }
 
     /// That memory's own words say what the state says, and that the processor's walk of any directory,

@@ -13,11 +13,14 @@ mod worked;
 
 pub use alloc_table::Role;
 pub use calls::{Call, Decision, Event, Reply};
-pub use fault_handler::Plan;
+pub use fault_handler::{PageStep, Plan};
 pub use kernel::{BootFault, Core};
-pub use laws::runs_stay_well_formed;
+pub use laws::{processes_are_isolated, runs_stay_well_formed};
 pub use page_words::{Frame, Page, Pid, Size, Vaddr};
 pub use phys_memory::Memory;
 pub use process_table::Cause;
 pub use quota_tree::Container;
-pub use worked::{worked_runs, worked_runs_of_processes, worked_runs_of_sharing};
+pub use worked::{
+    worked_runs, worked_runs_of_accesses, worked_runs_of_forks, worked_runs_of_isolation,
+    worked_runs_of_processes, worked_runs_of_sharing,
+};

@@ -1,7 +1,10 @@
 //! Worked runs, as theorems on the definitions of the machine: they are computed from them.
 
 ghost use Rattle.kernel_calls.specs.WorkedRuns.{Empty, MapStoreLoad, OneProcessIsFull, FramesComeBack, UserRangeEdges, DemandZero, TableIsCharged, UnmapReturnsTable, LazyPage};
+ghost use Rattle.kernel_calls.specs.WorkedAccesses.{AcrossTwoPages, BothPagesOrNeither, FaultsAtTheFirstByte, AcrossTwoRegions, AcrossOneGroup};
+ghost use Rattle.kernel_calls.specs.WorkedForks.{ForkCopies, ForkOfShared};
 ghost use Rattle.kernel_calls.specs.WorkedProcesses.{QuotaRefuses, ExitReturnsQuota, ProcessTableFull};
+ghost use Rattle.kernel_calls.specs.WorkedIsolation.{ToldAlone, ToldBesideTheRoot, ToldBesideNoise, OwnOfNoise, CopyToldAlone, CopyToldBeside};
 ghost use Rattle.kernel_calls.specs.WorkedSharing.{ShareBothWays, LazyShare, UnmapDropsOffers, ReadOnlyShare, OwnerLeaves, Flags, RefusalsInOrder, OfferLimit, ExitDropsOffers};
 
 /// Runs of one process give the answers that they must. It computes nothing.
@@ -15,6 +18,15 @@ pub fn worked_runs()
     ensures table_is_charged { TableIsCharged }
     ensures unmap_returns_table { UnmapReturnsTable }
     ensures lazy_page { LazyPage }
+{}
+
+/// Runs of accesses at any address give the answers that they must. It computes nothing.
+pub fn worked_runs_of_accesses()
+    ensures across_two_pages { AcrossTwoPages }
+    ensures both_pages_or_neither { BothPagesOrNeither }
+    ensures faults_at_the_first_byte { FaultsAtTheFirstByte }
+    ensures across_two_regions { AcrossTwoRegions }
+    ensures across_one_group { AcrossOneGroup }
 {}
 
 /// Runs of several processes give the answers that they must. It computes nothing.
@@ -35,4 +47,21 @@ pub fn worked_runs_of_sharing()
     ensures refusals_in_order { RefusalsInOrder }
     ensures offer_limit { OfferLimit }
     ensures exit_drops_offers { ExitDropsOffers }
+{}
+
+/// Runs of processes that copy themselves give the answers that they must. It computes nothing.
+pub fn worked_runs_of_forks()
+    ensures fork_copies { ForkCopies }
+    ensures fork_of_shared { ForkOfShared }
+{}
+
+/// A process is told the same alone and beside another, with 16 frames and with 64. It computes nothing.
+pub fn worked_runs_of_isolation()
+    ensures alone { ToldAlone }
+    ensures beside_the_root { ToldBesideTheRoot 16 }
+    ensures beside_noise { ToldBesideNoise 16 }
+    ensures larger { ToldBesideTheRoot 64 × ToldBesideNoise 64 }
+    ensures part { OwnOfNoise }
+    ensures copy_alone { CopyToldAlone }
+    ensures copy_beside { CopyToldBeside 16 × CopyToldBeside 64 }
 {}

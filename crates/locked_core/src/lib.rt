@@ -12,6 +12,8 @@ mod call_log;
 mod contention_tests;
 mod cpu;
 mod faults;
+#[cfg(test)]
+mod fork_tests;
 mod gate;
 #[cfg(test)]
 mod gate_tests;

@@ -4,9 +4,11 @@ use Rattle.std.specs.Prelude.{if◌then◌else◌, nat_lt}
 use Rattle.std.specs.List.{range_with_len}
 use Rattle.std.specs.Option.{option_map}
 use Rattle.std.proofs.lemmas.List.Sums.{sum_by-cons}
-use Rattle.address_space.proofs.costs.AccessCosts.{cost-same, key-stored}
+use Rattle.address_space.proofs.costs.AccessCosts.{cost-same}
+use Rattle.address_space.proofs.costs.MapFirst.{touched-there, bytes_there, key-all_accessed, key-all_stored}
 use Rattle.address_space.proofs.costs.Totals.{cost-insert_other, cost-joined_other, cost-without_other}
-use Rattle.address_space.specs.Spaces.{Slot, slot_order, Spaces, cost, cell_or_fresh, slot_at, accessed, stored, protected, without, is_slot, fresh, bytes_of}
+use Rattle.address_space.specs.Spaces.{Slot, slot_order, Spaces, cost, with_page, with_pages, all_accessed, all_stored, protected, without, is_slot, fresh, bytes_of, copied}
+use Rattle.kernel_calls.proofs.Charges.{fork_lives}
 use Rattle.kernel_calls.proofs.Decided.{next-stays, next-goes}
 use Rattle.kernel_calls.proofs.Runs.{runs-stay}
 use Rattle.kernel_calls.specs.Decisions.{charge_in, charge_after}
@@ -16,22 +18,25 @@ use Rattle.kernel_calls.specs.declared.calls.Call.TheVariants as call
 use Rattle.kernel_calls.specs.declared.calls.Reply.{Reply}
 use Rattle.kernel_calls.specs.declared.calls.Reply.TheVariants as reply
 use Rattle.memory_report.proofs.HistoryLemmas.{state-push, last_reply, last_told}
-use Rattle.memory_report.proofs.RowLemmas.{charged, opened-is, closed-is, roomy}
+use Rattle.memory_report.proofs.RowLemmas.{charged, opened-is, absent-cost, closed-is, roomy}
 use Rattle.memory_report.specs.Histories.{event_of, events_of, state_after}
 use Rattle.memory_report.specs.Laws.{TotalIsCost}
 use Rattle.memory_report.specs.Reports.{row_of, row_from, report_of, used_in, Absorbs}
-use Rattle.memory_report.specs.Rows.{absorbed, after_call, after_spawn, IsRoomy}
+use Rattle.memory_report.specs.Rows.{absorbed, after_call, with_child, IsRoomy}
 use Rattle.memory_report.specs.declared.entries.LogEntry.{LogEntry}
 use Rattle.memory_report.specs.declared.rows.Row.{Row}
 use Rattle.page_sharing.specs.Offers.{Offers}
 use Rattle.page_words.proofs.MapLemmas.{same-true}
-use Rattle.page_words.specs.Addresses.{offset_number, byte_count}
+use Rattle.page_words.specs.Addresses.{byte_count, touched}
+use Rattle.page_words.specs.declared.addresses.Size.{Size}
 use Rattle.page_words.specs.FiniteMap as map
 use Rattle.page_words.specs.FiniteMap.{same}
 use Rattle.process_table.proofs.Ranges.{found, sum-same, sum-range}
 use Rattle.process_table.proofs.SpaceLaws.{not_less}
 use Rattle.address_space.specs.Spaces.{at_page}
-use Rattle.process_table.specs.Calls.{spawn_refusal, exit_refusal, after_spawn as spawned_state}
+use Rattle.process_table.specs.Calls.{spawn_refusal, fork_refusal, exit_refusal, after_spawn as spawned_state, after_fork as forked_state}
+use Rattle.process_table.proofs.Forks.{may_fork, fork-cost}
+use Rattle.address_space.proofs.costs.Copied.{cost-copied, cost-copied_other}
 use Rattle.process_table.specs.State.{State, is_live, room, child_of, shown}
 use Rattle.process_table.specs.WellFormed.{IsWellFormed}
 use Rattle.process_table.specs.declared.causes.Cause.{Cause}
@@ -72,30 +77,55 @@ exit_allowed : (p : ℕ) (b c : Bool) → (p == 0) ≡ b → (if b then Some cau
 exit_allowed p true c is h = cc
 exit_allowed p false c is h = λ zero. (let e : (p == 0) ≡ true = ap (λ n. n == 0) zero in cc)
 
+-- pages that are mapped for one process cost the others nothing
+pages_other : (S : Spaces) (p : ℕ) (pages : List ℕ) (q : ℕ) → q ≢ p → cost (with_pages S p pages) q ≡ cost S q
+pages_other S p [] q n = refl
+pages_other S p (page ∷ pages) q n = pages_other (with_page S p page) p pages q n ∙ by (map.contains_key S (at_page p page))
+  where
+    by : (b : Bool) → cost (if b then S else map.insert S (at_page p page) (fresh (at_page p page) true)) q ≡ cost S q
+    by true = refl
+    by false = cost-insert_other S (at_page p page) (fresh (at_page p page) true) q n
+
 module _ (s : State) (p : ℕ) (w : IsWellFormed s) (live : is_live s p ≡ true) where
   -- a live process is charged what it costs
   charge_live : (T : Spaces) (O : Offers) → charge_in (record { spaces = T; book = s.book; offers = O }) p ≡ cost T p
   charge_live T O = ap (λ b. cond b (cost T p) 0) live
 
-  stored_other : (slot : Slot) (at : ℕ) (new : List ℕ) (q : ℕ) → q ≢ slot.pid → cost (stored s.spaces slot at new) q ≡ cost s.spaces q
-  stored_other slot at new q n =
-      cost-same (stored s.spaces slot at new) (map.insert s.spaces slot (cell_or_fresh s.spaces slot)) q (key-stored s.spaces slot at new (cell_or_fresh s.spaces slot))
-      ∙ cost-insert_other s.spaces slot (cell_or_fresh s.spaces slot) q n
+  loaded_other : (addr : ℕ) (size : Size) (q : ℕ) → q ≢ p → cost (all_accessed (with_pages s.spaces p (touched addr size)) p (touched addr size)) q ≡ cost s.spaces q
+  loaded_other addr size q n =
+      let T : Spaces = with_pages s.spaces p (touched addr size) in
+      cost-same (all_accessed T p (touched addr size)) T q (key-all_accessed T p addr size (touched-there s.spaces p addr size)) ∙ pages_other s.spaces p (touched addr size) q n
 
-  spawned : (quota : ℕ) → spawn_refusal s p quota ≡ None → after_spawn (report_of s) p quota (reply.Child (child_of s)) ≡ report_of (spawned_state s p quota)
-  spawned quota allowed =
+  stored_other : (addr : ℕ) (size : Size) (value q : ℕ) → q ≢ p → cost (all_stored (with_pages s.spaces p (touched addr size)) p addr (bytes_of (byte_count size) value)) q ≡ cost s.spaces q
+  stored_other addr size value q n =
+      let T : Spaces = with_pages s.spaces p (touched addr size) in
+      cost-same (all_stored T p addr (bytes_of (byte_count size) value)) T q (key-all_stored T p addr (byte_count size) value (bytes_there T p addr size (touched-there s.spaces p addr size)))
+      ∙ pages_other s.spaces p (touched addr size) q n
+
+  -- the number of the next child, which is not p's
+  next_child : (quota : ℕ) → spawn_refusal s p quota ≡ None → next_number s.book ≡ Some (child_of s)
+  next_child quota allowed =
       let may = spawn_allowed (quota == 0) (next_number s.book) (nat_lt (room s p) quota) allowed in
-      let is : next_number s.book ≡ Some (child_of s) = may.0.1 ∙ ap Some (sym (ap (λ o. unwrap_or o 0) may.0.1)) in
-      opened-is s p quota (child_of s) w live is
+      may.0.1 ∙ ap Some (sym (ap (λ o. unwrap_or o 0) may.0.1))
+
+  spawned : (quota : ℕ) → spawn_refusal s p quota ≡ None → with_child (report_of s) p quota 1 (reply.Child (child_of s)) ≡ report_of (spawned_state s p quota)
+  spawned quota allowed =
+      let is = next_child quota allowed in
+      opened-is s p quota (child_of s) w live is s.spaces 1 (absent-cost s (child_of s) w is) (λ q n. refl)
+
+  forked : (quota used : ℕ) → fork_refusal s p quota ≡ None → used ≡ cost s.spaces p → with_child (report_of s) p quota used (reply.Child (child_of s)) ≡ report_of (forked_state s p quota)
+  forked quota used allowed is =
+      let child = child_of s in
+      opened-is s p quota child w live (next_child quota (may_fork s p quota allowed).spawn) (copied s.spaces p child) used (cost-copied s.spaces p child ∙ sym is) (cost-copied_other s.spaces p child)
 
   -- what a call that completes leaves of the report
   goes : (c : Call) (used : ℕ) → completes (answer_of s p c) ≡ true → used ≡ charge_in (after s p c) p → after_call (report_of s) p c (answer_of s p c) used ≡ report_of (after s p c)
   goes (call.Load addr size) used done is =
-      let T = accessed s.spaces (slot_at p addr) in
-      charged s T s.offers p used (small s p w live) (is ∙ charge_live T s.offers) (cost-insert_other s.spaces (slot_at p addr) _)
+      let T = all_accessed (with_pages s.spaces p (touched addr size)) p (touched addr size) in
+      charged s T s.offers p used (small s p w live) (is ∙ charge_live T s.offers) (loaded_other addr size)
   goes (call.Store addr size value) used done is =
-      let T = stored s.spaces (slot_at p addr) (offset_number addr) (bytes_of (byte_count size) value) in
-      charged s T s.offers p used (small s p w live) (is ∙ charge_live T s.offers) (stored_other (slot_at p addr) (offset_number addr) (bytes_of (byte_count size) value))
+      let T = all_stored (with_pages s.spaces p (touched addr size)) p addr (bytes_of (byte_count size) value) in
+      charged s T s.offers p used (small s p w live) (is ∙ charge_live T s.offers) (stored_other addr size value)
   goes (call.Map page write) used done is =
       let T = map.insert s.spaces (at_page p page) (fresh (at_page p page) write) in
       charged s T s.offers p used (small s p w live) (is ∙ charge_live T s.offers) (cost-insert_other s.spaces (at_page p page) _)
@@ -117,7 +147,11 @@ module _ (s : State) (p : ℕ) (w : IsWellFormed s) (live : is_live s p ≡ true
       charged s t.spaces t.offers p used (small s p w live) (is ∙ charge_live t.spaces t.offers) (cost-joined_other s.spaces (at_page giver giver_page) (at_page p page) _)
   goes (call.Spawn quota) used done is =
       let allowed = not_refused (spawn_refusal s p quota) (reply.Child (child_of s)) done in
-      ap (λ x. after_spawn (report_of s) p quota (refused_or x (reply.Child (child_of s)))) allowed ∙ spawned quota allowed
+      ap (λ x. with_child (report_of s) p quota 1 (refused_or x (reply.Child (child_of s)))) allowed ∙ spawned quota allowed
+  goes (call.Fork quota) used done is =
+      let allowed = not_refused (fork_refusal s p quota) (reply.Child (child_of s)) done in
+      let charge : charge_in (forked_state s p quota) p ≡ cost s.spaces p = ap (λ b. cond b (cost (forked_state s p quota).spaces p) 0) (fork_lives s p quota live) ∙ fork-cost s p quota live allowed in
+      ap (λ x. with_child (report_of s) p quota used (refused_or x (reply.Child (child_of s)))) allowed ∙ forked quota used allowed (is ∙ charge)
   goes call.Exit used done is = closed-is s p w live (exit_allowed p (p == 0) _ refl (not_refused (exit_refusal s p) reply.Done done))
   goes call.Quota used done is = charged s s.spaces s.offers p used (small s p w live) (is ∙ charge_live s.spaces s.offers) (λ q n. refl)
 
@@ -135,6 +169,10 @@ module _ (s : State) (p : ℕ) (w : IsWellFormed s) (live : is_live s p ≡ true
   gives (call.Spawn quota) done =
       let may = spawn_allowed (quota == 0) (next_number s.book) (nat_lt (room s p) quota) (not_refused (spawn_refusal s p quota) (reply.Child (child_of s)) done) in
       roomy s p quota w live (not_less (room s p) quota may.1)
+  gives (call.Fork quota) done =
+      let may = may_fork s p quota (not_refused (fork_refusal s p quota) (reply.Child (child_of s)) done) in
+      let fits = spawn_allowed (quota == 0) (next_number s.book) (nat_lt (room s p) quota) may.spawn in
+      roomy s p quota w live (not_less (room s p) quota fits.1)
   gives call.Exit done = tt
   gives call.Quota done = tt
 

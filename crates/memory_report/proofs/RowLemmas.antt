@@ -6,7 +6,7 @@ use Rattle.std.proofs.lemmas.Bool.{cases_eq}
 use Rattle.std.proofs.lemmas.List.{get_or-set_same, get_or-set_other, get_or-replicate, length-replicate}
 use Rattle.std.proofs.lemmas.List.FromFn.{fill_by_all, get_or-map-range_with_len, length-map-range_with_len}
 use Rattle.std.proofs.Math.ListN.{length-set}
-use Rattle.address_space.specs.Spaces.{Cell, Spaces, cost, is_of}
+use Rattle.address_space.specs.Spaces.{Cell, Spaces, cost, is_of, at_page}
 use Rattle.address_space.proofs.costs.Totals.{cost-without_other}
 use Rattle.memory_report.specs.Reports.{row_from, row_of, report_of}
 use Rattle.memory_report.specs.Rows.{at, with_used, with_given_back, child_row, opened, opened_by, closed, closed_by, HasRoom}
@@ -75,7 +75,8 @@ module _ (s : State) (T : Spaces) (O : Offers) (p used : ℕ) (small : p < 64) (
 
 -- ---- A process gets a child
 
-module _ (s : State) (p quota k : ℕ) (w : IsWellFormed s) (live : is_live s p ≡ true) (free_number : next_number s.book ≡ Some k) where
+module _ (s : State) (p quota k : ℕ) (w : IsWellFormed s) (live : is_live s p ≡ true) (free_number : next_number s.book ≡ Some k)
+    (T : Spaces) (used : ℕ) (own : cost T k ≡ used) (others : (q : ℕ) → q ≢ k → cost T q ≡ cost s.spaces q) where
   abbrev child : Member
   child = record { parent = p; quota = quota }
 
@@ -83,7 +84,7 @@ module _ (s : State) (p quota k : ℕ) (w : IsWellFormed s) (live : is_live s p 
   book_more = map.insert s.book k child
 
   abbrev grown : State
-  grown = record { spaces = s.spaces; book = book_more; offers = s.offers }
+  grown = record { spaces = T; book = book_more; offers = s.offers }
 
   free : map.contains_key s.book k ≡ false
   free = (next_free s.book k free_number).1
@@ -99,13 +100,6 @@ module _ (s : State) (p quota k : ℕ) (w : IsWellFormed s) (live : is_live s p 
 
   get-child : map.get book_more k ≡ Some child
   get-child = get-insert s.book k child k ∙ ap (λ b. cond b (Some child) (map.get s.book k)) (same_itself nat_order k)
-
-  no_slots : (page : ℕ) → map.contains_key s.spaces (record { pid = k; page = page }) ≡ false
-  no_slots page = by (map.get s.spaces (record { pid = k; page = page })) refl
-    where
-      by : (x : Option Cell) → map.get s.spaces (record { pid = k; page = page }) ≡ x → is_some x ≡ false
-      by None is = refl
-      by (Some c) is = absurd (live_apart k (w.owners (record { pid = k; page = page }) c is) refl)
 
   given_parent : given s.book p + quota ≡ given book_more p
   given_parent = let a = given-insert s.book k child none p ∙ ap (λ b. cond b quota 0 + given s.book p) (child_yes p k quota (λ e. live_apart 0 w.root (sym e))) in omega arith
@@ -132,7 +126,7 @@ module _ (s : State) (p quota k : ℕ) (w : IsWellFormed s) (live : is_live s p 
   first = slice_set (report_of s) p (Some (record row_was { given = given s.book p + quota }))
 
   abbrev both : List (Option Row)
-  both = slice_set first k (Some (child_row p quota))
+  both = slice_set first k (Some (child_row p quota used))
 
   length_first : length first ≡ 64
   length_first = length-set (report_of s) p (Some (record row_was { given = given s.book p + quota })) ∙ length_report s
@@ -141,36 +135,47 @@ module _ (s : State) (p quota k : ℕ) (w : IsWellFormed s) (live : is_live s p 
   child_is =
       let long = length_first in
       let small = number in
-      get_or-set_same first k (Some (child_row p quota)) None (omega arith)
-      ∙ (λ i. Some (record { parent = p; quota = quota; used = sym (cost-no_pages s.spaces k no_slots) i; given = given_child i }))
+      get_or-set_same first k (Some (child_row p quota used)) None (omega arith)
+      ∙ (λ i. Some (record { parent = p; quota = quota; used = sym own i; given = given_child i }))
       ∙ ap (row_by grown k) (sym get-child)
 
   parent_is : at both p ≡ row_of grown p
   parent_is =
       let long = length_report s in
       let small = giver_small in
-      get_or-set_other first k p (Some (child_row p quota)) None (live_apart p live)
+      get_or-set_other first k p (Some (child_row p quota used)) None (live_apart p live)
       ∙ get_or-set_same (report_of s) p (Some (record row_was { given = given s.book p + quota })) None (omega arith)
-      ∙ (λ i. Some (record { parent = giver.0.parent; quota = giver.0.quota; used = cost s.spaces p; given = given_parent i }))
+      ∙ (λ i. Some (record { parent = giver.0.parent; quota = giver.0.quota; used = sym (others p (live_apart p live)) i; given = given_parent i }))
       ∙ ap (row_by grown p) (sym (get-insert_other s.book k child p (live_apart p live) ∙ giver.1))
 
-  same_row : (q : ℕ) → q ≢ p → (x : Option Member) → row_by s q x ≡ row_by grown q x
-  same_row q n None = refl
-  same_row q n (Some m) = λ i. Some (record { parent = m.parent; quota = m.quota; used = cost s.spaces q; given = given_other q n i })
+  same_row : (q : ℕ) → q ≢ p → q ≢ k → (x : Option Member) → row_by s q x ≡ row_by grown q x
+  same_row q n other None = refl
+  same_row q n other (Some m) = λ i. Some (record { parent = m.parent; quota = m.quota; used = sym (others q other) i; given = given_other q n i })
 
-  pub opened-is : opened (report_of s) p quota k ≡ report_of grown
+  pub opened-is : opened (report_of s) p quota k used ≡ report_of grown
   opened-is =
-      ap (opened_by (report_of s) p quota k) row_was_is
-      ∙ told grown both (length-set first k (Some (child_row p quota)) ∙ length_first) (λ q lt. elim (cases_eq q k) [
+      ap (opened_by (report_of s) p quota k used) row_was_is
+      ∙ told grown both (length-set first k (Some (child_row p quota used)) ∙ length_first) (λ q lt. elim (cases_eq q k) [
         | inl is ↦ subst (λ j. at both j ≡ row_of grown j) (sym is) child_is
         | inr other ↦ elim (cases_eq q p) [
           | inl is ↦ subst (λ j. at both j ≡ row_of grown j) (sym is) parent_is
           | inr n ↦
-              get_or-set_other first k q (Some (child_row p quota)) None other
+              get_or-set_other first k q (Some (child_row p quota used)) None other
               ∙ get_or-set_other (report_of s) p q (Some (record row_was { given = given s.book p + quota })) None n
-              ∙ at_report s q lt ∙ same_row q n (map.get s.book q) ∙ ap (row_by grown q) (sym (get-insert_other s.book k child q other))
+              ∙ at_report s q lt ∙ same_row q n other (map.get s.book q) ∙ ap (row_by grown q) (sym (get-insert_other s.book k child q other))
         ]
       ])
+
+-- a process that isn't live costs its directory
+pub absent-cost : (s : State) (k : ℕ) → IsWellFormed s → next_number s.book ≡ Some k → cost s.spaces k ≡ 1
+absent-cost s k w free_number = cost-no_pages s.spaces k no_slots
+  where
+    no_slots : (page : ℕ) → map.contains_key s.spaces (at_page k page) ≡ false
+    no_slots page = by (map.get s.spaces (at_page k page)) refl
+      where
+        by : (x : Option Cell) → map.get s.spaces (at_page k page) ≡ x → is_some x ≡ false
+        by None is = refl
+        by (Some c) is = let f = (next_free s.book k free_number).1 in let t : map.contains_key s.book k ≡ true = w.owners (at_page k page) c is in cc
 
 -- a process that spawns has room for what it gives
 pub roomy : (s : State) (p quota : ℕ) → IsWellFormed s → is_live s p ≡ true → quota ≤ room s p → HasRoom (report_of s) p quota

@@ -20,17 +20,17 @@ with_used rows p used = slice_set rows p (option_map (λ (row : Row). record row
 abbrev pub with_given_back : List (Option Row) → ℕ → ℕ → List (Option Row)
 with_given_back rows p quota = slice_set rows p (option_map (λ (row : Row). record row { given = row.given - quota }) (at rows p))
 
--- a child, which is charged for one frame
-abbrev pub child_row : ℕ → ℕ → Row
-child_row parent quota = record { parent = parent; quota = quota; used = 1; given = 0 }
+-- a child that is charged that much
+abbrev pub child_row : ℕ → ℕ → ℕ → Row
+child_row parent quota used = record { parent = parent; quota = quota; used = used; given = 0 }
 
-abbrev pub opened_by : List (Option Row) → ℕ → ℕ → ℕ → Option Row → List (Option Row)
-opened_by rows p quota child None = rows
-opened_by rows p quota child (Some row) = slice_set (slice_set rows p (Some (record row { given = row.given + quota }))) child (Some (child_row p quota))
+abbrev pub opened_by : List (Option Row) → ℕ → ℕ → ℕ → ℕ → Option Row → List (Option Row)
+opened_by rows p quota child used None = rows
+opened_by rows p quota child used (Some row) = slice_set (slice_set rows p (Some (record row { given = row.given + quota }))) child (Some (child_row p quota used))
 
--- a process gives a quota to a child
-abbrev pub opened : List (Option Row) → ℕ → ℕ → ℕ → List (Option Row)
-opened rows p quota child = opened_by rows p quota child (at rows p)
+-- a process gives a quota to a child that is charged that much
+abbrev pub opened : List (Option Row) → ℕ → ℕ → ℕ → ℕ → List (Option Row)
+opened rows p quota child used = opened_by rows p quota child used (at rows p)
 
 abbrev pub closed_by : List (Option Row) → ℕ → Option Row → List (Option Row)
 closed_by rows p None = rows
@@ -45,13 +45,15 @@ abbrev pub HasRoom : List (Option Row) → ℕ → ℕ → Type 0
 HasRoom rows p quota = (row : Row) → at rows p ≡ Some row → row.given + quota ≤ row.quota
 
 -- a child was made where the reply names it
-abbrev pub after_spawn : List (Option Row) → ℕ → ℕ → Reply → List (Option Row)
-after_spawn rows p quota (reply.Child child) = opened rows p quota child
-after_spawn rows p quota _ = rows
+abbrev pub with_child : List (Option Row) → ℕ → ℕ → ℕ → Reply → List (Option Row)
+with_child rows p quota used (reply.Child child) = opened rows p quota child used
+with_child rows p quota used _ = rows
 
--- after a call that was neither refused nor a fault
+-- after a call that was neither refused nor a fault; a child of a spawn is charged for one frame, and one of a fork
+-- as much as its parent
 abbrev pub after_call : List (Option Row) → ℕ → Call → Reply → ℕ → List (Option Row)
-after_call rows p (call.Spawn quota) told used = after_spawn rows p quota told
+after_call rows p (call.Spawn quota) told used = with_child rows p quota 1 told
+after_call rows p (call.Fork quota) told used = with_child rows p quota used told
 after_call rows p call.Exit told used = closed rows p
 after_call rows p _ told used = with_used rows p used
 
@@ -59,7 +61,8 @@ after_call rows p _ told used = with_used rows p used
 abbrev pub absorbed : List (Option Row) → LogEntry → List (Option Row)
 absorbed rows e = if completes e.reply then after_call rows e.pid e.call e.reply e.used_after else rows
 
--- a spawn asks for a quota that its process can give
+-- a spawn and a fork ask for a quota that their process can give
 abbrev pub IsRoomy : List (Option Row) → ℕ → Call → Type 0
 IsRoomy rows p (call.Spawn quota) = HasRoom rows p quota
+IsRoomy rows p (call.Fork quota) = HasRoom rows p quota
 IsRoomy rows p _ = Unit {0}

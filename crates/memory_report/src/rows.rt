@@ -56,10 +56,10 @@ fn give_back(rows: &mut Rows, pid: Pid, quota: u32)
     put(rows, pid, row);
 }
 
-/// A process gives a quota to a child, which is charged for one frame. The sum of what it gives does not
+/// A process gives a quota to a child, which is charged that much. The sum of what it gives does not
 /// grow past the largest number.
-fn open_child(rows: &mut Rows, pid: Pid, quota: u32, child: Pid)
-    ensures { HasRoom rows.old pid quota → rows.new ≡ opened rows.old pid quota child }
+fn open_child(rows: &mut Rows, pid: Pid, quota: u32, child: Pid, used: u32)
+    ensures { HasRoom rows.old pid quota → rows.new ≡ opened rows.old pid quota child used }
 {
     let Some(parent) = row_at(rows, pid) else {
         return;
@@ -69,7 +69,7 @@ fn open_child(rows: &mut Rows, pid: Pid, quota: u32, child: Pid)
     let row = Row {
         parent: pid,
         quota,
-        used: 1,
+        used,
         given: 0,
     };
     put(rows, child, Some(row));
@@ -91,8 +91,12 @@ fn absorb_call(rows: &mut Rows, pid: Pid, call: &Call, reply: &Reply, used_after
     ensures { IsRoomy rows.old pid call.now → rows.new ≡ after_call rows.old pid call.now reply.now used_after }
 {
     match (*call, *reply) {
-        (Call::Spawn { quota }, Reply::Child(child)) => open_child(rows, pid, quota, child),
+        (Call::Spawn { quota }, Reply::Child(child)) => open_child(rows, pid, quota, child, 1),
         (Call::Spawn { .. }, _) => {}
+        (Call::Fork { quota }, Reply::Child(child)) => {
+            open_child(rows, pid, quota, child, used_after);
+        }
+        (Call::Fork { .. }, _) => {}
         (Call::Exit, _) => close(rows, pid),
         _ => charge(rows, pid, used_after),
     }

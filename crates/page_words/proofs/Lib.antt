@@ -1,3 +1,4 @@
+pub mod Accesses
 pub mod Flags
 pub mod MapLemmas
 pub mod SetLemmas

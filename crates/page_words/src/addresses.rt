@@ -1,6 +1,6 @@
 //! Addresses, pages, frames, sizes and processes, and the parts of an address.
 ghost use Rattle.std.specs.Prelude.{◌≡◌, ◌<◌, ◌≤◌, ◌^◌, ◌↔◌, IsTrue, IsSome, IfSome};
-ghost use Rattle.page_words.specs.Addresses.{page_number, slot_number, index_number, offset_number, byte_count, IsUserPage};
+ghost use Rattle.page_words.specs.Addresses.{page_number, slot_number, index_number, offset_number, byte_count, start_number, second_page, IsUserPage};
 
 use std::marker::Model;
 
@@ -57,17 +57,21 @@ impl Model for Frame {
 pub enum Size {
     /// One byte.
     One,
+    /// Two bytes, the lowest first.
+    Two,
     /// Four bytes, the lowest first.
     Four,
 }
 
 impl Size {
-    /// The number of bytes: 1 or 4.
+    /// The number of bytes: 1, 2 or 4.
     pub fn bytes(self) -> u32
-        ensures { result ≡ byte_count self }
+        ensures value { result ≡ byte_count self }
+        ensures most { result ≤ 4 }
     {
         match self {
             Size::One => 1,
+            Size::Two => 2,
             Size::Four => 4,
         }
     }
@@ -144,6 +148,26 @@ pub fn offset_of(address: Vaddr) -> u32
     address.0 % 4096
 }
 
+/// The first address of a page, which is one of the 2 to the 20 that addresses have.
+pub fn start_of(page: Page) -> Vaddr
+    requires { page < 2 ^ 20 }
+    ensures { result ≡ start_number page }
+{
+    Vaddr(page.0 * 4096)
+}
+
+/// The second page that an access touches: the next, where its last bytes lie past the end of the page that
+/// its address lies in. Addresses do not begin again at 0: past the last page this is page 2 to the 20.
+pub fn second_page(address: Vaddr, size: Size) -> Option<Page>
+    ensures { result ≡ second_page address size }
+{
+    if offset_of(address) + size.bytes() <= 4096 {
+        None
+    } else {
+        Some(Page(page_of(address).0 + 1))
+    }
+}
+
 /// Whether a page is one that processes may map: 0x40000 to 0xeffff, whose directory slots are 256
 /// to 959.
 pub fn in_user_range(page: Page) -> bool
@@ -168,7 +192,11 @@ mod tests {
         assert!(rt; in_user_range(page));
         assert!(rt; !in_user_range(Page(0xf0000)));
         assert!(rt; !in_user_range(Page(0x3ffff)));
-        assert_eq!(rt; Size::One.bytes() + Size::Four.bytes(), 5);
+        assert_eq!(rt; Size::One.bytes() + Size::Two.bytes() + Size::Four.bytes(), 7);
+        assert_eq!(rt; second_page(Vaddr(0x4000_0ffc), Size::Four), None);
+        assert_eq!(rt; second_page(Vaddr(0x4000_0ffd), Size::Four), Some(Page(0x40001)));
+        assert_eq!(rt; second_page(Vaddr(u32::MAX), Size::Two), Some(Page(0x100000)));
+        assert_eq!(rt; start_of(Page(0xf0000)), Vaddr(0xf000_0000));
     }
 
     #[test]

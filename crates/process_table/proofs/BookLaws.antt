@@ -104,7 +104,7 @@ find-range t a (suc n) k h = by (t a) refl (λ later. let r = find-range t (a + 
 pub next_free : (book : Book) (k : ℕ) → next_number book ≡ Some k → (k < 64) × (map.contains_key book k ≡ false)
 next_free book k h = let r = find-range (λ p. not (map.contains_key book p)) 0 64 k h in let l = r.0 in let m : k < 64 = omega (arith, l) in (m, not-true (map.contains_key book k) r.1)
 
-spawn_allowed : (a : Bool) (x : Option ℕ) (c : Bool) → (if a then Some BadQuota else if is_none x then Some TableFull else if c then Some Quota else None) ≡ None → (a ≡ false) × ((k : ℕ) × (x ≡ Some k)) × (c ≡ false)
+pub spawn_allowed : (a : Bool) (x : Option ℕ) (c : Bool) → (if a then Some BadQuota else if is_none x then Some TableFull else if c then Some Quota else None) ≡ None → (a ≡ false) × ((k : ℕ) × (x ≡ Some k)) × (c ≡ false)
 spawn_allowed true x c h = cc
 spawn_allowed false None c h = cc
 spawn_allowed false (Some k) true h = cc

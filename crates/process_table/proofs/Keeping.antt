@@ -1,18 +1,18 @@
 -- Each call whose test passes keeps states well formed.
-use Rattle.std.proofs.Common.{◌≡◌, ℕ, ◌%◌, ◌==◌, Bool, true, false, not, refl, sym, subst, Option, Some, None, inl, arith}
-use Rattle.std.specs.Prelude.{if◌then◌else◌, IsOk, nat_le, ◌&&◌}
-use Rattle.std.proofs.lemmas.Bool.Decides.{nat_tests}
-use Rattle.page_words.specs.Addresses.{IsUserPage, is_user_page, page_number, byte_count}
+use Rattle.std.proofs.Common.{◌≡◌, ℕ, Bool, true, false, refl, sym, subst, Option, Some, None}
+use Rattle.std.specs.Prelude.{if◌then◌else◌, IsOk, IfSome}
+use Rattle.page_words.specs.Addresses.{byte_count, page_number, offset_number, second_page, touched, EachTouched}
+use Rattle.address_space.proofs.steps.Bytes.{stored_in_page}
 use Rattle.page_words.specs.declared.addresses.Size.{Size}
-use Rattle.page_words.specs.FiniteMap as map
-use Rattle.address_space.specs.Spaces.{slot_at}
+use Rattle.address_space.specs.Spaces.{Spaces, slot_at, stored, with_pages, all_accessed, all_stored, bytes_of}
+use Rattle.address_space.proofs.costs.MapFirst.{IsThere, with_touched-same, bytes_there}
 use Rattle.address_space.specs.View as frames
 use Rattle.quota_tree.specs.Containers.{Containers}
 use Rattle.page_sharing.specs.Offers.{Offers}
 use Rattle.table_walk.specs.declared.Access.{Access}
 use Rattle.table_walk.specs.declared.Access.TheVariants.{Read, Write}
-use Rattle.process_table.specs.State.{State, is_live, is_mapped, child_of}
-use Rattle.process_table.specs.Calls.{map_refusal, protect_refusal, offer_refusal, accept_refusal, spawn_refusal, exit_refusal, after_map, after_protect, after_offer, after_accept, after_spawn, after_exit, after_access, is_misaligned}
+use Rattle.process_table.specs.State.{State, is_live, child_of}
+use Rattle.process_table.specs.Calls.{map_refusal, protect_refusal, offer_refusal, accept_refusal, spawn_refusal, exit_refusal, after_map, after_protect, after_offer, after_accept, after_spawn, after_exit, after_access}
 use Rattle.process_table.specs.TestAnswers.{child_unless, map_answer, protect_answer, offer_answer, accept_answer, spawn_answer, exit_answer}
 use Rattle.process_table.specs.View.{IsProcesses, IsWhole}
 use Rattle.process_table.specs.WellFormed.{IsWellFormed}
@@ -21,9 +21,7 @@ use Rattle.process_table.specs.declared.causes.Cause.TheVariants.{NoProcess}
 use Rattle.process_table.proofs.BookLaws.{well_formed-spawn, well_formed-exit}
 use Rattle.process_table.proofs.Refusals.{no_cause}
 use Rattle.process_table.proofs.SharingLaws.{well_formed-protect, well_formed-offer, well_formed-accept}
-use Rattle.process_table.proofs.SpaceLaws.{well_formed-map, well_formed-load, well_formed-store}
-use borrow.Author.Tests.{eqb-true}
-use Rattle.page_words.proofs.OptionLemmas.{some_value}
+use Rattle.process_table.proofs.SpaceLaws.{well_formed-map, well_formed-loaded, well_formed-bytes}
 
 -- parts that agree are whole where the state that they make is well formed
 pub whole : (v : frames.View) (c : Containers) (o : Offers) (s : State) → IsProcesses v c → v.spaces ≡ s.spaces → c.book ≡ s.book → o ≡ s.offers → IsWellFormed s → IsWhole v c o
@@ -54,28 +52,23 @@ keeps-spawn s p quota w ok = by (is_live s p) (spawn_refusal s p quota) ok refl 
 
 -- ---- Accesses
 
-page_is_user : (page : ℕ) → IsUserPage page → is_user_page page ≡ true
-page_is_user page h =
-    let low = h.0 in
-    let high = h.1 in
-    let a : nat_le 0x40000 page ≡ true = grind (arith, nat_tests) in
-    let b : nat_le page 0xeffff ≡ true = grind (arith, nat_tests) in
-    λ i. a i && b i
-
-pub aligned_is : (address : ℕ) (size : Size) → is_misaligned address size ≡ false → address % byte_count size ≡ 0
-aligned_is address size h = by (address % byte_count size == 0) refl h
+-- an access of mapped pages
+pub keeps-access : (s : State) (p address : ℕ) (size : Size) (access : Access) (value : ℕ) → IsWellFormed s → EachTouched address size (IsThere s.spaces p) → IsWellFormed (after_access s p address size access value)
+keeps-access s p address size access value w there = by access
   where
-    by : (b : Bool) → (address % byte_count size == 0) ≡ b → not b ≡ false → address % byte_count size ≡ 0
-    by true is e = eqb-true (address % byte_count size) 0 is
-    by false is e = cc
-
-pub keeps-access : (s : State) (p address : ℕ) (size : Size) (access : Access) (value : ℕ) → IsWellFormed s → is_mapped s (slot_at p address) ≡ true → IsUserPage (page_number address) → is_misaligned address size ≡ false
-    → IsWellFormed (after_access s p address size access value)
-keeps-access s p address size access value w mapped user aligned = by access
-  where
-    live : is_live s p ≡ true
-    live = let c = some_value (map.get s.spaces (slot_at p address)) mapped in w.owners (slot_at p address) c.0 c.1
+    same : s.spaces ≡ with_pages s.spaces p (touched address size)
+    same = sym (with_touched-same s.spaces p address size there)
 
     by : (access : Access) → IsWellFormed (after_access s p address size access value)
-    by Read = well_formed-load s p address w live (page_is_user (page_number address) user) (inl mapped)
-    by Write = well_formed-store s p address size value w live (page_is_user (page_number address) user) (aligned_is address size aligned) (inl mapped)
+    by Read = subst (λ (T : Spaces). IsWellFormed (record s { spaces = all_accessed T p (touched address size) })) same (well_formed-loaded s p address size w there)
+    by Write = subst (λ (T : Spaces). IsWellFormed (record s { spaces = all_stored T p address (bytes_of (byte_count size) value) })) same (well_formed-bytes s p address (byte_count size) value w (bytes_there s.spaces p address size there))
+
+-- what holds of the one page of an access that stays in it
+alone : (address : ℕ) (size : Size) (P : ℕ → Type 0) → second_page address size ≡ None → P (page_number address) → EachTouched address size P
+alone address size P none h = (h, subst (λ x. IfSome x P) (sym none) tt)
+
+pub keeps-store_in_page : (s : State) (p address : ℕ) (size : Size) (value : ℕ) → IsWellFormed s → second_page address size ≡ None → IsThere s.spaces p (page_number address)
+    → IsWellFormed (record s { spaces = stored s.spaces (slot_at p address) (offset_number address) (bytes_of (byte_count size) value) })
+keeps-store_in_page s p address size value w none there =
+    subst (λ (T : Spaces). IsWellFormed (record s { spaces = T })) (stored_in_page s.spaces p address size value none)
+    (well_formed-bytes s p address (byte_count size) value w (bytes_there s.spaces p address size (alone address size (IsThere s.spaces p) none there)))

@@ -1,6 +1,9 @@
+pub mod Apart
+pub mod ApartOthers
 pub mod BookLaws
 pub mod CellLaws
 pub mod Charged
+pub mod Forks
 pub mod ImageStanding
 pub mod Keeping
 pub mod Ranges

@@ -1,9 +1,11 @@
 -- States stay well formed by a change of a right, and by an offer, its withdrawal and its acceptance.
 use Rattle.std.proofs.Common.{◌≡◌, ◌≢◌, ◌⊎◌, ℕ, ◌+◌, ◌<◌, ◌≤◌, ◌||◌, ◌==◌, not, Bool, true, false, cond, refl, sym, ap, subst, ◌∙◌, Option, Some, None, is_some, unwrap_or, arith, inl, inr}
-use Rattle.std.specs.Prelude.{if◌then◌else◌}
+use Rattle.std.specs.Prelude.{if◌then◌else◌, IfSome}
 use Rattle.std.specs.Option.{option_map}
 use Rattle.std.proofs.lemmas.Bool.{cases_eq}
-use Rattle.page_words.specs.Addresses.{IsUserPage}
+use Rattle.page_words.specs.Addresses.{IsUserPage, EachTouched, page_number, second_page}
+use Rattle.page_words.specs.declared.addresses.Size.{Size}
+use Rattle.address_space.proofs.costs.MapFirst.{IsThere}
 use Rattle.page_words.specs.FiniteMap as map
 use Rattle.page_words.specs.FiniteMap.{same}
 use Rattle.page_words.specs.FiniteSet as set
@@ -277,6 +279,14 @@ mapped_user s slot w mapped = by (map.get s.spaces slot) refl mapped
     by : (x : Option Cell) → map.get s.spaces slot ≡ x → is_some x ≡ true → IsUserPage slot.page
     by None is h = cc
     by (Some g) is h = (w.cells slot g is).user
+
+-- the pages of an access, where they are mapped
+pub touched_user : (s : State) (p address : ℕ) (size : Size) → IsWellFormed s → EachTouched address size (IsThere s.spaces p) → EachTouched address size IsUserPage
+touched_user s p address size w there = (mapped_user s (at_page p (page_number address)) w there.0, by (second_page address size) there.1)
+  where
+    by : (x : Option ℕ) → IfSome x (IsThere s.spaces p) → IfSome x IsUserPage
+    by None h = h
+    by (Some second) h = mapped_user s (at_page p second) w h
 
 pub giver_user : (s : State) (p giver giver_page : ℕ) → IsWellFormed s → map.contains_key s.offers (offer_of giver giver_page p) ≡ true → IsUserPage giver_page
 giver_user s p giver giver_page w there = let g = giver_mapped s p giver giver_page w there in (w.cells (at_page giver giver_page) g.0 g.1).user

@@ -1,31 +1,32 @@
 -- States stay well formed where their spaces alone change: by a map, an access, or an unmap with its offers.
 use Rattle.std.proofs.Common.{◌≡◌, ◌≢◌, ℕ, ◌+◌, ◌/◌, ◌%◌, ◌<◌, ◌≤◌, ◌&&◌, not, Bool, true, false, List, ◌++◌, length, take, drop, refl, sym, ap, subst, ◌∙◌, Option, Some, None, is_some, unwrap_or, arith, inl, inr, zero, suc}
 use Rattle.std.proofs.lemmas.List.{length-replicate}
-use Rattle.std.specs.Prelude.{if◌then◌else◌, nat_lt, nat_le}
+use Rattle.std.specs.Prelude.{if◌then◌else◌, nat_lt, nat_le, IfSome}
 use Rattle.std.specs.Option.{option_map}
 use Rattle.std.specs.List.{All}
-use Rattle.std.proofs.lemmas.Bool.{cases_lt, cases_eq}
+use Rattle.std.proofs.lemmas.Bool.{cases_lt, cases_eq, le-ltb}
 use Rattle.std.proofs.lemmas.Bool.Decides.{nat_tests}
 use Rattle.std.proofs.lemmas.List.Elements.{All-nil, All-cons, All-append, All-take, All-drop, All-replicate}
-use Rattle.page_words.specs.Addresses.{IsUserPage, is_user_page, byte_count, offset_number, page_number}
+use Rattle.page_words.specs.Addresses.{IsUserPage, is_user_page, byte_count, offset_number, page_number, second_page, page_and, touched, EachTouched}
 use Rattle.page_words.specs.declared.addresses.Size.{Size}
-use Rattle.page_words.specs.declared.addresses.Size.TheVariants.{One, Four}
+use Rattle.page_words.specs.declared.addresses.Size.TheVariants.{One}
 use Rattle.page_words.specs.FiniteMap as map
 use Rattle.page_words.specs.FiniteMap.{same}
 use Rattle.page_words.specs.FiniteSet as set
 use Rattle.page_words.specs.FiniteSet.{Set}
 use Rattle.page_words.proofs.MapLemmas.{get-map_values}
 use Rattle.page_words.proofs.SetLemmas.{same_cases}
-use Rattle.address_space.specs.Spaces.{Slot, slot_order, Cell, Spaces, cost, cost_of, need, fresh, accessed, store_in, set_bytes, with_bytes, write_at, bytes_of, slot_at, at_page}
+use Rattle.address_space.specs.Spaces.{Slot, slot_order, Cell, Spaces, cost, cost_of, need, page_need, access_need, fresh, accessed, stored, with_page, with_pages, all_accessed, all_stored, store_in, set_bytes, with_bytes, write_at, bytes_of, slot_at, at_page}
 use Rattle.address_space.proofs.costs.Costs.{same_pages, cost-insert}
-use Rattle.address_space.proofs.costs.MapFirst.{accessed-fresh, stored-fresh}
+use Rattle.address_space.proofs.costs.AccessCosts.{kept}
+use Rattle.address_space.proofs.costs.AccessNeeds.{need-in_one, need-in_two, cost-with_page}
+use Rattle.address_space.proofs.costs.MapFirst.{IsThere, AreThere, touched-there, first_there, rest_there, bytes_there}
 use Rattle.address_space.proofs.steps.Stores.{written_long}
 use Rattle.quota_tree.specs.Book.{given, quota_of}
 use Rattle.page_sharing.specs.Offers.{OfferKey}
-use Rattle.process_table.specs.State.{State, is_live, is_mapped, has_no_room, room}
+use Rattle.process_table.specs.State.{State, is_live, is_mapped, has_no_room, lacks_room, room}
 use Rattle.process_table.specs.Calls.{map_refusal, after_map, after_load, after_store}
 use Rattle.process_table.specs.declared.causes.Cause.TheVariants.{BadPage, Mapped, Quota}
-use Rattle.process_table.specs.Laws.{IsReachable}
 use Rattle.process_table.specs.WellFormed.{IsCellAt, IsOfferIn, IsWellFormed}
 use Rattle.process_table.proofs.CellLaws.{AreCells, get-inserted, get-inserted_other, lone-cell, cells-lone, IsRenewed, cells-renewed}
 use Rattle.process_table.proofs.Sizes.{cost-fewer}
@@ -220,23 +221,59 @@ module _ (s : State) (slot : Slot) (c : Cell) (at : map.get s.spaces slot ≡ So
     well_formed-written : IsWellFormed (record s { spaces = store_in s.spaces slot c bytes })
     well_formed-written = well_formed-renewed s written_spaces slot c bytes at written_forth written_back w long small
 
--- ---- Loads and stores, mapped or not
+-- ---- The pages of an access, mapped first
 
-room_where_unmapped : (s : State) (slot : Slot) → map.get s.spaces slot ≡ None → IsReachable s slot → has_no_room s slot ≡ false
-room_where_unmapped s slot none (inl mapped) = absurd (let x : false ≡ true = sym (ap is_some none) ∙ mapped in cc)
-room_where_unmapped s slot none (inr has_room) = has_room
-
--- a load of a page of the user range that is mapped, or for which there is room
-pub well_formed-load : (s : State) (p address : ℕ) → IsWellFormed s → is_live s p ≡ true → is_user_page (page_number address) ≡ true → IsReachable s (slot_at p address) → IsWellFormed (after_load s p address)
-well_formed-load s p address w live user reachable = by (map.get s.spaces (slot_at p address)) refl
+-- a page that is mapped, or for which there is room
+pub well_formed-page : (s : State) (p page : ℕ) → IsWellFormed s → is_live s p ≡ true → IsUserPage page → page_need s.spaces p page ≤ room s p → IsWellFormed (record s { spaces = with_page s.spaces p page })
+well_formed-page s p page w live user fits = by (map.contains_key s.spaces (at_page p page)) refl fits
   where
-    by : (x : Option Cell) → map.get s.spaces (slot_at p address) ≡ x → IsWellFormed (after_load s p address)
-    by (Some c) at = well_formed-read s (slot_at p address) c at w
-    by None none =
-        let first = well_formed-inserted s (slot_at p address) true w live (user_page (page_number address) user) none (room_where_unmapped s (slot_at p address) none reachable) in
-        let there = get-inserted s.spaces (slot_at p address) (fresh (slot_at p address) true) in
-        subst (λ (T : Spaces). IsWellFormed (record s { spaces = T })) (accessed-fresh s.spaces (slot_at p address) none)
-        (well_formed-read (record s { spaces = map.insert s.spaces (slot_at p address) (fresh (slot_at p address) true) }) (slot_at p address) (fresh (slot_at p address) true) there first)
+    by : (b : Bool) → map.contains_key s.spaces (at_page p page) ≡ b → (if b then 0 else need s.spaces p page) ≤ room s p
+        → IsWellFormed (record s { spaces = if b then s.spaces else map.insert s.spaces (at_page p page) (fresh (at_page p page) true) })
+    by true is h = w
+    by false is h = well_formed-inserted s (at_page p page) true w live user (no_value (map.get s.spaces (at_page p page)) is) (fits-room (room s p) (need s.spaces p page) h)
+      where
+        fits-room : (a b : ℕ) → b ≤ a → nat_lt a b ≡ false
+        fits-room a b h = le-ltb a b h
+
+-- the pages that an access touches, where there is room for those that are not mapped
+pub well_formed-touched : (s : State) (p address : ℕ) (size : Size) → IsWellFormed s → is_live s p ≡ true → EachTouched address size IsUserPage → lacks_room s p address size ≡ false
+    → IsWellFormed (record s { spaces = with_pages s.spaces p (touched address size) })
+well_formed-touched s p address size w live user has_room = by (second_page address size) refl user.1
+  where
+    page : ℕ
+    page = page_number address
+
+    enough : access_need s.spaces p address size ≤ room s p
+    enough = not_less (room s p) (access_need s.spaces p address size) has_room
+
+    by : (x : Option ℕ) → second_page address size ≡ x → IfSome x IsUserPage → IsWellFormed (record s { spaces = with_pages s.spaces p (page_and page x) })
+    by None is h = let n = need-in_one s.spaces p address size is in well_formed-page s p page w live user.0 (omega (arith, n, enough))
+    by (Some second) is h =
+        let n = need-in_two s.spaces p address size second is in
+        let first = well_formed-page s p page w live user.0 (omega (arith, n, enough)) in
+        let paid = cost-with_page s.spaces p page in
+        well_formed-page (record s { spaces = with_page s.spaces p page }) p second first live h (omega (arith, n, enough, paid))
+
+-- ---- Loads and stores
+
+-- a load of mapped pages
+pub well_formed-read_at : (s : State) (p page : ℕ) → IsWellFormed s → IsThere s.spaces p page → IsWellFormed (record s { spaces = accessed s.spaces (at_page p page) })
+well_formed-read_at s p page w there = let c = some_value (map.get s.spaces (at_page p page)) there in well_formed-read s (at_page p page) c.0 c.1 w
+
+pub well_formed-loaded : (s : State) (p address : ℕ) (size : Size) → IsWellFormed s → EachTouched address size (IsThere s.spaces p) → IsWellFormed (record s { spaces = all_accessed s.spaces p (touched address size) })
+well_formed-loaded s p address size w there = by (second_page address size) there.1
+  where
+    page : ℕ
+    page = page_number address
+
+    by : (x : Option ℕ) → IfSome x (IsThere s.spaces p) → IsWellFormed (record s { spaces = all_accessed s.spaces p (page_and page x) })
+    by None h = well_formed-read_at s p page w there.0
+    by (Some second) h =
+        well_formed-read_at (record s { spaces = accessed s.spaces (at_page p page) }) p second (well_formed-read_at s p page w there.0) (kept s.spaces (at_page p page) _ there.0 (at_page p second) ∙ h)
+
+pub well_formed-load : (s : State) (p address : ℕ) (size : Size) → IsWellFormed s → is_live s p ≡ true → EachTouched address size IsUserPage → lacks_room s p address size ≡ false → IsWellFormed (after_load s p address size)
+well_formed-load s p address size w live user has_room =
+    well_formed-loaded (record s { spaces = with_pages s.spaces p (touched address size) }) p address size (well_formed-touched s p address size w live user has_room) (touched-there s.spaces p address size)
 
 small_bytes : (k value : ℕ) → All (λ b. b < 256) (bytes_of k value)
 small_bytes zero value = All-nil (λ b. b < 256)
@@ -248,27 +285,26 @@ small_written bytes at k value h =
     (All-append (λ b. b < 256) (take at bytes) (bytes_of k value) (All-take (λ b. b < 256) at bytes h) (small_bytes k value))
     (All-drop (λ b. b < 256) (at + length (bytes_of k value)) bytes h)
 
-aligned_within : (address : ℕ) (size : Size) → address % byte_count size ≡ 0 → offset_number address % byte_count size ≡ 0
-aligned_within address One h = omega arith
-aligned_within address Four h = omega arith
+-- a byte stored in a mapped page
+well_formed-byte : (s : State) (p address value : ℕ) → IsWellFormed s → map.contains_key s.spaces (slot_at p address) ≡ true → IsWellFormed (record s { spaces = stored s.spaces (slot_at p address) (offset_number address) (bytes_of 1 value) })
+well_formed-byte s p address value w there =
+    let slot = slot_at p address in
+    let c = some_value (map.get s.spaces slot) there in
+    let was = w.cells slot c.0 c.1 in
+    let long = written_long c.0.bytes (offset_number address) One value was.long (omega arith) in
+    let small = small_written c.0.bytes (offset_number address) 1 value was.small in
+    subst (λ (x : Cell). IsWellFormed (record s { spaces = store_in s.spaces slot x (write_at x.bytes (offset_number address) (bytes_of 1 value)) })) (sym (ap (λ (x : Option Cell). unwrap_or x (fresh slot true)) c.1))
+    (well_formed-written s slot c.0 c.1 w (write_at c.0.bytes (offset_number address) (bytes_of 1 value)) long small)
 
-module _ (s : State) (p address : ℕ) (size : Size) (value : ℕ) (aligned : address % byte_count size ≡ 0) where
-  well_formed-stored : (s : State) (c : Cell) → map.get s.spaces (slot_at p address) ≡ Some c → IsWellFormed s → IsWellFormed (after_store s p address size value)
-  well_formed-stored s c at w =
-      let was = w.cells (slot_at p address) c at in
-      let long = written_long c.bytes (offset_number address) size value was.long (omega arith) (aligned_within address size aligned) in
-      let small = small_written c.bytes (offset_number address) (byte_count size) value was.small in
-      subst (λ (x : Cell). IsWellFormed (record s { spaces = store_in s.spaces (slot_at p address) x (write_at x.bytes (offset_number address) (bytes_of (byte_count size) value)) })) (sym (ap (λ (x : Option Cell). unwrap_or x (fresh (slot_at p address) true)) at))
-      (well_formed-written s (slot_at p address) c at w (write_at c.bytes (offset_number address) (bytes_of (byte_count size) value)) long small)
+-- bytes stored in mapped pages
+pub well_formed-bytes : (s : State) (p address k value : ℕ) → IsWellFormed s → AreThere s.spaces p address k → IsWellFormed (record s { spaces = all_stored s.spaces p address (bytes_of k value) })
+well_formed-bytes s p address zero value w there = w
+well_formed-bytes s p address (suc k) value w there =
+    well_formed-bytes (record s { spaces = stored s.spaces (slot_at p address) (offset_number address) (bytes_of 1 value) }) p (address + 1) k (value / 256)
+    (well_formed-byte s p address value w (first_there s.spaces p address k there))
+    (rest_there s.spaces p address k (offset_number address) (value % 256) there)
 
--- a store of any value at an aligned address of such a page
-pub well_formed-store : (s : State) (p address : ℕ) (size : Size) (value : ℕ) → IsWellFormed s → is_live s p ≡ true → is_user_page (page_number address) ≡ true → address % byte_count size ≡ 0 → IsReachable s (slot_at p address) → IsWellFormed (after_store s p address size value)
-well_formed-store s p address size value w live user aligned reachable = by (map.get s.spaces (slot_at p address)) refl
-  where
-    by : (x : Option Cell) → map.get s.spaces (slot_at p address) ≡ x → IsWellFormed (after_store s p address size value)
-    by (Some c) at = well_formed-stored s p address size value aligned s c at w
-    by None none =
-        let first = well_formed-inserted s (slot_at p address) true w live (user_page (page_number address) user) none (room_where_unmapped s (slot_at p address) none reachable) in
-        let there = get-inserted s.spaces (slot_at p address) (fresh (slot_at p address) true) in
-        subst (λ (T : Spaces). IsWellFormed (record s { spaces = T })) (stored-fresh s.spaces (slot_at p address) (offset_number address) (bytes_of (byte_count size) value) none)
-        (well_formed-stored s p address size value aligned (record s { spaces = map.insert s.spaces (slot_at p address) (fresh (slot_at p address) true) }) (fresh (slot_at p address) true) there first)
+pub well_formed-store : (s : State) (p address : ℕ) (size : Size) (value : ℕ) → IsWellFormed s → is_live s p ≡ true → EachTouched address size IsUserPage → lacks_room s p address size ≡ false → IsWellFormed (after_store s p address size value)
+well_formed-store s p address size value w live user has_room =
+    well_formed-bytes (record s { spaces = with_pages s.spaces p (touched address size) }) p address (byte_count size) value (well_formed-touched s p address size w live user has_room)
+    (bytes_there (with_pages s.spaces p (touched address size)) p address size (touched-there s.spaces p address size))

@@ -102,7 +102,7 @@ child-has_none v c p asked child kept is = no_directory (directory_of v.director
 -- ---- The child's charge
 
 -- a process without a directory has nothing mapped
-nothing-mapped : (image : Image) (S : Spaces) (p page : ℕ) → StandsFor image S → directory_at image p ≡ None → map.contains_key S (at_page p page) ≡ false
+pub nothing-mapped : (image : Image) (S : Spaces) (p page : ℕ) → StandsFor image S → directory_at image p ≡ None → map.contains_key S (at_page p page) ≡ false
 nothing-mapped image S p page stands none = by (map.get S slot) (subst (λ x. SlotStands image slot x (map.get S slot)) absent (stands.cells slot))
   where
     slot : Slot

@@ -1,16 +1,16 @@
 -- What each call of a live process is refused for, in order, and what it does.
-use Rattle.std.proofs.Common.{ℕ, Bool, false, not, ◌&&◌, if◌then◌else◌, ◌==◌, ◌%◌, nat_lt, nat_le, Option, Some, None, is_none, unwrap_or}
-use Rattle.page_words.specs.Addresses.{offset_number, byte_count, is_user_page}
+use Rattle.std.proofs.Common.{ℕ, Bool, false, not, ◌&&◌, if◌then◌else◌, ◌==◌, nat_lt, nat_le, Option, Some, None, is_none, unwrap_or}
+use Rattle.page_words.specs.Addresses.{byte_count, covered, touched, is_user_page}
 use Rattle.page_words.specs.declared.addresses.Size.{Size}
 use Rattle.page_words.specs.FiniteMap as map
-use Rattle.address_space.specs.Spaces.{cell_or_fresh, fresh, without, is_slot, is_of, slot_at, accessed, stored, protected, joined, bytes_at, value_of, bytes_of, at_page}
+use Rattle.address_space.specs.Spaces.{cell_or_fresh, fresh, without, is_slot, is_of, protected, joined, number_of, with_pages, all_accessed, all_stored, bytes_of, at_page, cost, copied}
 use Rattle.quota_tree.specs.Book.{next_number, number_of_children}
 use Rattle.page_sharing.specs.Offers.{offer_of, pending, without_page, without_process}
 use Rattle.table_walk.specs.declared.Access.{Access}
 use Rattle.table_walk.specs.declared.Access.TheVariants.{Read, Write}
 use Rattle.process_table.specs.State.{State, is_live, is_mapped, has_no_room, room, child_of}
 use Rattle.process_table.specs.declared.causes.Cause.{Cause}
-use Rattle.process_table.specs.declared.causes.Cause.TheVariants.{BadPage, NotMapped, Mapped, Quota, Rights, SelfOffer, NoTarget, OfferPending, TooManyOffers, NoOffer, TableFull, BadQuota, HasChildren, RootExit}
+use Rattle.process_table.specs.declared.causes.Cause.TheVariants.{BadPage, NotMapped, Mapped, Quota, Rights, SelfOffer, NoTarget, OfferPending, TooManyOffers, NoOffer, TableFull, BadQuota, HasChildren, RootExit, TooSmall}
 
 -- ---- Why a call is refused: the first cause that applies
 
@@ -67,6 +67,15 @@ spawn_refusal s p quota =
     if nat_lt (room s p) quota then Some Quota else
     None
 
+-- a copy of the process costs what the process does
+abbrev pub fork_refusal : State → ℕ → ℕ → Option Cause
+fork_refusal s p quota =
+    if quota == 0 then Some BadQuota else
+    if is_none (next_number s.book) then Some TableFull else
+    if nat_lt quota (cost s.spaces p) then Some TooSmall else
+    if nat_lt (room s p) quota then Some Quota else
+    None
+
 abbrev pub exit_refusal : State → ℕ → Option Cause
 exit_refusal s p =
     if p == 0 then Some RootExit else
@@ -75,27 +84,28 @@ exit_refusal s p =
 
 -- ---- What a call does
 
-abbrev pub is_misaligned : ℕ → Size → Bool
-is_misaligned address size = not (address % byte_count size == 0)
-
--- the value that a load gives: the bytes, or zeros where nothing is mapped
+-- the value that a load gives: the number of the bytes that it covers, 0 for each byte of a page that is not mapped
 abbrev pub loaded : State → ℕ → ℕ → Size → ℕ
-loaded s p address size = value_of (bytes_at (cell_or_fresh s.spaces (slot_at p address)).bytes (offset_number address) (byte_count size))
+loaded s p address size = number_of s.spaces p (covered address size)
 
-abbrev pub after_load : State → ℕ → ℕ → State
-after_load s p address = record s { spaces = accessed s.spaces (slot_at p address) }
+-- each page that is touched is mapped first, and accessed is set in its slot
+abbrev pub after_load : State → ℕ → ℕ → Size → State
+after_load s p address size =
+    let pages = touched address size in
+    record s { spaces = all_accessed (with_pages s.spaces p pages) p pages }
 
+-- each page that is touched is mapped first, and the low bytes of the value are stored one after the other
 abbrev pub after_store : State → ℕ → ℕ → Size → ℕ → State
-after_store s p address size value = record s { spaces = stored s.spaces (slot_at p address) (offset_number address) (bytes_of (byte_count size) value) }
+after_store s p address size value = record s { spaces = all_stored (with_pages s.spaces p (touched address size)) p address (bytes_of (byte_count size) value) }
 
 -- the value that an access gives: a read what it reads, a write 0
 abbrev pub access_value : State → ℕ → ℕ → Size → Access → ℕ
 access_value s p address size Read = loaded s p address size
 access_value s p address size Write = 0
 
--- after an access that completes: of an unmapped page, it is mapped first
+-- after an access that completes
 abbrev pub after_access : State → ℕ → ℕ → Size → Access → ℕ → State
-after_access s p address size Read value = after_load s p address
+after_access s p address size Read value = after_load s p address size
 after_access s p address size Write value = after_store s p address size value
 
 abbrev pub after_map : State → ℕ → ℕ → Bool → State
@@ -132,6 +142,13 @@ after_accept s p giver giver_page page = record s {
 -- a child, which has the least number that is not live
 abbrev pub after_spawn : State → ℕ → ℕ → State
 after_spawn s p quota = record s { book = map.insert s.book (child_of s) (record { parent = p; quota = quota }) }
+
+-- a child with a copy of each of its parent's pages; no offer is copied
+abbrev pub after_fork : State → ℕ → ℕ → State
+after_fork s p quota = record s {
+  spaces = copied s.spaces p (child_of s);
+  book = map.insert s.book (child_of s) (record { parent = p; quota = quota });
+}
 
 -- the process, its slots, its offers and the offers to it go
 abbrev pub after_exit : State → ℕ → State

@@ -1,12 +1,11 @@
 -- Laws on the calls: each that is not refused keeps states well formed, and such states cost no more than the root's quota.
-use Rattle.std.proofs.Common.{◌≡◌, ◌≤◌, ◌⊎◌, ℕ, ◌%◌, Bool, true, false, None}
-use Rattle.page_words.specs.Addresses.{byte_count, is_user_page, page_number}
+use Rattle.std.proofs.Common.{◌≡◌, ◌≤◌, ℕ, Bool, true, false, None}
+use Rattle.page_words.specs.Addresses.{IsUserPage, EachTouched}
 use Rattle.page_words.specs.declared.addresses.Size.{Size}
 use Rattle.page_words.specs.FiniteMap as map
-use Rattle.address_space.specs.Spaces.{Slot, slot_at}
 use Rattle.quota_tree.specs.Book.{quota_of}
-use Rattle.process_table.specs.State.{State, open_with, is_live, is_mapped, has_no_room}
-use Rattle.process_table.specs.Calls.{map_refusal, protect_refusal, offer_refusal, accept_refusal, spawn_refusal, exit_refusal, after_map, after_unmap, after_protect, after_offer, after_withdraw, after_accept, after_spawn, after_exit, after_load, after_store}
+use Rattle.process_table.specs.State.{State, open_with, is_live, lacks_room}
+use Rattle.process_table.specs.Calls.{map_refusal, protect_refusal, offer_refusal, accept_refusal, spawn_refusal, exit_refusal, after_map, after_unmap, after_protect, after_offer, after_withdraw, after_accept, after_spawn, after_exit, after_load, after_store, fork_refusal, after_fork}
 use Rattle.process_table.specs.WellFormed.{IsWellFormed, total}
 
 -- a machine of two frames or more, as it boots
@@ -36,24 +35,25 @@ AcceptKeeps = (s : State) (p giver giver_page page : ℕ) → IsWellFormed s →
 abbrev pub SpawnKeeps : Type 0
 SpawnKeeps = (s : State) (p quota : ℕ) → IsWellFormed s → is_live s p ≡ true → spawn_refusal s p quota ≡ None → IsWellFormed (after_spawn s p quota)
 
+abbrev pub ForkKeeps : Type 0
+ForkKeeps = (s : State) (p quota : ℕ) → IsWellFormed s → is_live s p ≡ true → fork_refusal s p quota ≡ None → IsWellFormed (after_fork s p quota)
+
 abbrev pub ExitKeeps : Type 0
 ExitKeeps = (s : State) (p : ℕ) → IsWellFormed s → is_live s p ≡ true → exit_refusal s p ≡ None → IsWellFormed (after_exit s p)
 
--- a slot is mapped, or its process has room for it
-abbrev pub IsReachable : State → Slot → Type 0
-IsReachable s slot = (is_mapped s slot ≡ true) ⊎ (has_no_room s slot ≡ false)
-
+-- a load of the user range whose pages are mapped, or for which there is room
 abbrev pub LoadKeeps : Type 0
-LoadKeeps = (s : State) (p address : ℕ) → IsWellFormed s → is_live s p ≡ true → is_user_page (page_number address) ≡ true → IsReachable s (slot_at p address) → IsWellFormed (after_load s p address)
+LoadKeeps = (s : State) (p address : ℕ) (size : Size) → IsWellFormed s → is_live s p ≡ true → EachTouched address size IsUserPage → lacks_room s p address size ≡ false → IsWellFormed (after_load s p address size)
 
--- a store of any value, with the right to write or without it
+-- a store of any value to such pages, with the right to write or without it
 abbrev pub StoreKeeps : Type 0
-StoreKeeps = (s : State) (p address : ℕ) (size : Size) (value : ℕ) → IsWellFormed s → is_live s p ≡ true → is_user_page (page_number address) ≡ true → address % byte_count size ≡ 0 → IsReachable s (slot_at p address) → IsWellFormed (after_store s p address size value)
+StoreKeeps = (s : State) (p address : ℕ) (size : Size) (value : ℕ) → IsWellFormed s → is_live s p ≡ true → EachTouched address size IsUserPage → lacks_room s p address size ≡ false → IsWellFormed (after_store s p address size value)
 
--- a spawn and an exit leave the root's entry; the other calls leave the whole book
+-- a spawn, a fork and an exit leave the root's entry; the other calls leave the whole book
 abbrev pub RootStays : Type 0
 RootStays =
     ((s : State) (p quota : ℕ) → IsWellFormed s → is_live s p ≡ true → spawn_refusal s p quota ≡ None → map.get (after_spawn s p quota).book 0 ≡ map.get s.book 0)
+    × ((s : State) (p quota : ℕ) → IsWellFormed s → is_live s p ≡ true → fork_refusal s p quota ≡ None → map.get (after_fork s p quota).book 0 ≡ map.get s.book 0)
     × ((s : State) (p : ℕ) → IsWellFormed s → is_live s p ≡ true → exit_refusal s p ≡ None → map.get (after_exit s p).book 0 ≡ map.get s.book 0)
 
 -- what all live processes cost together is at most the root's quota

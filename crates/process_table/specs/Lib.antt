@@ -1,3 +1,5 @@
+pub mod Apart
+pub mod ApartLaws
 pub mod Calls
 pub mod Image
 pub mod Laws

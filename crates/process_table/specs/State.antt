@@ -1,8 +1,9 @@
 -- The machine's state: spaces, book and offers, what a process has room for, and what is known of it.
 use Rattle.std.proofs.Common.{ℕ, ◌-◌, Bool, nat_lt, Option}
 use Rattle.std.specs.Option.{option_map, unwrap_or}
+use Rattle.page_words.specs.declared.addresses.Size.{Size}
 use Rattle.page_words.specs.FiniteMap as map
-use Rattle.address_space.specs.Spaces.{Slot, Spaces, cost, need}
+use Rattle.address_space.specs.Spaces.{Slot, Spaces, cost, need, access_need}
 use Rattle.quota_tree.specs.Book.{Book, Member, given, quota_of, number_of_children, next_number}
 use Rattle.quota_tree.specs.declared.Container.{Container}
 use Rattle.page_sharing.specs.Offers.{Offers}
@@ -29,6 +30,10 @@ room s p = quota_of s.book p - cost s.spaces p - given s.book p
 -- the process has no room for this page too
 abbrev pub has_no_room : State → Slot → Bool
 has_no_room s slot = nat_lt (room s slot.pid) (need s.spaces slot.pid slot.page)
+
+-- the process has no room for the pages that an access touches and that are not mapped
+abbrev pub lacks_room : State → ℕ → ℕ → Size → Bool
+lacks_room s p address size = nat_lt (room s p) (access_need s.spaces p address size)
 
 -- the number of the next child, where one is free
 abbrev pub child_of : State → ℕ

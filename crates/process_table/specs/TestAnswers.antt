@@ -1,9 +1,9 @@
 -- What the test of each call answers: the first cause against it, or else what comes of it.
-use Rattle.std.proofs.Common.{ℕ, Bool, true, if◌then◌else◌, Option, Some, None, Result, Ok, Err}
+use Rattle.std.proofs.Common.{ℕ, Bool, true, false, if◌then◌else◌, Option, Some, None, Result, Ok, Err}
 use Rattle.page_words.specs.declared.addresses.Pid.{Pid}
 use Rattle.address_space.specs.Spaces.{cost}
 use Rattle.process_table.specs.State.{State, is_live, child_of}
-use Rattle.process_table.specs.Calls.{map_refusal, unmap_refusal, protect_refusal, offer_refusal, withdraw_refusal, accept_refusal, spawn_refusal, exit_refusal, after_map, after_unmap, after_accept}
+use Rattle.process_table.specs.Calls.{map_refusal, unmap_refusal, protect_refusal, offer_refusal, withdraw_refusal, accept_refusal, spawn_refusal, fork_refusal, exit_refusal, after_map, after_unmap, after_accept}
 use Rattle.process_table.specs.declared.causes.Cause.{Cause}
 use Rattle.process_table.specs.declared.causes.Cause.TheVariants.{NoProcess}
 use Rattle.quota_tree.specs.declared.QuotaFault.{QuotaFault}
@@ -48,6 +48,17 @@ accept_answer s p giver giver_page page = number_unless (first_cause s p (accept
 -- the child's number
 abbrev pub spawn_answer : State → ℕ → ℕ → Result Pid Cause
 spawn_answer s p quota = child_unless (first_cause s p (spawn_refusal s p quota)) (child_of s)
+
+-- the child's number
+abbrev pub fork_answer : State → ℕ → ℕ → Result Pid Cause
+fork_answer s p quota = child_unless (first_cause s p (fork_refusal s p quota)) (child_of s)
+
+-- the test of a fork by that of a spawn, and by whether the quota is less than a copy costs
+abbrev pub for_copy : Bool → Result Pid Cause → Result Pid Cause
+for_copy false test = test
+for_copy true (Ok child) = Err cause.TooSmall
+for_copy true (Err cause.Quota) = Err cause.TooSmall
+for_copy true (Err cause) = Err cause
 
 -- a process that is gone is charged nothing
 abbrev pub exit_answer : State → ℕ → Result ℕ Cause

@@ -7,9 +7,7 @@ pub enum Cause {
     NoProcess = 1,
     /// The page lies outside the user range.
     BadPage = 2,
-    /// The address is no multiple of the size.
-    Misaligned = 3,
-    /// The page is not mapped.
+    /// The page is not mapped. Number 3 is of no cause.
     NotMapped = 4,
     /// The page is mapped already.
     Mapped = 5,
@@ -35,4 +33,6 @@ pub enum Cause {
     HasChildren = 15,
     /// The root does not exit.
     RootExit = 16,
+    /// The quota is less than what a copy of the process costs.
+    TooSmall = 17,
 }

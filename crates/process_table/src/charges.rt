@@ -1,13 +1,12 @@
 //! What a live process is charged for, and what it has room for.
 
 ghost use Rattle.std.specs.Prelude.{◌≡◌, ◌+◌, ◌≤◌, ◌<◌, true};
-ghost use Rattle.page_words.specs.Addresses.{page_number, IsUserPage};
-ghost use Rattle.address_space.specs.Spaces.{cost, need, without, is_slot, at_page};
-ghost use Rattle.process_table.specs.State.{is_live, is_mapped, has_no_room, room};
-ghost use Rattle.process_table.specs.Calls.{after_load};
+ghost use Rattle.page_words.specs.Addresses.{EachTouched, IsUserPage};
+ghost use Rattle.address_space.specs.Spaces.{cost, need, access_need, without, is_slot, at_page};
+ghost use Rattle.process_table.specs.State.{is_live, is_mapped, has_no_room, lacks_room, room};
 
 use crate::processes::Processes;
-use page_words::{Page, Pid, Vaddr, page_of};
+use page_words::{Page, Pid, Size, Vaddr};
 
 /// What a live process is charged for.
 pub fn charge_of(processes: &Processes, pid: Pid) -> u32
@@ -69,16 +68,22 @@ pub fn charge_without(processes: &Processes, pid: Pid, page: Page) -> u32
     charge_of(processes, pid) - processes.spaces().relief(pid, page)
 }
 
-/// What a live process is charged for once the page of an address is mapped.
-pub fn charge_at(processes: &Processes, pid: Pid, address: Vaddr) -> u32
+/// Whether a live process has no room for the pages that an access touches and that are not mapped.
+pub fn is_short(processes: &Processes, pid: Pid, address: Vaddr, size: Size) -> bool
     requires live { is_live processes.now.state pid ≡ true }
-    requires user { IsUserPage (page_number address) }
-    ensures { result ≡ cost (after_load processes.now.state pid address).spaces pid }
+    requires user { EachTouched address size IsUserPage }
+    ensures { result ≡ lacks_room processes.now.state pid address size }
 {
-    let page = page_of(address);
-    if processes.spaces().cell(pid, page).is_some() {
-        charge_of(processes, pid)
-    } else {
-        charge_with(processes, pid, page)
-    }
+    processes.stands();
+    room_of(processes, pid) < processes.spaces().access_need(pid, address, size)
+}
+
+/// What a live process is charged for once the pages that an access touches are mapped.
+pub fn charge_at(processes: &Processes, pid: Pid, address: Vaddr, size: Size) -> u32
+    requires live { is_live processes.now.state pid ≡ true }
+    requires user { EachTouched address size IsUserPage }
+    ensures { result ≡ cost processes.now.state.spaces pid + access_need processes.now.state.spaces pid address size }
+{
+    processes.stands();
+    charge_of(processes, pid) + processes.spaces().access_need(pid, address, size)
 }

@@ -1,7 +1,8 @@
 //! Laws of the machine's definitions. Each is the contract of a function that computes nothing.
 
+ghost use Rattle.process_table.specs.ApartLaws.{RefusalsAlike, ValuesAlike, CallsKeepAlike, CallsLeaveOthers, ChildrenBeginAlone};
 ghost use Rattle.process_table.specs.Image.{StandsForOne};
-ghost use Rattle.process_table.specs.Laws.{OpeningIsWellFormed, MapKeeps, UnmapKeeps, ProtectKeeps, OfferKeeps, WithdrawKeeps, AcceptKeeps, SpawnKeeps, ExitKeeps, LoadKeeps, StoreKeeps, RootStays, TotalIsWithin};
+ghost use Rattle.process_table.specs.Laws.{OpeningIsWellFormed, MapKeeps, UnmapKeeps, ProtectKeeps, OfferKeeps, WithdrawKeeps, AcceptKeeps, SpawnKeeps, ForkKeeps, ExitKeeps, LoadKeeps, StoreKeeps, RootStays, TotalIsWithin};
 
 /// An image stands for at most one pair of spaces and book. It computes nothing.
 pub fn images_stand_for_one()
@@ -19,9 +20,21 @@ pub fn calls_keep_states_well_formed()
     ensures withdraw { WithdrawKeeps }
     ensures accept { AcceptKeeps }
     ensures spawn { SpawnKeeps }
+    ensures fork { ForkKeeps }
     ensures exit { ExitKeeps }
     ensures load { LoadKeeps }
     ensures store { StoreKeeps }
     ensures root { RootStays }
     ensures total { TotalIsWithin }
+{}
+
+/// A process apart is live, is not the root, has no child, offers no page and shares none. What is told
+/// of one, and what its calls do to it, depends on its own pages and quota alone; the calls of others leave
+/// it as it was; and a new child begins as one alone. It computes nothing.
+pub fn processes_apart_stand_alone()
+    ensures refusals { RefusalsAlike }
+    ensures values { ValuesAlike }
+    ensures calls { CallsKeepAlike }
+    ensures others { CallsLeaveOthers }
+    ensures children { ChildrenBeginAlone }
 {}

@@ -1,17 +1,17 @@
 //! The type of the processes, and its calls.
 
-ghost use Rattle.std.specs.Prelude.{◌≡◌, ◌≢◌, ◌↔◌, ℕ, ◌+◌, ◌≤◌, ◌<◌, ◌%◌, Bool, true, false, not, Some, None, Ok, IsOk, IfOk, IfSome, IsSome, IsNone, IsErrOf, length, is_some, replicate, slice_get};
-ghost use Rattle.page_words.specs.Addresses.{page_number, byte_count, IsUserPage, is_user_page};
+ghost use Rattle.std.specs.Prelude.{◌≡◌, ◌≢◌, ◌↔◌, ℕ, ◌+◌, ◌≤◌, ◌<◌, Bool, true, false, not, Some, None, Ok, IsOk, IfOk, IfSome, IsSome, IsNone, IsErrOf, length, is_some, replicate, slice_get};
+ghost use Rattle.page_words.specs.Addresses.{page_number, byte_count, second_page, EachTouched, IsUserPage, is_user_page};
 ghost use Rattle.page_words.specs.FiniteMap as map;
 ghost use Rattle.alloc_table.specs.Roles.{opening_roles};
-ghost use Rattle.address_space.specs.Spaces.{cost, need, slot_at, fresh, without, is_slot, is_of, cell_or_fresh, protected, joined, at_page};
+ghost use Rattle.address_space.specs.Spaces.{Slot, cost, need, slot_at, fresh, without, is_slot, is_of, cell_or_fresh, protected, joined, at_page, copied};
 ghost use Rattle.page_sharing.specs.Offers.{offer_of};
 ghost use Rattle.std.specs.Option.{unwrap_or};
 ghost use Rattle.address_space.specs.View.{directory_of, total_cost};
 ghost use Rattle.quota_tree.specs.Containers.{IsLive, used_of, room_of, with_used, split_answer, after_split, opening};
-ghost use Rattle.process_table.specs.State.{is_live, is_mapped, has_no_room, container_of, open_with};
-ghost use Rattle.process_table.specs.Calls.{map_refusal, unmap_refusal, exit_refusal, after_map, after_unmap, after_protect, after_offer, after_withdraw, after_accept, after_spawn, after_exit, after_load, after_store, after_access, access_value, loaded, is_misaligned};
-ghost use Rattle.process_table.specs.TestAnswers.{translated, map_answer, unmap_answer, protect_answer, offer_answer, withdraw_answer, accept_answer, spawn_answer, exit_answer};
+ghost use Rattle.process_table.specs.State.{is_live, is_mapped, has_no_room, lacks_room, container_of, open_with};
+ghost use Rattle.process_table.specs.Calls.{map_refusal, unmap_refusal, exit_refusal, after_map, after_unmap, after_protect, after_offer, after_withdraw, after_accept, after_spawn, after_exit, after_load, after_store, after_access, access_value, loaded, after_fork};
+ghost use Rattle.process_table.specs.TestAnswers.{translated, map_answer, unmap_answer, protect_answer, offer_answer, withdraw_answer, accept_answer, spawn_answer, exit_answer, fork_answer, for_copy};
 ghost use Rattle.process_table.specs.View.{state_of, IsProcesses};
 ghost use Rattle.process_table.specs.Image.{StandsFor, image_of, memory_of};
 ghost use Rattle.address_space.specs.Image as memory;
@@ -22,7 +22,7 @@ ghost use Rattle.quota_tree.specs.Book.{number_of_children};
 ghost use Rattle.table_walk.specs.declared.Access.TheVariants as access_variant;
 
 use crate::causes::Cause;
-use crate::charges::{charge_at, charge_of, charge_with, charge_without};
+use crate::charges::{charge_at, charge_of, charge_with, charge_without, is_short};
 use crate::checks::{
     accept_check, exit_check, map_check, offer_check, protect_check, unmap_check, withdraw_check,
 };
@@ -199,6 +199,36 @@ fn add_process(spaces: &mut Spaces, quotas: &mut Quotas, pid: Pid, quota: u32) -
     child
 }
 
+/// The child's number, where the quota is no less than a copy of its parent costs.
+fn copy_number(test: Result<Pid, Cause>, too_small: bool) -> Result<Pid, Cause>
+    ensures { result ≡ for_copy too_small test }
+{
+    match test {
+        Ok(_) | Err(Cause::Quota) if too_small => Err(Cause::TooSmall),
+        _ => test,
+    }
+}
+
+/// Makes a child with a copy of its parent's space.
+fn add_copy(spaces: &mut Spaces, quotas: &mut Quotas, pid: Pid, quota: u32) -> Pid
+    requires kept { IsProcesses spaces.old quotas.old }
+    requires live { IsLive quotas.old pid }
+    requires can { IsOk (split_answer quotas.old pid quota) }
+    requires large { cost spaces.old.spaces pid ≤ quota }
+    ensures kept { IsProcesses spaces.new quotas.new }
+    ensures child { split_answer quotas.old pid quota ≡ Ok result }
+    ensures spaces { spaces.new.spaces ≡ copied spaces.old.spaces pid result }
+    ensures book { quotas.new.book ≡ map.insert quotas.old.book result (record { parent = pid; quota = quota }) }
+{
+    spaces.stands();
+    quotas.within();
+    let child = add_process(spaces, quotas, pid, quota);
+    let cost = spaces.cost(pid);
+    take_room(spaces, quotas, child, cost - 1);
+    spaces.copy_space(pid, child);
+    child
+}
+
 /// Takes a process away, whose quota returns to its parent.
 fn remove_process(spaces: &mut Spaces, quotas: &mut Quotas, pid: Pid)
     requires kept { IsProcesses spaces.old quotas.old }
@@ -213,7 +243,7 @@ fn remove_process(spaces: &mut Spaces, quotas: &mut Quotas, pid: Pid)
     quotas.close(pid);
 }
 
-/// An access through a mapped page.
+/// An access through mapped pages.
 fn complete_access(
     spaces: &mut Spaces,
     quotas: &Quotas,
@@ -225,10 +255,9 @@ fn complete_access(
     value: u32,
 ) -> u32
     requires kept { IsProcesses spaces.old quotas.now }
-    requires user { IsUserPage (page_number address) }
-    requires mapped { is_some (map.get spaces.old.spaces (slot_at pid address)) ≡ true }
-    requires aligned { is_misaligned address size ≡ false }
-    requires real { access ≡ Access.Write → is_lazy_at (memory.image_of spaces.old) (slot_at pid address) ≡ false }
+    requires user { EachTouched address size IsUserPage }
+    requires mapped { EachTouched address size (λ page. is_some (map.get spaces.old.spaces (at_page pid page)) ≡ true) }
+    requires real { access ≡ Access.Write → EachTouched address size (λ page. is_lazy_at (memory.image_of spaces.old) (at_page pid page) ≡ false) }
     ensures kept { IsProcesses spaces.new quotas.now }
     ensures value { result ≡ access_value (state_of spaces.old quotas.now offers.now) pid address size access }
     ensures state { state_of spaces.new quotas.now offers.now ≡ after_access (state_of spaces.old quotas.now offers.now) pid address size access value }
@@ -251,6 +280,7 @@ fn fill_page(spaces: &mut Spaces, quotas: &Quotas, pid: Pid, page: Page)
     ensures kept { IsProcesses spaces.new quotas.now }
     ensures spaces { spaces.new.spaces ≡ spaces.old.spaces }
     ensures real { is_lazy_at (memory.image_of spaces.new) (at_page pid page) ≡ false }
+    ensures others { (slot : Slot) → is_lazy_at (memory.image_of spaces.old) slot ≡ false → is_lazy_at (memory.image_of spaces.new) slot ≡ false }
 {
     spaces.fill(pid, page);
 }
@@ -470,6 +500,28 @@ impl Processes {
         add_process(&mut self.spaces, &mut self.quotas, pid, quota)
     }
 
+    /// The number that a process's copy with that quota would have, or the first cause against it: NoProcess,
+    /// BadQuota, TableFull, TooSmall (the quota is less than the process costs), Quota.
+    pub fn can_fork(&self, pid: Pid, quota: u32) -> Result<Pid, Cause>
+        ensures { result ≡ fork_answer self.now.state pid quota }
+    {
+        if !self.live(pid) {
+            return Err(Cause::NoProcess);
+        }
+        let used = charge_of(self, pid);
+        copy_number(self.can_spawn(pid, quota), quota < used)
+    }
+
+    /// Makes a child of a process that may have it, with that quota and a copy of each of the process's pages, and
+    /// gives its number.
+    pub fn fork(&mut self, pid: Pid, quota: u32) -> Pid
+        requires { IsOk (fork_answer self.old.state pid quota) }
+        ensures child { fork_answer self.old.state pid quota ≡ Ok result }
+        ensures state { self.new.state ≡ after_fork self.old.state pid quota }
+    {
+        add_copy(&mut self.spaces, &mut self.quotas, pid, quota)
+    }
+
     /// That a process that exits is charged nothing then, or the first cause against it: NoProcess,
     /// RootExit, HasChildren.
     pub fn can_exit(&self, pid: Pid) -> Result<u32, Cause>
@@ -491,22 +543,30 @@ impl Processes {
         self.offers.drop_process(pid);
     }
 
-    /// What a live process is charged for after a load or a store that completes, once its page is
-    /// mapped. The address is a multiple of the size, and lies in the user range.
-    pub fn access_charge(&self, pid: Pid, address: Vaddr, size: Size) -> u32
+    /// Whether a live process has no room for the pages that an access touches and that are not mapped. They lie in
+    /// the user range.
+    pub fn lacks_room(&self, pid: Pid, address: Vaddr, size: Size) -> bool
         requires live { is_live self.now.state pid ≡ true }
-        requires user { IsUserPage (page_number address) }
-        requires aligned { is_misaligned address size ≡ false }
-        ensures load { result ≡ cost (after_load self.now.state pid address).spaces pid }
-        ensures store { (value : ℕ) → result ≡ cost (after_store self.now.state pid address size value).spaces pid }
+        requires user { EachTouched address size IsUserPage }
+        ensures { result ≡ lacks_room self.now.state pid address size }
     {
-        let _ = size;
-        charge_at(self, pid, address)
+        is_short(self, pid, address, size)
     }
 
-    /// An access through a mapped page that the process may access so, at a multiple of the size: the
-    /// value read, and accessed is set; or the low bytes of the value are written, accessed and dirty
-    /// are set, and the result is 0.
+    /// What a live process is charged for after a load or a store that completes, once each page that it touches is
+    /// mapped. They lie in the user range.
+    pub fn access_charge(&self, pid: Pid, address: Vaddr, size: Size) -> u32
+        requires live { is_live self.now.state pid ≡ true }
+        requires user { EachTouched address size IsUserPage }
+        ensures load { result ≡ cost (after_load self.now.state pid address size).spaces pid }
+        ensures store { (value : ℕ) → result ≡ cost (after_store self.now.state pid address size value).spaces pid }
+    {
+        charge_at(self, pid, address, size)
+    }
+
+    /// An access through mapped pages, one or two by where its bytes lie, that the process may access so: the value
+    /// read, and accessed is set; or the low bytes of the value are written, accessed and dirty are set, and the
+    /// result is 0.
     pub fn access(
         &mut self,
         pid: Pid,
@@ -515,10 +575,9 @@ impl Processes {
         access: Access,
         value: u32,
     ) -> u32
-        requires mapped { is_mapped self.old.state (slot_at pid address) ≡ true }
-        requires aligned { is_misaligned address size ≡ false }
-        requires right { access ≡ Access.Write → (cell_or_fresh self.old.state.spaces (slot_at pid address)).write ≡ true }
-        requires real { access ≡ Access.Write → is_lazy_at (memory_of self.old) (slot_at pid address) ≡ false }
+        requires mapped { EachTouched address size (λ page. is_mapped self.old.state (at_page pid page) ≡ true) }
+        requires right { access ≡ Access.Write → EachTouched address size (λ page. (cell_or_fresh self.old.state.spaces (at_page pid page)).write ≡ true) }
+        requires real { access ≡ Access.Write → EachTouched address size (λ page. is_lazy_at (memory_of self.old) (at_page pid page) ≡ false) }
         ensures value { result ≡ access_value self.old.state pid address size access }
         ensures state { self.new.state ≡ after_access self.old.state pid address size access value }
         ensures roles { self.new.roles ≡ self.old.roles }
@@ -535,27 +594,27 @@ impl Processes {
         )
     }
 
-    /// Loads, as `access` does, where the page is mapped. None where it isn't, and nothing changes. The address
-    /// is a multiple of the size, and lies in the user range.
+    /// Loads, as `access` does, where the bytes lie in one page of the user range and it is mapped. None where it
+    /// isn't, and nothing changes.
     pub fn try_load(&mut self, pid: Pid, address: Vaddr, size: Size) -> Option<u32>
+        requires within { second_page address size ≡ None }
         requires user { IsUserPage (page_number address) }
-        requires aligned { is_misaligned address size ≡ false }
         ensures mapped { is_some result ≡ is_mapped self.old.state (slot_at pid address) }
         ensures live { IsSome result → is_live self.old.state pid ≡ true }
         ensures value { IfSome result (λ value. value ≡ loaded self.old.state pid address size) }
-        ensures state { IsSome result → self.new.state ≡ after_load self.old.state pid address }
+        ensures state { IsSome result → self.new.state ≡ after_load self.old.state pid address size }
         ensures roles { self.new.roles ≡ self.old.roles }
         ensures none { IsNone result → self.new ≡ self.old }
     {
         self.spaces.try_read(pid, address, size)
     }
 
-    /// Stores, as `access` does, where the page takes a store as memory stands: it is mapped, with the right to
-    /// write, and isn't lazy. Whether it is so; where it isn't, nothing changes. The address is a multiple of the
-    /// size, and lies in the user range.
+    /// Stores, as `access` does, where the bytes lie in one page of the user range and it takes a store as memory
+    /// stands: it is mapped, with the right to write, and isn't lazy. Whether it is so; where it isn't, nothing
+    /// changes.
     pub fn try_store(&mut self, pid: Pid, address: Vaddr, size: Size, value: u32) -> bool
+        requires within { second_page address size ≡ None }
         requires user { IsUserPage (page_number address) }
-        requires aligned { is_misaligned address size ≡ false }
         ensures done { result ≡ takes_stores self.old.state.spaces (memory_of self.old) (slot_at pid address) }
         ensures live { result ≡ true → is_live self.old.state pid ≡ true }
         ensures state { result ≡ true → self.new.state ≡ after_store self.old.state pid address size value }
@@ -573,11 +632,12 @@ impl Processes {
         self.spaces.is_lazy(pid, page)
     }
 
-    /// Gives a mapped page a frame of its own, where it is lazy. The state stays.
+    /// Gives a mapped page a frame of its own, where it is lazy; no other page becomes lazy. The state stays.
     pub fn fill(&mut self, pid: Pid, page: Page)
         requires mapped { is_mapped self.old.state (at_page pid page) ≡ true }
         ensures state { self.new.state ≡ self.old.state }
         ensures real { is_lazy_at (memory_of self.new) (at_page pid page) ≡ false }
+        ensures others { (slot : Slot) → is_lazy_at (memory_of self.old) slot ≡ false → is_lazy_at (memory_of self.new) slot ≡ false }
     {
         fill_page(&mut self.spaces, &self.quotas, pid, page);
     }

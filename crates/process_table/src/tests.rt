@@ -66,6 +66,11 @@ fn spawn(rt: &impl Abort, processes: &mut Processes, pid: Pid, quota: u32) -> Pi
     processes.spawn(pid, quota)
 }
 
+fn fork(rt: &impl Abort, processes: &mut Processes, pid: Pid, quota: u32) -> Pid {
+    assert!(rt; processes.can_fork(pid, quota).is_ok());
+    processes.fork(pid, quota)
+}
+
 fn exit(rt: &impl Abort, processes: &mut Processes, pid: Pid) {
     assert!(rt; processes.can_exit(pid).is_ok());
     processes.exit(pid);
@@ -342,6 +347,57 @@ fn keeps_a_read_only_share_read_only(rt: HostRuntime) -> Result<(), Fail> {
     }
     protect(&rt, &mut processes, child, LOW, false);
     assert!(rt; !cell(&rt, &processes, child, LOW).write);
+    Ok(())
+}
+
+#[test]
+fn refuses_a_fork_in_order_and_copies_each_page(rt: HostRuntime) -> Result<(), Fail> {
+    let mut processes = Processes::new(rt.alloc(), 64)?;
+    let (root, far) = (process(&rt, 0), Page(0x40400));
+    let (stored, here) = (Vaddr(0x4000_0008), Vaddr(0x4000_1008));
+    map(&rt, &mut processes, root, LOW, true);
+    store(&rt, &mut processes, root, stored, 7);
+    map(&rt, &mut processes, root, far, false);
+    let child = spawn(&rt, &mut processes, root, 20);
+    offer(&rt, &mut processes, root, LOW, child, false);
+    accept(&rt, &mut processes, child, root, LOW, LOW);
+    map(&rt, &mut processes, child, far, true);
+    map(&rt, &mut processes, child, HIGH, true);
+    store(&rt, &mut processes, child, here, 9);
+    for (pid, quota, want) in [
+        (process(&rt, 9), 0, Err(Cause::NoProcess)),
+        (child, 0, Err(Cause::BadQuota)),
+        (child, 5, Err(Cause::TooSmall)),
+        (child, 6, Ok(process(&rt, 2))),
+        (child, 14, Ok(process(&rt, 2))),
+        (child, 15, Err(Cause::Quota)),
+    ] {
+        assert_eq!(rt; processes.can_fork(pid, quota), want);
+    }
+    let copy = fork(&rt, &mut processes, child, 14);
+    assert_eq!(rt; container(&rt, &processes, copy).used, 6);
+    assert_eq!(rt; container(&rt, &processes, copy).parent, child);
+    assert_eq!(rt; container(&rt, &processes, child).given, 14);
+    assert_eq!(rt; cell(&rt, &processes, root, LOW).holders, 2);
+    for (page, may, lazy) in [(LOW, false, false), (HIGH, true, false), (far, true, true)] {
+        let copied = Cell {
+            write: may,
+            may,
+            accessed: false,
+            dirty: false,
+            holders: 1,
+        };
+        assert!(rt; in_user_range(page));
+        assert_eq!(rt; cell(&rt, &processes, copy, page), copied);
+        assert_eq!(rt; processes.is_lazy(copy, page), lazy);
+    }
+    assert_eq!(rt; processes.can_fork(copy, 9), Err(Cause::Quota));
+    store(&rt, &mut processes, child, here, 8);
+    store(&rt, &mut processes, root, stored, 6);
+    assert_eq!(rt; load(&rt, &mut processes, copy, here), 9);
+    assert_eq!(rt; load(&rt, &mut processes, copy, stored), 7);
+    store(&rt, &mut processes, copy, here, 5);
+    assert_eq!(rt; load(&rt, &mut processes, child, here), 8);
     Ok(())
 }
 

@@ -5,7 +5,7 @@
 use Rattle.std.specs.Prelude.{ℕ, Bool, true, false, ◌||◌, List, [], ◌∷◌, length, nat_lt, ◌==◌, Option, None, Some, if◌then◌else◌, codes}
 use Rattle.std.specs.Str.{bytes_eq}
 use Rattle.page_words.specs.declared.addresses.Size.{Size}
-use Rattle.page_words.specs.declared.addresses.Size.TheVariants.{One, Four}
+use Rattle.page_words.specs.declared.addresses.Size.TheVariants.{One, Two, Four}
 use Rattle.kernel_calls.specs.declared.calls.Call.{Call}
 use Rattle.kernel_calls.specs.declared.calls.Call.TheVariants as call
 use Rattle.kernel_calls.specs.declared.calls.Event.{Event}
@@ -32,7 +32,7 @@ abbrev pub quota_of : List ℕ → Option ℕ
 quota_of token = below 4294967296 (decimal_number token)
 
 abbrev pub size_of : List ℕ → Option Size
-size_of token = if bytes_eq token (codes "1") then Some One else if bytes_eq token (codes "4") then Some Four else None
+size_of token = if bytes_eq token (codes "1") then Some One else if bytes_eq token (codes "2") then Some Two else if bytes_eq token (codes "4") then Some Four else None
 
 -- whether the right is to write
 abbrev pub right_of : List ℕ → Option Bool
@@ -133,6 +133,13 @@ spawn_of operands = do
   quota ← quota_of token
   Some (call.Spawn quota)
 
+-- fork N
+unfoldable pub fork_of : List (List ℕ) → Option Call
+fork_of operands = do
+  token ← one operands
+  quota ← quota_of token
+  Some (call.Fork quota)
+
 -- a call without operands
 unfoldable pub alone : Call → List (List ℕ) → Option Call
 alone call [] = Some call
@@ -142,6 +149,7 @@ alone call (token ∷ tokens) = None
 unfoldable pub process_call_of : List ℕ → List (List ℕ) → Option Call
 process_call_of op operands =
     if bytes_eq op (codes "spawn") then spawn_of operands else
+    if bytes_eq op (codes "fork") then fork_of operands else
     if bytes_eq op (codes "exit") then alone call.Exit operands else
     if bytes_eq op (codes "quota") then alone call.Quota operands else
     None

@@ -3,7 +3,7 @@ use Rattle.std.specs.Prelude.{ℕ, Bool, true, false, ◌/◌, ◌%◌, ◌^◌,
 use Rattle.std.specs.Char.{digit_char}
 use Rattle.std.specs.List.{flat_map}
 use Rattle.process_table.specs.declared.causes.Cause.{Cause}
-use Rattle.process_table.specs.declared.causes.Cause.TheVariants.{NoProcess, BadPage, Misaligned, NotMapped, Mapped, Quota, Rights, SelfOffer, NoTarget, OfferPending, TooManyOffers, NoOffer, TableFull, BadQuota, HasChildren, RootExit}
+use Rattle.process_table.specs.declared.causes.Cause.TheVariants.{NoProcess, BadPage, NotMapped, Mapped, Quota, Rights, SelfOffer, NoTarget, OfferPending, TooManyOffers, NoOffer, TableFull, BadQuota, HasChildren, RootExit, TooSmall}
 use Rattle.kernel_calls.specs.declared.calls.Reply.{Reply}
 use Rattle.kernel_calls.specs.declared.calls.Reply.TheVariants as reply
 
@@ -14,7 +14,6 @@ eight_digits n = map (λ place. digit_char (n / 16 ^ place % 16)) (7 ∷ 6 ∷ 5
 abbrev pub name_of : Cause → List ℕ
 name_of NoProcess = codes "NoProcess"
 name_of BadPage = codes "BadPage"
-name_of Misaligned = codes "Misaligned"
 name_of NotMapped = codes "NotMapped"
 name_of Mapped = codes "Mapped"
 name_of Quota = codes "Quota"
@@ -28,6 +27,7 @@ name_of TableFull = codes "TableFull"
 name_of BadQuota = codes "BadQuota"
 name_of HasChildren = codes "HasChildren"
 name_of RootExit = codes "RootExit"
+name_of TooSmall = codes "TooSmall"
 
 -- 1 where it is so, and 0 where not
 abbrev pub bit_of : Bool → List ℕ

@@ -23,7 +23,7 @@ pub enum Line {
 }
 
 // The clauses' words on lines name `Line`, and so stand below it.
-ghost use Rattle.script_run.specs.Lines.{one, two, three, cpu_of, process_of, size_of, right_of, quota_of, load_of, store_of, map_of, unmap_of, protect_of, info_of, offer_of, withdraw_of, accept_of, spawn_of, alone, process_call_of, sharing_call_of, call_of, event_of, line_of};
+ghost use Rattle.script_run.specs.Lines.{one, two, three, cpu_of, process_of, size_of, right_of, quota_of, load_of, store_of, map_of, unmap_of, protect_of, info_of, offer_of, withdraw_of, accept_of, spawn_of, fork_of, alone, process_call_of, sharing_call_of, call_of, event_of, line_of};
 
 /// A CPU's number, 0 to 7 in decimal.
 fn cpu_of(token: &[u8]) -> Option<u8>
@@ -107,6 +107,12 @@ fn is_spawn(op: &[u8]) -> bool
     matches!(op, b"spawn")
 }
 
+fn is_fork(op: &[u8]) -> bool
+    ensures { result ≡ bytes_eq op.now (codes "fork") }
+{
+    matches!(op, b"fork")
+}
+
 fn is_exit(op: &[u8]) -> bool
     ensures { result ≡ bytes_eq op.now (codes "exit") }
 {
@@ -119,12 +125,13 @@ fn is_quota(op: &[u8]) -> bool
     matches!(op, b"quota")
 }
 
-/// `1` or `4`, bytes.
+/// `1`, `2` or `4`, bytes.
 fn size_of(token: &[u8]) -> Option<Size>
     ensures { result ≡ size_of token.now }
 {
     match token {
         b"1" => Some(Size::One),
+        b"2" => Some(Size::Two),
         b"4" => Some(Size::Four),
         _ => None,
     }
@@ -285,6 +292,15 @@ fn spawn_of(operands: &[u8]) -> Option<Call>
     Some(Call::Spawn { quota })
 }
 
+/// `fork N`.
+#[tactic(auto, unfolding(crate::specs::Lines::fork_of))]
+fn fork_of(operands: &[u8]) -> Option<Call>
+    ensures { result ≡ fork_of (tokens_of operands.now) }
+{
+    let quota = quota_of(one(operands)?)?;
+    Some(Call::Fork { quota })
+}
+
 /// A call without operands.
 #[tactic(auto, unfolding(crate::specs::Lines::alone))]
 fn alone(call: Call, operands: &[u8]) -> Option<Call>
@@ -303,6 +319,8 @@ fn process_call_of(op: &[u8], operands: &[u8]) -> Option<Call>
 {
     if is_spawn(op) {
         spawn_of(operands)
+    } else if is_fork(op) {
+        fork_of(operands)
     } else if is_exit(op) {
         alone(Call::Exit, operands)
     } else if is_quota(op) {

@@ -58,7 +58,6 @@ fn name_of(cause: Cause) -> &'static str
     match cause {
         Cause::NoProcess => "NoProcess",
         Cause::BadPage => "BadPage",
-        Cause::Misaligned => "Misaligned",
         Cause::NotMapped => "NotMapped",
         Cause::Mapped => "Mapped",
         Cause::Quota => "Quota",
@@ -72,6 +71,7 @@ fn name_of(cause: Cause) -> &'static str
         Cause::BadQuota => "BadQuota",
         Cause::HasChildren => "HasChildren",
         Cause::RootExit => "RootExit",
+        Cause::TooSmall => "TooSmall",
     }
 }
 

@@ -2,6 +2,7 @@
 //! this crate, and of those above it, are held to them.
 
 pub mod alone;
+pub mod forks;
 pub mod processes;
 pub mod sharing;
 

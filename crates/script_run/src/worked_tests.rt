@@ -1,6 +1,6 @@
 //! Worked scripts, and the replies that were written down for them.
 
-use crate::worked::{alone, processes, sharing};
+use crate::worked::{alone, forks, processes, sharing};
 use crate::{ScriptFault, run_script};
 use std::test::Fail;
 
@@ -8,6 +8,7 @@ use std::test::Fail;
 fn answers_worked_scripts(rt: HostRuntime) -> Result<(), Fail> {
     for scripts in [
         alone::SCRIPTS.as_slice(),
+        forks::SCRIPTS.as_slice(),
         processes::SCRIPTS.as_slice(),
         sharing::SCRIPTS.as_slice(),
     ] {

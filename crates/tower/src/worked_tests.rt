@@ -2,7 +2,7 @@
 
 use super::images::{check_bytes, write_script_image};
 use super::tools::ToolFault;
-use script_run::worked::{alone, processes, sharing};
+use script_run::worked::{alone, forks, processes, sharing};
 use std::alloc::Global;
 use std::test::Fail;
 
@@ -22,6 +22,7 @@ fn verdict_after(alloc: Global, script: &str, frames: u32) -> Result<Vec<u8>, To
 fn images_after_worked_scripts_are_sound(rt: HostRuntime) -> Result<(), Fail> {
     for scripts in [
         alone::SCRIPTS.as_slice(),
+        forks::SCRIPTS.as_slice(),
         processes::SCRIPTS.as_slice(),
         sharing::SCRIPTS.as_slice(),
     ] {

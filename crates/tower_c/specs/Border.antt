@@ -2,7 +2,7 @@
 use Rattle.std.specs.Prelude.{ℕ, Bool, true, false, ◌==◌, ◌&&◌, nat_lt, Option, None, Some, if◌then◌else◌, List, [], ◌∷◌, length, slice_get}
 use Rattle.std.specs.Option.{option_map}
 use Rattle.page_words.specs.declared.addresses.Size.{Size}
-use Rattle.page_words.specs.declared.addresses.Size.TheVariants.{One, Four}
+use Rattle.page_words.specs.declared.addresses.Size.TheVariants.{One, Two, Four}
 use Rattle.phys_memory.specs.Bytes.{frame_bytes}
 use Rattle.address_space.specs.View.{directory_of}
 use Rattle.process_table.specs.State.{State, container_of}
@@ -26,7 +26,7 @@ use Rattle.tower_c.specs.declared.words.TowerReply.{TowerReply}
 -- ---- Events
 
 abbrev pub size_of : ℕ → Option Size
-size_of n = if n == 1 then Some One else if n == 4 then Some Four else None
+size_of n = if n == 1 then Some One else if n == 2 then Some Two else if n == 4 then Some Four else None
 
 abbrev pub right_of : ℕ → Option Bool
 right_of n = if n == 0 then Some false else if n == 1 then Some true else None
@@ -77,7 +77,8 @@ call_of e =
     if e.call == 8 then accept_of (pid_of e.second) e.first e.third else
     if e.call == 9 then Some (call.Spawn e.first) else
     if e.call == 10 then Some call.Exit else
-    if e.call == 11 then Some call.Quota else None
+    if e.call == 11 then Some call.Quota else
+    if e.call == 12 then Some (call.Fork e.first) else None
 
 abbrev pub event_by : TowerEvent → Option ℕ → Option Call → Option Event
 event_by e (Some pid) (Some call) = Some (record { cpu = e.cpu; pid = pid; call = call })
@@ -93,7 +94,6 @@ event_of e = event_by e (pid_of e.pid) (call_of e)
 abbrev pub cause_number : Cause → ℕ
 cause_number cause.NoProcess = 1
 cause_number cause.BadPage = 2
-cause_number cause.Misaligned = 3
 cause_number cause.NotMapped = 4
 cause_number cause.Mapped = 5
 cause_number cause.Quota = 6
@@ -107,6 +107,7 @@ cause_number cause.TableFull = 13
 cause_number cause.BadQuota = 14
 cause_number cause.HasChildren = 15
 cause_number cause.RootExit = 16
+cause_number cause.TooSmall = 17
 
 abbrev pub numbers : ℕ → ℕ → ℕ → ℕ → TowerReply
 numbers kind first second third = record { kind = kind; first = first; second = second; third = third; write = false; may = false; accessed = false; dirty = false }

@@ -17,7 +17,7 @@ pub struct TowerEvent {
     /// The process, 0 to 63.
     pub pid: u8,
     /// 0 Load, 1 Store, 2 Map, 3 Unmap, 4 Protect, 5 Info, 6 Offer, 7 Withdraw, 8 Accept, 9 Spawn,
-    /// 10 Exit, 11 Quota.
+    /// 10 Exit, 11 Quota, 12 Fork.
     pub call: u8,
     /// The size of Load and Store, 1 or 4; the right of Map, Protect and Offer, 0 or 1.
     pub flag: u8,
@@ -48,12 +48,13 @@ pub struct TowerReply {
     pub dirty: bool,
 }
 
-/// The size of an access: 1 or 4.
+/// The size of an access: 1, 2 or 4.
 fn size_from(n: u8) -> Option<Size>
     ensures { result ≡ size_of n }
 {
     match n {
         1 => Some(Size::One),
+        2 => Some(Size::Two),
         4 => Some(Size::Four),
         _ => None,
     }
@@ -119,6 +120,7 @@ fn call_from(e: &TowerEvent) -> Option<Call>
         9 => Some(Call::Spawn { quota: e.first }),
         10 => Some(Call::Exit),
         11 => Some(Call::Quota),
+        12 => Some(Call::Fork { quota: e.first }),
         _ => None,
     }
 }
@@ -143,7 +145,6 @@ fn number_from(cause: Cause) -> u32
     match cause {
         Cause::NoProcess => 1,
         Cause::BadPage => 2,
-        Cause::Misaligned => 3,
         Cause::NotMapped => 4,
         Cause::Mapped => 5,
         Cause::Quota => 6,
@@ -157,6 +158,7 @@ fn number_from(cause: Cause) -> u32
         Cause::BadQuota => 14,
         Cause::HasChildren => 15,
         Cause::RootExit => 16,
+        Cause::TooSmall => 17,
     }
 }
 

@@ -43,7 +43,7 @@ pub same_pages : (s t : Spaces) (p q : ℕ) → ((page : ℕ) → map.contains_k
 same_pages s t p q is = same_set (pages_of s p) (pages_of t q) (λ page. contains-pages_of s p page ∙ is page ∙ sym (contains-pages_of t q page))
 
 -- one more page of a process
-pages-insert : (spaces : Spaces) (slot : Slot) (cell : Cell) → pages_of (map.insert spaces slot cell) slot.pid ≡ set.insert (pages_of spaces slot.pid) slot.page
+pub pages-insert : (spaces : Spaces) (slot : Slot) (cell : Cell) → pages_of (map.insert spaces slot cell) slot.pid ≡ set.insert (pages_of spaces slot.pid) slot.page
 pages-insert spaces slot cell = same_set (pages_of (map.insert spaces slot cell) slot.pid) (set.insert (pages_of spaces slot.pid) slot.page) (λ page.
     contains-pages_of (map.insert spaces slot cell) slot.pid page
     ∙ ap is_some (get-insert spaces slot cell (at_page slot.pid page))
@@ -55,7 +55,7 @@ pages-insert spaces slot cell = same_set (pages_of (map.insert spaces slot cell)
     some_or true x = refl
     some_or false x = refl
 
-regions-insert : (pages : Set nat_order) (page : ℕ) → regions_of (set.insert pages page) ≡ set.insert (regions_of pages) (slot_number page)
+pub regions-insert : (pages : Set nat_order) (page : ℕ) → regions_of (set.insert pages page) ≡ set.insert (regions_of pages) (slot_number page)
 regions-insert pages page = same_set (regions_of (set.insert pages page)) (set.insert (regions_of pages) (slot_number page)) (λ r.
     contains-regions (set.insert pages page) r
     ∙ list_any-put nat_order (λ n. same nat_order r (slot_number n)) page tt pages.entries

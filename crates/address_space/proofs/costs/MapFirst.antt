@@ -1,49 +1,105 @@
--- An access to a page that was mapped for it, as the machine makes it at once.
-use Rattle.std.proofs.Common.{◌≡◌, ℕ, Bool, true, false, cond, List, refl, ap, sym, ◌∙◌, inl, inr, Option, Some, None, unwrap_or}
-use Rattle.std.specs.Prelude.{if◌then◌else◌, ◌⊎◌}
-use Rattle.std.specs.Option.{option_map}
+-- Pages that are mapped for an access, and what an access of mapped pages leaves mapped.
+use Rattle.std.proofs.Common.{◌≡◌, ℕ, zero, suc, ◌+◌, ◌/◌, ◌%◌, ◌<◌, Bool, true, false, cond, List, [], ◌∷◌, refl, ap, sym, ◌∙◌, arith, Option, Some, None}
+use Rattle.std.specs.Prelude.{is_some, if◌then◌else◌, IfSome}
+use Rattle.page_words.specs.Addresses.{page_number, offset_number, byte_count, second_page, page_and, touched, EachTouched}
+use Rattle.page_words.specs.declared.addresses.Size.{Size}
 use Rattle.page_words.specs.FiniteMap as map
 use Rattle.page_words.specs.FiniteMap.{same}
-use Rattle.page_words.specs.FiniteSet as set
-use Rattle.page_words.proofs.MapLemmas.{same_or_not, same_itself, same_map, get-insert, get-map_values}
-use Rattle.address_space.specs.Spaces.{Slot, slot_order, Cell, Spaces, fresh, accessed, stored, store_in, set_bytes, with_bytes, cell_or_fresh, write_at}
+use Rattle.page_words.proofs.MapLemmas.{same_itself}
+use Rattle.address_space.specs.Spaces.{Slot, slot_order, Spaces, at_page, slot_at, cell_or_fresh, fresh, accessed, stored, bytes_of, with_page, with_pages, all_accessed, all_stored}
+use Rattle.address_space.proofs.costs.AccessCosts.{key-insert, key-stored, kept}
+use Rattle.address_space.proofs.steps.Bytes.{each_byte, stored_in_page}
 
--- an entry that is put twice is there as it was put last
-insert-insert : (S : Spaces) (slot : Slot) (c d : Cell) → map.insert (map.insert S slot c) slot d ≡ map.insert S slot d
-insert-insert S slot c d = same_map _ _ (λ q. get-insert (map.insert S slot c) slot d q ∙ ap (cond (same slot_order q slot) (Some d)) (get-insert S slot c q) ∙ by (same slot_order q slot) (map.get S q) ∙ sym (get-insert S slot d q))
+abbrev pub IsThere : Spaces → ℕ → ℕ → Type 0
+IsThere S p page = map.contains_key S (at_page p page) ≡ true
+
+-- a mapped page stays as it is
+pub with_page-same : (S : Spaces) (p page : ℕ) → IsThere S p page → with_page S p page ≡ S
+with_page-same S p page there = ap (λ b. if b then S else map.insert S (at_page p page) (fresh (at_page p page) true)) there
+
+pub with_page-there : (S : Spaces) (p page : ℕ) → IsThere (with_page S p page) p page
+with_page-there S p page = by (map.contains_key S (at_page p page)) refl
   where
-    by : (b : Bool) (x : Option Cell) → cond b (Some d) (cond b (Some c) x) ≡ cond b (Some d) x
-    by true x = refl
-    by false x = refl
+    by : (b : Bool) → map.contains_key S (at_page p page) ≡ b → IsThere (if b then S else map.insert S (at_page p page) (fresh (at_page p page) true)) p page
+    by true is = is
+    by false is = key-insert S (at_page p page) (fresh (at_page p page) true) (at_page p page) ∙ ap (λ b. cond b true (map.contains_key S (at_page p page))) (same_itself slot_order (at_page p page))
 
--- what stands at a slot that was just mapped is what would have stood there
-fresh_there : (S : Spaces) (slot : Slot) → map.get S slot ≡ None → cell_or_fresh (map.insert S slot (fresh slot true)) slot ≡ cell_or_fresh S slot
-fresh_there S slot none =
-    ap (λ (x : Option Cell). unwrap_or x (fresh slot true)) (get-insert S slot (fresh slot true) slot ∙ ap (λ b. cond b (Some (fresh slot true)) (map.get S slot)) (same_itself slot_order slot))
-    ∙ sym (ap (λ (x : Option Cell). unwrap_or x (fresh slot true)) none)
-
-pub accessed-fresh : (S : Spaces) (slot : Slot) → map.get S slot ≡ None → accessed (map.insert S slot (fresh slot true)) slot ≡ accessed S slot
-accessed-fresh S slot none =
-    ap (λ (c : Cell). map.insert (map.insert S slot (fresh slot true)) slot (record c { accessed = true })) (fresh_there S slot none)
-    ∙ insert-insert S slot (fresh slot true) (record (cell_or_fresh S slot) { accessed = true })
-
-pub stored-fresh : (S : Spaces) (slot : Slot) (at : ℕ) (new : List ℕ) → map.get S slot ≡ None → stored (map.insert S slot (fresh slot true)) slot at new ≡ stored S slot at new
-stored-fresh S slot at new none =
-    let cell : Cell = cell_or_fresh S slot in
-    let b : List ℕ = write_at cell.bytes at new in
-    ap (λ (c : Cell). store_in (map.insert S slot (fresh slot true)) slot c (write_at c.bytes at new)) (fresh_there S slot none)
-    ∙ same_map _ _ (λ q.
-    get-insert (set_bytes (map.insert S slot (fresh slot true)) cell.holders b) slot (record cell { bytes = b; accessed = true; dirty = true }) q
-    ∙ by b (record cell { bytes = b; accessed = true; dirty = true }) q (same_or_not slot_order q slot)
-    ∙ sym (get-insert (set_bytes S cell.holders b) slot (record cell { bytes = b; accessed = true; dirty = true }) q))
+pub with_page-keeps : (S : Spaces) (p page : ℕ) (q : Slot) → map.contains_key S q ≡ true → map.contains_key (with_page S p page) q ≡ true
+with_page-keeps S p page q there = by (map.contains_key S (at_page p page))
   where
-    by : (b : List ℕ) (d : Cell) (q : Slot) → ((q ≡ slot) × (same slot_order q slot ≡ true)) ⊎ (same slot_order q slot ≡ false)
-        → cond (same slot_order q slot) (Some d) (map.get (set_bytes (map.insert S slot (fresh slot true)) (cell_or_fresh S slot).holders b) q)
-        ≡ cond (same slot_order q slot) (Some d) (map.get (set_bytes S (cell_or_fresh S slot).holders b) q)
-    by b d q (inl h) = rw h.1 refl
-    by b d q (inr h) =
-        let f : Slot → Cell → Cell = λ s c. if set.contains (cell_or_fresh S slot).holders s then with_bytes c b else c in
-        ap (cond (same slot_order q slot) (Some d))
-        (get-map_values slot_order f (map.insert S slot (fresh slot true)) q
-        ∙ ap (option_map (f q)) (get-insert S slot (fresh slot true) q ∙ ap (λ e. cond e (Some (fresh slot true)) (map.get S q)) h)
-        ∙ sym (get-map_values slot_order f S q))
+    either : (b : Bool) → cond b true true ≡ true
+    either true = refl
+    either false = refl
+
+    by : (b : Bool) → map.contains_key (if b then S else map.insert S (at_page p page) (fresh (at_page p page) true)) q ≡ true
+    by true = there
+    by false = key-insert S (at_page p page) (fresh (at_page p page) true) q ∙ ap (cond (same slot_order q (at_page p page)) true) there ∙ either (same slot_order q (at_page p page))
+
+-- where all pages of an access are mapped, none is mapped for it
+pub with_touched-same : (S : Spaces) (p address : ℕ) (size : Size) → EachTouched address size (IsThere S p) → with_pages S p (touched address size) ≡ S
+with_touched-same S p address size there = by (second_page address size) there.1
+  where
+    by : (x : Option ℕ) → IfSome x (IsThere S p) → with_pages S p (page_and (page_number address) x) ≡ S
+    by None h = with_page-same S p (page_number address) there.0
+    by (Some second) h = ap (λ T. with_page T p second) (with_page-same S p (page_number address) there.0) ∙ with_page-same S p second h
+
+-- each page that an access touches is mapped then
+pub touched-there : (S : Spaces) (p address : ℕ) (size : Size) → EachTouched address size (IsThere (with_pages S p (touched address size)) p)
+touched-there S p address size = by (second_page address size)
+  where
+    by : (x : Option ℕ) → IsThere (with_pages S p (page_and (page_number address) x)) p (page_number address) × IfSome x (IsThere (with_pages S p (page_and (page_number address) x)) p)
+    by None = (with_page-there S p (page_number address), tt)
+    by (Some second) = (
+      with_page-keeps (with_page S p (page_number address)) p second (at_page p (page_number address)) (with_page-there S p (page_number address)),
+      with_page-there (with_page S p (page_number address)) p second,
+    )
+
+-- ---- What is mapped after an access of mapped pages
+
+pub key-all_accessed : (S : Spaces) (p address : ℕ) (size : Size) → EachTouched address size (IsThere S p) → (q : Slot) → map.contains_key (all_accessed S p (touched address size)) q ≡ map.contains_key S q
+key-all_accessed S p address size there q = by (second_page address size) there.1
+  where
+    by : (x : Option ℕ) → IfSome x (IsThere S p) → map.contains_key (all_accessed S p (page_and (page_number address) x)) q ≡ map.contains_key S q
+    by None h = kept S (at_page p (page_number address)) _ there.0 q
+    by (Some second) h =
+        kept (accessed S (at_page p (page_number address))) (at_page p second) _ (kept S (at_page p (page_number address)) _ there.0 (at_page p second) ∙ h) q
+        ∙ kept S (at_page p (page_number address)) _ there.0 q
+
+key-byte : (S : Spaces) (slot : Slot) (at b : ℕ) → map.contains_key S slot ≡ true → (q : Slot) → map.contains_key (stored S slot at (b ∷ [])) q ≡ map.contains_key S q
+key-byte S slot at b there q = key-stored S slot at (b ∷ []) (cell_or_fresh S slot) q ∙ kept S slot (cell_or_fresh S slot) there q
+
+-- each byte of some goes to a mapped page
+abbrev pub AreThere : Spaces → ℕ → ℕ → ℕ → Type 0
+AreThere S p a k = (i : ℕ) → i < k → IsThere S p (page_number (a + i))
+
+pub first_there : (S : Spaces) (p a k : ℕ) → AreThere S p a (suc k) → map.contains_key S (slot_at p a) ≡ true
+first_there S p a k there = let e : a ≡ a + 0 = omega arith in ap (λ x. map.contains_key S (slot_at p x)) e ∙ there 0 (omega arith)
+
+pub rest_there : (S : Spaces) (p a k at b : ℕ) → AreThere S p a (suc k) → AreThere (stored S (slot_at p a) at (b ∷ [])) p (a + 1) k
+rest_there S p a k at b there i l =
+    let e : a + 1 + i ≡ a + suc i = omega arith in
+    key-byte S (slot_at p a) at b (first_there S p a k there) (slot_at p (a + 1 + i)) ∙ ap (λ x. map.contains_key S (slot_at p x)) e ∙ there (suc i) (omega (arith, l))
+
+pub key-all_stored : (S : Spaces) (p a k v : ℕ) → AreThere S p a k → (q : Slot) → map.contains_key (all_stored S p a (bytes_of k v)) q ≡ map.contains_key S q
+key-all_stored S p a zero v there q = refl
+key-all_stored S p a (suc k) v there q =
+    key-all_stored (stored S (slot_at p a) (offset_number a) (v % 256 ∷ [])) p (a + 1) k (v / 256) (rest_there S p a k (offset_number a) (v % 256) there) q
+    ∙ key-byte S (slot_at p a) (offset_number a) (v % 256) (first_there S p a k there) q
+
+-- the bytes of an access of mapped pages
+pub bytes_there : (S : Spaces) (p address : ℕ) (size : Size) → EachTouched address size (IsThere S p) → AreThere S p address (byte_count size)
+bytes_there S p address size there = each_byte address size (IsThere S p) there
+
+-- ---- An access whose bytes lie in one mapped page
+
+pub load_in_page : (S : Spaces) (p address : ℕ) (size : Size) → second_page address size ≡ None → IsThere S p (page_number address)
+    → all_accessed (with_pages S p (touched address size)) p (touched address size) ≡ accessed S (slot_at p address)
+load_in_page S p address size within there =
+    ap (λ x. all_accessed (with_pages S p (page_and (page_number address) x)) p (page_and (page_number address) x)) within
+    ∙ ap (λ T. accessed T (slot_at p address)) (with_page-same S p (page_number address) there)
+
+pub store_in_page : (S : Spaces) (p address : ℕ) (size : Size) (value : ℕ) → second_page address size ≡ None → IsThere S p (page_number address)
+    → all_stored (with_pages S p (touched address size)) p address (bytes_of (byte_count size) value) ≡ stored S (slot_at p address) (offset_number address) (bytes_of (byte_count size) value)
+store_in_page S p address size value within there =
+    ap (λ T. all_stored T p address (bytes_of (byte_count size) value)) (ap (λ x. with_pages S p (page_and (page_number address) x)) within ∙ with_page-same S p (page_number address) there)
+    ∙ stored_in_page S p address size value within

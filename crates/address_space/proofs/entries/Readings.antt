@@ -9,7 +9,7 @@ use Rattle.page_words.specs.FiniteMap as map
 use Rattle.page_words.specs.FiniteMap.{same}
 use Rattle.page_words.specs.FiniteSet as set
 use Rattle.phys_memory.specs.Bytes.{frame_bytes, word_at}
-use Rattle.phys_memory.proofs.Frames.{byte-frame, length-frame, word_in-frame}
+use Rattle.phys_memory.proofs.Frames.{byte-frame, length-frame, word_at-frame}
 use Rattle.alloc_table.specs.declared.Role.{Role}
 use Rattle.alloc_table.specs.declared.Role.TheVariants.{Page}
 use Rattle.page_map.specs.Entries.{Frames, entry_at, IsKernelEntry}
@@ -60,14 +60,13 @@ one_of [] h = absurd (omega arith)
 one_of (a ∷ xs) h = omega arith
 
 -- a word of memory is the number in its page's bytes
-pub word_read_in : (bytes : List ℕ) (f at : ℕ) → Inside bytes f → at < 4096 → at % 4 ≡ 0 → word_at bytes (f * 4096 + at) ≡ value_of (bytes_at (frame_bytes bytes f) at 4)
+pub word_read_in : (bytes : List ℕ) (f at : ℕ) → Inside bytes f → at + 4 ≤ 4096 → word_at bytes (f * 4096 + at) ≡ value_of (bytes_at (frame_bytes bytes f) at 4)
 unfolding word_at
-word_read_in bytes f at i l aligned =
-    let a : f * 4096 + at ≡ 4096 * f + 4 * (at / 4) = omega arith in
-    let b : 4 * (at / 4) ≡ at = omega arith in
+word_read_in bytes f at i l =
+    let a : f * 4096 + at ≡ 4096 * f + at = omega arith in
     let long = length-frame bytes f i.fits in
     let rest = length-drop at (frame_bytes bytes f) in
-    ap (word_at bytes) a ∙ word_in-frame bytes f (at / 4) (omega arith) ∙ ap (word_at (frame_bytes bytes f)) b
+    ap (word_at bytes) a ∙ word_at-frame bytes f at l
     ∙ four_of (drop at (frame_bytes bytes f)) (omega (arith, long, rest))
 
 pub byte_read_in : (bytes : List ℕ) (f at : ℕ) → Inside bytes f → at < 4096 → slice_index bytes (f * 4096 + at) ≡ value_of (bytes_at (frame_bytes bytes f) at 1)
@@ -78,6 +77,9 @@ byte_read_in bytes f at i l =
     let rest = length-drop at (frame_bytes bytes f) in
     ap (slice_index bytes) a ∙ sym (byte-frame bytes f at l) ∙ ap (slice_index (frame_bytes bytes f)) z
     ∙ sym (get_or-drop at (frame_bytes bytes f) 0 0) ∙ one_of (drop at (frame_bytes bytes f)) (omega (arith, long, rest))
+
+pub byte_in_frame : (bytes : List ℕ) (f at : ℕ) → at < 4096 → slice_index bytes (f * 4096 + at) ≡ slice_index (frame_bytes bytes f) at
+byte_in_frame bytes f at l = let a : f * 4096 + at ≡ 4096 * f + at = omega arith in ap (slice_index bytes) a ∙ sym (byte-frame bytes f at l)
 
 -- ---- What one more page costs
 

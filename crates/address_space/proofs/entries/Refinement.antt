@@ -258,6 +258,30 @@ lazy_refines entries bytes slot write none clean =
     (λ i. record { write = write; may = true; accessed = false; dirty = false; bytes = clean i; holders = set.insert set.empty slot })
     (λ q x is. others q x ∙ sym (get-spaces_of entries bytes q ∙ ap (option_map (cell_of entries bytes q)) is))
 
+-- a slot without an entry gets one in a group of its own, on a frame that nothing names or on frame 0
+pub lone_refines : (entries : Entries) (bytes : ℕ → List ℕ) (slot : Slot) (new : PageEntry) → map.get entries slot ≡ None → group_of (map.insert entries slot new) slot new.frame ≡ set.insert set.empty slot
+    → ((q : Slot) (d : PageEntry) → map.get entries q ≡ Some d → (d.frame == 0) ≡ false → (new.frame == d.frame) ≡ false)
+    → spaces_of (map.insert entries slot new) bytes ≡ map.insert (spaces_of entries bytes) slot (record { write = new.write; may = new.may; accessed = new.accessed; dirty = new.dirty; bytes = bytes new.frame; holders = set.insert set.empty slot })
+lone_refines entries bytes slot new none alone apart =
+    let entries' : Entries = map.insert entries slot new in
+    let others : (q : Slot) (x : Option PageEntry) → map.get entries q ≡ x → option_map (cell_of entries' bytes q) x ≡ option_map (cell_of entries bytes q) x = λ q x. elim x as (λ x. map.get entries q ≡ x → option_map (cell_of entries' bytes q) x ≡ option_map (cell_of entries bytes q) x) [
+      | None ↦ λ _. refl
+      | Some d ↦ λ is. ap Some (cell_kept entries entries' bytes bytes q d (groups-stay entries slot new (λ f _. ap (names f) none) d (apart q d is) q))
+    ] in
+    spaces_insert entries bytes slot new (spaces_of entries bytes) (record { write = new.write; may = new.may; accessed = new.accessed; dirty = new.dirty; bytes = bytes new.frame; holders = set.insert set.empty slot })
+    (λ i. record { write = new.write; may = new.may; accessed = new.accessed; dirty = new.dirty; bytes = bytes new.frame; holders = alone i })
+    (λ q x is. others q x is ∙ sym (get-spaces_of entries bytes q ∙ ap (option_map (cell_of entries bytes q)) is))
+
+-- the group of a slot whose entry is on frame 0
+pub alone_lazy : (entries : Entries) (slot : Slot) (f : ℕ) → f ≡ 0 → group_of entries slot f ≡ set.insert set.empty slot
+alone_lazy entries slot f zero = ap (group_of entries slot) zero
+
+-- and of one whose entry is on a frame that nothing named
+pub alone_real : (entries : Entries) (slot : Slot) (new : PageEntry) → Unused entries new.frame → (new.frame == 0) ≡ false → group_of (map.insert entries slot new) slot new.frame ≡ set.insert set.empty slot
+alone_real entries slot new unused real =
+    group-real (map.insert entries slot new) slot new.frame real ∙ holders-insert entries slot new
+    ∙ ap (λ s. set.insert s slot) (same_set (holders_of entries new.frame) set.empty (λ q. contains-holders_of entries new.frame q ∙ unused q))
+
 -- what stands at a key already
 pub insert_there : {X : Type 0} (m : Map slot_order X) (slot : Slot) (x : X) → map.get m slot ≡ Some x → map.insert m slot x ≡ m
 insert_there m slot x there = same_map _ _ (λ q. get-insert m slot x q

@@ -1,5 +1,5 @@
 -- How pages and their counts change with one entry, and what the bytes of pages give.
-use Rattle.std.proofs.Common.{◌≡◌, ◌≢◌, ℕ, ◌+◌, true, false, cond, List, refl, ap, sym, ◌∙◌, subst, arith, inl, inr, Option, Some, None}
+use Rattle.std.proofs.Common.{Bool, ◌≡◌, ◌≢◌, ℕ, ◌+◌, true, false, cond, List, refl, ap, sym, ◌∙◌, subst, arith, inl, inr, Option, Some, None}
 use Rattle.std.specs.Prelude.{◌⊎◌}
 use Rattle.std.specs.Option.{option_map}
 use Rattle.std.proofs.lemmas.Bool.{cases_eq}
@@ -137,8 +137,17 @@ pub lazy-real : (E : Entries) (slot : Slot) (e : PageEntry) → map.get E slot �
 lazy-real E slot e none real = ap set.len (holders-other E slot e 0 (ap (names 0) none) (ne_eqb e.frame 0 real))
 
 -- or where one keeps its frame
-pub lazy-same : (E : Entries) (slot : Slot) (old new : PageEntry) → map.get E slot ≡ Some old → new.frame ≡ old.frame → lazy_count (map.insert E slot new) ≡ lazy_count E
-lazy-same E slot old new found kept = ap set.len (same_holders (map.insert E slot new) E 0 (names-insert_same E slot old new found kept 0))
+pub lazy-same : (E : Entries) (slot : Slot) (old new : PageEntry) → map.get E slot ≡ Some old → new.frame ≡ old.frame → holders_of (map.insert E slot new) 0 ≡ holders_of E 0
+lazy-same E slot old new found kept = same_holders (map.insert E slot new) E 0 (names-insert_same E slot old new found kept 0)
+
+-- or where one has a frame of its own from now on
+pub lazy-fewer : (E : Entries) (slot : Slot) (new : PageEntry) → new.frame ≢ 0 → (q : Slot) → set.contains (holders_of E 0) q ≡ false → set.contains (holders_of (map.insert E slot new) 0) q ≡ false
+lazy-fewer E slot new real q was =
+    contains-holders_of (map.insert E slot new) 0 q ∙ ap (names 0) (get-insert E slot new q) ∙ by (same slot_order q slot)
+  where
+    by : (b : Bool) → names 0 (cond b (Some new) (map.get E q)) ≡ false
+    by true = ne_eqb new.frame 0 real
+    by false = sym (contains-holders_of E 0 q) ∙ was
 
 -- an entry that goes: its frame has one slot less, and every other as many
 pub holders-less : (E : Entries) (slot : Slot) (e : PageEntry) → map.get E slot ≡ Some e

@@ -345,3 +345,37 @@ stores_read directories bytes roles p page sound low high = by_directory (direct
 pub lazy_none : (directories : List (Option ℕ)) (bytes : List ℕ) (roles : List Role) (p page : ℕ) → directory_of directories p ≡ None → is_lazy_at (image_of directories bytes roles) (at_page p page) ≡ false
 lazy_none directories bytes roles p page none =
     ap (λ x. unwrap_or (option_map is_lazy (option_and_then (λ t. present_word (image_of directories bytes roles) t (word_of (image_of directories bytes roles) t (index_number page))) (option_and_then (λ d. named_by (slot_number page) (word_of (image_of directories bytes roles) d (slot_number page))) x))) false) none
+
+same_truth : (x y : Bool) → (IsTrue x → IsTrue y) → (IsTrue y → IsTrue x) → x ≡ y
+same_truth true true f g = refl
+same_truth true false f g = sym (f refl)
+same_truth false true f g = g refl
+same_truth false false f g = refl
+
+-- where the same slots name frame 0, the same pages are lazy
+pub lazy_kept : (directories : List (Option ℕ)) (bytes bytes' : List ℕ) (roles : List Role) → IsSound directories bytes roles → IsSound directories bytes' roles
+    → holders_of (entries_in (directory_of directories) (frame_bytes bytes')) 0 ≡ holders_of (entries_in (directory_of directories) (frame_bytes bytes)) 0
+    → (slot : Slot) → is_lazy_at (image_of directories bytes' roles) slot ≡ is_lazy_at (image_of directories bytes roles) slot
+lazy_kept directories bytes bytes' roles sound sound' same slot =
+    let old = lazy_slots directories bytes roles sound slot in
+    let new = lazy_slots directories bytes' roles sound' slot in
+    let is = ap (λ h. set.contains h slot) same in
+    same_truth (is_lazy_at (image_of directories bytes' roles) slot) (is_lazy_at (image_of directories bytes roles) slot)
+    (λ h. old.0 (subst IsTrue is (new.1 h)))
+    (λ h. new.0 (subst IsTrue (sym is) (old.1 h)))
+
+-- where no more slots name frame 0, a page that isn't lazy stays so
+pub real_kept : (directories : List (Option ℕ)) (bytes bytes' : List ℕ) (roles roles' : List Role) → IsSound directories bytes roles → IsSound directories bytes' roles'
+    → ((q : Slot) → set.contains (holders_of (entries_in (directory_of directories) (frame_bytes bytes)) 0) q ≡ false → set.contains (holders_of (entries_in (directory_of directories) (frame_bytes bytes')) 0) q ≡ false)
+    → (slot : Slot) → is_lazy_at (image_of directories bytes roles) slot ≡ false → is_lazy_at (image_of directories bytes' roles') slot ≡ false
+real_kept directories bytes bytes' roles roles' sound sound' fewer slot real =
+    let old = lazy_slots directories bytes roles sound slot in
+    let new = lazy_slots directories bytes' roles' sound' slot in
+    none (set.contains (holders_of (entries_in (directory_of directories) (frame_bytes bytes)) 0) slot) refl (is_lazy_at (image_of directories bytes' roles') slot) (λ h. subst IsTrue real (old.0 h)) (λ h. new.1 h)
+  where
+    none : (b : Bool) → set.contains (holders_of (entries_in (directory_of directories) (frame_bytes bytes)) 0) slot ≡ b → (x : Bool)
+        → (IsTrue (set.contains (holders_of (entries_in (directory_of directories) (frame_bytes bytes)) 0) slot) → IsTrue false)
+        → (IsTrue x → IsTrue (set.contains (holders_of (entries_in (directory_of directories) (frame_bytes bytes')) 0) slot)) → x ≡ false
+    none b is false f g = refl
+    none true is true f g = sym (f is)
+    none false is true f g = let t = g refl in let k : true ≡ false = sym t ∙ fewer slot is in k

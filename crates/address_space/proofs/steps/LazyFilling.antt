@@ -24,7 +24,7 @@ use Rattle.address_space.specs.Changes.{PageFilled}
 use Rattle.address_space.proofs.costs.Costed.{free_where_light}
 use Rattle.address_space.proofs.entries.EntrySteps.{entries-insert, entry_own, tables-entry, use_kept}
 use Rattle.address_space.proofs.frames.FrameSteps.{tables-role}
-use Rattle.address_space.proofs.frames.PageSteps.{same_bytes, pages-more, unused, unused_count, no_free, no_table, lazy-filled, holders-less}
+use Rattle.address_space.proofs.frames.PageSteps.{same_bytes, pages-more, unused, unused_count, no_free, no_table, lazy-filled, lazy-fewer, holders-less}
 use Rattle.address_space.proofs.entries.Refinement.{fill_refines}
 use Rattle.address_space.proofs.steps.Steps.{inside, live_small, table_by_word, role_own, role_other, free_loose, page_loose}
 use Rattle.address_space.proofs.steps.Stores.{found, get_user, entry_rules, frame_written}
@@ -112,6 +112,7 @@ page_filled directories bytes one two roles roles' p d page f e s live low high 
       };
       spaces = spaces;
       real = (e', ap (λ x. entry_in D x slot) is ∙ entry_own D m1 R' Tb p d page t (entry_word e') live here.there (entry_word-lt e' small) ∙ word_entry-entry_word e' small, refl);
+      fewer = λ q was. ap (λ x. set.contains (holders_of x 0) q) E2 ∙ lazy-fewer E slot e' (λ z. omega (arith, z, up)) q was;
       length = same_length;
     }
   where

@@ -1,15 +1,14 @@
 -- What goes through a mapped slot leaves: a store, a load and a change of the right.
-use Rattle.std.proofs.Common.{◌≡◌, ℕ, suc, ◌+◌, ◌*◌, ◌/◌, ◌%◌, ◌^◌, ◌<◌, ◌≤◌, Bool, true, false, cond, List, [], ◌∷◌, ◌++◌, length, take, drop, refl, ap, sym, ◌∙◌, subst, arith, inl, inr, Option, Some, None, length-set, append_assoc}
+use Rattle.std.proofs.Common.{◌≡◌, ℕ, suc, ◌+◌, ◌*◌, ◌/◌, ◌%◌, ◌^◌, ◌<◌, ◌≤◌, Bool, true, false, cond, List, [], ◌∷◌, ◌++◌, length, take, drop, refl, ap, sym, ◌∙◌, subst, arith, inl, inr, Option, Some, None, append_assoc, length-append, length-drop, zero}
 use Rattle.std.specs.Prelude.{is_some, slice_get, slice_set, if◌then◌else◌}
 use Rattle.std.specs.Option.{option_and_then}
 use Rattle.std.specs.List.{list_any}
 use Rattle.byteorder.specs.Endian.{little_bytes}
 use Rattle.page_words.specs.Addresses.{slot_number, index_number, byte_count}
 use Rattle.page_words.specs.declared.addresses.Size.{Size}
-use Rattle.page_words.specs.declared.addresses.Size.TheVariants.{One, Four}
 use Rattle.page_words.specs.Words.{is_present, frame_number, IsKernelTableWord}
 use Rattle.phys_memory.specs.Bytes.{frame_bytes, word_in, with_word, with_frame}
-use Rattle.phys_memory.proofs.Frames.{with_frame-other, frames-with_word, frames-with_byte, length-with_word_in}
+use Rattle.phys_memory.proofs.Frames.{with_frame-other, frames-with_word_at, frames-with_byte}
 use Rattle.alloc_table.specs.declared.Role.{Role}
 use Rattle.alloc_table.specs.declared.Role.TheVariants.{Table, Page}
 use Rattle.page_map.specs.declared.PageEntry.{PageEntry}
@@ -17,13 +16,13 @@ use Rattle.page_map.specs.Entries.{Frames, dir_word, table_of, word_entry, entry
 use Rattle.page_map.proofs.WordLaws.{entry_word-names, entry_word-lt, entry_word-present, word_entry-entry_word}
 use Rattle.page_words.specs.FiniteMap as map
 use Rattle.page_words.specs.FiniteMap.{change_each}
-use Rattle.std.proofs.lemmas.List.{set_split}
+use Rattle.std.proofs.lemmas.List.{set_split, length-take-le}
 use Rattle.address_space.specs.Spaces.{Slot, slot_order, Spaces, Cell, cell_or_fresh, write_at, bytes_of, stored, accessed as accessed_in, protected, at_page}
 use Rattle.page_words.specs.FiniteMap.{collect, put_some}
 use Rattle.address_space.specs.Slots.{user_slots}
 use Rattle.page_words.specs.FiniteMap.{same}
 use Rattle.address_space.proofs.entries.UserSlots.{in_user_slots}
-use Rattle.address_space.specs.Cells.{Entries, lazy_count, cell_of, spaces_of}
+use Rattle.address_space.specs.Cells.{Entries, holders_of, cell_of, spaces_of}
 use Rattle.address_space.specs.View.{Directories, Roles, directory_of, table_in, entry_in, entries_in, spaces_in, total_cost}
 use Rattle.address_space.specs.Sound.{Tables, Pages, HoldsPage, IsSound, InUseAt, Names, Inside, InUse}
 use Rattle.address_space.specs.Changes.{EntryPut, Touched, flagged}
@@ -226,7 +225,7 @@ page_stored directories bytes one two roles p d page at written e sound live low
       spaces = h.spaces ∙ (λ i. spaces_of (map.insert (w.entries i) slot e') (is1 i)) ∙ store_refines E m slot e at written there (ne_eqb e.frame 0 (λ z. omega (arith, z, up)));
       cost = (λ i. total_cost directories (spaces_of (E2 i) (frame_bytes two))) ∙ total-kept directories E m (frame_bytes two) slot e e' there;
       in_use = λ before. h.in_use (w.in_use before);
-      lazy = ap lazy_count E2 ∙ lazy-same E slot e e' there refl;
+      lazy = ap (λ x. holders_of x 0) E2 ∙ lazy-same E slot e e' there refl;
     }
 
 -- flags of a slot's own cell set as in its entry
@@ -257,11 +256,20 @@ flags_set directories bytes two roles p d page e write accessed sound live low h
           (ap (λ (c : Cell). record c { write = write; may = e.may; accessed = accessed; dirty = e.dirty }) cell);
       cost = (λ i. total_cost directories (spaces_of (h.entries i) (frame_bytes two))) ∙ total-kept directories E m (frame_bytes two) slot e e' h.named;
       in_use = h.in_use;
-      lazy = ap lazy_count h.entries ∙ lazy-same E slot e e' h.named refl;
+      lazy = ap (λ x. holders_of x 0) h.entries ∙ lazy-same E slot e e' h.named refl;
     }
 
-pub word_long : (frame : List ℕ) (at word : ℕ) → at < 4096 → at % 4 ≡ 0 → length frame ≡ 4096 → length (with_word frame at word) ≡ 4096
-word_long frame at word l aligned l4 = let i : at ≡ 4 * (at / 4) = omega arith in ap (λ k. length (with_word frame k word)) i ∙ length-with_word_in frame (at / 4) word l4 (omega arith)
+pub length-bytes_of : (k v : ℕ) → length (bytes_of k v) ≡ k
+length-bytes_of zero v = refl
+length-bytes_of (suc k) v = ap suc (length-bytes_of k (v / 256))
+
+pub length-write_at : (frame : List ℕ) (at : ℕ) (new : List ℕ) → at + length new ≤ length frame → length (write_at frame at new) ≡ length frame
+length-write_at frame at new fits =
+    let a : length (write_at frame at new) ≡ length (take at frame ++ new) + length (drop (at + length new) frame) = length-append (take at frame ++ new) (drop (at + length new) frame) in
+    let b = length-append (take at frame) new in
+    let c = length-take-le at frame (omega (arith, fits)) in
+    let d = length-drop (at + length new) frame in
+    omega (arith, a, b, c, d, fits)
 
 -- ---- Bytes of a page, by their place in memory
 
@@ -277,13 +285,11 @@ byte_placed bytes one f at v i l is =
     ap frame_bytes is ∙ ap (λ k. frame_bytes (slice_set bytes k v)) a ∙ frames-with_byte bytes f at v l i.fits
 
 -- a word of a page, by its place in memory
-pub word_placed : (bytes one : List ℕ) (f at word : ℕ) → Inside bytes f → at < 4096 → at % 4 ≡ 0 → one ≡ with_word bytes (f * 4096 + at) word
+pub word_placed : (bytes one : List ℕ) (f at word : ℕ) → Inside bytes f → at + 4 ≤ 4096 → one ≡ with_word bytes (f * 4096 + at) word
     → frame_bytes one ≡ with_frame (frame_bytes bytes) f (with_word (frame_bytes bytes f) at word)
-word_placed bytes one f at word i l aligned is =
-    let a : f * 4096 + at ≡ 4096 * f + 4 * (at / 4) = omega arith in
-    let b : 4 * (at / 4) ≡ at = omega arith in
-    ap frame_bytes is ∙ ap (λ k. frame_bytes (with_word bytes k word)) a ∙ frames-with_word bytes f (at / 4) word (omega arith) i.fits
-    ∙ ap (λ k. with_frame (frame_bytes bytes) f (with_word (frame_bytes bytes f) k word)) b
+word_placed bytes one f at word i l is =
+    let a : f * 4096 + at ≡ 4096 * f + at = omega arith in
+    ap frame_bytes is ∙ ap (λ k. frame_bytes (with_word bytes k word)) a ∙ frames-with_word_at bytes f at word l i.fits
 
 -- ---- A mapped slot
 
@@ -370,9 +376,8 @@ named_inside directories bytes roles p d page e sound live low high is =
     holds_inside directories bytes roles e.frame sound (sound.pages.pages (at_page p page) e there)
 
 -- a page keeps its length under a store
-pub written_long : (frame : List ℕ) (at : ℕ) (size : Size) (value : ℕ) → length frame ≡ 4096 → at < 4096 → at % byte_count size ≡ 0 → length (write_at frame at (bytes_of (byte_count size) value)) ≡ 4096
-written_long frame at One value long l aligned = sym (ap length (byte_is_write frame at value (omega arith))) ∙ length-set frame at (value % 256) ∙ long
-written_long frame at Four value long l aligned = sym (ap length (word_is_write frame at value)) ∙ word_long frame at value l aligned long
+pub written_long : (frame : List ℕ) (at : ℕ) (size : Size) (value : ℕ) → length frame ≡ 4096 → at + byte_count size ≤ 4096 → length (write_at frame at (bytes_of (byte_count size) value)) ≡ 4096
+written_long frame at size value long l = length-write_at frame at (bytes_of (byte_count size) value) (let n = length-bytes_of (byte_count size) value in omega (arith, n, l, long)) ∙ long
 
 -- the cell of a slot whose entry was read
 pub cell_read : (directories : List (Option ℕ)) (bytes : List ℕ) (p d page : ℕ) (e : PageEntry) → directory_of directories p ≡ Some d → p < 64 → 0x40000 ≤ page → page < 0xf0000 → entry_at (frame_bytes bytes) d page ≡ Some e

@@ -1,6 +1,7 @@
 -- The type's invariant after an access, or after a change of rights.
 use Rattle.std.proofs.Common.{arith, ◌≡◌, ℕ, List, Option, ap, ◌∙◌}
 use Rattle.page_words.specs.FiniteMap as map
+use Rattle.page_words.specs.FiniteSet as set
 use Rattle.alloc_table.specs.declared.Role.{Role}
 use Rattle.address_space.specs.Spaces.{Slot, Spaces}
 use Rattle.address_space.specs.View.{spaces_in}
@@ -15,7 +16,7 @@ kept_touched directories bytes bytes' roles counts S' before touched keys =
     let cost = touched.cost in
     let weighs = before.spaces.weighs in
     let within = before.spaces.within in
-    let lazy = touched.lazy in
+    let lazy = ap set.len touched.lazy in
     record {
       spaces = record { sound = touched.sound; in_use = touched.in_use before.spaces.in_use; weighs = omega (arith, cost, weighs, lazy); within = omega (arith, cost, within) };
       counted = counted_keys (spaces_in directories bytes) (spaces_in directories bytes') roles counts (λ q. ap (λ x. map.contains_key x q) touched.spaces ∙ keys q) before.counted;

@@ -1,32 +1,32 @@
-use Rattle.std.proofs.Common.{ap, ◌∙◌}
-use Rattle.process_table.specs.View.{View}
-use Rattle.fault_handler.proofs.Settled.{settled_at, may_map_first}
+use Rattle.std.proofs.Common.{◌≡◌, ap, sym, subst, ◌∙◌, true}
+use Rattle.page_words.specs.Addresses.{EachTouched}
+use Rattle.address_space.specs.Spaces.{at_page, cell_or_fresh}
+use Rattle.address_space.proofs.costs.MapFirst.{touched-there}
+use Rattle.table_walk.specs.declared.Access.TheVariants.{Write}
+use Rattle.process_table.specs.Calls.{access_value, after_access}
+use Rattle.process_table.specs.State.{State, is_mapped}
+use Rattle.fault_handler.specs.Plans.{goes_on, step_at}
+use Rattle.fault_handler.proofs.Settled.{ready, mapped_right, mapped_value, mapped_after}
 use Rattle.fault_handler.proofs.settle.Goals as goal
-
-pub fill_first-requires-clause-mapped : goal.fill_first-requires-clause-mapped
-fill_first-requires-clause-mapped c =
-    (settled_at c.args.processes.now c.map_first.new.processes.state c.args.plan c.args.pid c.args.address c.args.size c.args.access c.requires.plan c.requires.completes
-    (λ n. ap (λ (v : View). v.state) (c.map_first.ensures.other n)) c.map_first.ensures.mapped).mapped
 
 pub access-requires-clause-mapped : goal.access-requires-clause-mapped
 access-requires-clause-mapped c =
-    (settled_at c.args.processes.now c.fill_first.new.processes.state c.args.plan c.args.pid c.args.address c.args.size c.args.access c.requires.plan c.requires.completes
-    (λ n. c.fill_first.ensures.state ∙ ap (λ (v : View). v.state) (c.map_first.ensures.other n)) (λ e. c.fill_first.ensures.state ∙ c.map_first.ensures.mapped e)).mapped
+    subst (λ (t : State). EachTouched c.args.address c.args.size (λ page. is_mapped t (at_page c.args.pid page) ≡ true)) (sym c.make_ready.ensures.state)
+    (touched-there c.args.processes.now.state.spaces c.args.pid c.args.address c.args.size)
 
 pub access-requires-clause-right : goal.access-requires-clause-right
 access-requires-clause-right c =
-    (settled_at c.args.processes.now c.fill_first.new.processes.state c.args.plan c.args.pid c.args.address c.args.size c.args.access c.requires.plan c.requires.completes
-    (λ n. c.fill_first.ensures.state ∙ ap (λ (v : View). v.state) (c.map_first.ensures.other n)) (λ e. c.fill_first.ensures.state ∙ c.map_first.ensures.mapped e)).right
+    let v = c.args.processes.now in
+    let goes = ready (step_at v c.args.pid c.args.access) v.state c.args.pid c.args.address c.args.size c.args.access (sym (ap goes_on c.requires.plan) ∙ c.requires.ready) in
+    subst (λ (t : State). c.args.access ≡ Write → EachTouched c.args.address c.args.size (λ page. (cell_or_fresh t.spaces (at_page c.args.pid page)).write ≡ true)) (sym c.make_ready.ensures.state)
+    (mapped_right v.state c.args.pid c.args.address c.args.size c.args.access goes.allowed)
 
 pub returns-clause-value : goal.returns-clause-value
 returns-clause-value c =
-    c.access.ensures.value ∙ (settled_at c.args.processes.now c.fill_first.new.processes.state c.args.plan c.args.pid c.args.address c.args.size c.args.access c.requires.plan c.requires.completes
-    (λ n. c.fill_first.ensures.state ∙ ap (λ (v : View). v.state) (c.map_first.ensures.other n)) (λ e. c.fill_first.ensures.state ∙ c.map_first.ensures.mapped e)).value
+    c.access.ensures.value ∙ ap (λ (t : State). access_value t c.args.pid c.args.address c.args.size c.args.access) c.make_ready.ensures.state
+    ∙ mapped_value c.args.processes.now.state c.args.pid c.args.address c.args.size c.args.access
 
 pub returns-clause-state : goal.returns-clause-state
 returns-clause-state c =
-    c.access.ensures.state ∙ (settled_at c.args.processes.now c.fill_first.new.processes.state c.args.plan c.args.pid c.args.address c.args.size c.args.access c.requires.plan c.requires.completes
-    (λ n. c.fill_first.ensures.state ∙ ap (λ (v : View). v.state) (c.map_first.ensures.other n)) (λ e. c.fill_first.ensures.state ∙ c.map_first.ensures.mapped e)).state c.args.value
-
-pub map_first-requires : goal.map_first-requires
-map_first-requires c = record { page = may_map_first c.args.processes.now c.args.plan c.args.pid c.args.address c.args.size c.args.access c.requires.plan }
+    c.access.ensures.state ∙ ap (λ (t : State). after_access t c.args.pid c.args.address c.args.size c.args.access c.args.value) c.make_ready.ensures.state
+    ∙ mapped_after c.args.processes.now.state c.args.pid c.args.address c.args.size c.args.access c.args.value

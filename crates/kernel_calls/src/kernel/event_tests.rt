@@ -3,6 +3,7 @@
 use super::lazy_tests::word_at;
 use super::*;
 use page_words::{Page, Size, TableWord, Vaddr};
+use std::process::Abort;
 use std::test::Fail;
 
 /// An offer that was made, of which an event may be the answer.
@@ -243,6 +244,7 @@ fn number_of(call: &Call) -> usize {
         Call::Spawn { .. } => 9,
         Call::Exit => 10,
         Call::Quota => 11,
+        Call::Fork { .. } => 12,
     }
 }
 
@@ -301,6 +303,63 @@ fn all_live(core: &Core) -> Result<bool, Fail> {
     Ok(all)
 }
 
+/// What a process would load from the start of a page.
+fn loaded(core: &Core, pid: Pid, page: Page) -> Reply {
+    let (addr, size) = (address_in(page, 0), Size::Four);
+    let call = Call::Load { addr, size };
+    core.decide(&Event { cpu: 0, pid, call }).reply
+}
+
+/// Whether a process has at each page in play what it would have as a copy of another.
+fn is_copy(core: &Core, pid: Pid, copy: Pid) -> bool {
+    let mut all = true;
+    for n in 0..16 {
+        let page = page_in_play(n);
+        let same = match info(core, pid, page) {
+            Reply::Info { write, may, .. } => {
+                let untouched = Reply::Info {
+                    write,
+                    may,
+                    accessed: false,
+                    dirty: false,
+                    holders: 1,
+                };
+                info(core, copy, page) == untouched
+                    && loaded(core, copy, page) == loaded(core, pid, page)
+            }
+            none => info(core, copy, page) == none,
+        };
+        all = all && same;
+    }
+    all
+}
+
+/// Copies each process that has room for it, and lets the copy exit. How many were copied.
+fn copies_each_process(rt: &impl Abort, core: &mut Core) -> Result<u32, Fail> {
+    let mut copies = 0_u32;
+    for number in 0..8 {
+        let pid = process(number)?;
+        let quota = match core.container(pid) {
+            Some(container) => container.used,
+            None => 0,
+        };
+        let call = Call::Fork { quota };
+        if let Reply::Child(copy) = core.step(&Event { cpu: 0, pid, call }) {
+            copies = copies.wrapping_add(1);
+            let held = frames_held(core).wrapping_add(lazy_pages(core));
+            assert_eq!(rt; charged(core)?, held, "process {number}");
+            assert!(rt; is_copy(core, pid, copy), "process {number}");
+            let exit = Event {
+                cpu: 0,
+                pid: copy,
+                call: Call::Exit,
+            };
+            assert_eq!(rt; core.step(&exit), Reply::Done);
+        }
+    }
+    Ok(copies)
+}
+
 #[test]
 fn flags_shares_and_counts_agree_after_many_events(rt: HostRuntime) -> Result<(), Fail> {
     let mut core = family(&rt)?;
@@ -318,6 +377,7 @@ fn flags_shares_and_counts_agree_after_many_events(rt: HostRuntime) -> Result<()
     };
     let mut generator = Generator { seed: 7, last };
     let mut done = [0_u32; 12];
+    let mut copies = 0_u32;
     for round in 0..128 {
         let mut events = [blank; 32];
         let mut replies = [Reply::Done; 32];
@@ -334,11 +394,13 @@ fn flags_shares_and_counts_agree_after_many_events(rt: HostRuntime) -> Result<()
             "round {round}"
         );
         if round % 16 == 15 {
+            copies = copies.wrapping_add(copies_each_process(&rt, &mut core)?);
             assert!(rt; shares_agree(&core)?, "round {round}");
         }
     }
     for count in done {
         assert!(rt; count >= 10);
     }
+    assert!(rt; copies >= 10);
     Ok(())
 }

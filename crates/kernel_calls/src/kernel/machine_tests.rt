@@ -120,10 +120,13 @@ fn is_refused_more_pages(core: &mut Core, pid: Pid, page: Page) -> bool {
 fn is_refused_bad_calls(core: &mut Core, pid: Pid, mapped: Page) -> bool {
     let low = Page(0x3ffff);
     let high = Page(0xf0000);
-    let odd = address_in(mapped, 2);
-    let at_two = Call::Load {
-        addr: odd,
+    let before = Call::Load {
+        addr: Vaddr(0x3fff_fffe),
         size: Size::Four,
+    };
+    let fault_before = Reply::Fault {
+        addr: Vaddr(0x3fff_fffe),
+        code: 4,
     };
     let outside = address_in(high, 8);
     let fault = Reply::Fault {
@@ -147,7 +150,7 @@ fn is_refused_bad_calls(core: &mut Core, pid: Pid, mapped: Page) -> bool {
         },
         Cause::BadPage,
     ) && refuses(core, pid, Call::Unmap { page: high }, Cause::BadPage)
-        && refuses(core, pid, at_two, Cause::Misaligned)
+        && gives(core, pid, before, fault_before)
         && gives(core, pid, load(high), fault)
         && refuses(core, pid, Call::Spawn { quota: 1 }, Cause::TableFull)
         && refuses(core, pid, Call::Spawn { quota: 0 }, Cause::BadQuota)

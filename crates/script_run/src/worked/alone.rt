@@ -2,7 +2,7 @@
 
 use super::Worked;
 
-pub const SCRIPTS: [Worked; 11] = [
+pub const SCRIPTS: [Worked; 15] = [
     // nothing in, nothing out
     Worked {
         name: "empty",
@@ -114,5 +114,43 @@ pub const SCRIPTS: [Worked; 11] = [
         script: "0 0 quota\n0 0 lode 40000000 4\n0 0 quota\n",
         replies: "quota 15 1 0\n",
         malformed: Some(2),
+    },
+    // a store over two pages, whose bytes lie on both sides
+    Worked {
+        name: "across_two_pages",
+        frames: 16,
+        script: "\
+            0 0 store 40000ffe 4 11223344\n0 0 load 40000ffe 4\n0 0 load 40001000 2\n0 0 quota\n",
+        replies: "done\nvalue 11223344\nvalue 00001122\nquota 15 4 0\n",
+        malformed: None,
+    },
+    // an access over two pages maps both, or neither
+    Worked {
+        name: "both_pages_or_neither",
+        frames: 16,
+        script: "\
+            0 0 spawn 12\n0 0 load 40000fff 2\n0 0 quota\n0 0 load 40000ffe 2\n0 0 quota\n",
+        replies: "child 1\nrefused Quota\nquota 15 1 12\nvalue 00000000\nquota 15 3 12\n",
+        malformed: None,
+    },
+    // a fault is at the first byte that is outside, or in a page without the right; no byte is written then
+    Worked {
+        name: "faults_at_the_first_byte",
+        frames: 16,
+        script: "\
+            0 0 store effffffe 4 1\n0 0 load ffffffff 4\n0 0 load 3fffffff 2\n0 0 map 40000 rw\n\
+            0 0 map 40001 ro\n0 0 store 40000fff 2 ffff\n0 0 load 40000fff 1\n0 0 info 40000\n",
+        replies: "\
+            fault f0000000 6\nfault ffffffff 4\nfault 3fffffff 4\ndone\ndone\nfault 40001000 7\n\
+            value 00000000\ninfo 1 1 1 0 1\n",
+        malformed: None,
+    },
+    // two pages in two regions
+    Worked {
+        name: "across_two_regions",
+        frames: 16,
+        script: "0 0 load 403fffff 2\n0 0 quota\n",
+        replies: "value 00000000\nquota 15 5 0\n",
+        malformed: None,
     },
 ];

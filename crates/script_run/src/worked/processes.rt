@@ -2,7 +2,7 @@
 
 use super::Worked;
 
-pub const SCRIPTS: [Worked; 5] = [
+pub const SCRIPTS: [Worked; 7] = [
     // an access for whose page the quota has no room
     Worked {
         name: "quota_refuses",
@@ -66,6 +66,36 @@ pub const SCRIPTS: [Worked; 5] = [
     Worked {
         name: "tenant_beside_others",
         frames: 16,
+        script: "\
+            0 0 spawn 5\n0 0 spawn 9\n0 2 store 40000000 1 aa\n0 2 store 40001000 1 aa\n\
+            0 2 store 40002000 1 aa\n0 2 store 40003000 1 aa\n0 2 store 40004000 1 aa\n\
+            0 2 store 40005000 1 aa\n0 2 store 40006000 1 aa\n0 2 store 40007000 1 aa\n\
+            0 1 load 40000000 4\n0 1 store 40001000 4 2\n0 1 load 40002000 4\n0 2 exit\n\
+            0 1 load 40003000 4\n0 1 unmap 40000\n0 0 spawn 9\n0 2 store 40000000 1 aa\n\
+            0 2 store 40001000 1 aa\n0 2 store 40002000 1 aa\n0 2 store 40003000 1 aa\n\
+            0 2 store 40004000 1 aa\n0 2 store 40005000 1 aa\n0 2 store 40006000 1 aa\n\
+            0 2 store 40007000 1 aa\n0 1 load 40003000 4\n0 1 quota\n",
+        replies: "\
+            child 1\nchild 2\ndone\ndone\ndone\ndone\ndone\ndone\ndone\nrefused Quota\n\
+            value 00000000\ndone\nvalue 00000000\ndone\nrefused Quota\ndone\nchild 2\ndone\ndone\n\
+            done\ndone\ndone\ndone\ndone\nrefused Quota\nvalue 00000000\nquota 5 5 0\n",
+        malformed: None,
+    },
+    // both again with four times the frames
+    Worked {
+        name: "tenant_alone_in_a_larger_machine",
+        frames: 64,
+        script: "\
+            0 0 spawn 5\n0 1 load 40000000 4\n0 1 store 40001000 4 2\n0 1 load 40002000 4\n\
+            0 1 load 40003000 4\n0 1 unmap 40000\n0 1 load 40003000 4\n0 1 quota\n",
+        replies: "\
+            child 1\nvalue 00000000\ndone\nvalue 00000000\nrefused Quota\ndone\nvalue 00000000\n\
+            quota 5 5 0\n",
+        malformed: None,
+    },
+    Worked {
+        name: "tenant_beside_others_in_a_larger_machine",
+        frames: 64,
         script: "\
             0 0 spawn 5\n0 0 spawn 9\n0 2 store 40000000 1 aa\n0 2 store 40001000 1 aa\n\
             0 2 store 40002000 1 aa\n0 2 store 40003000 1 aa\n0 2 store 40004000 1 aa\n\

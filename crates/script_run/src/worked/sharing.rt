@@ -64,8 +64,8 @@ pub const SCRIPTS: [Worked; 9] = [
             0 0 offer 40000 1 rw\n0 0 offer 40000 1 ro\n0 1 spawn 1\n0 1 exit\n\
             0 0 withdraw 40000 1\n",
         replies: "\
-            refused NoProcess\nrefused Misaligned\nrefused Misaligned\nrefused BadPage\n\
-            refused BadPage\nrefused NotMapped\ndone\nrefused SelfOffer\nrefused NoTarget\ndone\n\
+            refused NoProcess\nvalue 00000000\nfault 3ffffffe 4\nrefused BadPage\n\
+            refused BadPage\ndone\ndone\nrefused SelfOffer\nrefused NoTarget\ndone\n\
             refused NoOffer\nchild 1\ndone\nrefused OfferPending\nchild 2\nrefused HasChildren\n\
             done\n",
         malformed: None,

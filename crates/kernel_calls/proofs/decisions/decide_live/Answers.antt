@@ -1,6 +1,6 @@
 use Rattle.std.proofs.Common.{ap, ◌∙◌}
 use Rattle.kernel_calls.specs.Decisions.{tested, spawned}
-use Rattle.kernel_calls.proofs.Decided.{decided-map, decided-protect, decided-offer, decided-spawn, used-container}
+use Rattle.kernel_calls.proofs.Decided.{decided-map, decided-protect, decided-offer, decided-spawn, decided-fork, used-container}
 use Rattle.kernel_calls.proofs.decisions.decide_live.Goals as goal
 
 pub returns-in-Map : goal.returns-in-Map
@@ -16,6 +16,13 @@ returns-in-Spawn c =
     let e = c.args.event.now in
     c.child_or_refused.ensures ∙ ap (λ t. spawned e t c.args.container.now.used) c.can_spawn.ensures
     ∙ decided-spawn c.args.processes.now e c.in-Spawn.quota c.args.container.now.used c.in-Spawn.is c.requires.live (used-container s e.pid c.args.container.now c.requires.container)
+
+pub returns-in-Fork : goal.returns-in-Fork
+returns-in-Fork c =
+    let s = c.args.processes.now.state in
+    let e = c.args.event.now in
+    c.child_or_refused-in-Fork.ensures ∙ ap (λ t. spawned e t c.args.container.now.used) c.can_fork.ensures
+    ∙ decided-fork c.args.processes.now e c.in-Fork.quota c.args.container.now.used c.in-Fork.is c.requires.live (used-container s e.pid c.args.container.now c.requires.container)
 
 pub returns-in-Protect : goal.returns-in-Protect
 returns-in-Protect c =

@@ -1,12 +1,10 @@
-use Rattle.std.proofs.Common.{sym, ◌∙◌}
-use Rattle.kernel_calls.proofs.Zeros.{loaded-first}
-use Rattle.kernel_calls.proofs.Planned.{read_maps, read_fills_none}
+use Rattle.std.proofs.Common.{ap, sym, ◌∙◌}
+use Rattle.table_walk.specs.declared.Access.TheVariants.{Read}
+use Rattle.fault_handler.specs.Plans.{goes_on, step_at}
+use Rattle.fault_handler.proofs.Settled.{ready, all_user}
 use Rattle.kernel_calls.proofs.decisions.value_by.Goals as goal
 
-pub returns-in-MapZero : goal.returns-in-MapZero
-returns-in-MapZero c = λ goes.
-    sym (loaded-first c.args.processes.now.state c.args.pid c.args.address c.args.size
-    (read_maps c.args.processes.now c.args.pid c.args.address c.args.size (sym c.requires.plan ∙ c.in-MapZero.is)))
-
-pub returns-in-Fill : goal.returns-in-Fill
-returns-in-Fill c = absurd (read_fills_none c.args.processes.now c.args.pid c.args.address c.args.size (sym c.requires.plan ∙ c.in-Fill.is))
+pub peek-requires : goal.peek-requires
+peek-requires c =
+    let v = c.args.processes.now in
+    all_user c.args.address c.args.size (ready (step_at v c.args.pid Read) v.state c.args.pid c.args.address c.args.size Read (sym (ap goes_on c.requires.plan) ∙ ap goes_on c.in-Ready.is)).outside

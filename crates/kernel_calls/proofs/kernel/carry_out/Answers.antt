@@ -17,44 +17,16 @@ returns-in-Fault-clause-state c =
     let d = c.args.decision.now in
     sym (next-stays s d.event (goes-decided c.args.processes.now d false c.requires.decided (ap goes_on c.in-Fault.is)))
 
-pub returns-in-Complete-clause-state : goal.returns-in-Complete-clause-state
-returns-in-Complete-clause-state c =
+pub returns-in-Ready-clause-state : goal.returns-in-Ready-clause-state
+returns-in-Ready-clause-state c =
     let s = c.args.processes.now.state in
     let d = c.args.decision.now in
-    c.complete.ensures ∙ sym (next-goes s d.event (goes-decided c.args.processes.now d true c.requires.decided (ap goes_on c.in-Complete.is)))
+    c.complete.ensures ∙ sym (next-goes s d.event (goes-decided c.args.processes.now d true c.requires.decided (ap goes_on c.in-Ready.is)))
 
-pub returns-in-Complete-clause-kept : goal.returns-in-Complete-clause-kept
-returns-in-Complete-clause-kept c = λ stops.
+pub returns-in-Ready-clause-kept : goal.returns-in-Ready-clause-kept
+returns-in-Ready-clause-kept c = λ stops.
     let s = c.args.processes.now.state in
     let d = c.args.decision.now in
-    let goes : completes (answer s d.event) ≡ true = goes-decided c.args.processes.now d true c.requires.decided (ap goes_on c.in-Complete.is) in
-    let same : false ≡ true = sym stops ∙ ap (λ (x : Decision). completes x.reply) c.requires.decided ∙ goes in
-    cc
-
-pub returns-in-MapZero-clause-state : goal.returns-in-MapZero-clause-state
-returns-in-MapZero-clause-state c =
-    let s = c.args.processes.now.state in
-    let d = c.args.decision.now in
-    c.complete-in-MapZero.ensures ∙ sym (next-goes s d.event (goes-decided c.args.processes.now d true c.requires.decided (ap goes_on c.in-MapZero.is)))
-
-pub returns-in-MapZero-clause-kept : goal.returns-in-MapZero-clause-kept
-returns-in-MapZero-clause-kept c = λ stops.
-    let s = c.args.processes.now.state in
-    let d = c.args.decision.now in
-    let goes : completes (answer s d.event) ≡ true = goes-decided c.args.processes.now d true c.requires.decided (ap goes_on c.in-MapZero.is) in
-    let same : false ≡ true = sym stops ∙ ap (λ (x : Decision). completes x.reply) c.requires.decided ∙ goes in
-    cc
-
-pub returns-in-Fill-clause-state : goal.returns-in-Fill-clause-state
-returns-in-Fill-clause-state c =
-    let s = c.args.processes.now.state in
-    let d = c.args.decision.now in
-    c.complete-in-Fill.ensures ∙ sym (next-goes s d.event (goes-decided c.args.processes.now d true c.requires.decided (ap goes_on c.in-Fill.is)))
-
-pub returns-in-Fill-clause-kept : goal.returns-in-Fill-clause-kept
-returns-in-Fill-clause-kept c = λ stops.
-    let s = c.args.processes.now.state in
-    let d = c.args.decision.now in
-    let goes : completes (answer s d.event) ≡ true = goes-decided c.args.processes.now d true c.requires.decided (ap goes_on c.in-Fill.is) in
+    let goes : completes (answer s d.event) ≡ true = goes-decided c.args.processes.now d true c.requires.decided (ap goes_on c.in-Ready.is) in
     let same : false ≡ true = sym stops ∙ ap (λ (x : Decision). completes x.reply) c.requires.decided ∙ goes in
     cc

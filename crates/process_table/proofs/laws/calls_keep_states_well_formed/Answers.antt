@@ -1,4 +1,5 @@
 use Rattle.process_table.proofs.BookLaws.{well_formed-open, well_formed-unmap, well_formed-spawn, well_formed-exit, root-spawn, root-exit, total-within}
+use Rattle.process_table.proofs.Forks.{well_formed-fork, root-fork}
 use Rattle.process_table.proofs.SpaceLaws.{well_formed-map, well_formed-load, well_formed-store}
 use Rattle.process_table.proofs.SharingLaws.{well_formed-protect, well_formed-offer, well_formed-withdraw, well_formed-accept}
 use Rattle.process_table.proofs.laws.calls_keep_states_well_formed.Goals as goal
@@ -27,6 +28,9 @@ returns-clause-accept c = well_formed-accept
 pub returns-clause-spawn : goal.returns-clause-spawn
 returns-clause-spawn c = well_formed-spawn
 
+pub returns-clause-fork : goal.returns-clause-fork
+returns-clause-fork c = well_formed-fork
+
 pub returns-clause-exit : goal.returns-clause-exit
 returns-clause-exit c = well_formed-exit
 
@@ -37,7 +41,7 @@ pub returns-clause-store : goal.returns-clause-store
 returns-clause-store c = well_formed-store
 
 pub returns-clause-root : goal.returns-clause-root
-returns-clause-root c = (root-spawn, root-exit)
+returns-clause-root c = (root-spawn, root-fork, root-exit)
 
 pub returns-clause-total : goal.returns-clause-total
 returns-clause-total c = total-within

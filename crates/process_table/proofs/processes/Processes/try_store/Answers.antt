@@ -1,15 +1,17 @@
 use Rattle.std.proofs.Common.{◌≡◌, ◌∙◌, ap, sym, subst, refl, Bool, true, false, length}
 use Rattle.std.proofs.lemmas.Bool.{and_parts}
 use Rattle.page_words.specs.Addresses.{offset_number, byte_count}
-use Rattle.table_walk.specs.declared.Access.TheVariants.{Write}
 use Rattle.address_space.specs.View as frames
-use Rattle.address_space.specs.Spaces.{cost, slot_at, bytes_of}
+use Rattle.address_space.specs.Spaces.{Spaces, cost, slot_at, bytes_of}
+use Rattle.page_words.specs.FiniteMap as map
+use Rattle.address_space.proofs.costs.MapFirst.{store_in_page}
+use Rattle.process_table.specs.Calls.{after_store}
 use Rattle.address_space.proofs.costs.Totals.{cost-stored_of}
 use Rattle.process_table.specs.State.{State, is_mapped}
-use Rattle.process_table.specs.View.{IsWhole, state_of}
+use Rattle.process_table.specs.View.{View, IsWhole, state_of}
 use Rattle.process_table.specs.WellFormed.{IsWellFormed}
 use Rattle.process_table.proofs.Charged.{charged-same}
-use Rattle.process_table.proofs.Keeping.{keeps-access}
+use Rattle.process_table.proofs.Keeping.{keeps-store_in_page}
 use Rattle.process_table.proofs.processes.Processes.try_store.Goals as goal
 
 pub invariant_of-self : goal.invariant_of-self
@@ -27,5 +29,14 @@ invariant_of-self c = by c.try_write.result refl
           kept = charged-same c.self.inside.spaces c.try_write.new.self c.self.inside.quotas c.self.invariant.kept c.try_write.ensures.directories (ap length c.try_write.ensures.roles)
               (λ q. ap (λ S. cost S q) after ∙ cost-stored_of c.self.inside.spaces.spaces (slot_at c.args.pid c.args.address) (offset_number c.args.address) (bytes_of (byte_count c.args.size) c.args.value) q mapped);
           well_formed = subst IsWellFormed (λ i. record s { spaces = sym after i })
-              (keeps-access s c.args.pid c.args.address c.args.size Write c.args.value c.self.invariant.well_formed mapped c.requires.user c.requires.aligned);
+              (keeps-store_in_page s c.args.pid c.args.address c.args.size c.args.value c.self.invariant.well_formed c.requires.within mapped);
         }
+
+pub returns-clause-state : goal.returns-clause-state
+returns-clause-state c = λ done.
+    let S = c.self.inside.spaces.spaces in
+    let s : State = state_of c.self.inside.spaces c.self.inside.quotas c.self.inside.offers in
+    let there : map.contains_key S (slot_at c.args.pid c.args.address) ≡ true = (and_parts (map.contains_key S (slot_at c.args.pid c.args.address)) _ (sym c.try_write.ensures.done ∙ done)).0 in
+    ap (λ (T : Spaces). record s { spaces = T })
+    (c.try_write.ensures.spaces done ∙ sym (store_in_page S c.args.pid c.args.address c.args.size c.args.value c.requires.within there))
+    ∙ ap (λ (v : View). after_store v.state c.args.pid c.args.address c.args.size c.args.value) c.self.view_is

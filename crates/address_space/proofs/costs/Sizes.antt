@@ -1,0 +1,48 @@
+-- A set of some of another's members is no larger, and fewer pages cost no more.
+use Rattle.std.proofs.Common.{◌≡◌, ℕ, suc, ◌≤◌, ◌&&◌, Bool, true, false, cond, List, [], ◌∷◌, length, refl, sym, subst, ◌∙◌, arith}
+use Rattle.std.specs.declared.cmp.Ordering.{Ordering}
+use Rattle.std.specs.FinMap.Entries.{where_key}
+use Rattle.page_words.specs.FiniteMap as map
+use Rattle.page_words.specs.FiniteMap.{Order}
+use Rattle.page_words.specs.FiniteSet as set
+use Rattle.page_words.specs.FiniteSet.{Set}
+use Rattle.page_words.proofs.MapLemmas.{same_set, contains-retain}
+use Rattle.address_space.specs.Spaces.{Spaces, cost, pages_of, regions_of, at_page}
+use Rattle.address_space.proofs.costs.Costs.{contains-pages_of}
+use Rattle.address_space.proofs.costs.CostSteps.{region_member, region_there}
+
+module _ {K X : Type 0} (R : K → K → Ordering) where
+  pub length-where_key : (t : K → Bool) (es : List (K × X)) → length (where_key R t es) ≤ length es
+  length-where_key t [] = omega arith
+  length-where_key t (e ∷ es) = let rest = length-where_key t es in one (t e.0) rest
+    where
+      one : (b : Bool) → length (where_key R t es) ≤ length es → length (cond b (e ∷ where_key R t es) (where_key R t es)) ≤ suc (length es)
+      one true rest = omega (arith, rest)
+      one false rest = omega (arith, rest)
+
+both_is : (a b : Bool) → (b ≡ true → a ≡ true) → (a && b) ≡ b
+both_is true b h = refl
+both_is false true h = h refl
+both_is false false h = refl
+
+-- a set of some of another's members has no more of them
+pub len-subset : {K : Type 0} {o : Order K} (s t : Set o) → ((k : K) → set.contains s k ≡ true → set.contains t k ≡ true) → set.len s ≤ set.len t
+len-subset {K} {o} s t inside =
+    subst (λ (x : Set o). set.len x ≤ set.len t) (same_set (set.retain t (set.contains s)) s (λ k. contains-retain t (set.contains s) k ∙ both_is (set.contains t k) (set.contains s k) (inside k)))
+    (length-where_key o.cmp (set.contains s) t.entries)
+
+-- a process with some of another's pages costs no more
+pub cost-within : (S T : Spaces) (p q : ℕ) → ((page : ℕ) → map.contains_key T (at_page q page) ≡ true → map.contains_key S (at_page p page) ≡ true) → cost T q ≤ cost S p
+cost-within S T p q inside =
+    let pages = len-subset (pages_of T q) (pages_of S p) page in
+    let regions = len-subset (regions_of (pages_of T q)) (regions_of (pages_of S p)) region in
+    omega (arith, pages, regions)
+  where
+    page : (n : ℕ) → set.contains (pages_of T q) n ≡ true → set.contains (pages_of S p) n ≡ true
+    page n h = contains-pages_of S p n ∙ inside n (sym (contains-pages_of T q n) ∙ h)
+
+    region : (r : ℕ) → set.contains (regions_of (pages_of T q)) r ≡ true → set.contains (regions_of (pages_of S p)) r ≡ true
+    region r h =
+        let m = region_member (pages_of T q) r h in
+        let there : set.contains (pages_of S p) m.0 ≡ true = contains-pages_of S p m.0 ∙ inside m.0 (sym (contains-pages_of T q m.0) ∙ m.2) in
+        subst (λ n. set.contains (regions_of (pages_of S p)) n ≡ true) m.1 (region_there (pages_of S p) m.0 there)

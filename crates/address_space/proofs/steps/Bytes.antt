@@ -1,0 +1,216 @@
+-- Accesses byte by byte, and as one where their bytes lie in one page.
+use Rattle.std.proofs.Common.{◌≡◌, ℕ, zero, suc, ◌+◌, ◌*◌, ◌/◌, ◌%◌, ◌<◌, ◌≤◌, Bool, true, false, cond, List, [], ◌∷◌, ◌++◌, map as each, length, take, drop, refl, ap, sym, ◌∙◌, subst, arith, inl, inr, Option, Some, None, unwrap_or, get_or-drop, drop-drop}
+use Rattle.std.specs.Prelude.{slice_index, if◌then◌else◌, ◌⊎◌, IfSome, is_some}
+use Rattle.std.specs.List.{range_with_len}
+use Rattle.std.specs.Option.{option_map}
+use Rattle.page_words.specs.Addresses.{page_number, offset_number, byte_count, covered, second_page, EachTouched}
+use Rattle.page_words.specs.declared.addresses.Size.{Size}
+use Rattle.page_words.specs.FiniteMap as map
+use Rattle.page_words.specs.FiniteMap.{same}
+use Rattle.page_words.specs.FiniteSet as set
+use Rattle.std.proofs.lemmas.Bool.{cases_lt}
+use Rattle.std.proofs.lemmas.List.{append-nil}
+use Rattle.page_words.proofs.Accesses.{stays, crosses, some_bytes, page_stays, page_next}
+use Rattle.page_words.proofs.MapLemmas.{same_or_not, same_itself, same_map, get-insert, get-map_values}
+use Rattle.address_space.specs.Spaces.{Slot, slot_order, at_page, slot_at, Cell, Spaces, fresh, cell_or_fresh, set_bytes, with_bytes, stored, store_in, write_at, bytes_at, bytes_of, value_of, byte_at, number_of, all_stored}
+
+-- ---- The pages of the bytes
+
+-- what each page that an access touches has, the page of each of its bytes has
+pub each_byte : (address : ℕ) (size : Size) (P : ℕ → Type 0) → EachTouched address size P → (i : ℕ) → i < byte_count size → P (page_number (address + i))
+each_byte address size P h i l = by (second_page address size) refl h.1
+  where
+    few : byte_count size ≤ 4
+    few = let n = some_bytes size in let a = n.1 in let b = n.2 in omega (arith, a, b)
+
+    beyond : (page : ℕ) → second_page address size ≡ Some page → P page → (d : ℕ) → d ≡ offset_number address + i → P (page_number (address + i))
+    beyond page is own d sum = elim (cases_lt d 4096) [
+      | inl within ↦ subst P (sym (page_stays address i (omega (arith, within, sum)))) h.0
+      | inr past ↦ let next = (crosses address size page is).next in subst P (next ∙ sym (page_next address i (omega (arith, past, sum)) (omega (arith, l, few)))) own
+    ]
+
+    by : (x : Option ℕ) → second_page address size ≡ x → IfSome x P → P (page_number (address + i))
+    by None is none = let fits = stays address size is in subst P (sym (page_stays address i (omega (arith, fits, l)))) h.0
+    by (Some page) is own = beyond page is own (offset_number address + i) refl
+
+-- ---- A number in one page
+
+-- the number of the bytes at some places in a row, those past the end being 0
+pub value_by_places : (xs : List ℕ) (at n : ℕ) → value_of (each (slice_index xs) (range_with_len at n)) ≡ value_of (take n (drop at xs))
+value_by_places xs at zero = refl
+value_by_places xs at (suc n) =
+    ap (λ v. slice_index xs at + 256 * v) (value_by_places xs (at + 1) n)
+    ∙ by (drop at xs) refl (first ∙ sym (get_or-drop at xs 0 0))
+  where
+    first : slice_index xs at ≡ slice_index xs (at + 0)
+    first = let e : at ≡ at + 0 = omega arith in ap (slice_index xs) e
+
+    rest : drop (at + 1) xs ≡ drop 1 (drop at xs)
+    rest = sym (drop-drop 1 at xs)
+
+    by : (ys : List ℕ) → drop at xs ≡ ys → slice_index xs at ≡ slice_index (drop at xs) 0 → slice_index xs at + 256 * value_of (take n (drop (at + 1) xs)) ≡ value_of (take (suc n) ys)
+    by [] is e =
+        let z : slice_index xs at ≡ 0 = e ∙ ap (λ ys. slice_index ys 0) is in
+        let v : value_of (take n (drop (at + 1) xs)) ≡ 0 = ap (λ ys. value_of (take n ys)) (rest ∙ ap (drop 1) is) ∙ none n in
+        omega (arith, z, v)
+      where
+        none : (n : ℕ) → value_of (take n []) ≡ 0
+        none zero = refl
+        none (suc n) = refl
+    by (y ∷ ys) is e =
+        let z : slice_index xs at ≡ y = e ∙ ap (λ ys. slice_index ys 0) is in
+        let v : value_of (take n (drop (at + 1) xs)) ≡ value_of (take n ys) = ap (λ ys. value_of (take n ys)) (rest ∙ ap (drop 1) is) in
+        omega (arith, z, v)
+
+bytes_in : (S : Spaces) (p page a o n : ℕ) → ((i : ℕ) → i < n → page_number (a + i) ≡ page) → ((i : ℕ) → i < n → offset_number (a + i) ≡ o + i)
+    → each (byte_at S p) (range_with_len a n) ≡ each (slice_index (cell_or_fresh S (at_page p page)).bytes) (range_with_len o n)
+bytes_in S p page a o zero pages places = refl
+bytes_in S p page a o (suc n) pages places =
+    let z : a ≡ a + 0 = omega arith in
+    let first : page_number a ≡ page = ap page_number z ∙ pages 0 (omega arith) in
+    let place : offset_number a ≡ o = let e = ap offset_number z ∙ places 0 (omega arith) in omega (arith, e) in
+    (λ i. slice_index (cell_or_fresh S (at_page p (first i))).bytes (place i)
+    ∷ bytes_in S p page (a + 1) (o + 1) n
+    (λ i l. let e : a + 1 + i ≡ a + suc i = omega arith in ap page_number e ∙ pages (suc i) (omega (arith, l)))
+    (λ i l. let e : a + 1 + i ≡ a + suc i = omega arith in let f : o + suc i ≡ o + 1 + i = omega arith in ap offset_number e ∙ places (suc i) (omega (arith, l)) ∙ f) i)
+
+-- the number of bytes that lie in one page
+pub number_in_page : (S : Spaces) (p address : ℕ) (size : Size) → second_page address size ≡ None
+    → number_of S p (covered address size) ≡ value_of (bytes_at (cell_or_fresh S (slot_at p address)).bytes (offset_number address) (byte_count size))
+number_in_page S p address size within =
+    let fits = stays address size within in
+    ap value_of (bytes_in S p (page_number address) address (offset_number address) (byte_count size)
+    (λ i l. page_stays address i (omega (arith, fits, l)))
+    (λ i l. let s : offset_number address + i < 4096 = omega (arith, fits, l) in omega (arith, s)))
+    ∙ value_by_places (cell_or_fresh S (slot_at p address)).bytes (offset_number address) (byte_count size)
+
+-- ---- A store in one page
+
+write_at-cons : (x : ℕ) (xs : List ℕ) (at : ℕ) (new : List ℕ) → write_at (x ∷ xs) (suc at) new ≡ x ∷ write_at xs at new
+write_at-cons x xs at new = let e : suc at + length new ≡ suc (at + length new) = omega arith in ap (λ k. (x ∷ (take at xs ++ new)) ++ drop k (x ∷ xs)) e
+
+write_at-zero : (xs new : List ℕ) → write_at xs 0 new ≡ new ++ drop (length new) xs
+write_at-zero xs new = let e : 0 + length new ≡ length new = omega arith in ap (λ k. new ++ drop k xs) e
+
+no_more : (k : ℕ) → drop {A = ℕ} k [] ≡ []
+no_more zero = refl
+no_more (suc k) = refl
+
+write_at-none : (at : ℕ) (new : List ℕ) → write_at [] at new ≡ new
+write_at-none zero new = ap (λ xs. new ++ xs) (no_more (0 + length new)) ∙ append-nil new
+write_at-none (suc at) new = ap (λ xs. new ++ xs) (no_more (suc at + length new)) ∙ append-nil new
+
+-- bytes written behind others are written with them
+pub write_at-write_at : (xs : List ℕ) (at b : ℕ) (ys : List ℕ) → write_at (write_at xs at (b ∷ [])) (at + 1) ys ≡ write_at xs at (b ∷ ys)
+write_at-write_at [] at b ys =
+    let e : at + 1 ≡ suc at = omega arith in
+    ap (λ zs. write_at zs (at + 1) ys) (write_at-none at (b ∷ [])) ∙ ap (λ k. write_at (b ∷ []) k ys) e ∙ write_at-cons b [] at ys
+    ∙ ap (λ zs. b ∷ zs) (write_at-none at ys) ∙ sym (write_at-none at (b ∷ ys))
+write_at-write_at (x ∷ xs) zero b ys =
+    let e : 0 + 1 ≡ suc 0 = omega arith in
+    ap (λ zs. write_at zs (0 + 1) ys) (write_at-zero (x ∷ xs) (b ∷ [])) ∙ ap (λ k. write_at (b ∷ xs) k ys) e ∙ write_at-cons b xs 0 ys
+    ∙ ap (λ zs. b ∷ zs) (write_at-zero xs ys) ∙ sym (write_at-zero (x ∷ xs) (b ∷ ys))
+write_at-write_at (x ∷ xs) (suc at) b ys =
+    let e : suc at + 1 ≡ suc (at + 1) = omega arith in
+    ap (λ zs. write_at zs (suc at + 1) ys) (write_at-cons x xs at (b ∷ [])) ∙ ap (λ k. write_at (x ∷ write_at xs at (b ∷ [])) k ys) e
+    ∙ write_at-cons x (write_at xs at (b ∷ [])) (at + 1) ys
+    ∙ ap (λ zs. x ∷ zs) (write_at-write_at xs at b ys) ∙ sym (write_at-cons x xs at (b ∷ ys))
+
+module _ (S : Spaces) (slot : Slot) where
+  abbrev cell : Cell
+  cell = cell_or_fresh S slot
+
+  abbrev first : List ℕ → Spaces
+  first w = store_in S slot cell w
+
+  same_cell : (w : List ℕ) → cell_or_fresh (first w) slot ≡ record cell { bytes = w; accessed = true; dirty = true }
+  same_cell w =
+      ap (λ (x : Option Cell). unwrap_or x (fresh slot true))
+      (get-insert (set_bytes S cell.holders w) slot (record cell { bytes = w; accessed = true; dirty = true }) slot
+      ∙ ap (λ b. cond b (Some (record cell { bytes = w; accessed = true; dirty = true })) (map.get (set_bytes S cell.holders w) slot)) (same_itself slot_order slot))
+
+  -- a store over another
+  twice : (w v : List ℕ) → store_in (first w) slot (record cell { bytes = w; accessed = true; dirty = true }) v ≡ store_in S slot cell v
+  twice w v = same_map _ _ (λ q.
+      get-insert (set_bytes (first w) cell.holders v) slot last q
+      ∙ by q (same_or_not slot_order q slot)
+      ∙ sym (get-insert (set_bytes S cell.holders v) slot last q))
+    where
+      last : Cell
+      last = record cell { bytes = v; accessed = true; dirty = true }
+
+      f : List ℕ → Slot → Cell → Cell
+      f bytes s c = if set.contains cell.holders s then with_bytes c bytes else c
+
+      over : (b : Bool) (x : Option Cell) → option_map (λ c. if b then with_bytes c v else c) (option_map (λ c. if b then with_bytes c w else c) x) ≡ option_map (λ c. if b then with_bytes c v else c) x
+      over true None = refl
+      over true (Some c) = refl
+      over false None = refl
+      over false (Some c) = refl
+
+      by : (q : Slot) → ((q ≡ slot) × (same slot_order q slot ≡ true)) ⊎ (same slot_order q slot ≡ false)
+          → cond (same slot_order q slot) (Some last) (map.get (set_bytes (first w) cell.holders v) q) ≡ cond (same slot_order q slot) (Some last) (map.get (set_bytes S cell.holders v) q)
+      by q (inl h) = ap (λ b. cond b (Some last) (map.get (set_bytes (first w) cell.holders v) q)) h.1 ∙ sym (ap (λ b. cond b (Some last) (map.get (set_bytes S cell.holders v) q)) h.1)
+      by q (inr h) =
+          ap (cond (same slot_order q slot) (Some last))
+          (get-map_values slot_order (f v) (first w) q
+          ∙ ap (option_map (f v q)) (get-insert (set_bytes S cell.holders w) slot (record cell { bytes = w; accessed = true; dirty = true }) q
+          ∙ ap (λ b. cond b (Some (record cell { bytes = w; accessed = true; dirty = true })) (map.get (set_bytes S cell.holders w) q)) h
+          ∙ get-map_values slot_order (f w) S q)
+          ∙ over (set.contains cell.holders q) (map.get S q)
+          ∙ sym (get-map_values slot_order (f v) S q))
+
+  -- bytes stored behind one are stored with it
+  pub stored-stored : (at b : ℕ) (ys : List ℕ) → stored (stored S slot at (b ∷ [])) slot (at + 1) ys ≡ stored S slot at (b ∷ ys)
+  stored-stored at b ys =
+      ap (λ (c : Cell). store_in (first (write_at cell.bytes at (b ∷ []))) slot c (write_at c.bytes (at + 1) ys)) (same_cell (write_at cell.bytes at (b ∷ [])))
+      ∙ ap (store_in (first (write_at cell.bytes at (b ∷ []))) slot (record cell { bytes = write_at cell.bytes at (b ∷ []); accessed = true; dirty = true })) (write_at-write_at cell.bytes at b ys)
+      ∙ twice (write_at cell.bytes at (b ∷ [])) (write_at cell.bytes at (b ∷ ys))
+
+one_stored : (S : Spaces) (p page a o b : ℕ) (bs : List ℕ) → page_number a ≡ page → offset_number a ≡ o → all_stored S p a (b ∷ bs) ≡ all_stored (stored S (at_page p page) o (b ∷ [])) p (a + 1) bs
+one_stored S p page a o b bs first place i = all_stored (stored S (at_page p (first i)) (place i) (b ∷ [])) p (a + 1) bs
+
+stored_in : (S : Spaces) (p page a o b : ℕ) (bs : List ℕ) → ((i : ℕ) → i < suc (length bs) → page_number (a + i) ≡ page) → ((i : ℕ) → i < suc (length bs) → offset_number (a + i) ≡ o + i)
+    → all_stored S p a (b ∷ bs) ≡ stored S (at_page p page) o (b ∷ bs)
+stored_in S p page a o b [] pages places =
+    let z : a ≡ a + 0 = omega arith in
+    one_stored S p page a o b [] (ap page_number z ∙ pages 0 (omega arith)) (let e = ap offset_number z ∙ places 0 (omega arith) in omega (arith, e))
+stored_in S p page a o b (c ∷ bs) pages places =
+    let z : a ≡ a + 0 = omega arith in
+    one_stored S p page a o b (c ∷ bs) (ap page_number z ∙ pages 0 (omega arith)) (let e = ap offset_number z ∙ places 0 (omega arith) in omega (arith, e))
+    ∙ stored_in (stored S (at_page p page) o (b ∷ [])) p page (a + 1) (o + 1) c bs
+    (λ i l. let e : a + 1 + i ≡ a + suc i = omega arith in ap page_number e ∙ pages (suc i) (omega (arith, l)))
+    (λ i l. let e : a + 1 + i ≡ a + suc i = omega arith in let f : o + suc i ≡ o + 1 + i = omega arith in ap offset_number e ∙ places (suc i) (omega (arith, l)) ∙ f)
+    ∙ stored-stored S (at_page p page) o b (c ∷ bs)
+
+abbrev lowest : ℕ → Spaces → ℕ → ℕ → Spaces
+lowest p S a v = stored S (slot_at p a) (offset_number a) (v % 256 ∷ [])
+
+-- four bytes stored one after the other
+pub stored_four : (p : ℕ) (S S1 S2 S3 S4 : Spaces) (a a1 a2 a3 v v1 v2 v3 : ℕ) → S1 ≡ lowest p S a v → a1 ≡ a + 1 → v1 ≡ v / 256 → S2 ≡ lowest p S1 a1 v1 → a2 ≡ a1 + 1 → v2 ≡ v1 / 256
+    → S3 ≡ lowest p S2 a2 v2 → a3 ≡ a2 + 1 → v3 ≡ v2 / 256 → S4 ≡ lowest p S3 a3 v3 → S4 ≡ all_stored S p a (bytes_of 4 v)
+stored_four p S S1 S2 S3 S4 a a1 a2 a3 v v1 v2 v3 s1 b1 w1 s2 b2 w2 s3 b3 w3 s4 =
+    let t2 = s2 ∙ (λ i. lowest p (s1 i) (b1 i) (w1 i)) in
+    let c2 : a2 ≡ a + 1 + 1 = b2 ∙ ap (λ x. x + 1) b1 in
+    let x2 : v2 ≡ v / 256 / 256 = w2 ∙ ap (λ x. x / 256) w1 in
+    let t3 = s3 ∙ (λ i. lowest p (t2 i) (c2 i) (x2 i)) in
+    let c3 : a3 ≡ a + 1 + 1 + 1 = b3 ∙ ap (λ x. x + 1) c2 in
+    let x3 : v3 ≡ v / 256 / 256 / 256 = w3 ∙ ap (λ x. x / 256) x2 in
+    s4 ∙ (λ i. lowest p (t3 i) (c3 i) (x3 i))
+
+-- a store whose bytes lie in one page
+pub stored_in_page : (S : Spaces) (p address : ℕ) (size : Size) (value : ℕ) → second_page address size ≡ None
+    → all_stored S p address (bytes_of (byte_count size) value) ≡ stored S (slot_at p address) (offset_number address) (bytes_of (byte_count size) value)
+stored_in_page S p address size value within =
+    let fits = stays address size within in
+    let n = some_bytes size in
+    let count = n.1 in
+    ap (λ k. all_stored S p address (bytes_of k value)) count
+    ∙ stored_in S p (page_number address) address (offset_number address) (value % 256) (bytes_of n.0 (value / 256))
+    (λ i l. let long = length-bytes n.0 (value / 256) in page_stays address i (omega (arith, fits, l, count, long)))
+    (λ i l. let long = length-bytes n.0 (value / 256) in let s : offset_number address + i < 4096 = omega (arith, fits, l, count, long) in omega (arith, s))
+    ∙ sym (ap (λ k. stored S (slot_at p address) (offset_number address) (bytes_of k value)) count)
+  where
+    length-bytes : (k v : ℕ) → length (bytes_of k v) ≡ k
+    length-bytes zero v = refl
+    length-bytes (suc k) v = ap suc (length-bytes k (v / 256))

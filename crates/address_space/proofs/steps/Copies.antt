@@ -1,0 +1,476 @@
+-- What a copy of a page leaves, and then a copy of all pages of a process.
+use Rattle.std.proofs.Common.{◌≡◌, ◌≢◌, ℕ, ◌+◌, ◌*◌, ◌^◌, ◌<◌, ◌≤◌, true, false, cond, List, length, refl, ap, sym, ◌∙◌, subst, arith, inl, inr, Option, Some, None, length-set, unwrap_or}
+use Rattle.std.specs.Prelude.{◌⊎◌, is_some, slice_get, ◌==◌, if◌then◌else◌}
+use Rattle.std.specs.Option.{option_and_then, option_map}
+use Rattle.page_words.specs.Addresses.{slot_number}
+use Rattle.page_words.specs.Words.{frame_number}
+use Rattle.page_words.specs.FiniteMap as map
+use Rattle.page_words.specs.FiniteSet as set
+use Rattle.page_words.specs.FiniteMap.{Map}
+use Rattle.page_words.proofs.MapLemmas.{get-insert, same_itself, same_map}
+use Rattle.page_words.proofs.SetLemmas.{same_apart}
+use Rattle.page_words.proofs.OptionLemmas.{some_value}
+use Rattle.phys_memory.specs.Bytes.{frame_bytes, with_frame, with_frame_bytes}
+use Rattle.phys_memory.proofs.Frames.{with_frame-same, with_frame-other, length-frame, frames-with_frame_bytes}
+use Rattle.alloc_table.specs.declared.Role.{Role}
+use Rattle.alloc_table.specs.declared.Role.TheVariants.{Free, Table, Page}
+use Rattle.alloc_table.specs.Roles.{frames_weight, IsTaken}
+use Rattle.alloc_table.proofs.RoleLemmas.{weight-taken}
+use Rattle.page_map.specs.declared.PageEntry.{PageEntry}
+use Rattle.page_map.specs.Entries.{Frames, dir_word, table_of, entry_at, with_entry, entry_word, is_lazy_entry, IsKernelEntry}
+use Rattle.page_map.proofs.WordLaws.{entry_word-names, entry_word-lt, entry_word-present, word_entry-entry_word}
+use Rattle.address_space.specs.Spaces.{Slot, slot_order, Cell, Spaces, cell_or_fresh, copy_of, copied, copied_at, cost, cost_of, fresh, pages_of, regions_of, at_page}
+use Rattle.address_space.specs.Cells.{Entries, group_of, lazy_count, cell_of, spaces_of}
+use Rattle.address_space.specs.View.{Directories, Roles, directory_of, table_in, entry_in, entries_in, spaces_in, live_cost, total_cost}
+use Rattle.address_space.specs.Sound.{Tables, Pages, IsSound, IsSpaces, InUseAt}
+use Rattle.address_space.specs.Changes.{TableGiven, IsEmptySpace, SlotCopied, PageCopied, CopiedBelow, PagesCopied}
+use Rattle.address_space.proofs.costs.Copied.{get-copied}
+use Rattle.address_space.proofs.costs.Costed.{Room, mapped}
+use Rattle.address_space.proofs.costs.Costs.{same_pages}
+use Rattle.address_space.proofs.costs.CostSteps.{total-entry, total-insert, sum_one}
+use Rattle.address_space.proofs.costs.Sizes.{cost-within}
+use Rattle.address_space.proofs.entries.EntrySteps.{Loose, get-entries_in, entries-insert, tables-entry, use_own, use_kept}
+use Rattle.address_space.proofs.entries.Refinement.{get-spaces_of, lone_refines, alone_lazy, alone_real, cell_at}
+use Rattle.address_space.proofs.entries.Readings.{mapped_read}
+use Rattle.address_space.proofs.entries.UserSlots.{in_user_slots}
+use Rattle.address_space.proofs.frames.FrameSteps.{loose-tables, loose-entries, tables-loose, tables-role, use_loose}
+use Rattle.address_space.proofs.frames.PageSteps.{same_bytes, pages-fresh, pages-lazy, lazy-more, lazy-real, no_free, no_table, unused}
+use Rattle.address_space.proofs.steps.Steps.{inside, live_small, none_before, table_by_word, role_own, role_other, free_loose, page_loose, holds_inside, MapKept, map_kept}
+use Rattle.address_space.proofs.steps.Stores.{get_user, entry_rules}
+use Rattle.address_space.proofs.steps.Departures.{no_cell_outside, no_cell_unmapped, entry_mapped}
+use Rattle.address_space.proofs.steps.Openings.{empty_cost}
+use Rattle.address_space.proofs.standing.Standing.{same_entry, read_entry}
+use Rattle.page_map.specs.Pages.{is_mapped}
+use Rattle.std.proofs.lemmas.Bool.{cases_eq, cases_lt}
+use borrow.Author.Tests.{eq-eqb}
+use Rattle.page_words.specs.Addresses.{IsUserPage}
+use Rattle.std.specs.Cmp.{nat_eq_equiv}
+use Rattle.std.proofs.lemmas.Bool.{ne_eqb}
+
+-- ---- One page
+
+-- the entry of a copy on this frame
+abbrev pub copied_entry : PageEntry → ℕ → PageEntry
+copied_entry e f = record e { frame = f; accessed = false; dirty = false }
+
+-- memory and roles that are ready for a new entry at a slot, on a frame with the bytes of an old one
+pub record IsReady (directories : List (Option ℕ)) (bytes : List ℕ) (roles : List Role) (d page : ℕ) (slot : Slot) (e : PageEntry) (f : ℕ) (one : List ℕ) (roles' : List Role) : Type 0 where
+  pub size : length one ≡ 4096 * length roles'
+  pub length : length roles' ≡ length roles
+  pub small : f < 2 ^ 20
+  pub tables : Tables (directory_of directories) (frame_bytes one) (slice_get roles')
+  pub pages : Pages (map.insert (entries_in (directory_of directories) (frame_bytes bytes)) slot (copied_entry e f)) (slice_get roles')
+  pub entries : entries_in (directory_of directories) (frame_bytes one) ≡ entries_in (directory_of directories) (frame_bytes bytes)
+  pub table : table_of (frame_bytes one) d (slot_number page) ≡ table_of (frame_bytes bytes) d (slot_number page)
+  pub rules : IsKernelEntry (copied_entry e f)
+  pub kept : (q : Slot) (x : PageEntry) → map.get (entries_in (directory_of directories) (frame_bytes bytes)) q ≡ Some x → frame_bytes one x.frame ≡ frame_bytes bytes x.frame
+  pub copy : frame_bytes one f ≡ frame_bytes bytes e.frame
+  pub alone : group_of (map.insert (entries_in (directory_of directories) (frame_bytes bytes)) slot (copied_entry e f)) slot f ≡ set.insert set.empty slot
+  pub apart : (q : Slot) (x : PageEntry) → map.get (entries_in (directory_of directories) (frame_bytes bytes)) q ≡ Some x → (x.frame == 0) ≡ false → (f == x.frame) ≡ false
+  pub weight : frames_weight roles' + lazy_count (map.insert (entries_in (directory_of directories) (frame_bytes bytes)) slot (copied_entry e f)) ≡ frames_weight roles + lazy_count (entries_in (directory_of directories) (frame_bytes bytes)) + 1
+  pub used : (q r : ℕ) → InUseAt (directory_of directories) (frame_bytes bytes) q r → InUseAt (directory_of directories) (frame_bytes one) q r
+
+-- the entry was put in
+entry_copied : (directories : List (Option ℕ)) (bytes one two : List ℕ) (roles roles' : List Role) (from source p d page t f : ℕ) (e : PageEntry) → IsSound directories bytes roles
+    → directory_of directories from ≡ Some source → directory_of directories p ≡ Some d → 0x40000 ≤ page → page < 0xf0000
+    → map.get (spaces_in directories bytes) (at_page p page) ≡ None → table_of (frame_bytes bytes) d (slot_number page) ≡ Some t → entry_at (frame_bytes bytes) source page ≡ Some e
+    → IsReady directories bytes roles d page (at_page p page) e f one roles'
+    → frame_bytes two ≡ with_entry (frame_bytes one) (frame_number (dir_word (frame_bytes one) d (slot_number page))) page (copied_entry e f) → length two ≡ length one
+    → SlotCopied directories from p page bytes roles two roles'
+unfolding spaces_in
+entry_copied directories bytes one two roles roles' from source p d page t f e sound home live low high unmapped there here ready is_two long_two =
+    let few : p < 64 = live_small directories p d sound.pids live in
+    let D : Directories = directory_of directories in
+    let m : Frames = frame_bytes bytes in
+    let m1 : Frames = frame_bytes one in
+    let e' : PageEntry = copied_entry e f in
+    let m2 : Frames = with_entry m1 t page e' in
+    let slot : Slot = at_page p page in
+    let R : Roles = slice_get roles in
+    let R' : Roles = slice_get roles' in
+    let T : Tables D m R = sound.tables in
+    let Tb : Tables D m1 R' = ready.tables in
+    let E : Entries = entries_in D m in
+    let there_one : table_of m1 d (slot_number page) ≡ Some t = ready.table ∙ there in
+    let role_t : R t ≡ Some (Table p (slot_number page)) = T.table p (slot_number page) t (ap (option_and_then (λ x. table_of m x (slot_number page))) live ∙ there) in
+    let role_t' : R' t ≡ Some (Table p (slot_number page)) = Tb.table p (slot_number page) t (ap (option_and_then (λ x. table_of m1 x (slot_number page))) live ∙ there_one) in
+    let is : frame_bytes two ≡ m2 = is_two ∙ ap (λ g. with_entry m1 g page e') (table_by_word (dir_word m1 d (slot_number page)) t there_one) in
+    let E2 : entries_in D (frame_bytes two) ≡ map.insert E slot e' = ap (entries_in D) is ∙ entries-insert D m1 R' Tb p d page t (entry_word e') live there_one (entry_word-lt e' ready.small) e' (word_entry-entry_word e' ready.small) few low high ∙ ap (λ x. map.insert x slot e') ready.entries in
+    let none : map.get E slot ≡ None = none_before E m slot (map.get E slot) (sym (get-spaces_of E m slot) ∙ unmapped) in
+    let page_kept : (q : Slot) (x : PageEntry) → map.get E q ≡ Some x → m2 x.frame ≡ m x.frame = λ q x found.
+    with_frame-other m1 t x.frame _ (no_table R x.frame t p (slot_number page) (sound.pages.pages q x found) role_t) ∙ ready.kept q x found in
+    let inserted : map.get (map.insert E slot e') slot ≡ Some e' = get-insert E slot e' slot ∙ ap (λ b. cond b (Some e') (map.get E slot)) (same_itself slot_order slot) in
+    let copy : m2 f ≡ m e.frame = with_frame-other m1 t f _ (no_table R' f t p (slot_number page) (ready.pages.pages slot e' inserted) role_t') ∙ ready.copy in
+    let given : Slot = at_page from page in
+    let found : map.get E given ≡ Some e = get_user D m from source page e home (live_small directories from source sound.pids home) low high here in
+    let cell : Cell = copy_of slot (cell_of E m given e) in
+    record {
+      slot = record {
+        sound = record {
+          size = long_two ∙ ready.size;
+          few = subst (λ n. n ≤ 4096) (sym ready.length) sound.few;
+          pids = sound.pids;
+          tables = subst (λ x. Tables D x R') (sym is) (tables-entry D m1 R' Tb p d page t (entry_word e') live there_one (entry_word-lt e' ready.small) (inr (entry_word-names e' ready.small ready.rules)));
+          pages = subst (λ x. Pages x R') (sym E2) ready.pages;
+        };
+        cost = (λ i. total_cost directories (spaces_of (E2 i) (frame_bytes two))) ∙ total-entry directories E m (frame_bytes two) slot e' cell d few live none;
+        weight = ap (λ x. frames_weight roles' + lazy_count x) E2 ∙ ready.weight;
+        length = ready.length;
+        own = subst (λ x. InUseAt D x p (slot_number page)) (sym is) (use_own D m1 R' Tb p d page t (entry_word e') live there_one (entry_word-lt e' ready.small) (entry_word-present e'));
+        others = λ q r n use_at. subst (λ x. InUseAt D x q r) (sym is) (use_kept D m1 R' Tb p d page t (entry_word e') live there_one (entry_word-lt e' ready.small) (entry_word-present e') q r (ready.used q r use_at));
+      };
+      spaces =
+          (λ i. spaces_of (E2 i) (is i)) ∙ lone_refines E m2 slot e' none ready.alone ready.apart
+          ∙ (λ i. map.insert (same_bytes E m m2 page_kept i) slot (record { write = e.write; may = e.may; accessed = false; dirty = false; bytes = copy i; holders = set.insert set.empty slot }))
+          ∙ sym (ap (λ c. map.insert (spaces_of E m) slot (copy_of slot c)) (cell_at E m given e found));
+      entries = (e', E2, sym (ap is_lazy_entry (ap (option_and_then (λ x. entry_at m x page)) home ∙ here)));
+    }
+
+-- a lazy page was copied
+pub lazy_copied : (directories : List (Option ℕ)) (bytes two : List ℕ) (roles : List Role) (from source p d page t : ℕ) (e : PageEntry) → IsSound directories bytes roles
+    → directory_of directories from ≡ Some source → directory_of directories p ≡ Some d → 0x40000 ≤ page → page < 0xf0000
+    → map.get (spaces_in directories bytes) (at_page p page) ≡ None → table_of (frame_bytes bytes) d (slot_number page) ≡ Some t → entry_at (frame_bytes bytes) source page ≡ Some e → e.lazy ≡ true
+    → frame_bytes two ≡ with_entry (frame_bytes bytes) (frame_number (dir_word (frame_bytes bytes) d (slot_number page))) page (copied_entry e e.frame) → length two ≡ length bytes
+    → SlotCopied directories from p page bytes roles two roles
+unfolding spaces_in
+lazy_copied directories bytes two roles from source p d page t e sound home live low high unmapped there here lazy is_two long_two =
+    let D : Directories = directory_of directories in
+    let m : Frames = frame_bytes bytes in
+    let E : Entries = entries_in D m in
+    let slot : Slot = at_page p page in
+    let none : map.get E slot ≡ None = none_before E m slot (map.get E slot) (sym (get-spaces_of E m slot) ∙ unmapped) in
+    let rules = entry_rules directories bytes roles from source page e sound home here in
+    let zero : e.frame ≡ 0 = rules.zero lazy in
+    let more = lazy-more E slot (copied_entry e e.frame) none zero in
+    entry_copied directories bytes bytes two roles roles from source p d page t e.frame e sound home live low high unmapped there here
+    (record {
+      size = sound.size;
+      length = refl;
+      small = omega (arith, zero);
+      tables = sound.tables;
+      pages = pages-lazy E (slice_get roles) slot (copied_entry e e.frame) sound.pages none zero sound.tables.zero_role;
+      entries = refl;
+      table = refl;
+      rules = record { frame = rules.frame; zero = rules.zero; clean = λ h. refl; right = rules.right; touched = λ h. cc };
+      kept = λ q x found. refl;
+      copy = refl;
+      alone = alone_lazy (map.insert E slot (copied_entry e e.frame)) slot e.frame zero;
+      apart = λ q x found real. ap (λ n. n == x.frame) zero ∙ nat_eq_equiv.symm 0 x.frame ∙ real;
+      weight = omega (arith, more);
+      used = λ q r u. u;
+    })
+    is_two long_two
+
+-- a page that isn't lazy was copied to a frame of its own
+pub real_copied : (directories : List (Option ℕ)) (bytes one two : List ℕ) (roles roles' : List Role) (from source p d page t f : ℕ) (e : PageEntry) → IsSound directories bytes roles
+    → directory_of directories from ≡ Some source → directory_of directories p ≡ Some d → 0x40000 ≤ page → page < 0xf0000
+    → map.get (spaces_in directories bytes) (at_page p page) ≡ None → table_of (frame_bytes bytes) d (slot_number page) ≡ Some t → entry_at (frame_bytes bytes) source page ≡ Some e → e.lazy ≡ false
+    → IsTaken roles f (Page 1) roles' → length (frame_bytes bytes e.frame) ≡ 4096 → frame_bytes one ≡ with_frame (frame_bytes bytes) f (frame_bytes bytes e.frame) → length one ≡ length bytes
+    → frame_bytes two ≡ with_entry (frame_bytes one) (frame_number (dir_word (frame_bytes one) d (slot_number page))) page (copied_entry e f) → length two ≡ length one
+    → SlotCopied directories from p page bytes roles two roles'
+unfolding spaces_in
+real_copied directories bytes one two roles roles' from source p d page t f e sound home live low high unmapped there here real taken whole is_one long_one is_two long_two =
+    let D : Directories = directory_of directories in
+    let m : Frames = frame_bytes bytes in
+    let new : List ℕ = m e.frame in
+    let m1 : Frames = with_frame m f new in
+    let E : Entries = entries_in D m in
+    let slot : Slot = at_page p page in
+    let e' : PageEntry = copied_entry e f in
+    let R : Roles = slice_get roles in
+    let R' : Roles = slice_get roles' in
+    let T : Tables D m R = sound.tables in
+    let none : map.get E slot ≡ None = none_before E m slot (map.get E slot) (sym (get-spaces_of E m slot) ∙ unmapped) in
+    let rules = entry_rules directories bytes roles from source page e sound home here in
+    let free : R f ≡ Some Free = taken.was_free in
+    let up : 1 ≤ f = above T free in
+    let own : R' f ≡ Some (Page 1) = role_own roles roles' f Free (Page 1) free taken.now in
+    let others : (g : ℕ) → g ≢ f → R' g ≡ R g = role_other roles roles' f (Page 1) taken.now in
+    let loose : Loose R f = free_loose R f free in
+    let Ta : Tables D m1 R = tables-loose D m R T f new loose whole in
+    let Tb : Tables D m1 R' = tables-role D m1 R R' f Free Ta free loose (page_loose R' f 1 own) others in
+    let same_length : length roles' ≡ length roles = ap length taken.now ∙ length-set roles f (Page 1) in
+    let apart : (q : Slot) (x : PageEntry) → map.get E q ≡ Some x → x.frame ≢ f = λ q x found. no_free R x.frame f (sound.pages.pages q x found) free in
+    let heavier = weight-taken roles roles' f (Page 1) taken in
+    let as_many = lazy-real E slot e' none (λ z. omega (arith, z, up)) in
+    let table : table_in D m1 p (slot_number page) ≡ table_in D m p (slot_number page) = loose-tables D m R T f new loose p (slot_number page) in
+    entry_copied directories bytes one two roles roles' from source p d page t f e sound home live low high unmapped there here
+    (record {
+      size = long_one ∙ sound.size ∙ ap (λ n. 4096 * n) (sym same_length);
+      length = same_length;
+      small = (inside directories bytes roles f Free sound free).small;
+      tables = subst (λ x. Tables D x R') (sym is_one) Tb;
+      pages = pages-fresh E R R' slot e' sound.pages none free own others;
+      entries = ap (entries_in D) is_one ∙ loose-entries D m R T f new loose;
+      table = ap (λ x. table_of x d (slot_number page)) is_one ∙ sym (ap (option_and_then (λ x. table_of m1 x (slot_number page))) live) ∙ table ∙ ap (option_and_then (λ x. table_of m x (slot_number page))) live;
+      rules = record { frame = λ _. up; zero = λ h. cc; clean = λ h. refl; right = rules.right; touched = λ h. cc };
+      kept = λ q x found. (λ i. is_one i x.frame) ∙ with_frame-other m f x.frame new (apart q x found);
+      copy = (λ i. is_one i f) ∙ with_frame-same m f new;
+      alone = alone_real E slot e' (unused E R f sound.pages free) (ne_eqb f 0 (λ z. omega (arith, z, up)));
+      apart = λ q x found _. ne_eqb f x.frame (λ same. apart q x found (sym same));
+      weight = omega (arith, heavier, as_many);
+      used = λ q r u. subst (λ x. InUseAt D x q r) (sym is_one) (use_loose D m R T f new loose q r u);
+    })
+    is_two long_two
+  where
+    above : Tables (directory_of directories) (frame_bytes bytes) (slice_get roles) → slice_get roles f ≡ Some Free → 1 ≤ f
+    above T free = let n : f ≢ 0 = (λ is. let a = T.zero_role in let k : slice_get roles 0 ≡ slice_get roles f = ap (slice_get roles) (sym is) in cc) in omega arith
+
+-- what a copy of a page's frame to a free one leaves of a page map
+pub record FrameCopied (directories : List (Option ℕ)) (bytes one : List ℕ) (d f g : ℕ) : Type 0 where
+  pub whole : length (frame_bytes bytes g) ≡ 4096
+  pub is : frame_bytes one ≡ with_frame (frame_bytes bytes) f (frame_bytes bytes g)
+  pub kept : MapKept one bytes d
+
+pub frame_copied : (directories : List (Option ℕ)) (bytes one : List ℕ) (roles : List Role) (from source p d page f : ℕ) (e : PageEntry) → IsSound directories bytes roles
+    → directory_of directories from ≡ Some source → directory_of directories p ≡ Some d → 0x40000 ≤ page → page < 0xf0000 → entry_at (frame_bytes bytes) source page ≡ Some e → slice_get roles f ≡ Some Free
+    → one ≡ with_frame_bytes bytes f (frame_bytes bytes e.frame) → length one ≡ length bytes → FrameCopied directories bytes one d f e.frame
+frame_copied directories bytes one roles from source p d page f e sound home live low high here free is long =
+    let there = get_user (directory_of directories) (frame_bytes bytes) from source page e home (live_small directories from source sound.pids home) low high here in
+    let fits = (holds_inside directories bytes roles e.frame sound (sound.pages.pages (at_page from page) e there)).fits in
+    let whole : length (frame_bytes bytes e.frame) ≡ 4096 = length-frame bytes e.frame fits in
+    let now : frame_bytes one ≡ with_frame (frame_bytes bytes) f (frame_bytes bytes e.frame) = ap frame_bytes is ∙ frames-with_frame_bytes bytes (frame_bytes bytes e.frame) f (inside directories bytes roles f Free sound free).fits whole in
+    record { whole = whole; is = now; kept = map_kept directories bytes one roles p d f (frame_bytes bytes e.frame) sound live (free_loose (slice_get roles) f free) whole now long }
+
+-- the entry of a page, as the map of all entries has it
+seen : (directories : List (Option ℕ)) (bytes : List ℕ) (p d page : ℕ) → length directories ≡ 64 → directory_of directories p ≡ Some d → 0x40000 ≤ page → page < 0xf0000
+    → map.get (entries_in (directory_of directories) (frame_bytes bytes)) (at_page p page) ≡ entry_at (frame_bytes bytes) d page
+seen directories bytes p d page long live low high =
+    let D : Directories = directory_of directories in
+    let m : Frames = frame_bytes bytes in
+    get-entries_in D m (at_page p page)
+    ∙ ap (λ b. cond b (entry_in D m (at_page p page)) None) (in_user_slots p page (live_small directories p d long live) low high)
+    ∙ ap (option_and_then (λ x. entry_at m x page)) live
+
+-- an entry stays where all entries do
+pub entry_stays : (directories : List (Option ℕ)) (bytes bytes1 : List ℕ) (p d page : ℕ) → length directories ≡ 64 → directory_of directories p ≡ Some d → 0x40000 ≤ page → page < 0xf0000
+    → entries_in (directory_of directories) (frame_bytes bytes1) ≡ entries_in (directory_of directories) (frame_bytes bytes) → entry_at (frame_bytes bytes1) d page ≡ entry_at (frame_bytes bytes) d page
+entry_stays directories bytes bytes1 p d page long live low high same_entries =
+    sym (seen directories bytes1 p d page long live low high) ∙ ap (λ E. map.get E (at_page p page)) same_entries ∙ seen directories bytes p d page long live low high
+
+-- a page was copied, for which a table was given first
+pub page_copied : (directories : List (Option ℕ)) (bytes bytes1 bytes2 : List ℕ) (roles roles1 roles2 : List Role) (from source to page : ℕ) → IsSpaces directories bytes roles → directory_of directories from ≡ Some source
+    → 0x40000 ≤ page → page < 0xf0000 → Room directories (spaces_in directories bytes) roles to page
+    → TableGiven directories to (slot_number page) bytes roles bytes1 roles1 → SlotCopied directories from to page bytes1 roles1 bytes2 roles2 → PageCopied directories from to page bytes roles bytes2 roles2
+page_copied directories bytes bytes1 bytes2 roles roles1 roles2 from source to page s home low high room given made =
+    let D : Directories = directory_of directories in
+    let slot : Slot = at_page to page in
+    let stays = entry_stays directories bytes bytes1 from source page s.sound.pids home low high given.entries in
+    record {
+      after = mapped directories bytes bytes1 bytes2 roles roles1 roles2 to page s room given made.slot;
+      spaces = made.spaces ∙ ap (λ x. map.insert x slot (copy_of slot (cell_or_fresh x (at_page from page)))) given.spaces;
+      entries = (
+        made.entries.0,
+        made.entries.1 ∙ ap (λ x. map.insert x slot made.entries.0) given.entries,
+        made.entries.2 ∙ ap is_lazy_entry (ap (option_and_then (λ x. entry_at (frame_bytes bytes1) x page)) home ∙ stays ∙ sym (ap (option_and_then (λ x. entry_at (frame_bytes bytes) x page)) home)),
+      );
+      length = made.slot.length ∙ given.length;
+    }
+
+-- ---- All pages of a process, from the lowest on
+
+-- what was put at a slot stands there, and at the others what stood there
+put_here : {X : Type 0} (m : Map slot_order X) (slot : Slot) (x : X) → map.get (map.insert m slot x) slot ≡ Some x
+put_here m slot x = get-insert m slot x slot ∙ ap (λ b. cond b (Some x) (map.get m slot)) (same_itself slot_order slot)
+
+put_other : {X : Type 0} (m : Map slot_order X) (slot : Slot) (x : X) (q : Slot) → q ≢ slot → map.get (map.insert m slot x) q ≡ map.get m q
+put_other m slot x q n = get-insert m slot x q ∙ ap (λ b. cond b (Some x) (map.get m q)) (same_apart slot_order q slot n)
+
+-- a slot that isn't mapped has no entry
+no_entry : (directories : List (Option ℕ)) (bytes : List ℕ) (q : Slot) → map.get (spaces_in directories bytes) q ≡ None → map.get (entries_in (directory_of directories) (frame_bytes bytes)) q ≡ None
+unfolding spaces_in
+no_entry directories bytes q none =
+    let E : Entries = entries_in (directory_of directories) (frame_bytes bytes) in
+    none_before E (frame_bytes bytes) q (map.get E q) (sym (get-spaces_of E (frame_bytes bytes) q) ∙ none)
+
+pub copied_at_first : (directories : List (Option ℕ)) (bytes : List ℕ) (roles : List Role) (from to : ℕ) → IsSpaces directories bytes roles → IsEmptySpace (spaces_in directories bytes) to → CopiedBelow directories from to 0x40000 bytes roles bytes roles
+copied_at_first directories bytes roles from to s empty = record {
+  after = s;
+  others = λ q n. refl;
+  below = λ page l. empty page ∙ sym (ap (option_map (copy_of (at_page to page))) (no_cell_outside directories bytes roles from page s.sound (inl l)));
+  rest = λ page l. empty page;
+  other_entries = λ q n. refl;
+  lazy = λ page l. ap is_lazy_entry (no_entry directories bytes (at_page to page) (empty page)) ∙ sym (ap is_lazy_entry (no_entry directories bytes (at_page from page) (no_cell_outside directories bytes roles from page s.sound (inl l))));
+  length = refl;
+  low = omega arith;
+  high = omega arith;
+}
+
+module _ (directories : List (Option ℕ)) (bytes one : List ℕ) (roles roles1 : List Role) (from source to target next page : ℕ) (so_far : CopiedBelow directories from to next bytes roles one roles1)
+    (home : directory_of directories from ≡ Some source) (live : directory_of directories to ≡ Some target) (up : next ≤ page) (user : IsUserPage page) (here : is_mapped (frame_bytes one) source page ≡ true) where
+  abbrev pub S : Spaces
+  S = spaces_in directories bytes
+
+  abbrev pub S1 : Spaces
+  S1 = spaces_in directories one
+
+  abbrev pub slot : Slot
+  slot = at_page to page
+
+  mapped_there : is_some (map.get S1 (at_page from page)) ≡ true
+  mapped_there =
+      mapped_read directories one from source page home (live_small directories from source so_far.after.sound.pids home) user.0 user.1
+      ∙ entry_mapped (frame_bytes one) source page user here
+
+  -- a process with a page to copy is another one than that without any
+  apart : from ≢ to
+  apart same = let a = mapped_there in let b = so_far.rest page up in let k : map.get S1 (at_page from page) ≡ None = ap (λ n. map.get S1 (at_page n page)) same ∙ b in let l : false ≡ true = sym (ap is_some k) ∙ a in cc
+
+  cell : (c : Cell) × (map.get S1 (at_page from page) ≡ Some c)
+  cell = some_value (map.get S1 (at_page from page)) mapped_there
+
+  was : map.get S (at_page from page) ≡ Some cell.0
+  was = sym (so_far.others (at_page from page) apart) ∙ cell.1
+
+  abbrev pub more : Cell → Spaces
+  more c = map.insert S1 slot c
+
+  other_page : (other : ℕ) → other ≢ page → at_page to other ≢ slot
+  other_page other n e = n (ap (λ (q : Slot). q.page) e)
+
+  other_process : (q : Slot) → q.pid ≢ to → q ≢ slot
+  other_process q n e = n (ap (λ (q : Slot). q.pid) e)
+
+  -- a page that has a copy has been there to be copied
+  copied_from : (c : Cell) (other : ℕ) → map.contains_key (more c) (at_page to other) ≡ true → map.contains_key S (at_page from other) ≡ true
+  copied_from c other h = elim (cases_eq other page) [
+    | inl same ↦ ap (λ n. map.contains_key S (at_page from n)) same ∙ ap is_some was
+    | inr differ ↦
+        let old : is_some (map.get S1 (at_page to other)) ≡ true = sym (ap is_some (put_other S1 slot c (at_page to other) (other_page other differ))) ∙ h in
+        elim (cases_lt other next) [
+          | inl less ↦ both (map.get S (at_page from other)) (sym (ap is_some (so_far.below other less)) ∙ old)
+          | inr least ↦ absurd (let a : false ≡ true = sym (ap is_some (so_far.rest other least)) ∙ old in cc)
+        ]
+  ]
+    where
+      both : (x : Option Cell) → is_some (option_map (copy_of (at_page to other)) x) ≡ true → is_some x ≡ true
+      both None h = cc
+      both (Some c) h = refl
+
+  -- what all processes cost with one page more of that one
+  total_grown : IsEmptySpace S to → to < 64 → (c : Cell) → total_cost directories (more c) + 1 ≡ total_cost directories S + cost (more c) to
+  unfolding total_cost
+  total_grown empty few c =
+      let one_more = empty_cost S to empty in
+      let pages : ℕ = set.len (regions_of (pages_of (more c) to)) + set.len (pages_of (more c) to) in
+      let own : cost (more c) to ≡ cost S to + pages = omega (arith, one_more) in
+      let e = sum_one (live_cost (directory_of directories) (more c)) (live_cost (directory_of directories) S) to pages 0 64 (omega arith) (omega (arith, few))
+      (ap (λ x. if is_some x then cost (more c) to else 0) live ∙ own ∙ sym (ap (λ x. (if is_some x then cost S to else 0) + pages) live))
+      (λ q n. ap (λ k. if is_some (directory_of directories q) then k else 0) (ap cost_of (same_pages (more c) S q q (λ other. ap is_some (put_other S1 slot c (at_page q other) (other_process (at_page q other) n) ∙ so_far.others (at_page q other) n))))) in
+      omega (arith, e)
+
+  -- the costs leave room for a copy of this page
+  pub room_for_copy : IsSpaces directories bytes roles → IsEmptySpace S to → cost S from + total_cost directories S ≤ length roles → Room directories S1 roles1 to page
+  room_for_copy s empty room =
+      let c : Cell = cell.0 in
+      let few : to < 64 = live_small directories to target s.sound.pids live in
+      let a = total-insert directories S1 slot c target few live (so_far.rest page up) in
+      let b = total_grown empty few c in
+      let d = cost-within S (more c) from to (copied_from c) in
+      let n = so_far.length in
+      omega (arith, a, b, d, n, room)
+
+  pub copied_next : (two : List ℕ) (roles2 : List Role) → ((other : ℕ) → next ≤ other → other < page → is_mapped (frame_bytes one) source other ≡ false) → PageCopied directories from to page one roles1 two roles2
+      → CopiedBelow directories from to (page + 1) bytes roles two roles2
+  copied_next two roles2 least made =
+      let low = so_far.low in
+      let high = user.1 in
+      record {
+        after = made.after;
+        others = λ q n. ap (λ x. map.get x q) made.spaces ∙ put_other S1 slot copy q (other_process q n) ∙ so_far.others q n;
+        below = λ other l. ap (λ x. map.get x (at_page to other)) made.spaces ∙ elim (cases_eq other page) [
+          | inl same ↦ ap (λ n. map.get (more copy) (at_page to n)) same ∙ put_here S1 slot copy ∙ sym (ap (λ n. option_map (copy_of (at_page to n)) (map.get S (at_page from n))) same ∙ ap (option_map (copy_of slot)) was ∙ ap (λ x. Some (copy_of slot x)) (sym there))
+          | inr differ ↦ put_other S1 slot copy (at_page to other) (other_page other differ) ∙ elim (cases_lt other next) [
+            | inl less ↦ so_far.below other less
+            | inr above ↦ so_far.rest other above ∙ sym (ap (option_map (copy_of (at_page to other))) (sym (so_far.others (at_page from other) apart) ∙ unmapped other above (omega (arith, l, differ))))
+          ]
+        ];
+        rest = λ other l. ap (λ x. map.get x (at_page to other)) made.spaces ∙ put_other S1 slot copy (at_page to other) (other_page other (λ same. omega (arith, l, same))) ∙ so_far.rest other (omega (arith, up, l));
+        other_entries = λ q n. ap (λ x. map.get x q) made.entries.1 ∙ put_other E1 slot made.entries.0 q (other_process q n) ∙ so_far.other_entries q n;
+        lazy = λ other l. ap (λ x. is_lazy_entry (map.get x (at_page to other))) made.entries.1 ∙ elim (cases_eq other page) [
+          | inl same ↦
+              ap (λ n. is_lazy_entry (map.get (map.insert E1 slot made.entries.0) (at_page to n))) same ∙ ap is_lazy_entry (put_here E1 slot made.entries.0) ∙ made.entries.2
+              ∙ ap is_lazy_entry (ap (option_and_then (λ x. entry_at (frame_bytes one) x page)) home ∙ sym (seen directories one from source page so_far.after.sound.pids home user.0 user.1) ∙ so_far.other_entries (at_page from page) apart)
+              ∙ sym (ap (λ n. is_lazy_entry (map.get E (at_page from n))) same)
+          | inr differ ↦ ap is_lazy_entry (put_other E1 slot made.entries.0 (at_page to other) (other_page other differ)) ∙ elim (cases_lt other next) [
+            | inl less ↦ so_far.lazy other less
+            | inr above ↦ ap is_lazy_entry (no_entry directories one (at_page to other) (so_far.rest other above))
+                ∙ sym (ap is_lazy_entry (sym (so_far.other_entries (at_page from other) apart) ∙ no_entry directories one (at_page from other) (unmapped other above (omega (arith, l, differ)))))
+          ]
+        ];
+        length = made.length ∙ so_far.length;
+        low = omega (arith, low, up);
+        high = omega (arith, high);
+      }
+    where
+      E : Entries
+      E = entries_in (directory_of directories) (frame_bytes bytes)
+
+      E1 : Entries
+      E1 = entries_in (directory_of directories) (frame_bytes one)
+
+      copy : Cell
+      copy = copy_of slot (cell_or_fresh S1 (at_page from page))
+
+      there : cell_or_fresh S1 (at_page from page) ≡ cell.0
+      there = ap (λ x. unwrap_or x (fresh (at_page from page) true)) cell.1
+
+      unmapped : (other : ℕ) → next ≤ other → other < page → map.get S1 (at_page from other) ≡ None
+      unmapped other above less =
+          let low = so_far.low in
+          let high = user.1 in
+          no_cell_unmapped directories one from source other home (omega (arith, low, above)) (omega (arith, high, less)) (least other above less)
+
+pub copied_at_last : (directories : List (Option ℕ)) (bytes one : List ℕ) (roles roles1 : List Role) (from source to next : ℕ) → IsSpaces directories bytes roles → IsEmptySpace (spaces_in directories bytes) to
+    → CopiedBelow directories from to next bytes roles one roles1 → directory_of directories from ≡ Some source
+    → ((other : ℕ) → next ≤ other → is_mapped (frame_bytes one) source other ≡ false) → PagesCopied directories from to bytes roles one roles1
+copied_at_last directories bytes one roles roles1 from source to next s empty so_far home none = record {
+  after = so_far.after;
+  spaces = same_map S1 (copied S from to) (λ q. at q (cases_eq q.pid to) ∙ sym (get-copied S from to q));
+  lazy = λ page.
+      ap is_lazy_entry (same_entry directories one roles1 so_far.after.sound (at_page to page) ∙ sym (read_entry directories one roles1 so_far.after.sound (at_page to page)))
+      ∙ lazy_at page
+      ∙ ap is_lazy_entry (read_entry directories bytes roles s.sound (at_page from page) ∙ sym (same_entry directories bytes roles s.sound (at_page from page)));
+  length = so_far.length;
+}
+  where
+    S : Spaces
+    S = spaces_in directories bytes
+
+    S1 : Spaces
+    S1 = spaces_in directories one
+
+    E : Entries
+    E = entries_in (directory_of directories) (frame_bytes bytes)
+
+    E1 : Entries
+    E1 = entries_in (directory_of directories) (frame_bytes one)
+
+    -- no page is left to be copied
+    unmapped : (page : ℕ) → next ≤ page → map.get S (at_page from page) ≡ None
+    unmapped page above = elim (cases_eq from to) [
+      | inl same ↦ ap (λ n. map.get S (at_page n page)) same ∙ empty page
+      | inr differ ↦ sym (so_far.others (at_page from page) differ) ∙ elim (cases_lt page 0xf0000) [
+        | inl inside ↦ let low = so_far.low in no_cell_unmapped directories one from source page home (omega (arith, low, above)) inside (none page above)
+        | inr past ↦ no_cell_outside directories one roles1 from page so_far.after.sound (inr past)
+      ]
+    ]
+
+    own : (page : ℕ) → map.get S1 (at_page to page) ≡ option_map (copy_of (at_page to page)) (map.get S (at_page from page))
+    own page = elim (cases_lt page next) [
+      | inl less ↦ so_far.below page less
+      | inr above ↦ so_far.rest page above ∙ sym (ap (option_map (copy_of (at_page to page))) (unmapped page above))
+    ]
+
+    lazy_at : (page : ℕ) → is_lazy_entry (map.get E1 (at_page to page)) ≡ is_lazy_entry (map.get E (at_page from page))
+    lazy_at page = elim (cases_lt page next) [
+      | inl less ↦ so_far.lazy page less
+      | inr above ↦ ap is_lazy_entry (no_entry directories one (at_page to page) (so_far.rest page above)) ∙ sym (ap is_lazy_entry (no_entry directories bytes (at_page from page) (unmapped page above)))
+    ]
+
+    at : (q : Slot) → (q.pid ≡ to) ⊎ (q.pid ≢ to) → map.get S1 q ≡ copied_at S from to q
+    at q (inl same) =
+        let here : q ≡ at_page to q.page = (λ i. record { pid = same i; page = q.page }) in
+        ap (map.get S1) here ∙ own q.page ∙ ap (λ x. option_map (copy_of x) (map.get S (at_page from q.page))) (sym here)
+        ∙ sym (ap (λ b. if b then option_map (copy_of q) (map.get S (at_page from q.page)) else map.get S q) (eq-eqb q.pid to same))
+    at q (inr differ) = so_far.others q differ ∙ sym (ap (λ b. if b then option_map (copy_of q) (map.get S (at_page from q.page)) else map.get S q) (ne_eqb q.pid to differ))

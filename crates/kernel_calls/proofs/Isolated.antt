@@ -1,0 +1,323 @@
+-- A process apart is told the same in two states in which it has the same, and others leave what it has.
+use Rattle.std.proofs.Common.{◌≡◌, ◌≢◌, ℕ, ◌&&◌, ◌==◌, not, Bool, true, false, refl, sym, ap, subst, ◌∙◌, List, [], ◌∷◌, ◌++◌, length, map, filter, take, drop, zero, suc, ◌+◌, add-one, Option, Some, None}
+use Rattle.std.specs.Prelude.{if◌then◌else◌, find}
+use Rattle.std.specs.Option.{option_map}
+use Rattle.std.specs.List.{slice_get}
+use Rattle.std.proofs.lemmas.Bool.{eqb-true, eqb-false}
+use Rattle.std.proofs.lemmas.List.Elements.{All-head, All-tail}
+use Rattle.std.proofs.lemmas.Option.{same_Some}
+use Rattle.page_words.specs.Addresses.{page_number, covered, second_page}
+use Rattle.page_words.specs.declared.addresses.Size.{Size}
+use Rattle.page_words.specs.FiniteMap as map
+use Rattle.address_space.specs.Spaces.{Cell, cost, cell_or_fresh, at_page}
+use Rattle.quota_tree.specs.Book.{given, quota_of}
+use Rattle.table_walk.specs.declared.Access.{Access}
+use Rattle.table_walk.specs.declared.Access.TheVariants.{Read, Write}
+use Rattle.table_walk.specs.Walk.{is_write}
+use Rattle.process_table.specs.Apart.{IsApart, AreAlike, Held, pages_held, alone_with}
+use Rattle.process_table.specs.State.{State, is_live, child_of}
+use Rattle.process_table.specs.Calls.{map_refusal, unmap_refusal, protect_refusal, offer_refusal, withdraw_refusal, accept_refusal, spawn_refusal, fork_refusal, exit_refusal, loaded, after_spawn, after_fork}
+use Rattle.process_table.specs.WellFormed.{IsWellFormed}
+use Rattle.process_table.specs.declared.causes.Cause.{Cause}
+use Rattle.process_table.specs.declared.causes.Cause.TheVariants as cause
+use Rattle.process_table.proofs.Apart.{mapped_alike, cost_alike, given_alike, lacks_room_alike, cell_alike, group_alike, loaded_alike, map_refusal_alike, unmap_refusal_alike, protect_refusal_alike, withdraw_refusal_alike, exit_refusal_alike, map_alike, protect_alike, load_alike, store_alike, unmap_alike, withdraw_alike}
+use Rattle.process_table.proofs.ApartOthers.{load_leaves, store_leaves, map_leaves, unmap_leaves, protect_leaves, offer_leaves, withdraw_leaves, accept_leaves, spawn_leaves, fork_leaves, exit_leaves, spawn_alike, fork_alike}
+use Rattle.fault_handler.specs.Plans.{plan_of, step_of, outside, fault_or}
+use Rattle.fault_handler.specs.declared.plans.PageStep.TheVariants as step
+use Rattle.fault_handler.specs.declared.plans.Plan.{Plan}
+use Rattle.fault_handler.specs.declared.plans.Plan.TheVariants as plan
+use Rattle.kernel_calls.specs.Isolation.{Exchange, exchanges, own, is_exit, involves_others, calls_of, replies_of, InvolvesNobody, solo, quota_asked, pages_given, RunsAreIsolated, OthersMakeNoDifference}
+use Rattle.kernel_calls.specs.Machine.{answer, answer_of, answers, after, next, end_of, completes, refused_or, planned_or, info_of}
+use Rattle.kernel_calls.specs.declared.calls.Call.{Call}
+use Rattle.kernel_calls.specs.declared.calls.Call.TheVariants as call
+use Rattle.kernel_calls.specs.declared.calls.Event.{Event}
+use Rattle.kernel_calls.specs.declared.calls.Reply.{Reply}
+use Rattle.kernel_calls.specs.declared.calls.Reply.TheVariants as reply
+use Rattle.kernel_calls.proofs.Decided.{next-stays, next-goes}
+use Rattle.kernel_calls.proofs.Runs.{not-refused, kept-next, kept-run}
+
+-- ---- A call of two alike processes
+
+module _ (s t : State) (p q : ℕ) (a : AreAlike s p t q) where
+  plan_alike : (addr : ℕ) (size : Size) (access : Access) → plan_of s p addr size access ≡ plan_of t q addr size access
+  plan_alike addr size access = λ i.
+      fault_or (outside addr size) access false
+      (fault_or (if is_write access then find (λ b. mapped_alike s t p q a (page_number b) i && not (cell_alike s t p q a (page_number b) i).write) (covered addr size) else None) access true
+      (if lacks_room_alike s t p q a addr size i then plan.Refused cause.Quota else plan.Ready (step_alike (page_number addr) i) (option_map (λ page. step_alike page i) (second_page addr size))))
+    where
+      step_alike : (page : ℕ) → step_of s p page ≡ step_of t q page
+      step_alike page = λ i. if mapped_alike s t p q a page i then step.Complete else step.MapZero
+
+  answer_of_alike : (c : Call) → involves_others c ≡ false → answer_of s p c ≡ answer_of t q c
+  answer_of_alike (call.Load addr size) h = λ i. planned_or (plan_alike addr size Read i) (reply.Value (loaded_alike s t p q a addr size i))
+  answer_of_alike (call.Store addr size value) h = λ i. planned_or (plan_alike addr size Write i) reply.Done
+  answer_of_alike (call.Map page write) h = λ i. refused_or (map_refusal_alike s t p q a page i) reply.Done
+  answer_of_alike (call.Unmap page) h = λ i. refused_or (unmap_refusal_alike s t p q a page i) reply.Done
+  answer_of_alike (call.Protect page write) h = λ i. refused_or (protect_refusal_alike s t p q a page write i) reply.Done
+  answer_of_alike (call.Info page) h = λ i. refused_or (protect_refusal_alike s t p q a page false i) (told (cell_alike s t p q a page i) (group_alike s t p q a page i))
+    where
+      told : Held → ℕ → Reply
+      told cell size = reply.Info cell.write cell.may cell.accessed cell.dirty size
+  answer_of_alike (call.Offer page target write) h = cc
+  answer_of_alike (call.Withdraw page target) h = λ i. refused_or (withdraw_refusal_alike s t p q a page target i) reply.Done
+  answer_of_alike (call.Accept giver giver_page page) h = cc
+  answer_of_alike (call.Spawn quota) h = cc
+  answer_of_alike (call.Fork quota) h = cc
+  answer_of_alike call.Exit h = λ i. refused_or (exit_refusal_alike s t p q a i) reply.Done
+  answer_of_alike call.Quota h = λ i. reply.Quota (a.quota i) (cost_alike s t p q a i) (given_alike s t p q a i)
+
+  after_alike : (c : Call) → involves_others c ≡ false → is_exit c ≡ false → AreAlike (after s p c) p (after t q c) q
+  after_alike (call.Load addr size) h stays = load_alike s t p q addr size a
+  after_alike (call.Store addr size value) h stays = store_alike s t p q addr size value a
+  after_alike (call.Map page write) h stays = map_alike s t p q a page write
+  after_alike (call.Unmap page) h stays = unmap_alike s t p q page a
+  after_alike (call.Protect page write) h stays = protect_alike s t p q a page write
+  after_alike (call.Info page) h stays = a
+  after_alike (call.Offer page target write) h stays = cc
+  after_alike (call.Withdraw page target) h stays = withdraw_alike s t p q page target a
+  after_alike (call.Accept giver giver_page page) h stays = cc
+  after_alike (call.Spawn quota) h stays = cc
+  after_alike (call.Fork quota) h stays = cc
+  after_alike call.Exit h stays = cc
+  after_alike call.Quota h stays = a
+
+-- two alike processes are told the same, whatever CPU they call on
+pub answer_alike : (s t : State) (e f : Event) → AreAlike s e.pid t f.pid → e.call ≡ f.call → involves_others e.call ≡ false → answer s e ≡ answer t f
+answer_alike s t e f a same alone =
+    ap (λ b. if b then answer_of s e.pid e.call else reply.Refused cause.NoProcess) a.one.live
+    ∙ answer_of_alike s t e.pid f.pid a e.call alone
+    ∙ ap (answer_of t f.pid) same
+    ∙ sym (ap (λ b. if b then answer_of t f.pid f.call else reply.Refused cause.NoProcess) a.other.live)
+
+-- and are alike afterwards
+pub next_alike : (s t : State) (e f : Event) → AreAlike s e.pid t f.pid → e.call ≡ f.call → involves_others e.call ≡ false → is_exit e.call ≡ false → AreAlike (next s e) e.pid (next t f) f.pid
+next_alike s t e f a same alone stays = by (completes (answer s e)) refl
+  where
+    told : completes (answer s e) ≡ completes (answer t f)
+    told = ap completes (answer_alike s t e f a same alone)
+
+    by : (b : Bool) → completes (answer s e) ≡ b → AreAlike (next s e) e.pid (next t f) f.pid
+    by true h =
+        let there : next s e ≡ after s e.pid e.call = next-goes s e h in
+        let here : next t f ≡ after t f.pid e.call = next-goes t f (sym told ∙ h) ∙ ap (after t f.pid) (sym same) in
+        subst (λ u. AreAlike u e.pid (next t f) f.pid) (sym there) (subst (λ u. AreAlike (after s e.pid e.call) e.pid u f.pid) (sym here) (after_alike s t e.pid f.pid a e.call alone stays))
+    by false h = subst (λ u. AreAlike u e.pid (next t f) f.pid) (sym (next-stays s e h)) (subst (λ u. AreAlike s e.pid u f.pid) (sym (next-stays t f (sym told ∙ h))) a)
+
+-- ---- An event of another process
+
+alike_itself : (s : State) (p : ℕ) → IsApart s p → AreAlike s p s p
+alike_itself s p a = record { one = a; other = a; pages = λ page. refl; quota = refl }
+
+alike_through : (s t u : State) (p q : ℕ) → AreAlike s p t p → AreAlike s p u q → AreAlike t p u q
+alike_through s t u p q a b = record { one = a.other; other = b.other; pages = λ page. sym (a.pages page) ∙ b.pages page; quota = sym a.quota ∙ b.quota }
+
+after_leaves : (s : State) (p q : ℕ) (c : Call) → IsWellFormed s → IsApart s p → q ≢ p → is_live s q ≡ true → completes (answer_of s q c) ≡ true → AreAlike s p (after s q c) p
+after_leaves s p q (call.Load addr size) w a d live h = load_leaves s p q w a d addr size
+after_leaves s p q (call.Store addr size value) w a d live h = store_leaves s p q w a d addr size value
+after_leaves s p q (call.Map page write) w a d live h = map_leaves s p q w a d page write
+after_leaves s p q (call.Unmap page) w a d live h = unmap_leaves s p q w a d page
+after_leaves s p q (call.Protect page write) w a d live h = protect_leaves s p q w a d page write
+after_leaves s p q (call.Info page) w a d live h = alike_itself s p a
+after_leaves s p q (call.Offer page target write) w a d live h = offer_leaves s p q w a d page target write
+after_leaves s p q (call.Withdraw page target) w a d live h = withdraw_leaves s p q w a d page target
+after_leaves s p q (call.Accept giver giver_page page) w a d live h = accept_leaves s p q giver giver_page page w a d (not-refused (accept_refusal s q giver giver_page page) _ h)
+after_leaves s p q (call.Spawn quota) w a d live h = spawn_leaves s p q quota a d (not-refused (spawn_refusal s q quota) _ h)
+after_leaves s p q (call.Fork quota) w a d live h = fork_leaves s p q quota a d (not-refused (fork_refusal s q quota) _ h)
+after_leaves s p q call.Exit w a d live h = exit_leaves s p q a d live
+after_leaves s p q call.Quota w a d live h = alike_itself s p a
+
+-- who calls and is not refused is live
+caller_live : (s : State) (e : Event) → completes (answer s e) ≡ true → (is_live s e.pid ≡ true) × (completes (answer_of s e.pid e.call) ≡ true)
+caller_live s e h = by (is_live s e.pid) h
+  where
+    by : (b : Bool) → completes (if b then answer_of s e.pid e.call else reply.Refused cause.NoProcess) ≡ true → (b ≡ true) × (completes (answer_of s e.pid e.call) ≡ true)
+    by true k = (refl, k)
+    by false k = cc
+
+pub next_leaves : (s : State) (p : ℕ) (e : Event) → IsWellFormed s → IsApart s p → e.pid ≢ p → AreAlike s p (next s e) p
+next_leaves s p e w a d = by (completes (answer s e)) refl
+  where
+    by : (b : Bool) → completes (answer s e) ≡ b → AreAlike s p (next s e) p
+    by true h = let l = caller_live s e h in subst (λ t. AreAlike s p t p) (sym (next-goes s e h)) (after_leaves s p e.pid e.call w a d l.0 l.1)
+    by false h = subst (λ t. AreAlike s p t p) (sym (next-stays s e h)) (alike_itself s p a)
+
+-- ---- A run
+
+abbrev alone_event : Call → Event
+alone_event c = record { cpu = 0; pid = 1; call = c }
+
+-- what one that is alike is told alone
+abbrev IsToldAlone : List Exchange → State → Type 0
+IsToldAlone run t = replies_of run ≡ answers t (map alone_event (calls_of run))
+
+-- a process's part of a run with one event more
+abbrev own_more : ℕ → Exchange → List Exchange → List Exchange
+own_more p x own_later = if x.0.pid == p then x ∷ (if is_exit x.0.call then [] else own_later) else own_later
+
+module _ (s t : State) (p : ℕ) (e : Event) (later : List Exchange) (w : IsWellFormed s) where
+  moved : (t : State) (q : ℕ) → e.pid ≡ p → AreAlike s p t q → AreAlike s e.pid t q
+  moved t q is a = subst (λ n. AreAlike s n t q) (sym is) a
+
+  one_more : AreAlike s p t 1 → ((u : State) → AreAlike (next s e) p u 1 → InvolvesNobody later → IsToldAlone later u)
+      → InvolvesNobody (own_more p (e, answer s e) later) → IsToldAlone (own_more p (e, answer s e) later) t
+  one_more a rest alone = by (e.pid == p) refl alone
+    where
+      by : (b : Bool) → (e.pid == p) ≡ b → InvolvesNobody (if b then (e, answer s e) ∷ (if is_exit e.call then [] else later) else later)
+          → IsToldAlone (if b then (e, answer s e) ∷ (if is_exit e.call then [] else later) else later) t
+      by false other alone = rest t (alike_through s (next s e) t p 1 (next_leaves s p e w a.one (eqb-false e.pid p other)) a) alone
+      by true own alone = ends (is_exit e.call) refl alone
+        where
+          is : e.pid ≡ p
+          is = eqb-true e.pid p own
+
+          ends : (b : Bool) → is_exit e.call ≡ b → InvolvesNobody ((e, answer s e) ∷ (if b then [] else later)) → IsToldAlone ((e, answer s e) ∷ (if b then [] else later)) t
+          ends true exit alone = ap (λ r. r ∷ []) (answer_alike s t e (alone_event e.call) (moved t 1 is a) refl (All-head (λ c. involves_others c ≡ false) e.call [] alone))
+          ends false stays alone =
+              let quiet = All-head (λ c. involves_others c ≡ false) e.call (calls_of later) alone in
+              let told = answer_alike s t e (alone_event e.call) (moved t 1 is a) refl quiet in
+              let after = next_alike s t e (alone_event e.call) (moved t 1 is a) refl quiet stays in
+              let more = rest (next t (alone_event e.call)) (subst (λ n. AreAlike (next s e) n (next t (alone_event e.call)) 1) is after) (All-tail (λ c. involves_others c ≡ false) e.call (calls_of later) alone) in
+              λ i. told i ∷ more i
+
+-- what a process apart is told in a run is what one that is alike is told alone
+own_alike : (s t : State) (p : ℕ) (events : List Event) → IsWellFormed s → AreAlike s p t 1 → InvolvesNobody (own p (exchanges s events)) → IsToldAlone (own p (exchanges s events)) t
+own_alike s t p [] w a alone = refl
+own_alike s t p (e ∷ events) w a alone =
+    one_more s t p e (own p (exchanges (next s e) events)) w a (λ u b. own_alike (next s e) u p events (kept-next s e w).0 b) alone
+
+-- ---- A run without the others
+
+abbrev is_by : ℕ → Event → Bool
+is_by p e = e.pid == p
+
+module _ (s t : State) (p : ℕ) (e : Event) (events : List Event) (w : IsWellFormed s) where
+  one_less : AreAlike s p t p
+      → ((u : State) → AreAlike (next s e) p u p → InvolvesNobody (own p (exchanges (next s e) events)) → own p (exchanges u (filter (is_by p) events)) ≡ own p (exchanges (next s e) events))
+      → InvolvesNobody (own p (exchanges s (e ∷ events))) → own p (exchanges t (filter (is_by p) (e ∷ events))) ≡ own p (exchanges s (e ∷ events))
+  one_less a rest alone = by (e.pid == p) refl alone
+    where
+      later : List Exchange
+      later = own p (exchanges (next s e) events)
+
+      by : (b : Bool) → (e.pid == p) ≡ b → InvolvesNobody (if b then (e, answer s e) ∷ (if is_exit e.call then [] else later) else later)
+          → own p (exchanges t (if b then e ∷ filter (is_by p) events else filter (is_by p) events)) ≡ (if b then (e, answer s e) ∷ (if is_exit e.call then [] else later) else later)
+      by false other alone = rest t (alike_through s (next s e) t p p (next_leaves s p e w a.one (eqb-false e.pid p other)) a) alone
+      by true mine alone = ap (λ b. if b then (e, answer t e) ∷ (if is_exit e.call then [] else own p (exchanges (next t e) (filter (is_by p) events))) else own p (exchanges (next t e) (filter (is_by p) events))) mine ∙ ends (is_exit e.call) refl alone
+        where
+          is : e.pid ≡ p
+          is = eqb-true e.pid p mine
+
+          here : AreAlike s e.pid t e.pid
+          here = subst (λ n. AreAlike s n t n) (sym is) a
+
+          ends : (b : Bool) → is_exit e.call ≡ b → InvolvesNobody ((e, answer s e) ∷ (if b then [] else later))
+              → ◌≡◌ {A = List Exchange} ((e, answer t e) ∷ (if b then [] else own p (exchanges (next t e) (filter (is_by p) events)))) ((e, answer s e) ∷ (if b then [] else later))
+          ends true exit alone = ap (λ (r : Reply). (e, r) ∷ []) (sym (answer_alike s t e e here refl (All-head (λ c. involves_others c ≡ false) e.call [] alone)))
+          ends false stays alone =
+              let quiet = All-head (λ c. involves_others c ≡ false) e.call (calls_of later) alone in
+              let told = sym (answer_alike s t e e here refl quiet) in
+              let after = next_alike s t e e here refl quiet stays in
+              let more = rest (next t e) (subst (λ n. AreAlike (next s e) n (next t e) n) is after) (All-tail (λ c. involves_others c ≡ false) e.call (calls_of later) alone) in
+              λ i. (e, told i) ∷ more i
+
+own_without : (s t : State) (p : ℕ) (events : List Event) → IsWellFormed s → AreAlike s p t p → InvolvesNobody (own p (exchanges s events)) → own p (exchanges t (filter (is_by p) events)) ≡ own p (exchanges s events)
+own_without s t p [] w a alone = refl
+own_without s t p (e ∷ events) w a alone = one_less s t p e events w a (λ u b. own_without (next s e) u p events (kept-next s e w).0 b) alone
+
+-- ---- A new child
+
+not_refused_child : (x : Option Cause) (r : Reply) (k : ℕ) → refused_or x r ≡ reply.Child k → (x ≡ None) × (r ≡ reply.Child k)
+not_refused_child None r k h = (refl, h)
+not_refused_child (Some c) r k h = cc
+
+planned_child : (x : Plan) (r : Reply) (k : ℕ) → planned_or x r ≡ reply.Child k → r ≡ reply.Child k
+planned_child (plan.Refused c) r k h = cc
+planned_child (plan.Fault f) r k h = cc
+planned_child (plan.Ready first second) r k h = h
+
+-- a call that is answered with a child leaves it alike to process 1 alone with what the call gave it
+abbrev IsMade : State → ℕ → Call → ℕ → Type 0
+IsMade s p c k = AreAlike (after s p c) k (alone_with (quota_asked c) (pages_given s p c)) 1
+
+child_value : (x k : ℕ) → reply.Child x ≡ reply.Child k → x ≡ k
+child_value x k h = cc
+
+done_not : (k : ℕ) → reply.Done ≡ reply.Child k → ⊥
+done_not k h = cc
+
+made : (s : State) (p : ℕ) (c : Call) (k : ℕ) → IsWellFormed s → is_live s p ≡ true → answer_of s p c ≡ reply.Child k → IsMade s p c k
+made s p (call.Load addr size) k w live h = absurd (value_not (loaded s p addr size) k (planned_child (plan_of s p addr size Read) (reply.Value (loaded s p addr size)) k h))
+  where
+    value_not : (v k : ℕ) → reply.Value v ≡ reply.Child k → ⊥
+    value_not v k h = cc
+made s p (call.Store addr size value) k w live h = absurd (done_not k (planned_child (plan_of s p addr size Write) reply.Done k h))
+made s p (call.Map page write) k w live h = absurd (done_not k (not_refused_child (map_refusal s p page) reply.Done k h).1)
+made s p (call.Unmap page) k w live h = absurd (done_not k (not_refused_child (unmap_refusal s p page) reply.Done k h).1)
+made s p (call.Protect page write) k w live h = absurd (done_not k (not_refused_child (protect_refusal s p page write) reply.Done k h).1)
+made s p (call.Info page) k w live h = absurd (info_not (cell_or_fresh s.spaces (at_page p page)) k (not_refused_child (protect_refusal s p page false) (info_of (cell_or_fresh s.spaces (at_page p page))) k h).1)
+  where
+    info_not : (c : Cell) (k : ℕ) → info_of c ≡ reply.Child k → ⊥
+    info_not c k h = cc
+made s p (call.Offer page target write) k w live h = absurd (done_not k (not_refused_child (offer_refusal s p page target write) reply.Done k h).1)
+made s p (call.Withdraw page target) k w live h = absurd (done_not k (not_refused_child (withdraw_refusal s p page target) reply.Done k h).1)
+made s p (call.Accept giver giver_page page) k w live h = absurd (done_not k (not_refused_child (accept_refusal s p giver giver_page page) reply.Done k h).1)
+made s p (call.Spawn quota) k w live h =
+    let n = not_refused_child (spawn_refusal s p quota) (reply.Child (child_of s)) k h in
+    subst (λ c. AreAlike (after_spawn s p quota) c (alone_with quota map.empty) 1) (child_value (child_of s) k n.1) (spawn_alike s p quota w live n.0)
+made s p (call.Fork quota) k w live h =
+    let n = not_refused_child (fork_refusal s p quota) (reply.Child (child_of s)) k h in
+    subst (λ c. AreAlike (after_fork s p quota) c (alone_with quota (pages_held s p)) 1) (child_value (child_of s) k n.1) (fork_alike s p quota w live n.0)
+made s p call.Exit k w live h = absurd (done_not k (not_refused_child (exit_refusal s p) reply.Done k h).1)
+made s p call.Quota k w live h = absurd (quota_not (quota_of s.book p) (cost s.spaces p) (given s.book p) k h)
+  where
+    quota_not : (q u g k : ℕ) → reply.Quota q u g ≡ reply.Child k → ⊥
+    quota_not q u g k h = cc
+
+child_alike : (s : State) (e : Event) (p : ℕ) → IsWellFormed s → answer s e ≡ reply.Child p → AreAlike (next s e) p (alone_with (quota_asked e.call) (pages_given s e.pid e.call)) 1
+child_alike s e p w h =
+    let goes : completes (answer s e) ≡ true = ap completes h in
+    let live = (caller_live s e goes).0 in
+    subst (λ t. AreAlike t p (alone_with (quota_asked e.call) (pages_given s e.pid e.call)) 1) (sym (next-goes s e goes))
+    (made s e.pid e.call p w live (sym (ap (λ b. if b then answer_of s e.pid e.call else reply.Refused cause.NoProcess) live) ∙ h))
+
+-- ---- The laws
+
+-- at a place of a run, with what comes later
+later_of : (k : ℕ) (s : State) (events : List Event) (e : Event) → slice_get events k ≡ Some e
+    → drop (suc k) (exchanges s events) ≡ exchanges (next (end_of s (take k events)) e) (drop (suc k) events)
+later_of zero s [] e h = cc
+later_of (suc k) s [] e h = cc
+later_of zero s (f ∷ events) e h = ap (λ (x : Event). exchanges (next s x) events) (same_Some f e h)
+later_of (suc k) s (f ∷ events) e h = later_of k (next s f) events e h
+
+answer_at : (k : ℕ) (s : State) (events : List Event) (e : Event) (r : Reply) → slice_get events k ≡ Some e → slice_get (answers s events) k ≡ Some r → answer (end_of s (take k events)) e ≡ r
+answer_at zero s [] e r h told = cc
+answer_at (suc k) s [] e r h told = cc
+answer_at zero s (f ∷ events) e r h told = ap (answer s) (sym (same_Some f e h)) ∙ same_Some (answer s f) r told
+answer_at (suc k) s (f ∷ events) e r h told = answer_at k (next s f) events e r h told
+
+pub runs_isolated : RunsAreIsolated
+runs_isolated s events w k p e at told alone =
+    let here = end_of s (take k events) in
+    let well : IsWellFormed here = (kept-run s (take k events) w).0 in
+    let a = child_alike here e p well (answer_at k s events e (reply.Child p) at told) in
+    let later = drop (suc k) events in
+    let part : drop (k + 1) (exchanges s events) ≡ exchanges (next here e) later = ap (λ n. drop n (exchanges s events)) (add-one k) ∙ later_of k s events e at in
+    subst (λ xs. InvolvesNobody (own p xs) → replies_of (own p xs) ≡ solo (quota_asked e.call) (pages_given here e.pid e.call) (calls_of (own p xs))) (sym part)
+    (own_alike (next here e) (alone_with (quota_asked e.call) (pages_given here e.pid e.call)) p later (kept-next here e well).0 a) alone
+
+-- what comes behind an event of a run
+behind : (before : List Event) (s : State) (e : Event) (later : List Event) → drop (suc (length before)) (exchanges s (before ++ e ∷ later)) ≡ exchanges (next (end_of s before) e) later
+behind [] s e later = refl
+behind (f ∷ before) s e later = behind before (next s f) e later
+
+pub others_make_no_difference : OthersMakeNoDifference
+others_make_no_difference s before e later p w h alone =
+    let here = end_of s before in
+    let well : IsWellFormed here = (kept-run s before w).0 in
+    let a = child_alike here e p well h in
+    let part : (xs : List Event) → drop (length before + 1) (exchanges s (before ++ e ∷ xs)) ≡ exchanges (next here e) xs =
+    λ xs. ap (λ n. drop n (exchanges s (before ++ e ∷ xs))) (add-one (length before)) ∙ behind before s e xs in
+    ap (own p) (part (filter (is_by p) later))
+    ∙ own_without (next here e) (next here e) p later (kept-next here e well).0 (alike_itself (next here e) p a.one) (subst (λ xs. InvolvesNobody (own p xs)) (part later) alone)
+    ∙ sym (ap (own p) (part later))

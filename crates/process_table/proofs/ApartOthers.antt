@@ -1,0 +1,409 @@
+-- What the calls of others leave of a process apart, and how a child begins.
+use Rattle.std.proofs.Common.{◌≡◌, ◌≢◌, ℕ, ◌+◌, ◌&&◌, ◌||◌, ◌==◌, not, Bool, true, false, cond, List, [], ◌∷◌, map, refl, sym, ap, ◌∙◌, Option, Some, None, is_some, unwrap_or, arith, inl, inr}
+use Rattle.std.specs.Prelude.{if◌then◌else◌, nat_lt}
+use Rattle.std.specs.Option.{option_map}
+use Rattle.std.specs.List.{list_any}
+use Rattle.std.specs.Ordering.{nat_cmp}
+use Rattle.std.specs.Cmp.{tied_then}
+use Rattle.std.specs.FinMap.Entries.{is_some-find}
+use Rattle.std.proofs.lemmas.Bool.{cases_eq, ne_eqb}
+use Rattle.std.proofs.lemmas.Option.{same_Some}
+use Rattle.page_words.specs.Addresses.{page_number, offset_number, byte_count, touched}
+use Rattle.page_words.specs.declared.addresses.Size.{Size}
+use Rattle.page_words.specs.FiniteMap as map
+use Rattle.page_words.specs.FiniteMap.{Map, same, nat_order}
+use Rattle.page_words.specs.FiniteSet as set
+use Rattle.page_words.specs.FiniteSet.{Set}
+use Rattle.page_words.proofs.MapLemmas.{same_itself, get-insert, get-map_values, get-collect}
+use Rattle.page_words.proofs.OptionLemmas.{some_value, no_value}
+use Rattle.page_words.proofs.SetLemmas.{same_cases, get-remove_other}
+use Rattle.address_space.specs.Spaces.{Slot, slot_order, Cell, Spaces, pages_of, fresh, cell_or_fresh, with_bytes, with_holders, set_bytes, set_holders, write_at, bytes_of, is_slot, is_of, at_page, slot_at, accessed, stored, with_page, with_pages, all_accessed, all_stored, copy_of, copied}
+use Rattle.address_space.proofs.costs.Costs.{contains-pages_of}
+use Rattle.address_space.proofs.costs.Copied.{copied-own, copied-other}
+use Rattle.quota_tree.specs.Book.{Member, is_child, number_of_children, next_number}
+use Rattle.quota_tree.proofs.BookFacts.{child_no, get-insert_other}
+use Rattle.quota_tree.proofs.Sums.{number-insert, number-remove, number-none}
+use Rattle.page_sharing.specs.Offers.{OfferKey, Offers, offer_order, offer_of}
+use Rattle.process_table.specs.State.{State, is_live, child_of, room}
+use Rattle.process_table.specs.Calls.{accept_refusal, spawn_refusal, fork_refusal, offered, after_map, after_unmap, after_protect, after_offer, after_withdraw, after_accept, after_spawn, after_fork, after_exit, after_load, after_store}
+use Rattle.process_table.specs.WellFormed.{IsWellFormed}
+use Rattle.process_table.specs.Apart.{IsApart, AreAlike, held_in, lone, FirstPage, first_cell, first_page, pages_held, alone_with}
+use Rattle.process_table.proofs.Apart.{in_lone, pages_differ, pids_differ, set_bytes_outside, without_others}
+use Rattle.process_table.proofs.BookLaws.{retained, next_free, parents_in, spawn_allowed}
+use Rattle.process_table.proofs.CellLaws.{get-inserted, get-inserted_other}
+use Rattle.process_table.proofs.Forks.{may_fork}
+use Rattle.process_table.proofs.Refusals.{may_accept}
+
+-- a state leaves of another what a process has, and gives it no child and no offer
+record IsLeft (s t : State) (p : ℕ) : Type 0 where
+  pages : (n : ℕ) → map.get t.spaces (at_page p n) ≡ map.get s.spaces (at_page p n)
+  member : map.get t.book p ≡ map.get s.book p
+  childless : number_of_children t.book p ≡ 0
+  offers : (key : OfferKey) (right : Bool) → map.get t.offers key ≡ Some right → key.offerer ≢ p
+
+left_alike : (s t : State) (p : ℕ) → IsApart s p → IsLeft s t p → AreAlike s p t p
+left_alike s t p a l = record {
+  one = a;
+  other = record {
+    live = ap is_some l.member ∙ a.live;
+    not_root = a.not_root;
+    childless = l.childless;
+    offers_none = l.offers;
+    shares_none = λ n c h. a.shares_none n c (sym (l.pages n) ∙ h);
+  };
+  pages = λ n. ap (option_map held_in) (sym (l.pages n));
+  quota = ap (λ (x : Option Member). unwrap_or (option_map (λ (m : Member). m.quota) x) 0) (sym l.member);
+}
+
+-- where spaces and offers alone change
+spaces_left : (s : State) (p : ℕ) (T : Spaces) (O : Offers) → IsApart s p → ((n : ℕ) → map.get T (at_page p n) ≡ map.get s.spaces (at_page p n))
+    → ((key : OfferKey) (right : Bool) → map.get O key ≡ Some right → key.offerer ≢ p) → AreAlike s p (record { spaces = T; book = s.book; offers = O }) p
+spaces_left s p T O a pages offers = left_alike s (record { spaces = T; book = s.book; offers = O }) p a (record { pages = pages; member = refl; childless = a.childless; offers = offers })
+
+retained_left : (s : State) (p : ℕ) (stay : OfferKey → Bool) → IsApart s p → (key : OfferKey) (right : Bool) → map.get (map.retain_keys s.offers stay) key ≡ Some right → key.offerer ≢ p
+retained_left s p stay a key right h = a.offers_none key right (retained s.offers stay key right h).1
+
+-- ---- Accesses of another, by spaces alone
+
+-- no group of a slot of one process holds a slot of the other
+abbrev IsOutside : Spaces → ℕ → ℕ → Type 0
+IsOutside S q p = (page n : ℕ) → set.contains (cell_or_fresh S (at_page q page)).holders (at_page p n) ≡ false
+
+-- a page that is mapped now is as it was counted before: fresh where nothing stood
+cell_paged : (S : Spaces) (q page n : ℕ) → cell_or_fresh (with_page S q page) (at_page q n) ≡ cell_or_fresh S (at_page q n)
+cell_paged S q page n = by (map.get S (at_page q page)) refl
+  where
+    by : (x : Option Cell) → map.get S (at_page q page) ≡ x
+        → cell_or_fresh (if is_some x then S else map.insert S (at_page q page) (fresh (at_page q page) true)) (at_page q n) ≡ cell_or_fresh S (at_page q n)
+    by (Some c) is = refl
+    by None is = elim (cases_eq n page) [
+      | inl same ↦
+          ap (λ m. cell_or_fresh (map.insert S (at_page q page) (fresh (at_page q page) true)) (at_page q m)) same
+          ∙ ap (λ (x : Option Cell). unwrap_or x (fresh (at_page q page) true)) (get-inserted S (at_page q page) (fresh (at_page q page) true))
+          ∙ sym (ap (λ (x : Option Cell). unwrap_or x (fresh (at_page q page) true)) is)
+          ∙ sym (ap (λ m. cell_or_fresh S (at_page q m)) same)
+      | inr other ↦ ap (λ (x : Option Cell). unwrap_or x (fresh (at_page q n) true)) (get-inserted_other S (at_page q page) (fresh (at_page q page) true) (at_page q n) (pages_differ q n page other))
+    ]
+
+-- a store leaves all groups of its process
+holders_stored : (S : Spaces) (q page at n : ℕ) (new : List ℕ) → (cell_or_fresh (stored S (at_page q page) at new) (at_page q n)).holders ≡ (cell_or_fresh S (at_page q n)).holders
+holders_stored S q page at n new = elim (cases_eq n page) [
+  | inl same ↦
+      ap (λ m. (cell_or_fresh (stored S (at_page q page) at new) (at_page q m)).holders) same
+      ∙ ap (λ (x : Option Cell). (unwrap_or x (fresh (at_page q page) true)).holders) (get-inserted spaces (at_page q page) written)
+      ∙ sym (ap (λ m. (cell_or_fresh S (at_page q m)).holders) same)
+  | inr other ↦
+      ap (λ (x : Option Cell). (unwrap_or x (fresh (at_page q n) true)).holders)
+      (get-inserted_other spaces (at_page q page) written (at_page q n) (pages_differ q n page other)
+      ∙ get-map_values slot_order (λ r c. if set.contains group r then with_bytes c bytes else c) S (at_page q n))
+      ∙ by (map.get S (at_page q n))
+]
+  where
+    group : Set slot_order
+    group = (cell_or_fresh S (at_page q page)).holders
+
+    bytes : List ℕ
+    bytes = write_at (cell_or_fresh S (at_page q page)).bytes at new
+
+    spaces : Spaces
+    spaces = set_bytes S group bytes
+
+    written : Cell
+    written = record (cell_or_fresh S (at_page q page)) { bytes = bytes; accessed = true; dirty = true }
+
+    either : (b : Bool) (c : Cell) → (if b then with_bytes c bytes else c).holders ≡ c.holders
+    either true c = refl
+    either false c = refl
+
+    by : (x : Option Cell) → (unwrap_or (option_map (λ (c : Cell). if set.contains group (at_page q n) then with_bytes c bytes else c) x) (fresh (at_page q n) true)).holders ≡ (unwrap_or x (fresh (at_page q n) true)).holders
+    by None = refl
+    by (Some c) = either (set.contains group (at_page q n)) c
+
+module _ (p q : ℕ) (d : q ≢ p) where
+  paged_outside : (S : Spaces) (pages : List ℕ) → IsOutside S q p → IsOutside (with_pages S q pages) q p
+  paged_outside S [] out = out
+  paged_outside S (page ∷ pages) out = paged_outside (with_page S q page) pages (λ m n. ap (λ (c : Cell). set.contains c.holders (at_page p n)) (cell_paged S q page m) ∙ out m n)
+
+  page_same : (S : Spaces) (page n : ℕ) → map.get (with_page S q page) (at_page p n) ≡ map.get S (at_page p n)
+  page_same S page n = by (map.contains_key S (at_page q page))
+    where
+      by : (b : Bool) → map.get (if b then S else map.insert S (at_page q page) (fresh (at_page q page) true)) (at_page p n) ≡ map.get S (at_page p n)
+      by true = refl
+      by false = get-inserted_other S (at_page q page) (fresh (at_page q page) true) (at_page p n) (pids_differ p q n page d)
+
+  paged_same : (S : Spaces) (pages : List ℕ) (n : ℕ) → map.get (with_pages S q pages) (at_page p n) ≡ map.get S (at_page p n)
+  paged_same S [] n = refl
+  paged_same S (page ∷ pages) n = paged_same (with_page S q page) pages n ∙ page_same S page n
+
+  accessed_same : (S : Spaces) (pages : List ℕ) (n : ℕ) → map.get (all_accessed S q pages) (at_page p n) ≡ map.get S (at_page p n)
+  accessed_same S [] n = refl
+  accessed_same S (page ∷ pages) n =
+      accessed_same (accessed S (at_page q page)) pages n
+      ∙ get-inserted_other S (at_page q page) (record (cell_or_fresh S (at_page q page)) { accessed = true }) (at_page p n) (pids_differ p q n page d)
+
+  stored_same : (S : Spaces) (page at : ℕ) (new : List ℕ) → IsOutside S q p → (n : ℕ) → map.get (stored S (at_page q page) at new) (at_page p n) ≡ map.get S (at_page p n)
+  stored_same S page at new out n =
+      let c : Cell = cell_or_fresh S (at_page q page) in
+      let bytes = write_at c.bytes at new in
+      get-inserted_other (set_bytes S c.holders bytes) (at_page q page) (record c { bytes = bytes; accessed = true; dirty = true }) (at_page p n) (pids_differ p q n page d)
+      ∙ set_bytes_outside S c.holders bytes (at_page p n) (out page n)
+
+  all_stored_same : (S : Spaces) (addr : ℕ) (bytes : List ℕ) → IsOutside S q p → (n : ℕ) → map.get (all_stored S q addr bytes) (at_page p n) ≡ map.get S (at_page p n)
+  all_stored_same S addr [] out n = refl
+  all_stored_same S addr (byte ∷ bytes) out n =
+      all_stored_same (stored S (slot_at q addr) (offset_number addr) (byte ∷ [])) (addr + 1) bytes
+      (λ m k. ap (λ (g : Set slot_order). set.contains g (at_page p k)) (holders_stored S q (page_number addr) (offset_number addr) m (byte ∷ [])) ∙ out m k) n
+      ∙ stored_same S (page_number addr) (offset_number addr) (byte ∷ []) out n
+
+module _ (s : State) (p q : ℕ) (w : IsWellFormed s) (a : IsApart s p) (d : q ≢ p) where
+  -- a group of a slot of another holds no slot of it
+  outside_group : (page n : ℕ) → set.contains (cell_or_fresh s.spaces (at_page q page)).holders (at_page p n) ≡ false
+  outside_group page n = by (map.get s.spaces (at_page q page)) refl
+    where
+      by : (x : Option Cell) → map.get s.spaces (at_page q page) ≡ x → set.contains (unwrap_or x (fresh (at_page q page) true)).holders (at_page p n) ≡ false
+      by None is = in_lone (at_page q page) (at_page p n) (pids_differ p q n page d)
+      by (Some c) is = inside (set.contains c.holders (at_page p n)) refl
+        where
+          inside : (b : Bool) → set.contains c.holders (at_page p n) ≡ b → b ≡ false
+          inside false h = refl
+          inside true h = absurd (
+              let at = w.cells (at_page q page) c is in
+              let o = at.alike (at_page p n) h in
+              let own = a.shares_none n o.0 o.1 in
+              let shared : set.contains (lone (at_page p n)) (at_page q page) ≡ true = ap (λ (g : Set slot_order). set.contains g (at_page q page)) (sym own ∙ o.2) ∙ at.own in
+              let apart = in_lone (at_page p n) (at_page q page) (λ e. pids_differ p q n page d (sym e)) in
+              cc)
+
+  inserted_left : (page : ℕ) (c : Cell) → AreAlike s p (record s { spaces = map.insert s.spaces (at_page q page) c }) p
+  inserted_left page c = spaces_left s p (map.insert s.spaces (at_page q page) c) s.offers a (λ n. get-inserted_other s.spaces (at_page q page) c (at_page p n) (pids_differ p q n page d)) a.offers_none
+
+  -- an access of another
+  pub load_leaves : (addr : ℕ) (size : Size) → AreAlike s p (after_load s q addr size) p
+  load_leaves addr size =
+      let pages = touched addr size in
+      let T : Spaces = with_pages s.spaces q pages in
+      spaces_left s p (all_accessed T q pages) s.offers a (λ n. accessed_same p q d T pages n ∙ paged_same p q d s.spaces pages n) a.offers_none
+
+  pub map_leaves : (page : ℕ) (write : Bool) → AreAlike s p (after_map s q page write) p
+  map_leaves page write = inserted_left page (fresh (at_page q page) write)
+
+  pub protect_leaves : (page : ℕ) (write : Bool) → AreAlike s p (after_protect s q page write) p
+  protect_leaves page write = inserted_left page (record (cell_or_fresh s.spaces (at_page q page)) { write = write })
+
+  pub store_leaves : (addr : ℕ) (size : Size) (value : ℕ) → AreAlike s p (after_store s q addr size value) p
+  store_leaves addr size value =
+      let pages = touched addr size in
+      let T : Spaces = with_pages s.spaces q pages in
+      let bytes = bytes_of (byte_count size) value in
+      spaces_left s p (all_stored T q addr bytes) s.offers a
+      (λ n. all_stored_same p q d T addr bytes (paged_outside p q d s.spaces pages outside_group) n ∙ paged_same p q d s.spaces pages n)
+      a.offers_none
+
+  pub unmap_leaves : (page : ℕ) → AreAlike s p (after_unmap s q page) p
+  unmap_leaves page =
+      let t = after_unmap s q page in
+      spaces_left s p t.spaces t.offers a
+      (λ n. without_others s p (is_slot q page) n a (slot_stays page n))
+      (retained_left s p (λ (k : OfferKey). not ((k.offerer == q) && (k.page == page))) a)
+    where
+      slot_stays : (page n : ℕ) → is_slot q page (at_page p n) ≡ false
+      slot_stays page n = elim (same_cases slot_order (at_page q page) (at_page p n)) [
+        | inl is ↦ absurd (pids_differ p q n page d (sym is.0))
+        | inr other ↦ other.1
+      ]
+
+  pub offer_leaves : (page target : ℕ) (write : Bool) → AreAlike s p (after_offer s q page target write) p
+  offer_leaves page target write = spaces_left s p s.spaces (map.insert s.offers (offer_of q page target) write) a (λ n. refl) offers
+    where
+      offers : (key : OfferKey) (right : Bool) → map.get (map.insert s.offers (offer_of q page target) write) key ≡ Some right → key.offerer ≢ p
+      offers key right h = elim (same_cases offer_order key (offer_of q page target)) [
+        | inl is ↦ (λ e. d (sym (ap (λ (k : OfferKey). k.offerer) is.0) ∙ e))
+        | inr other ↦ a.offers_none key right (sym (get-insert s.offers (offer_of q page target) write key ∙ ap (λ b. cond b (Some write) (map.get s.offers key)) other.1) ∙ h)
+      ]
+
+  pub withdraw_leaves : (page target : ℕ) → AreAlike s p (after_withdraw s q page target) p
+  withdraw_leaves page target = spaces_left s p s.spaces (map.remove s.offers (offer_of q page target)) a (λ n. refl) (retained_left s p (λ k. not (same offer_order (offer_of q page target) k)) a)
+
+-- spaces where a group holds other slots, at a slot that is not in it
+set_holders_outside : (S : Spaces) (group holders : Set slot_order) (slot : Slot) → set.contains group slot ≡ false → map.get (set_holders S group holders) slot ≡ map.get S slot
+set_holders_outside S group holders slot out = get-map_values slot_order (λ q c. if set.contains group q then with_holders c holders else c) S slot ∙ by (map.get S slot)
+  where
+    by : (x : Option Cell) → option_map (λ (c : Cell). if set.contains group slot then with_holders c holders else c) x ≡ x
+    by None = refl
+    by (Some c) = ap (λ b. Some (if b then with_holders c holders else c)) out
+
+pub accept_leaves : (s : State) (p q giver giver_page page : ℕ) → IsWellFormed s → IsApart s p → q ≢ p → accept_refusal s q giver giver_page page ≡ None → AreAlike s p (after_accept s q giver giver_page page) p
+accept_leaves s p q giver giver_page page w a d allowed =
+    let key = offer_of giver giver_page q in
+    let there = some_value (map.get s.offers key) (may_accept s q giver giver_page page allowed).there in
+    let g : Cell = cell_or_fresh s.spaces (at_page giver giver_page) in
+    let wider = set.insert g.holders (at_page q page) in
+    let right = offered s giver giver_page q in
+    let spaces : Spaces = set_holders s.spaces g.holders wider in
+    let c : Cell = record { write = right; may = right; accessed = false; dirty = false; bytes = g.bytes; holders = wider } in
+    spaces_left s p (map.insert spaces (at_page q page) c) (map.remove s.offers key) a
+    (λ n. get-inserted_other spaces (at_page q page) c (at_page p n) (pids_differ p q n page d)
+    ∙ set_holders_outside s.spaces g.holders wider (at_page p n) (outside_group s p giver w a (a.offers_none key there.0 there.1) giver_page n))
+    (retained_left s p (λ k. not (same offer_order key k)) a)
+
+pub exit_leaves : (s : State) (p q : ℕ) → IsApart s p → q ≢ p → is_live s q ≡ true → AreAlike s p (after_exit s q) p
+exit_leaves s p q a d live =
+    let m = some_value (map.get s.book q) live in
+    let before = a.childless in
+    let fewer = number-remove s.book q m.0 m.1 p in
+    left_alike s (after_exit s q) p a (record {
+      pages = λ n. without_others s p (is_of q) n a (ne_eqb p q (λ e. d (sym e)));
+      member = get-remove_other s.book q p (λ e. d (sym e));
+      childless = omega (arith, before, fewer);
+      offers = retained_left s p (λ (k : OfferKey). not ((k.offerer == q) || (k.target == q))) a;
+    })
+
+-- ---- Spawns
+
+-- where a spawn is not refused, the child's number is not live
+pub child_free : (s : State) (p quota : ℕ) → spawn_refusal s p quota ≡ None → is_live s (child_of s) ≡ false
+child_free s p quota allowed =
+    let k = (spawn_allowed (quota == 0) (next_number s.book) (nat_lt (room s p) quota) allowed).1 in
+    ap (map.contains_key s.book) (ap (λ (x : Option ℕ). unwrap_or x 0) k.1) ∙ (next_free s.book k.0 k.1).1
+
+-- who is live is another
+pub live_differ : (s : State) (p k : ℕ) → is_live s p ≡ true → is_live s k ≡ false → p ≢ k
+live_differ s p k live free e = let same = ap (is_live s) e in cc
+
+-- a new child of another, with any pages, leaves what a process has
+pub child_leaves : (s : State) (p q k quota : ℕ) (T : Spaces) → IsApart s p → q ≢ p → is_live s k ≡ false → ((n : ℕ) → map.get T (at_page p n) ≡ map.get s.spaces (at_page p n))
+    → AreAlike s p (record { spaces = T; book = map.insert s.book k (record { parent = q; quota = quota }); offers = s.offers }) p
+child_leaves s p q k quota T a d free pages =
+    let child : Member = record { parent = q; quota = quota } in
+    let before = a.childless in
+    let more = number-insert s.book k child (no_value (map.get s.book k) free) p in
+    let other : ◌≡◌ {A = ℕ} (cond (is_child p (k, child)) 1 0) 0 = ap (λ b. cond b 1 0) (child_no q p k quota d) in
+    left_alike s (record { spaces = T; book = map.insert s.book k child; offers = s.offers }) p a (record {
+      pages = pages;
+      member = get-insert_other s.book k child p (live_differ s p k a.live free);
+      childless = omega (arith, before, more, other);
+      offers = a.offers_none;
+    })
+
+pub spawn_leaves : (s : State) (p q quota : ℕ) → IsApart s p → q ≢ p → spawn_refusal s q quota ≡ None → AreAlike s p (after_spawn s q quota) p
+spawn_leaves s p q quota a d allowed = child_leaves s p q (child_of s) quota s.spaces a d (child_free s q quota allowed) (λ n. refl)
+
+module _ (s : State) (k : ℕ) (w : IsWellFormed s) (free : is_live s k ≡ false) where
+  -- who is not live has no page
+  pub no_page : (page : ℕ) → map.get s.spaces (at_page k page) ≡ None
+  no_page page = by (map.get s.spaces (at_page k page)) refl
+    where
+      by : (x : Option Cell) → map.get s.spaces (at_page k page) ≡ x → x ≡ None
+      by None is = refl
+      by (Some c) is = absurd (let live = w.owners (at_page k page) c is in cc)
+
+  -- nor an offer
+  no_offer : (key : OfferKey) (right : Bool) → map.get s.offers key ≡ Some right → key.offerer ≢ k
+  no_offer key right h e =
+      let o = (w.offers key right h).offered in
+      let none = no_page key.page in
+      let at = ap (λ n. map.get s.spaces (at_page n key.page)) (sym e) ∙ o.1 in
+      cc
+
+-- ---- Forks
+
+-- where a fork is not refused, the child's number is not live
+fork_free : (s : State) (p quota : ℕ) → fork_refusal s p quota ≡ None → is_live s (child_of s) ≡ false
+fork_free s p quota allowed = child_free s p quota (may_fork s p quota allowed).spawn
+
+pub fork_leaves : (s : State) (p q quota : ℕ) → IsApart s p → q ≢ p → fork_refusal s q quota ≡ None → AreAlike s p (after_fork s q quota) p
+fork_leaves s p q quota a d allowed =
+    let free = fork_free s q quota allowed in
+    child_leaves s p q (child_of s) quota (copied s.spaces q (child_of s)) a d free
+    (λ n. copied-other s.spaces q (child_of s) (at_page p n) (live_differ s p (child_of s) a.live free))
+
+-- ---- A process alone
+
+-- whether a page stands among the slots of these pages
+among_pages : (p n : ℕ) (pages : List ℕ) → list_any (same slot_order (at_page p n)) (map (at_page p) pages) ≡ list_any (same nat_order n) pages
+among_pages p n [] = refl
+among_pages p n (page ∷ pages) =
+    let first : same slot_order (at_page p n) (at_page p page) ≡ same nat_order n page =
+    sym (tied_then (nat_cmp p p) (nat_cmp n page)) ∙ ap (λ b. b && same nat_order n page) (same_itself nat_order p) in
+    λ i. first i || among_pages p n pages i
+
+kept_where_some : {A B : Type 0} (f : A → B) (x : Option A) → cond (is_some x) (option_map f x) None ≡ option_map f x
+kept_where_some f None = refl
+kept_where_some f (Some a) = refl
+
+-- what process 1 has at each page, where it is alone with these
+pub page_alone : (quota : ℕ) (pages : Map nat_order FirstPage) (n : ℕ) → map.get (alone_with quota pages).spaces (at_page 1 n) ≡ option_map (first_cell (at_page 1 n)) (map.get pages n)
+page_alone quota pages n =
+    get-collect slot_order (λ slot. option_map (first_cell slot) (map.get pages slot.page)) (map (at_page 1) (map.keys pages)) (at_page 1 n)
+    ∙ ap (λ b. cond b (option_map (first_cell (at_page 1 n)) (map.get pages n)) None) (among_pages 1 n (map.keys pages) ∙ sym (is_some-find nat_cmp n pages.entries))
+    ∙ kept_where_some (first_cell (at_page 1 n)) (map.get pages n)
+
+-- the group of a page that a process begins with
+first_lone : (slot : Slot) (x : Option FirstPage) (c : Cell) → option_map (first_cell slot) x ≡ Some c → c.holders ≡ lone slot
+first_lone slot None c h = cc
+first_lone slot (Some page) c h = ap (λ (d : Cell). d.holders) (sym (same_Some (first_cell slot page) c h))
+
+first_held : (p q n : ℕ) (x : Option FirstPage) → option_map held_in (option_map (first_cell (at_page p n)) x) ≡ option_map held_in (option_map (first_cell (at_page q n)) x)
+first_held p q n None = refl
+first_held p q n (Some page) = refl
+
+alone_apart : (quota : ℕ) (pages : Map nat_order FirstPage) → IsApart (alone_with quota pages) 1
+alone_apart quota pages = record {
+  live = refl;
+  not_root = λ e. cc;
+  childless = refl;
+  offers_none = λ key right h. cc;
+  shares_none = λ n c h. first_lone (at_page 1 n) (map.get pages n) c (sym (page_alone quota pages n) ∙ h);
+}
+
+-- a new child with some pages, each in a group of its own, is alike to one that is alone with them
+pub child_alike : (s : State) (p k quota : ℕ) (T : Spaces) (pages : Map nat_order FirstPage) → IsWellFormed s → is_live s p ≡ true → is_live s k ≡ false
+    → ((n : ℕ) → map.get T (at_page k n) ≡ option_map (first_cell (at_page k n)) (map.get pages n))
+    → AreAlike (record { spaces = T; book = map.insert s.book k (record { parent = p; quota = quota }); offers = s.offers }) k (alone_with quota pages) 1
+child_alike s p k quota T pages w live free copies =
+    let none = no_value (map.get s.book k) free in
+    let child : Member = record { parent = p; quota = quota } in
+    let before = number-none s.book k none (parents_in s w) in
+    let more = number-insert s.book k child none k in
+    let other : ◌≡◌ {A = ℕ} (cond (is_child k (k, child)) 1 0) 0 = ap (λ b. cond b 1 0) (child_no p k k quota (live_differ s p k live free)) in
+    let here : map.get (map.insert s.book k child) k ≡ Some child = get-insert s.book k child k ∙ ap (λ b. cond b (Some child) (map.get s.book k)) (same_itself nat_order k) in
+    record {
+      one = record {
+        live = ap is_some here;
+        not_root = λ e. live_differ s 0 k w.root free (sym e);
+        childless = omega (arith, before, more, other);
+        offers_none = no_offer s k w free;
+        shares_none = λ n c h. first_lone (at_page k n) (map.get pages n) c (sym (copies n) ∙ h);
+      };
+      other = alone_apart quota pages;
+      pages = λ n. ap (option_map held_in) (copies n) ∙ first_held k 1 n (map.get pages n) ∙ sym (ap (option_map held_in) (page_alone quota pages n));
+      quota = ap (λ (x : Option Member). unwrap_or (option_map (λ (m : Member). m.quota) x) 0) here;
+    }
+
+pub spawn_alike : (s : State) (p quota : ℕ) → IsWellFormed s → is_live s p ≡ true → spawn_refusal s p quota ≡ None → AreAlike (after_spawn s p quota) (child_of s) (alone_with quota map.empty) 1
+spawn_alike s p quota w live allowed =
+    let free = child_free s p quota allowed in
+    child_alike s p (child_of s) quota s.spaces map.empty w live free (no_page s (child_of s) w free)
+
+-- whether a page is one of a process's
+among_own : (S : Spaces) (p n : ℕ) → list_any (same nat_order n) (set.items (pages_of S p)) ≡ map.contains_key S (at_page p n)
+among_own S p n = sym (is_some-find nat_cmp n (pages_of S p).entries) ∙ contains-pages_of S p n
+
+copied_first : (slot : Slot) (x : Option Cell) → option_map (copy_of slot) x ≡ option_map (first_cell slot) (option_map first_page x)
+copied_first slot None = refl
+copied_first slot (Some c) = refl
+
+-- what the child of a fork has at each page
+copied_held : (s : State) (p k n : ℕ) → map.get (copied s.spaces p k) (at_page k n) ≡ option_map (first_cell (at_page k n)) (map.get (pages_held s p) n)
+copied_held s p k n =
+    copied-own s.spaces p k n
+    ∙ copied_first (at_page k n) (map.get s.spaces (at_page p n))
+    ∙ sym (ap (option_map (first_cell (at_page k n)))
+        (get-collect nat_order (λ page. option_map first_page (map.get s.spaces (at_page p page))) (set.items (pages_of s.spaces p)) n
+        ∙ ap (λ b. cond b (option_map first_page (map.get s.spaces (at_page p n))) None) (among_own s.spaces p n)
+        ∙ kept_where_some first_page (map.get s.spaces (at_page p n))))
+
+pub fork_alike : (s : State) (p quota : ℕ) → IsWellFormed s → is_live s p ≡ true → fork_refusal s p quota ≡ None → AreAlike (after_fork s p quota) (child_of s) (alone_with quota (pages_held s p)) 1
+fork_alike s p quota w live allowed =
+    let free = fork_free s p quota allowed in
+    child_alike s p (child_of s) quota (copied s.spaces p (child_of s)) (pages_held s p) w live free (copied_held s p (child_of s))
