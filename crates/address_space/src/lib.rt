@@ -32,8 +32,8 @@ mod region_counts;
 use alloc_table::{FrameTable, Role};
 use page_map::PageEntry;
 use page_words::{
-    Frame, MAX_FRAMES, MIN_FRAMES, Page, Pid, Size, Vaddr, offset_of, page_of, second_page, slot_of,
-    start_of,
+    Frame, MAX_FRAMES, MIN_FRAMES, Page, Pid, Size, Vaddr, offset_of, page_of, second_page,
+    slot_of, start_of,
 };
 use phys_memory::Memory;
 use std::alloc::Global;
@@ -989,6 +989,3 @@ impl Spaces {
 pub fn images_stand_for_one()
     ensures { StandsForOne }
 {}
-
-#[cfg(test)]
-mod tests;

@@ -3,4 +3,44 @@
 #![tactic(auto)]
 
 #[cfg(test)]
+mod address_tests;
+#[cfg(test)]
+mod event_tests;
+#[cfg(test)]
+mod frame_table_tests;
+#[cfg(test)]
+mod kernel_tests;
+#[cfg(test)]
+mod lazy_tests;
+#[cfg(test)]
+mod ledger_tests;
+#[cfg(test)]
+mod machine_tests;
+#[cfg(test)]
+mod memory_tests;
+#[cfg(test)]
+mod offer_tests;
+#[cfg(test)]
+mod page_map_tests;
+#[cfg(test)]
+mod plan_tests;
+#[cfg(test)]
+mod process_tests;
+#[cfg(test)]
+mod quota_tests;
+#[cfg(test)]
+mod report_tests;
+#[cfg(test)]
+mod script_tests;
+#[cfg(test)]
+mod space_tests;
+#[cfg(test)]
+mod strange_tests;
+#[cfg(test)]
+mod text_tests;
+#[cfg(test)]
 mod walk_tests;
+#[cfg(test)]
+mod word_tests;
+#[cfg(test)]
+mod worked_tests;

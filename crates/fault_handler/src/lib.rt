@@ -130,13 +130,7 @@ pub fn plan(processes: &Processes, pid: Pid, address: Vaddr, size: Size, access:
 }
 
 /// What an access of a live process to pages of the user range comes to.
-fn plan_within(
-    processes: &Processes,
-    pid: Pid,
-    address: Vaddr,
-    size: Size,
-    access: Access,
-) -> Plan
+fn plan_within(processes: &Processes, pid: Pid, address: Vaddr, size: Size, access: Access) -> Plan
     requires live { is_live processes.now.state pid ≡ true }
     requires within { outside address size ≡ None }
     ensures { result ≡ plan_at processes.now pid address size access }
@@ -290,6 +284,3 @@ pub fn try_store(
 {
     is_in_page(address, size) && processes.try_store(pid, address, size, value)
 }
-
-#[cfg(test)]
-mod tests;

@@ -9,9 +9,6 @@ ghost use Rattle.page_words.specs.FiniteSet as set;
 ghost use Rattle.frame_ledger.specs.FreeFrames.{opening, IsFree, IsTaken, with_free};
 ghost use Rattle.frame_ledger.specs.FreeList.{all_in_use};
 
-#[cfg(test)]
-mod tests;
-
 use page_words::{Frame, MAX_FRAMES, MIN_FRAMES};
 use std::alloc::Global;
 use std::marker::Model;

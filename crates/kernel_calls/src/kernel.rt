@@ -262,12 +262,3 @@ impl Core {
         self.processes.container(pid)
     }
 }
-
-#[cfg(test)]
-mod event_tests;
-#[cfg(test)]
-mod lazy_tests;
-#[cfg(test)]
-mod machine_tests;
-#[cfg(test)]
-mod tests;

@@ -10,8 +10,6 @@ mod entries;
 mod laws;
 mod report;
 mod rows;
-#[cfg(test)]
-mod tests;
 mod text;
 
 pub use entries::LogEntry;

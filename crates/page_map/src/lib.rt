@@ -459,6 +459,3 @@ pub fn walks_read_entries()
 pub fn marks_touch_entries()
     ensures { MarksTouchEntries }
 {}
-
-#[cfg(test)]
-mod tests;

@@ -399,9 +399,9 @@ copied_held s p k n =
     copied-own s.spaces p k n
     ∙ copied_first (at_page k n) (map.get s.spaces (at_page p n))
     ∙ sym (ap (option_map (first_cell (at_page k n)))
-        (get-collect nat_order (λ page. option_map first_page (map.get s.spaces (at_page p page))) (set.items (pages_of s.spaces p)) n
-        ∙ ap (λ b. cond b (option_map first_page (map.get s.spaces (at_page p n))) None) (among_own s.spaces p n)
-        ∙ kept_where_some first_page (map.get s.spaces (at_page p n))))
+    (get-collect nat_order (λ page. option_map first_page (map.get s.spaces (at_page p page))) (set.items (pages_of s.spaces p)) n
+    ∙ ap (λ b. cond b (option_map first_page (map.get s.spaces (at_page p n))) None) (among_own s.spaces p n)
+    ∙ kept_where_some first_page (map.get s.spaces (at_page p n))))
 
 pub fork_alike : (s : State) (p quota : ℕ) → IsWellFormed s → is_live s p ≡ true → fork_refusal s p quota ≡ None → AreAlike (after_fork s p quota) (child_of s) (alone_with quota (pages_held s p)) 1
 fork_alike s p quota w live allowed =

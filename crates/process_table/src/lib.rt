@@ -10,6 +10,3 @@ mod processes;
 pub use causes::Cause;
 pub use laws::{calls_keep_states_well_formed, images_stand_for_one, processes_apart_stand_alone};
 pub use processes::{Processes, ProcessesFault};
-
-#[cfg(test)]
-mod tests;

@@ -13,14 +13,8 @@ mod output;
 mod replies;
 mod script;
 mod session;
-#[cfg(test)]
-mod strange_tests;
-#[cfg(test)]
-mod tests;
 mod tokens;
 pub mod worked;
-#[cfg(test)]
-mod worked_tests;
 
 pub use faults::ScriptFault;
 pub use script::{malformed_line_ends_a_script, run_script};

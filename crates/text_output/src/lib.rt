@@ -7,8 +7,6 @@
 
 mod lines;
 mod output;
-#[cfg(test)]
-mod tests;
 
 pub use lines::{push_decimal, push_number, push_word};
 pub use output::{WriteFailed, write_whole};

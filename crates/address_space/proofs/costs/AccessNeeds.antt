@@ -157,7 +157,6 @@ module _ (S : Spaces) (p : ℕ) where
           alone =
               let n : need S p page ≡ need S p page + 0 = omega arith in
               ap (λ (s : Set nat_order). 1 + set.len s) (kept_one set.empty is_new (slot_number page) (not (set.contains R (slot_number page))) refl) ∙ count (set.contains R (slot_number page)) ∙ n
-
       unmapped false is cell =
           ap (λ s. need_of S p (set.insert s page)) (last false is)
           ∙ both cell

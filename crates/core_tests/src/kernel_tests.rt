@@ -1,0 +1,119 @@
+//! Whole runs of the core.
+use kernel_calls::{BootFault, Call, Core, Event, Pid, Reply};
+use page_words::{Page, Size, Vaddr};
+use process_table::Cause;
+use std::test::Fail;
+
+fn event(root: Pid, call: Call) -> Event {
+    Event {
+        cpu: 0,
+        pid: root,
+        call,
+    }
+}
+
+#[test]
+fn boots_16_to_4096_frames(rt: HostRuntime) {
+    for frames in [0, 15, 4097] {
+        let refused = matches!(Core::boot(rt.alloc(), frames), Err(BootFault::BadSize));
+        assert!(rt; refused);
+    }
+    for frames in [16, 4096] {
+        let booted = Core::boot(rt.alloc(), frames).map(|core| core.frames());
+        assert_eq!(rt; booted, Ok(frames));
+    }
+}
+
+#[test]
+fn maps_stores_loads_and_unmaps(rt: HostRuntime) -> Result<(), Fail> {
+    let mut core = Core::boot(rt.alloc(), 16)?;
+    let root = Pid::new(0).ok_or("no root")?;
+    let page = Page(0x40000);
+    let addr = Vaddr(0x4000_0ffc);
+    let size = Size::Four;
+    let value = 0xdead_beef;
+    let events = [
+        event(root, Call::Map { page, write: true }),
+        event(root, Call::Store { addr, size, value }),
+        event(root, Call::Load { addr, size }),
+        event(root, Call::Unmap { page }),
+        event(root, Call::Load { addr, size }),
+    ];
+    let mut replies = [Reply::Done; 5];
+    core.run(&events, &mut replies);
+    assert_eq!(rt;
+        replies,
+        [
+            Reply::Done,
+            Reply::Done,
+            Reply::Value(0xdead_beef),
+            Reply::Done,
+            Reply::Value(0)
+        ]
+    );
+    let directory = core.directory(root).ok_or("no directory")?;
+    assert_eq!(rt; core.memory().bytes().len(), 65536);
+    assert_eq!(rt; core.memory().frames(), 16);
+    assert!(rt; directory.0 != 0);
+    Ok(())
+}
+
+#[test]
+fn counts_what_it_charges(rt: HostRuntime) -> Result<(), Fail> {
+    let mut core = Core::boot(rt.alloc(), 16)?;
+    let root = Pid::new(0).ok_or("no root")?;
+    let charges = [0x40000, 0x40001, 0x40400].map(|page| {
+        let decision = core.decide(&event(
+            root,
+            Call::Map {
+                page: Page(page),
+                write: false,
+            },
+        ));
+        let used = decision.used_after;
+        (core.commit(decision), used)
+    });
+    assert_eq!(rt;
+        charges,
+        [(Reply::Done, 3), (Reply::Done, 4), (Reply::Done, 6)]
+    );
+    let last = core.step(&event(
+        root,
+        Call::Unmap {
+            page: Page(0x40400),
+        },
+    ));
+    assert_eq!(rt; last, Reply::Done);
+    let other = Pid::new(1).ok_or("no process 1")?;
+    let refused = core.step(&event(
+        other,
+        Call::Unmap {
+            page: Page(0x40000),
+        },
+    ));
+    assert_eq!(rt; refused, Reply::Refused(Cause::NoProcess));
+    assert_eq!(rt; refused_number(refused), 1);
+    Ok(())
+}
+
+fn refused_number(reply: Reply) -> u8 {
+    match reply {
+        Reply::Refused(cause) => cause as u8,
+        _ => 0,
+    }
+}
+
+/// `rt try --test --fail-alloc N` refuses the Nth allocation of this test alone, and each is one
+/// of `boot`. A boot that meets it answers NoMemory, the same call with memory then boots, and a
+/// line is printed that says so.
+#[test]
+fn boots_after_want_of_memory(rt: HostRuntime) -> Result<(), Fail> {
+    let first = Core::boot(rt.alloc(), 16).map(|core| core.frames());
+    if first.is_err() {
+        assert_eq!(rt; first, Err(BootFault::NoMemory));
+        let again = Core::boot(rt.alloc(), 16).map(|core| core.frames());
+        assert_eq!(rt; again, Ok(16));
+        println!(rt; "NoMemory, and then a core")?;
+    }
+    Ok(())
+}

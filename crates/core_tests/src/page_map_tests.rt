@@ -1,0 +1,55 @@
+//! Page maps by their calls.
+ghost use Rattle.std.specs.Prelude.{◌≡◌, IfOk, length};
+ghost use Rattle.phys_memory.specs.Bytes.{frame_bytes};
+ghost use Rattle.page_map.specs.Entries.{IsPageMap, IsFreshTable};
+
+use page_map::{PageEntry, clear_entry, entry, has_table, link_table, next_page, pages, set_entry};
+use page_words::{Frame, Page};
+use phys_memory::{Memory, MemoryFault};
+use std::alloc::Global;
+use std::test::Fail;
+
+/// A memory of 16 blank frames, of which frame 1 is a directory that maps no page.
+fn empty_map(alloc: Global) -> Result<Memory, MemoryFault>
+    ensures map { IfOk result (λ memory. IsPageMap memory 1) }
+    ensures fresh { IfOk result (λ memory. IsFreshTable (frame_bytes memory) 1 256 2) }
+    ensures length { IfOk result (λ memory. length memory ≡ 65536) }
+{
+    let memory = Memory::new(alloc, 16)?;
+    Ok(memory)
+}
+
+#[test]
+fn maps_and_clears_a_page(rt: HostRuntime) -> Result<(), Fail> {
+    let mut memory = empty_map(rt.alloc())?;
+    let directory = Frame(1);
+    let page = Page(0x40000);
+    assert!(rt; !has_table(&memory, directory, 256));
+    link_table(&mut memory, directory, 256, Frame(2));
+    assert_eq!(rt; memory.read_word(0x1400), 0x2007);
+    assert!(rt; has_table(&memory, directory, 256));
+    let mapped = PageEntry {
+        frame: Frame(3),
+        write: true,
+        may: true,
+        accessed: false,
+        dirty: false,
+        lazy: false,
+    };
+    set_entry(&mut memory, directory, page, mapped);
+    assert_eq!(rt; memory.read_word(0x2000), 0x3a07);
+    match entry(&memory, directory, page) {
+        Some(PageEntry { frame, write, .. }) => {
+            assert_eq!(rt; frame, Frame(3));
+            assert!(rt; write);
+        }
+        None => assert!(rt; false, "the page is mapped"),
+    }
+    assert_eq!(rt; pages(&memory, directory), 1);
+    assert_eq!(rt; next_page(&memory, directory, Page(0)), Some(page));
+    assert_eq!(rt; next_page(&memory, directory, Page(0x40001)), None);
+    assert!(rt; has_table(&memory, directory, 256));
+    assert_eq!(rt; clear_entry(&mut memory, directory, page), Some(Frame(2)));
+    assert_eq!(rt; pages(&memory, directory), 0);
+    Ok(())
+}
