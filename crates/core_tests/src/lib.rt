@@ -3,4 +3,8 @@
 #![tactic(auto)]
 
 #[cfg(test)]
+mod access_tests;
+#[cfg(test)]
+mod fork_tests;
+#[cfg(test)]
 mod walk_tests;
