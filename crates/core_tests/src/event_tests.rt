@@ -1,4 +1,4 @@
-//! Some thousands of events of all twelve calls, and what holds of frames, charges and shares after them.
+//! Some thousands of events of all thirteen calls, accesses of any size at any address among them, and what holds of frames, charges and shares after them.
 
 use super::lazy_tests::word_at;
 use kernel_calls::{Call, Core, Event, Frame, Pid, Reply, Role};
@@ -32,8 +32,24 @@ fn page_in_play(n: u32) -> Page {
     Page(0x40000 + n % 4 * 0x2c000 + n / 4 % 4)
 }
 
+/// One of the 20 pages that accesses come to: those in play and the page behind each four.
+fn page_touched(n: u32) -> Page {
+    Page(0x40000 + n % 4 * 0x2c000 + n / 4 % 5)
+}
+
 fn address_in(page: Page, n: u32) -> Vaddr {
-    Vaddr(page.0 % 0x10_0000 * 4096 + n % 1024 * 4)
+    Vaddr(page.0 % 0x10_0000 * 4096 + n % 4096)
+}
+
+/// An access of one of the three sizes in a page, one in eight from its last byte on.
+fn access_in(page: Page, n: u32) -> (Vaddr, Size) {
+    let size = match n % 3 {
+        0 => Size::One,
+        1 => Size::Two,
+        _ => Size::Four,
+    };
+    let offset = if n / 3 % 8 == 0 { 4095 } else { n / 24 };
+    (address_in(page, offset), size)
 }
 
 impl Made {
@@ -63,8 +79,7 @@ impl Made {
 
 /// A call that is no part of sharing: its kind is 24 to 63.
 fn own_call(kind: u32, page: Page, value: u32) -> Call {
-    let addr = address_in(page, value);
-    let size = Size::Four;
+    let (addr, size) = access_in(page, value);
     let write = value % 2 == 0;
     match kind {
         24..=31 => Call::Load { addr, size },
@@ -73,8 +88,11 @@ fn own_call(kind: u32, page: Page, value: u32) -> Call {
         46..=50 => Call::Unmap { page },
         51..=54 => Call::Protect { page, write },
         55..=56 => Call::Info { page },
-        57..=60 => Call::Spawn {
+        57..=58 => Call::Spawn {
             quota: 30 + value % 30,
+        },
+        59..=60 => Call::Fork {
+            quota: 5 + value % 40,
         },
         61 => Call::Exit,
         _ => Call::Quota,
@@ -176,8 +194,8 @@ fn slots_told(core: &Core, wanted: u32) -> Result<u32, Fail> {
     let mut slots = 0_u32;
     for number in 0..8 {
         let pid = process(number)?;
-        for n in 0..16 {
-            if let Reply::Info { holders, .. } = info(core, pid, page_in_play(n)) {
+        for n in 0..20 {
+            if let Reply::Info { holders, .. } = info(core, pid, page_touched(n)) {
                 if holders == wanted {
                     slots = slots.wrapping_add(1);
                 }
@@ -192,14 +210,14 @@ fn flags_agree(core: &Core) -> Result<bool, Fail> {
     let mut all = true;
     for number in 0..8 {
         let pid = process(number)?;
-        for n in 0..16 {
+        for n in 0..20 {
             if let Reply::Info {
                 write,
                 may,
                 accessed,
                 dirty,
                 ..
-            } = info(core, pid, page_in_play(n))
+            } = info(core, pid, page_touched(n))
             {
                 all = all && (!write || may) && (!dirty || accessed);
             }
@@ -220,11 +238,11 @@ fn pages_of(core: &Core, wanted: u32) -> u32 {
 }
 
 /// For each number of holders, the frames with that many and the slots that are told that number agree,
-/// and a lazy page is told one. All pages that are mapped are in play, and 128 slots are.
+/// and a lazy page is told one. All pages that are mapped are touched ones, and 160 slots are.
 fn shares_agree(core: &Core) -> Result<bool, Fail> {
     let alone = pages_of(core, 1).wrapping_add(lazy_pages(core));
     let mut all = slots_told(core, 1)? == alone;
-    for holders in 2..129 {
+    for holders in 2..161 {
         all = all && slots_told(core, holders)? == holders.wrapping_mul(pages_of(core, holders));
     }
     Ok(all)
@@ -253,7 +271,7 @@ fn is_done(reply: &Reply) -> bool {
 }
 
 /// Counts the events that were done, by their call.
-fn count_done(events: &[Event], replies: &[Reply], done: &mut [u32; 12]) {
+fn count_done(events: &[Event], replies: &[Reply], done: &mut [u32; 13]) {
     for (event, reply) in events.iter().zip(replies.iter()) {
         if is_done(reply) {
             if let Some(count) = done.get_mut(number_of(&event.call)) {
@@ -294,6 +312,16 @@ fn family(rt: &HostRuntime) -> Result<Core, Fail> {
     Ok(core)
 }
 
+/// Lets each process exit whose number is past those that events are made of. None of them has a child.
+fn end_others(core: &mut Core) -> Result<(), Fail> {
+    for number in 8..64 {
+        let pid = Pid::new(number).ok_or("no process")?;
+        let call = Call::Exit;
+        core.step(&Event { cpu: 0, pid, call });
+    }
+    Ok(())
+}
+
 /// Whether all 8 processes are live.
 fn all_live(core: &Core) -> Result<bool, Fail> {
     let mut all = true;
@@ -310,11 +338,11 @@ fn loaded(core: &Core, pid: Pid, page: Page) -> Reply {
     core.decide(&Event { cpu: 0, pid, call }).reply
 }
 
-/// Whether a process has at each page in play what it would have as a copy of another.
+/// Whether a process has at each page what it would have as a copy of another.
 fn is_copy(core: &Core, pid: Pid, copy: Pid) -> bool {
     let mut all = true;
-    for n in 0..16 {
-        let page = page_in_play(n);
+    for n in 0..20 {
+        let page = page_touched(n);
         let same = match info(core, pid, page) {
             Reply::Info { write, may, .. } => {
                 let untouched = Reply::Info {
@@ -376,7 +404,7 @@ fn flags_shares_and_counts_agree_after_many_events(rt: HostRuntime) -> Result<()
         call: Call::Quota,
     };
     let mut generator = Generator { seed: 7, last };
-    let mut done = [0_u32; 12];
+    let mut done = [0_u32; 13];
     let mut copies = 0_u32;
     for round in 0..128 {
         let mut events = [blank; 32];
@@ -386,13 +414,12 @@ fn flags_shares_and_counts_agree_after_many_events(rt: HostRuntime) -> Result<()
         }
         core.run(&events, &mut replies);
         count_done(&events, &replies, &mut done);
+        let agree = sides_agree(&core, &events[31], replies[31]);
+        assert!(rt; agree, "round {round}");
+        end_others(&mut core)?;
         let held = frames_held(&core).wrapping_add(lazy_pages(&core));
         assert_eq!(rt; charged(&core)?, held, "round {round}");
         assert!(rt; flags_agree(&core)?, "round {round}");
-        assert!(rt;
-            sides_agree(&core, &events[31], replies[31]),
-            "round {round}"
-        );
         if round % 16 == 15 {
             copies = copies.wrapping_add(copies_each_process(&rt, &mut core)?);
             assert!(rt; shares_agree(&core)?, "round {round}");

@@ -3,9 +3,13 @@
 #![tactic(auto)]
 
 #[cfg(test)]
+mod access_tests;
+#[cfg(test)]
 mod address_tests;
 #[cfg(test)]
 mod event_tests;
+#[cfg(test)]
+mod fork_tests;
 #[cfg(test)]
 mod frame_table_tests;
 #[cfg(test)]
