@@ -12,8 +12,8 @@ use std::marker::Brand;
 use std::process::Abort;
 use std::sync::Wait;
 use std::test::Fail;
-use std::thread::Threads;
 use std::thread;
+use std::thread::Threads;
 
 /// Where the word stands that the guests share, in all four processes.
 const WORD: u32 = 0x4000_0000;

@@ -5,14 +5,14 @@ ghost use Rattle.std.specs.Prelude.{◌≡◌};
 use kernel_calls::Call;
 use locked_core::{Blank, Boot, Cpu, Gate, Kernel, Monitor, Name, Point};
 use page_words::Pid;
-use std::alloc::Global;
+use std::alloc::{AllocError, Global};
 use std::marker::Brand;
 use std::process::Abort;
 use std::sync::atomic::{AtomicU64, Ordering};
 use std::sync::{Arc, Wait};
 use std::test::Fail;
-use std::thread::Threads;
 use std::thread;
+use std::thread::Threads;
 
 /// How often a flag is looked at before a test gives up.
 const LOOKS: u64 = 1_000_000_000;
@@ -150,30 +150,36 @@ fn held<N: Name + Send + Sync, R: Threads + Wait + Abort + Sync>(
     assert_eq!(rt; history.entries().len(), 4);
 }
 
-/// A kernel whose gate holds a call at that point, with three calls and a fourth that is held there while a monitor
-/// reports so many entries.
-fn held_at(rt: &HostRuntime, at: Point, reported: usize) -> Result<(), Fail> {
-    let alloc = rt.alloc();
+/// A gate that holds a call at that point, and what it shares with the test.
+fn gate_at(alloc: Global, at: Point) -> Result<(Arc<Flags, Global>, HeldGate), AllocError> {
     let flags = Arc::new(alloc, Flags::new())?;
     let gate = HeldGate {
         at,
         flags: Arc::try_clone(&flags)?,
     };
-    match Kernel::<Brand, HeldGate>::boot(rt, alloc, 16, 1, 1, gate) {
-        Ok(blank) => held::<Brand, HostRuntime>(rt, blank, alloc, &flags, reported),
+    Ok((flags, gate))
+}
+
+#[test]
+fn a_monitor_reports_while_a_call_is_held(rt: HostRuntime) -> Result<(), Fail> {
+    let alloc = rt.alloc();
+    let (flags, gate) = gate_at(alloc, Point::Locked)?;
+    match Kernel::<Brand, HeldGate>::boot(&rt, alloc, 16, 1, 1, gate) {
+        Ok(blank) => held::<Brand, HostRuntime>(&rt, blank, alloc, &flags, 3),
         Err(_) => panic!(rt; "not booted"),
     }
     Ok(())
 }
 
 #[test]
-fn a_monitor_reports_while_a_call_is_held(rt: HostRuntime) -> Result<(), Fail> {
-    held_at(&rt, Point::Locked, 3)
-}
-
-#[test]
 fn a_call_is_published_before_it_is_back(rt: HostRuntime) -> Result<(), Fail> {
-    held_at(&rt, Point::Published, 4)
+    let alloc = rt.alloc();
+    let (flags, gate) = gate_at(alloc, Point::Published)?;
+    match Kernel::<Brand, HeldGate>::boot(&rt, alloc, 16, 1, 1, gate) {
+        Ok(blank) => held::<Brand, HostRuntime>(&rt, blank, alloc, &flags, 4),
+        Err(_) => panic!(rt; "not booted"),
+    }
+    Ok(())
 }
 
 /// Waits until a call is held, and makes one of a second CPU: whether a call was held, and whether its own was
@@ -247,11 +253,7 @@ fn waited<N: Name + Send + Sync, R: Threads + Wait + Abort + Sync>(
 #[test]
 fn a_second_cpu_waits_while_a_call_is_held(rt: HostRuntime) -> Result<(), Fail> {
     let alloc = rt.alloc();
-    let flags = Arc::new(alloc, Flags::new())?;
-    let gate = HeldGate {
-        at: Point::Locked,
-        flags: Arc::try_clone(&flags)?,
-    };
+    let (flags, gate) = gate_at(alloc, Point::Locked)?;
     match Kernel::<Brand, HeldGate>::boot(&rt, alloc, 16, 2, 0, gate) {
         Ok(blank) => waited::<Brand, HostRuntime>(&rt, blank, alloc, &flags),
         Err(_) => panic!(rt; "not booted"),

@@ -11,8 +11,8 @@ use std::marker::Brand;
 use std::process::Abort;
 use std::sync::Wait;
 use std::test::Fail;
-use std::thread::Threads;
 use std::thread;
+use std::thread::Threads;
 
 fn root<R: Abort>(rt: &R) -> Pid {
     Pid::new(0).expect(rt, "process 0")
@@ -378,8 +378,14 @@ fn one_missing<N: Name, R: Wait + Abort>(rt: &R, blank: Blank<OpenGate>, alloc: 
     } = boot;
     let mut second = cpus.pop().expect(rt, "two CPUs");
     let mut first = cpus.pop().expect(rt, "two CPUs");
-    assert_eq!(rt; first.call(rt, &kernel, root(rt), store(7)), Ok(Reply::Done));
-    assert_eq!(rt; second.call(rt, &kernel, root(rt), load()), Ok(Reply::Value(7)));
+    assert_eq!(rt;
+        first.call(rt, &kernel, root(rt), store(7)),
+        Ok(Reply::Done)
+    );
+    assert_eq!(rt;
+        second.call(rt, &kernel, root(rt), load()),
+        Ok(Reply::Value(7))
+    );
     let mut back = Vec::new(alloc);
     back.push(first).expect(rt, "memory");
     assert_eq!(rt; kernel.close(rt, back).err(), Some(Fault::Disagree));
