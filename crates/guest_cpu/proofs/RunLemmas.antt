@@ -54,14 +54,14 @@ goes_on first second = run_on (spent first) second
 -- ---- What the answers make of a guest
 
 -- events, the end and the guest afterwards; none where an answer is missing
-abbrev Outcome : Type 0
+abbrev pub Outcome : Type 0
 Outcome = Option (List Event × (End × View))
 
 -- those events before what follows
-abbrev in_front : List Event → Outcome → Outcome
+abbrev pub in_front : List Event → Outcome → Outcome
 in_front events outcome = option_map (λ p. (events ++ p.0, p.1)) outcome
 
-abbrev is_last : Instruction → Bool
+abbrev pub is_last : Instruction → Bool
 is_last Halt = true
 is_last _ = false
 
@@ -69,34 +69,34 @@ is_last _ = false
 -- decides by its last argument: the value of the reply, the next answer, whether the run ends here with no call, the
 -- event of the instruction, the instruction at the counter.
 module _ (rest : View → List Answer → Outcome) where
-  abbrev replied : Instruction → View → Event → Reply → List Answer → Option ℕ → Outcome
+  abbrev pub replied : Instruction → View → Event → Reply → List Answer → Option ℕ → Outcome
   replied instruction g event reply more None = Some (event ∷ [], (end.Stopped reply, g))
   replied instruction g event reply more (Some value) = in_front (event ∷ []) (rest (after g instruction value) more)
 
-  abbrev answered : Instruction → View → Event → List Answer → Outcome
+  abbrev pub answered : Instruction → View → Event → List Answer → Outcome
   answered instruction g event [] = None
   answered instruction g event (Ok reply ∷ more) = replied instruction g event reply more (value_of reply)
   answered instruction g event (Err fault ∷ more) = Some (event ∷ [], (end.PortFault fault, g))
 
-  abbrev quiet : Instruction → View → List Answer → Bool → Outcome
+  abbrev pub quiet : Instruction → View → List Answer → Bool → Outcome
   quiet instruction g given true = Some ([], (end.Halted, g))
   quiet instruction g given false = rest (after g instruction 0) given
 
-  abbrev acted : Instruction → View → List Answer → Option Event → Outcome
+  abbrev pub acted : Instruction → View → List Answer → Option Event → Outcome
   acted instruction g given None = quiet instruction g given (is_last instruction)
   acted instruction g given (Some event) = answered instruction g event given
 
-  abbrev stepped : View → List Answer → Option Instruction → Outcome
+  abbrev pub stepped : View → List Answer → Option Instruction → Outcome
   stepped g given None = Some ([], (end.Halted, g))
   stepped g given (Some instruction) = acted instruction g given (event_of g instruction)
 
 -- what is made where no turn is left
-abbrev stood : View → Option Instruction → Outcome
+abbrev pub stood : View → Option Instruction → Outcome
 stood g None = Some ([], (end.Halted, g))
 stood g (Some instruction) = Some ([], (end.OutOfTurns, g))
 
 -- what so many turns make, the first turn first
-follow : List Instruction → ℕ → View → List Answer → Outcome
+unfoldable pub follow : List Instruction → ℕ → View → List Answer → Outcome
 follow program zero g given = stood g (slice_get program g.counter)
 follow program (suc turns) g given = stepped (λ h more. follow program turns h more) g given (slice_get program g.counter)
 
@@ -152,7 +152,7 @@ follow_outside program zero g outside = ap (stood g) outside
 follow_outside program (suc turns) g outside = ap (stepped (follow program turns) g []) outside
 
 -- a run is what its answers make of the guest
-followed : {program : List Instruction} {turns : ℕ} {g h : View} {given : List Answer} {events : List Event} {e : End} → IsRun program turns g given events e h
+pub followed : {program : List Instruction} {turns : ℕ} {g h : View} {given : List Answer} {events : List Event} {e : End} → IsRun program turns g given events e h
     → follow program turns g given ≡ Some (events, (e, h))
 unfolding follow
 followed {program} {turns} {g} {h} {given} {events} (leaves {n = n} so_far within outside) =

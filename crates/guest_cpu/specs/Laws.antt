@@ -1,15 +1,20 @@
 -- What a core answers to a guest, and laws of all runs.
-use Rattle.std.proofs.Common.{◌≡◌, ℕ, ◌+◌, List, ◌++◌, Ok}
-use Rattle.std.specs.Prelude.{map}
+use Rattle.std.proofs.Common.{◌≡◌, ℕ, ◌+◌, List, ◌++◌, take, drop, Some, Ok}
+use Rattle.std.specs.Prelude.{map, slice_get}
+use Rattle.kernel_calls.specs.Isolation.{Exchange, exchanges, own, InvolvesNobody, quota_asked, pages_given}
 use Rattle.kernel_calls.specs.Machine.{answers, end_of}
 use Rattle.kernel_calls.specs.declared.calls.Event.{Event}
+use Rattle.kernel_calls.specs.declared.calls.Reply.TheVariants.{Child}
+use Rattle.process_table.specs.Apart.{alone_with}
+use Rattle.process_table.specs.State.{State}
+use Rattle.process_table.specs.WellFormed.{IsWellFormed}
 use Rattle.process_table.specs.View as core
 use Rattle.guest_cpu.specs.declared.instructions.Instruction.{Instruction}
 use Rattle.guest_cpu.specs.declared.runs.End.{End}
 use Rattle.guest_cpu.specs.declared.runs.End.TheVariants as end
 use Rattle.guest_cpu.specs.Guests.{View}
 use Rattle.guest_cpu.specs.Ports.{Answer, Chain, IsCoreStep}
-use Rattle.guest_cpu.specs.Runs.{IsRun}
+use Rattle.guest_cpu.specs.Runs.{IsRun, HasRun}
 
 -- a core's answers to a chain of calls are the machine's, and it ends in the machine's last state
 abbrev pub CoresAnswer : Type 0
@@ -25,3 +30,23 @@ RunsGoOn = (program : List Instruction) (m n : ℕ) (g h k : View) (given more :
 abbrev pub RunsAreDetermined : Type 0
 RunsAreDetermined = (program : List Instruction) (turns : ℕ) (g h k : View) (given : List Answer) (events made : List Event) (e f : End)
     → IsRun program turns g given events e h → IsRun program turns g given made f k → (events ≡ made) × (e ≡ f) × (h ≡ k)
+
+-- the guest as one of process 1 on CPU 0
+abbrev pub alone : View → View
+alone g = record { cpu = 0; pid = 1; registers = g.registers; counter = g.counter }
+
+-- what a guest asked, and what its port answered
+abbrev pub asked : List Exchange → List Event
+asked part = map (λ x. x.0) part
+
+abbrev pub answered : List Exchange → List Answer
+answered part = map (λ x. Ok x.1) part
+
+-- Where what a guest asks and is answered begins the part of a process that a run made, and that part involves nobody, the guest ends as it ends over any core
+-- in which process 1 is alone with the quota and the pages that the process was given: in the same way, with the same registers and the same counter.
+abbrev pub GuestsAreIsolated : Type 0
+GuestsAreIsolated = (s : State) (events : List Event) (k p : ℕ) (e : Event) (mine rest : List Exchange) → IsWellFormed s → slice_get events k ≡ Some e
+    → slice_get (answers s events) k ≡ Some (Child p) → own p (drop (k + 1) (exchanges s events)) ≡ mine ++ rest → InvolvesNobody (mine ++ rest)
+    → (program : List Instruction) (turns : ℕ) (g h : View) (ends : End) → IsRun program turns g (answered mine) (asked mine) ends h
+    → (before after : core.View) (last : View) (ends_alone : End) → before.state ≡ alone_with (quota_asked e.call) (pages_given (end_of s (take k events)) e.pid e.call)
+    → HasRun IsCoreStep program turns (alone g) before ends_alone last after → (ends_alone ≡ ends) × (last ≡ alone h)

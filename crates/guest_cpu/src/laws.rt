@@ -1,6 +1,6 @@
 //! Laws of guests' runs. Each is the contract of a function that computes nothing.
 
-ghost use Rattle.guest_cpu.specs.Laws.{CoresAnswer, RunsAreDetermined, RunsGoOn};
+ghost use Rattle.guest_cpu.specs.Laws.{CoresAnswer, GuestsAreIsolated, RunsAreDetermined, RunsGoOn};
 
 /// What a core answers to a guest's calls, one after another, are the machine's answers to their events,
 /// and the core is then in the machine's last state. It computes nothing.
@@ -18,4 +18,14 @@ pub fn runs_go_on()
 /// ends and the guest afterwards. It computes nothing.
 pub fn runs_are_determined()
     ensures { RunsAreDetermined }
+{}
+
+/// A guest of a process that keeps to itself ends as it would alone. Where its calls and the answers to them
+/// begin what a new process asks and is told in a run of the machine, from a well formed state, and that part
+/// makes and takes no offer and makes no child, the guest ends, with its registers and its counter, as it
+/// does over a core where it is process 1, alone with the quota and the pages that the process was given.
+/// The replies of a kernel's history are those of such a run, so it holds of guests over its CPUs. It
+/// computes nothing.
+pub fn guests_are_isolated()
+    ensures { GuestsAreIsolated }
 {}

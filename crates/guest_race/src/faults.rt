@@ -5,16 +5,20 @@ ghost use Rattle.std.specs.Prelude.{◌≡◌};
 use guest_cpu::End;
 use locked_core::{BootFault, Fault};
 use parallel_audit::AuditFault;
+use thiserror::Error;
 
 /// Why a round ends early. Of several causes the first of these is told.
-#[derive(Clone, Copy, Debug, PartialEq, Eq)]
+#[derive(Clone, Copy, Debug, PartialEq, Eq, Error)]
 pub enum RoundFault {
     /// There is not enough memory.
+    #[error("out of memory")]
     NoMemory,
     /// A guest ran out of turns.
+    #[error("a guest ran out of turns")]
     Turns,
     /// A guest ended otherwise, the kernel refused a call or was not closed, its report is not there or
     /// differs, or its memory was not found sound.
+    #[error("the round failed")]
     Failed,
 }
 

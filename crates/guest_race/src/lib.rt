@@ -7,19 +7,12 @@
 //! sound.
 #![tactic(auto)]
 
-#[cfg(test)]
-mod alone_tests;
 mod audits;
 mod faults;
-#[cfg(test)]
-mod gate_tests;
 mod guests;
 mod programs;
 mod rounds;
-#[cfg(test)]
-mod tests;
-#[cfg(test)]
-mod two_helpers;
 
 pub use faults::RoundFault;
+pub use programs::{opening, program_of};
 pub use rounds::round;

@@ -22,7 +22,7 @@ fn register(number: u8) -> Reg
 
 /// The calls before the guests run: process 0 stores the first number, makes process 1 and offers it
 /// the page, which process 1 accepts.
-pub(crate) fn opening() -> [Event; 4]
+pub fn opening() -> [Event; 4]
     ensures { result ≡ opening_events }
 {
     let root = Pid::new(0).unwrap();
@@ -59,7 +59,7 @@ fn event_of(pid: Pid, call: Call) -> Event
 
 /// A guest's program: it waits until the number is `first`, stores the next one, waits for the one after
 /// that, and so on, until it has stored ten.
-pub(crate) fn program_of(first: u32) -> [Instruction; 13]
+pub fn program_of(first: u32) -> [Instruction; 13]
     requires { first ≤ 1 }
     ensures { result ≡ race_program first }
 {

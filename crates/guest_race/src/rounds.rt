@@ -99,7 +99,7 @@ fn play_round<N: Name + Send + Sync, R: Threads + Wait + Sync>(
     alloc: Global,
     blank: Blank<OpenGate>,
 ) -> Result<Report, RoundFault>
-    requires name { (blank.frames ≡ N.frames) × (blank.opened.seen.book ≡ N.book) }
+    requires name { (blank.frames ≡ N.frames) × (blank.book ≡ N.book) }
     requires seats { (blank.cpus ≡ 2) × (blank.monitors ≡ 1) }
     ensures { IfOk result (IsReported blank.frames) }
 {

@@ -105,10 +105,10 @@ makes frames before after pid call reply event log new front of fits legal grown
     )
 
 -- what keeps a judged call from being carried out refuses its CPU, which fits the log
-pub prevents_refuses : (frames : ℕ) (log : List LogEntry) (cpu : Maker) (f : Fault) → Legal frames log → StartsWith log cpu.seen × (calls_of cpu.number log ≡ calls_of cpu.number cpu.seen) → Prevents log f
+pub prevents_refuses : (frames : ℕ) (log : List LogEntry) (cpu : Maker) (f : Fault) → Legal frames log → StartsWith log cpu.seen × (calls_of cpu.number log ≡ calls_of cpu.number cpu.seen) → Prevents f
     → IsRefused frames log cpu f
 prevents_refuses frames log cpu NoMemory legal fits h = (legal, fits.0, fits.1)
-prevents_refuses frames log cpu Unread legal fits h = h
+prevents_refuses frames log cpu Unread legal fits h = tt
 prevents_refuses frames log cpu (Stale front) legal fits h = absurd h
 prevents_refuses frames log cpu Disagree legal fits h = absurd h
 

@@ -1,10 +1,9 @@
 -- What a contract sees of a CPU, what a call that is made leaves, and when one is refused.
-use Rattle.std.specs.Prelude.{◌≡◌, ◌≢◌, ◌⊎◌, ℕ, zero, suc, ◌<◌, List, [], ◌∷◌, ◌++◌, length, take, All, Any}
+use Rattle.std.specs.Prelude.{◌≡◌, ◌≢◌, ◌⊎◌, ◌↔◌, ℕ, zero, suc, ◌<◌, List, [], ◌∷◌, ◌++◌, length, take, All, Any, Result, IsOk, IfErr}
 use Rattle.kernel_calls.specs.declared.calls.Call.{Call}
 use Rattle.kernel_calls.specs.declared.calls.Reply.{Reply}
 use Rattle.locked_core.specs.declared.faults.Fault.{Fault}
 use Rattle.locked_core.specs.declared.faults.Fault.TheVariants.{NoMemory, Stale, Unread, Disagree}
-use Rattle.locked_core.specs.Rules.{GoesOn}
 use Rattle.memory_image.specs.Image.{Image}
 use Rattle.memory_image.specs.Sound.{StandsFor}
 use Rattle.memory_report.specs.Histories.{Legal, StartsWith, calls_of, entries_of, state_after}
@@ -41,21 +40,21 @@ Makes frames before pid call after reply = (between : List LogEntry) × (e : Log
 abbrev pub BeginOne : ℕ → List LogEntry → List LogEntry → Type 0
 BeginOne frames log seen = (history : List LogEntry) × Legal frames history × StartsWith history log × StartsWith history seen
 
--- Why a CPU is refused on the log that was found, in the order in which it is asked. Unread where the kernel's history is longer than the log. Stale tells the
+-- Why a CPU is refused on the log that was found, in the order in which it is asked. Of Unread nothing is said. Stale tells the
 -- log's length: the log and what was seen are beginnings of one legal history, and the log is shorter or has another number of this CPU's entries. NoMemory
 -- only where the log is legal, begins with what was seen and has as many of this CPU's entries. Nothing else refuses it.
 abbrev pub IsRefused : ℕ → List LogEntry → Maker → Fault → Type 0
-IsRefused frames log cpu Unread = GoesOn log
+IsRefused frames log cpu Unread = Unit {0}
 IsRefused frames log cpu (Stale front) = (front ≡ length log) × BeginOne frames log cpu.seen × ((length log < length cpu.seen) ⊎ (calls_of cpu.number log ≢ calls_of cpu.number cpu.seen))
 IsRefused frames log cpu NoMemory = Legal frames log × StartsWith log cpu.seen × (calls_of cpu.number log ≡ calls_of cpu.number cpu.seen)
 IsRefused frames log cpu Disagree = ⊥
 
--- what keeps a call that was judged from being carried out: no memory, or a history that is longer than the log
-abbrev pub Prevents : List LogEntry → Fault → Type 0
-Prevents log NoMemory = Unit {0}
-Prevents log Unread = GoesOn log
-Prevents log (Stale front) = ⊥
-Prevents log Disagree = ⊥
+-- what can keep a call that was judged from being carried out: want of memory, and Unread
+abbrev pub Prevents : Fault → Type 0
+Prevents NoMemory = Unit {0}
+Prevents Unread = Unit {0}
+Prevents (Stale front) = ⊥
+Prevents Disagree = ⊥
 
 -- Where an image was taken for a CPU: it stands for the state after a legal history, which begins with what the CPU has seen and has the calls that it made.
 pub record IsTaken (frames : ℕ) (cpu : Maker) (image : Image) (history : List LogEntry) : Type 0 where
@@ -77,3 +76,7 @@ pub record AreAll (count : ℕ) (log : List LogEntry) (cpus : List Maker) : Type
   pub as_many : length cpus ≡ count
   pub fit : All (λ c. IsFit log c) cpus
   pub known : All (λ e. IsOneOf cpus e.cpu) log
+
+-- what closing by these CPUs comes to on that log: it is done exactly where they are all of so many and agree with it, and else refused as Disagree
+abbrev pub Closes : {X : Type 0} → ℕ → List LogEntry → List Maker → Result X Fault → Type 0
+Closes count log cpus result = (IsOk result ↔ AreAll count log cpus) × IfErr result (λ f. f ≡ Disagree)

@@ -11,7 +11,3 @@ pub record Page : Type 0 where
 
 abbrev pub page : ℕ → Book → List LogEntry → Page
 page frames book log = record { frames = frames; book = book; log = log }
-
--- the last one counts
-abbrev pub replaced : Page → Page → Page
-replaced old new = new

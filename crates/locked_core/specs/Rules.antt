@@ -1,7 +1,6 @@
 -- The rule of the history, and what the step that adds to it tells.
-use Rattle.std.specs.Prelude.{ℕ, ◌≡◌, ◌<◌, ◌==◌, true, List, [], ◌∷◌, ◌++◌, length, MatchBool}
+use Rattle.std.specs.Prelude.{ℕ, ◌≡◌, ◌==◌, true, List, [], ◌∷◌, ◌++◌, length, MatchBool}
 use Rattle.logbook.specs.Pages.{Cell, Step, View, Book, Named}
-use Rattle.memory_report.specs.Histories.{StartsWith}
 use Rattle.memory_report.specs.declared.entries.LogEntry.{LogEntry}
 
 -- the first word is the length of the history. A book has two words, of which the second stays at 0
@@ -19,10 +18,6 @@ no_book = record { number = 0; log_name = 0; cells_name = 0 }
 -- where the length was the one expected, the entry was added to all that had been seen; else that length was found
 abbrev pub Adds : Step LogEntry → View LogEntry ℕ → ℕ → View LogEntry ℕ → Type 0
 Adds s v found w = MatchBool (found == s.old) (w.0 ≡ v.0 ++ s.ask ∷ []) (length w.0 ≡ found)
-
--- the history goes on after these entries
-abbrev pub GoesOn : List LogEntry → Type 0
-GoesOn log = (history : List LogEntry) × StartsWith history log × (length log < length history)
 
 -- the length of the history was found, of which all that had been seen is a beginning
 abbrev pub LooksUp : Step LogEntry → View LogEntry ℕ → ℕ → View LogEntry ℕ → Type 0

@@ -1,11 +1,10 @@
 //! The history of one kernel, of which its parts know beginnings. It exists in proofs alone: what is stored is its length.
-ghost use Rattle.std.specs.Prelude.{◌≡◌, ◌+◌, ◌==◌, ◌<◌, ◌^◌, ◌++◌, ◌∷◌, [], length, true, false, List, MatchBool};
+ghost use Rattle.std.specs.Prelude.{◌≡◌, ◌<◌, [], length, MatchBool};
 ghost use Rattle.memory_report.specs.Histories.{Legal, StartsWith};
-ghost use Rattle.memory_report.specs.declared.entries.LogEntry.{LogEntry};
-ghost use Rattle.locked_core.specs.Rules.{GoesOn, head_of};
+ghost use Rattle.locked_core.specs.Rules.{head_of};
 
 use kernel_calls::{Call, Reply};
-use logbook::{Gain, Offer, Plain, Play, Rule, Seen, Start, Word};
+use logbook::{Gain, Plain, Play, Rule, Seen, Start, Word};
 use memory_report::LogEntry;
 use page_words::Pid;
 use std::marker::{Brand, Model, PhantomData};
@@ -32,7 +31,7 @@ impl Rule<LogEntry, u64> for Law {
 }
 
 /// An entry for a step that adds none.
-fn no_entry() -> LogEntry {
+pub(crate) fn no_entry() -> LogEntry {
     LogEntry {
         cpu: 0,
         nth: 0,
@@ -120,25 +119,13 @@ impl Opened {
         }
     }
 
-    /// The book under a name.
-    pub(crate) fn named<N: Name>(self) -> Book<N>
-        requires { self.seen.book ≡ N.book }
-        ensures { result.head ≡ head_of N.book }
+    /// The word that has the history's length.
+    pub(crate) fn into_head(self) -> Word<LogEntry, u64, Law>
+        ensures { result ≡ head_of self.seen.book }
     {
         let Opened { head, seen: _seen } = self;
-        Book {
-            head,
-            of: PhantomData,
-        }
+        head
     }
-}
-
-/// The length of the history, which is stored once.
-#[derive(Drop)]
-pub struct Book<N: Name> {
-    head: Word<LogEntry, u64, Law>,
-    of: PhantomData<N>,
-    ghost head_is: { head ≡ head_of N.book },
 }
 
 /// A legal beginning of the history, which was seen. Contracts see it as its entries.
@@ -200,42 +187,5 @@ impl<N: Name> Front<N> {
         let mut both = self.seen.again();
         both.learn(&other.seen);
         self.count <= other.count
-    }
-}
-
-impl<N: Name> Book<N> {
-    /// How long the history is, of which a beginning was seen.
-    pub(crate) fn length(&self, seen: &Beginning) -> u64
-        requires { seen.now.book ≡ N.book }
-        ensures { (history : List LogEntry) × StartsWith history seen.now.log × (length history ≡ result) }
-    {
-        let mut seen = seen.again();
-        let mut offer: Offer<LogEntry, u64, Law, Nothing> = seen.plain::<Nothing, LogEntry, Add>(
-            &no_entry(),
-        );
-        self.head.load::<Look, Nothing>(&mut seen, &mut offer)
-    }
-
-    /// Adds an entry to all that was seen, and says whether it did. It did not where the history is longer.
-    pub(crate) fn add(&self, count: usize, seen: &mut Beginning, entry: &LogEntry) -> bool
-        requires room { count + 1 < 2 ^ 64 }
-        requires seen { (count ≡ length seen.old.log) × (seen.old.book ≡ N.book) }
-        ensures added { result ≡ true → (seen.new.book ≡ N.book) × (seen.new.log ≡ seen.old.log ++ entry.now ∷ []) }
-        ensures longer { result ≡ false → GoesOn seen.old.log }
-    {
-        let mut offer: Offer<LogEntry, u64, Law, Nothing> = seen.plain::<Nothing, LogEntry, Add>(
-            entry,
-        );
-        let mut pen = seen.no_pen();
-        let found = self
-            .head
-            .compare_exchange::<Add, Nothing>(
-                count as u64,
-                count as u64 + 1,
-                seen,
-                &mut offer,
-                &mut pen,
-            );
-        found == count as u64
     }
 }

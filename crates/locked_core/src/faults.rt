@@ -3,31 +3,40 @@
 ghost use Rattle.std.specs.Prelude.{◌≡◌};
 ghost use Rattle.locked_core.specs.Faults.{number_of};
 
+use thiserror::Error;
+
 /// Why a kernel did not boot, or was not opened.
-#[derive(Clone, Copy, Debug, PartialEq, Eq)]
+#[derive(Clone, Copy, Debug, PartialEq, Eq, Error)]
 pub enum BootFault {
     /// The number of frames is not 16 to 4,096.
+    #[error("not 16 to 4096 frames")]
     BadSize,
     /// The number of CPUs is not 1 to 8, or that of monitors not 0 to 8.
+    #[error("not 1 to 8 CPUs, or more than 8 monitors")]
     BadCount,
     /// There was no memory for it.
+    #[error("out of memory")]
     NoMemory,
 }
 
 /// Why a call was not made, or a kernel not closed. What the call was for is then as it was.
-#[derive(Clone, Copy, Debug, PartialEq, Eq)]
+#[derive(Clone, Copy, Debug, PartialEq, Eq, Error)]
 pub enum Fault {
     /// There was no memory for the log to grow.
+    #[error("out of memory")]
     NoMemory,
     /// The log is shorter than what the CPU has seen, or its number of the CPU's entries is another than
     /// the CPU's number of calls.
+    #[error("the log of {front} entries is not what the CPU has seen")]
     Stale {
         /// How many entries the log has.
         front: usize,
     },
     /// The kernel's history, as it was read under the lock, is not as long as the log.
+    #[error("the history is not as long as the log")]
     Unread,
     /// Not every CPU was handed back once, or what they say is not what the log says.
+    #[error("the CPUs do not agree with the log")]
     Disagree,
 }
 

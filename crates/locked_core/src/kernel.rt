@@ -1,16 +1,16 @@
 //! The kernel: how it boots, is opened under a name, and is closed.
 
-ghost use Rattle.std.specs.Prelude.{◌≡◌, ◌≤◌, ◌↔◌, [], IfErr, IfOk, IsErrOf, All, Any, IsTrue, length, take, drop, replicate, List};
+ghost use Rattle.std.specs.Prelude.{◌≡◌, ◌≤◌, ◌↔◌, [], IfErr, IfOk, IsErrOf, All, Any, length, take, replicate, List};
 ghost use Rattle.left_right.specs.Sides.{view};
-ghost use Rattle.locked_core.specs.Makers.{AreAll, IsFit, IsOneOf, IsRefused, IsTaken, new_makers};
+ghost use Rattle.locked_core.specs.Makers.{Closes, IsRefused, IsTaken, new_makers};
 ghost use Rattle.locked_core.specs.Pages.{page};
 ghost use Rattle.locked_core.specs.Published.{view_of};
-ghost use Rattle.memory_report.specs.Histories.{Legal, state_after, calls_of};
+ghost use Rattle.memory_report.specs.Histories.{AreIsolated, Legal, state_after, calls_of};
 ghost use Rattle.memory_report.specs.declared.entries.LogEntry.{LogEntry};
-ghost use Rattle.process_table.specs.State.{open_with};
 
-use crate::book::{Front, Name, Opened};
+use crate::book::{Name, Opened};
 use crate::call_log::CallLog;
+use crate::closing::History;
 use crate::cpu::Cpu;
 use crate::faults::{BootFault, Fault};
 use crate::gate::Gate;
@@ -20,37 +20,51 @@ use crate::publish::{reader_of, writer_of};
 use crate::rule::LogWriter;
 use kernel_calls::Core;
 use memory_image::Image;
-use memory_report::LogEntry;
 use page_words::{MAX_FRAMES, MIN_FRAMES};
 use std::alloc::{AllocError, Global};
+use std::marker::Model;
 use std::sync::{Mutex, MutexGuard, Wait};
 
-/// A kernel that has booted, and that no type names yet. End it by `open`.
+/// A kernel that has booted, and that no type names yet. Contracts see its sizes, and which book its history is
+/// written in, which is empty. End it by `open`.
 pub struct Blank<G: Gate + Drop> {
-    /// How many frames its memory has.
-    pub frames: u32,
-    /// How many CPUs it is for.
-    pub cpus: u8,
-    /// How many monitors it is for.
-    pub monitors: u8,
+    frames: u32,
+    cpus: u8,
+    monitors: u8,
     alloc: Global,
     gate: G,
     core: Core,
-    /// Its history, which is empty.
-    pub opened: Opened,
+    opened: Opened,
     writer: LogWriter,
-    ghost few: { cpus ≤ 8 },
-    ghost size: { (16 ≤ frames) × (frames ≤ 4096) },
-    ghost new: { core.state ≡ open_with frames },
-    ghost shows: { (writer.desk.shown.value ≡ page frames opened.seen.book []) × (view writer.desk.place ≡ view_of frames opened.seen.book) × (drop writer.behind writer.log.items ≡ []) },
 }
 
-/// A kernel: its core, log and writer under one lock. End it by `close`.
+impl<G: Gate + Drop> Model for Blank<G> {
+    ghost use Rattle.std.specs.Prelude.{◌≡◌, ◌≤◌, []};
+    ghost use Rattle.locked_core.specs.Held.{Unnamed};
+    ghost use Rattle.locked_core.specs.Pages.{page};
+    ghost use Rattle.locked_core.specs.Published.{view_of};
+    ghost use Rattle.process_table.specs.State.{open_with};
+
+    ghost Value = { Unnamed };
+
+    ghost view = { λ b. record { frames = b.frames; cpus = b.cpus; monitors = b.monitors; book = b.opened.seen.book } };
+
+    ghost invariant = { λ b. (b.cpus ≤ 8) × (16 ≤ b.frames) × (b.frames ≤ 4096) × (b.core.state ≡ open_with b.frames) × (b.writer.desk.shown.value ≡ page b.frames b.opened.seen.book []) × (b.writer.desk.place.me.0.client ≡ view_of b.frames b.opened.seen.book) };
+}
+
+/// A kernel: its core, log and writer under one lock. Contracts see how many CPUs it has. End it by `close`.
 pub struct Kernel<N: Name, G: Gate + Drop> {
     pub(crate) state: Mutex<Locked<N>>,
-    /// How many CPUs it has.
-    pub cpus: u8,
+    cpus: u8,
     pub(crate) gate: G,
+}
+
+impl<N: Name, G: Gate + Drop> Model for Kernel<N, G> {
+    ghost use Rattle.locked_core.specs.Held.{Shared};
+
+    ghost Value = { Shared };
+
+    ghost view = { λ k. record { cpus = k.cpus } };
 }
 
 /// What an opened kernel hands out.
@@ -59,29 +73,6 @@ pub struct Boot<N: Name, G: Gate + Drop> {
     /// Its CPUs, numbered from 0 in their order.
     pub cpus: Vec<Cpu<N>>,
     pub monitors: Vec<Monitor<N>>,
-}
-
-/// All calls of a kernel that was closed, and its core in the state after them.
-#[derive(Drop)]
-pub struct History {
-    pub(crate) entries: Vec<LogEntry>,
-    pub(crate) core: Core,
-}
-
-impl History {
-    /// The entries of all calls, in the order in which they were carried out.
-    pub fn entries(&self) -> &[LogEntry]
-        ensures { result.now ≡ self.now.entries.items }
-    {
-        self.entries.as_slice()
-    }
-
-    /// The core, in the state after the last call.
-    pub fn core(&self) -> &Core
-        ensures { result.now ≡ self.now.core }
-    {
-        &self.core
-    }
 }
 
 impl<N: Name, G: Gate + Drop> Kernel<N, G> {
@@ -156,61 +147,16 @@ impl<N: Name, G: Gate + Drop> Kernel<N, G> {
         ensures begins { IfOk result (λ h. All (λ c. take (length c.seen) h.entries.items ≡ c.seen) cpus.items) }
         ensures calls { IfOk result (λ h. All (λ c. calls_of c.number h.entries.items ≡ calls_of c.number c.seen) cpus.items) }
         ensures all { IfOk result (λ h. All (λ e. Any (λ c. c.number ≡ e.cpu) cpus.items) h.entries.items) }
-        ensures disagree { IfErr result (λ f. (f ≡ Fault.Disagree) × ((log : List LogEntry) × Legal N.frames log × (AreAll self.cpus log cpus.items → ⊥))) }
+        ensures isolated { IfOk result (λ h. AreIsolated N.frames h.entries.items) }
+        ensures closes { (log : List LogEntry) × Legal N.frames log × Closes self.cpus log cpus.items result }
     {
         let Kernel {
             state,
             cpus: count,
             gate: _,
         } = self;
-        let (core, log, front, writer) = state.into_inner().into_parts();
-        writer.take(rt);
-        if !are_all(cpus.as_slice(), count, &log, &front) {
-            return Err(Fault::Disagree);
-        }
-        Ok(History {
-            entries: log.into_entries(),
-            core,
-        })
+        state.into_inner().close(rt, cpus.as_slice(), count)
     }
-}
-
-/// Whether each CPU made the calls that the log has of it, and has seen no more than the log. What it
-/// has seen then begins the log.
-fn agree<N: Name>(cpus: &[Cpu<N>], log: &CallLog, front: &Front<N>) -> bool
-    requires { front.now ≡ log.now.entries }
-    ensures { IsTrue result ↔ All (λ c. IsFit log.now.entries c) cpus.now }
-{
-    cpus.iter().all(|c| c.agrees(log, front))
-}
-
-/// Whether the number is of one of these CPUs.
-#[tactic(auto, unfolding(crate::specs::Makers::IsOneOf))]
-fn is_one_of<N: Name>(cpus: &[Cpu<N>], number: u8) -> bool
-    ensures { IsTrue result ↔ IsOneOf cpus.now number }
-{
-    cpus.iter().any(|c| c.number() == number)
-}
-
-/// Whether each entry is of one of these CPUs.
-fn all_known<N: Name>(cpus: &[Cpu<N>], log: &[LogEntry]) -> bool
-    ensures { IsTrue result ↔ All (λ e. IsOneOf cpus.now e.cpu) log.now }
-{
-    log.iter().all(|e| is_one_of(cpus, e.cpu))
-}
-
-/// Whether these are all of so many CPUs, whose calls are the log.
-fn are_all<N: Name>(cpus: &[Cpu<N>], count: u8, log: &CallLog, front: &Front<N>) -> bool
-    requires { front.now ≡ log.now.entries }
-    ensures { IsTrue result ↔ AreAll count log.now.entries cpus.now }
-{
-    if cpus.len() != usize::from(count) {
-        return false;
-    }
-    if !agree(cpus, log, front) {
-        return false;
-    }
-    all_known(cpus, log.entries())
 }
 
 impl<G: Gate + Drop> Blank<G> {
@@ -218,7 +164,7 @@ impl<G: Gate + Drop> Blank<G> {
     ///
     /// NoMemory where there is none for them; nothing is handed out then.
     pub fn open<N: Name, R: Wait>(self, rt: &R) -> Result<Boot<N, G>, BootFault>
-        requires { (self.frames ≡ N.frames) × (self.opened.seen.book ≡ N.book) }
+        requires { (self.frames ≡ N.frames) × (self.book ≡ N.book) }
         ensures count { IfOk result (λ b. b.kernel.cpus ≡ self.cpus) }
         ensures cpus { IfOk result (λ b. b.cpus.items ≡ new_makers self.cpus) }
         ensures monitors { IfOk result (λ b. b.monitors.items ≡ replicate self.monitors []) }
@@ -238,7 +184,7 @@ impl<G: Gate + Drop> Blank<G> {
             writer.take(rt);
             return Err(BootFault::NoMemory);
         };
-        let locked = Locked::new(core, CallLog::new(alloc), opened.named::<N>(), writer);
+        let locked = Locked::new(core, CallLog::new(alloc), opened, writer);
         Ok(Boot {
             kernel: Kernel {
                 state: Mutex::new(locked),
@@ -260,7 +206,7 @@ fn seats<N: Name>(
 ) -> Result<(Vec<Cpu<N>>, Vec<Monitor<N>>), AllocError>
     requires few { count ≤ 8 }
     requires writer { (writer.old.desk.shown.value ≡ page N.frames N.book []) × (view writer.old.desk.place ≡ view_of N.frames N.book) }
-    ensures writer { (view writer.new.desk.place ≡ view writer.old.desk.place) × (writer.new.desk.shown ≡ writer.old.desk.shown) × (drop writer.new.behind writer.new.log.items ≡ drop writer.old.behind writer.old.log.items) }
+    ensures writer { (view writer.new.desk.place ≡ view writer.old.desk.place) × (writer.new.desk.shown ≡ writer.old.desk.shown) }
     ensures cpus { IfOk result (λ t. t.0.items ≡ new_makers count) }
     ensures monitors { IfOk result (λ t. t.1.items ≡ replicate watchers []) }
 {

@@ -8,33 +8,27 @@
 
 mod book;
 mod call_log;
-#[cfg(test)]
-mod contention_tests;
+mod closing;
 mod cpu;
 mod faults;
-#[cfg(test)]
-mod fork_tests;
 mod gate;
-#[cfg(test)]
-mod gate_tests;
 mod kernel;
 mod locked;
-#[cfg(test)]
-mod memory_tests;
 mod monitor;
 mod port;
 mod publish;
 mod rule;
 mod shown;
-#[cfg(test)]
-mod snapshot_tests;
-#[cfg(test)]
-mod tests;
 
-pub use book::{Front, Name, Opened};
+pub use book::Name;
+pub use closing::History;
 pub use cpu::{Cpu, Told};
 pub use faults::{BootFault, Fault};
 pub use gate::{Gate, OpenGate, Point};
-pub use kernel::{Blank, Boot, History, Kernel};
+pub use kernel::{Blank, Boot, Kernel};
+pub use kernel_calls::{Call, Reply};
+pub use memory_image::Image;
+pub use memory_report::{LogEntry, Report};
 pub use monitor::{Monitor, Seen};
+pub use page_words::Pid;
 pub use port::CpuPort;

@@ -1,27 +1,75 @@
 //! The value under the lock.
 
-ghost use Rattle.std.specs.Prelude.{◌≡◌, ◌≤◌, ◌<◌, ◌+◌, ◌^◌, ◌++◌, [], ◌∷◌, IfOk, IfErr, OnErr, drop, length};
+ghost use Rattle.std.specs.Prelude.{◌≡◌, ◌≤◌, ◌<◌, ◌+◌, ◌==◌, ◌^◌, ◌++◌, [], ◌∷◌, IfOk, IfErr, OnErr, List, length, true};
 ghost use Rattle.kernel_calls.specs.Decisions.{decision_of};
 ghost use Rattle.left_right.specs.Sides.{view};
-ghost use Rattle.locked_core.specs.Makers.{IsRefused, Prevents};
+ghost use Rattle.locked_core.specs.Makers.{AreAll, Closes, IsRefused, Prevents};
 ghost use Rattle.locked_core.specs.Pages.{page};
 ghost use Rattle.locked_core.specs.Published.{view_of};
 ghost use Rattle.memory_image.specs.Sound.{StandsFor};
 ghost use Rattle.memory_report.specs.Histories.{Legal, StartsWith, state_after, calls_of, entry_after};
+ghost use Rattle.locked_core.specs.Rules.{head_of};
+ghost use Rattle.memory_report.specs.declared.entries.LogEntry.{LogEntry};
 ghost use Rattle.process_table.specs.State.{open_with};
 
-use crate::book::{Book, Front, Name};
+use crate::book::{Add, Beginning, Front, Law, Look, Name, Nothing, Opened, no_entry};
 use crate::call_log::{CallLog, entry_of};
+use crate::closing::{History, are_all};
 use crate::cpu::Cpu;
 use crate::faults::Fault;
 use crate::publish::publish;
 use crate::rule::LogWriter;
 use crate::shown::Shown;
 use kernel_calls::{Call, Core, Decision, Event, Reply};
+use logbook::{Offer, Word};
 use memory_image::Image;
+use memory_report::LogEntry;
 use page_words::Pid;
-use std::marker::Model;
+use std::marker::{Model, PhantomData};
 use std::sync::Wait;
+
+/// The length of the history, which is stored once. Only a call that is carried out adds to it.
+#[derive(Drop)]
+struct Book<N: Name> {
+    head: Word<LogEntry, u64, Law>,
+    of: PhantomData<N>,
+    ghost head_is: { head ≡ head_of N.book },
+}
+
+impl<N: Name> Book<N> {
+    /// How long the history is, of which a beginning was seen.
+    fn length(&self, mut seen: Beginning) -> u64
+        requires { seen.book ≡ N.book }
+        ensures { (history : List LogEntry) × StartsWith history seen.log × (length history ≡ result) }
+    {
+        let mut offer: Offer<LogEntry, u64, Law, Nothing> = seen.plain::<Nothing, LogEntry, Add>(
+            &no_entry(),
+        );
+        self.head.load::<Look, Nothing>(&mut seen, &mut offer)
+    }
+
+    /// Adds an entry to all that was seen, and says whether it did. It did not where the history is longer.
+    fn add(&self, count: usize, seen: &mut Beginning, entry: &LogEntry) -> bool
+        requires room { count + 1 < 2 ^ 64 }
+        requires seen { (count ≡ length seen.old.log) × (seen.old.book ≡ N.book) }
+        ensures { result ≡ true → (seen.new.book ≡ N.book) × (seen.new.log ≡ seen.old.log ++ entry.now ∷ []) }
+    {
+        let mut offer: Offer<LogEntry, u64, Law, Nothing> = seen.plain::<Nothing, LogEntry, Add>(
+            entry,
+        );
+        let mut pen = seen.no_pen();
+        let found = self
+            .head
+            .compare_exchange::<Add, Nothing>(
+                count as u64,
+                count as u64 + 1,
+                seen,
+                &mut offer,
+                &mut pen,
+            );
+        found == count as u64
+    }
+}
 
 /// A call that was judged under the lock: what was published then, how many entries its CPU had, and what
 /// was decided. It can be carried out on what it was judged on alone.
@@ -43,7 +91,7 @@ pub struct Locked<N: Name> {
 }
 
 impl<N: Name> Model for Locked<N> {
-    ghost use Rattle.std.specs.Prelude.{◌≡◌, [], drop};
+    ghost use Rattle.std.specs.Prelude.{◌≡◌};
     ghost use Rattle.locked_core.specs.Held.{Held};
     ghost use Rattle.locked_core.specs.Pages.{page};
     ghost use Rattle.locked_core.specs.Published.{view_of};
@@ -53,17 +101,24 @@ impl<N: Name> Model for Locked<N> {
 
     ghost view = { λ l. record { core = l.core; log = l.log.entries } };
 
-    ghost invariant = { λ l. Legal N.frames l.log.entries × (l.core.state ≡ state_after N.frames l.log.entries) × (l.writer.desk.shown.value ≡ page N.frames N.book l.log.entries) × (l.writer.desk.place.me.0.client ≡ view_of N.frames N.book) × (drop l.writer.behind l.writer.log.items ≡ []) };
+    ghost invariant = { λ l. Legal N.frames l.log.entries × (l.core.state ≡ state_after N.frames l.log.entries) × (l.writer.desk.shown.value ≡ page N.frames N.book l.log.entries) × (l.writer.desk.place.me.0.client ≡ view_of N.frames N.book) };
 }
 
 impl<N: Name> Locked<N> {
-    pub(crate) fn new(core: Core, log: CallLog, book: Book<N>, writer: LogWriter) -> Locked<N>
+    /// The core in its opening state, and no entry.
+    pub(crate) fn new(core: Core, log: CallLog, opened: Opened, writer: LogWriter) -> Locked<N>
         requires size { (16 ≤ N.frames) × (N.frames ≤ 4096) }
         requires log { log.entries ≡ [] }
         requires core { core.state ≡ open_with N.frames }
-        requires writer { (writer.desk.shown.value ≡ page N.frames N.book []) × (view writer.desk.place ≡ view_of N.frames N.book) × (drop writer.behind writer.log.items ≡ []) }
-        ensures { result.log ≡ [] }
+        requires book { opened.seen.book ≡ N.book }
+        requires writer { (writer.desk.shown.value ≡ page N.frames N.book []) × (view writer.desk.place ≡ view_of N.frames N.book) }
+        ensures log { result.log ≡ [] }
+        ensures core { result.core.state ≡ open_with N.frames }
     {
+        let book = Book {
+            head: opened.into_head(),
+            of: PhantomData,
+        };
         Locked {
             core,
             log,
@@ -89,7 +144,7 @@ impl<N: Name> Locked<N> {
         ensures refused { IfErr result (IsRefused N.frames self.now.log cpu.now) }
     {
         let page = self.page();
-        if !page.is_all(&self.book) {
+        if self.book.length(page.beginning()) != page.count() as u64 {
             return Err(Fault::Unread);
         }
         if !cpu.agrees(&self.log, &page.front::<N>()) {
@@ -162,7 +217,7 @@ impl<N: Name> Locked<N> {
         ensures front { IfOk result (λ r. (r.1 ≡ self.new.log) × (length r.1 < 2 ^ 64)) }
         ensures legal { IfOk result (λ _. Legal N.frames self.new.log) }
         ensures calls { IfOk result (λ _. calls_of ready.decision.event.cpu self.new.log ≡ calls_of ready.decision.event.cpu self.old.log + 1) }
-        ensures prevented { IfErr result (Prevents self.old.log) }
+        ensures prevented { IfErr result Prevents }
         ensures err { OnErr result (self.new ≡ self.old) }
     {
         let Locked {
@@ -180,9 +235,11 @@ impl<N: Name> Locked<N> {
             return Err(Fault::NoMemory);
         }
         let entry = entry_of(&decision, nth);
-        if !page.add(book, &entry) {
+        let mut seen = page.beginning();
+        if !book.add(page.count(), &mut seen, &entry) {
             return Err(Fault::Unread);
         }
+        page.grow(seen, &entry);
         let reply = core.commit(decision);
         log.push(&entry);
         let front = page.front::<N>();
@@ -190,10 +247,15 @@ impl<N: Name> Locked<N> {
         Ok((reply, front))
     }
 
-    pub(crate) fn into_parts(self) -> (Core, CallLog, Front<N>, LogWriter)
-        ensures log { Legal N.frames result.1.entries }
-        ensures core { result.0.state ≡ state_after N.frames result.1.entries }
-        ensures front { result.2 ≡ result.1.entries }
+    /// Hands out the history, where these CPUs are all of so many, and agree with the log.
+    ///
+    /// Disagree where they are not, or do not; nothing is handed out then.
+    pub(crate) fn close<R: Wait>(self, rt: &R, cpus: &[Cpu<N>], count: u8) -> Result<History, Fault>
+        ensures log { Legal N.frames self.log }
+        ensures closes { Closes count self.log cpus.now result }
+        ensures entries { IfOk result (λ h. h.entries.items ≡ self.log) }
+        ensures legal { IfOk result (λ h. Legal N.frames h.entries.items × (h.core.state ≡ state_after N.frames h.entries.items)) }
+        ensures all { IfOk result (λ h. AreAll count h.entries.items cpus.now) }
     {
         let Locked {
             core,
@@ -202,6 +264,13 @@ impl<N: Name> Locked<N> {
             writer,
         } = self;
         let front = writer.published().front::<N>();
-        (core, log, front, writer)
+        writer.take(rt);
+        if !are_all(cpus, count, &log, &front) {
+            return Err(Fault::Disagree);
+        }
+        Ok(History {
+            entries: log.into_entries(),
+            core,
+        })
     }
 }

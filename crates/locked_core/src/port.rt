@@ -1,9 +1,11 @@
 //! A CPU as what answers a guest's calls.
 
 ghost use Rattle.std.specs.Prelude.{◌≡◌};
+ghost use Rattle.locked_core.specs.Ports.{by_number};
 
 use crate::book::Name;
 use crate::cpu::Cpu;
+use crate::faults::Fault;
 use crate::gate::Gate;
 use crate::kernel::Kernel;
 use guest_cpu::{Port, PortFault};
@@ -28,6 +30,16 @@ impl<'a, N: Name, G: Gate + Drop, R: Wait> CpuPort<'a, N, G, R> {
     }
 }
 
+/// What the CPU answered, its fault by its number.
+fn by_number(answer: Result<Reply, Fault>) -> Result<Reply, PortFault>
+    ensures { result ≡ by_number answer }
+{
+    match answer {
+        Ok(reply) => Ok(reply),
+        Err(fault) => Err(PortFault(fault.number())),
+    }
+}
+
 /// Each call is one call of the CPU, whose fault is told by its number. An event of another CPU is
 /// answered by 6, and nothing is called.
 impl<'a, N: Name, G: Gate + Drop, R: Wait> Port for CpuPort<'a, N, G, R> {
@@ -40,9 +52,6 @@ impl<'a, N: Name, G: Gate + Drop, R: Wait> Port for CpuPort<'a, N, G, R> {
         if event.cpu != self.cpu.number() {
             return Err(PortFault(6));
         }
-        match self.cpu.call(self.rt, self.kernel, event.pid, event.call) {
-            Ok(reply) => Ok(reply),
-            Err(fault) => Err(PortFault(fault.number())),
-        }
+        by_number(self.cpu.call(self.rt, self.kernel, event.pid, event.call))
     }
 }

@@ -67,4 +67,4 @@ impl Join<View> for Notes {
 
 pub type LogReader = Reader<Shown, View, Published>;
 
-pub type LogWriter = Writer<Shown, Shown, View, Published>;
+pub type LogWriter = Writer<Shown, (), View, Published>;

@@ -1,11 +1,10 @@
 //! What is published: a report, beside the beginning of the history that it reports on.
-ghost use Rattle.std.specs.Prelude.{◌≡◌, ◌+◌, ◌<◌, ◌≤◌, ◌^◌, ◌++◌, ◌∷◌, [], false, length, MatchBool};
+ghost use Rattle.std.specs.Prelude.{◌≡◌, ◌+◌, ◌<◌, ◌≤◌, ◌^◌, ◌++◌, ◌∷◌, [], length};
 ghost use Rattle.memory_report.specs.Histories.{Legal, state_after};
 ghost use Rattle.memory_report.specs.Reports.{report_of};
 ghost use Rattle.locked_core.specs.Pages.{page};
-ghost use Rattle.locked_core.specs.Rules.{GoesOn};
 
-use crate::book::{Beginning, Book, Front, Law, Name};
+use crate::book::{Beginning, Front, Law, Name};
 use left_right::Absorb;
 use memory_report::{LogEntry, Report};
 use std::alloc::AllocError;
@@ -74,47 +73,44 @@ impl Shown {
         }
     }
 
-    /// Whether the kernel's history has no more entries than it reports on.
-    pub fn is_all<N: Name>(&self, book: &Book<N>) -> bool
-        requires { self.now.book ≡ N.book }
-        ensures { result ≡ false → GoesOn self.now.log }
+    /// How many entries it reports on.
+    pub fn count(&self) -> usize
+        ensures { result ≡ length self.now.log }
     {
-        book.length(&self.seen) == self.count as u64
+        self.count
     }
 
-    /// Adds an entry to the history, and says whether it did. It did not where the history is longer.
-    pub fn add<N: Name>(&mut self, book: &Book<N>, entry: &LogEntry) -> bool
-        requires kernel { (self.old.frames ≡ N.frames) × (self.old.book ≡ N.book) }
-        requires room { length self.old.log + 1 < 2 ^ 64 }
-        requires legal { Legal N.frames (self.old.log ++ entry.now ∷ []) }
-        ensures added { MatchBool result (self.new ≡ page N.frames N.book (self.old.log ++ entry.now ∷ [])) (self.new ≡ self.old) }
-        ensures longer { result ≡ false → GoesOn self.old.log }
+    /// The beginning of the history, under no name.
+    pub fn beginning(&self) -> Beginning
+        ensures { (result.log ≡ self.now.log) × (result.book ≡ self.now.book) }
     {
-        let mut seen = self.seen.again();
-        if !book.add(self.count, &mut seen, entry) {
-            return false;
-        }
+        self.seen.again()
+    }
+
+    /// Takes in one more entry, by which the history was seen to have grown.
+    pub fn grow(&mut self, seen: Beginning, entry: &LogEntry)
+        requires seen { (seen.book ≡ self.old.book) × (seen.log ≡ self.old.log ++ entry.now ∷ []) }
+        requires room { length self.old.log + 1 < 2 ^ 64 }
+        requires legal { Legal self.old.frames (self.old.log ++ entry.now ∷ []) }
+        ensures { self.new ≡ page self.old.frames self.old.book (self.old.log ++ entry.now ∷ []) }
+    {
         self.report.absorb(entry);
         self.count += 1;
         self.seen = seen;
-        true
     }
 }
 
-/// The copy that is shown last counts.
-impl Absorb<Shown> for Shown {
-    ghost use Rattle.locked_core.specs.Pages.{replaced};
+/// Nothing is put into the writer's queue: each page is shown whole.
+impl Absorb<()> for Shown {
+    type State = u8;
 
-    type State = Shown;
+    ghost state = { λ s. 0 };
 
-    ghost state = { λ s. s };
-
-    ghost applied = { replaced };
+    ghost applied = { λ s o. s };
 
     ghost never_fails = { Unit {0} };
 
-    fn absorb_first(&mut self, operation: &Shown, _other: &Shown) -> Result<(), AllocError> {
-        *self = operation.again();
+    fn absorb_first(&mut self, _operation: &(), _other: &Shown) -> Result<(), AllocError> {
         Ok(())
     }
 }

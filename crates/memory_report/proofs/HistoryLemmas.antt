@@ -16,11 +16,11 @@ length-answers : (s : State) (es : List Event) → length (answers s es) ≡ len
 length-answers s [] = refl
 length-answers s (e ∷ es) = ap suc (length-answers (next s e) es)
 
-events-append : (log more : List LogEntry) → events_of (log ++ more) ≡ events_of log ++ events_of more
+pub events-append : (log more : List LogEntry) → events_of (log ++ more) ≡ events_of log ++ events_of more
 events-append [] more = refl
 events-append (e ∷ log) more = ap (λ l. event_of e ∷ l) (events-append log more)
 
-replies-append : (log more : List LogEntry) → replies_of (log ++ more) ≡ replies_of log ++ replies_of more
+pub replies-append : (log more : List LogEntry) → replies_of (log ++ more) ≡ replies_of log ++ replies_of more
 replies-append [] more = refl
 replies-append (e ∷ log) more = ap (λ l. e.reply ∷ l) (replies-append log more)
 

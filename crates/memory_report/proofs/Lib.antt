@@ -1,4 +1,5 @@
 pub mod HistoryLemmas
+pub mod IsolatedHistories
 pub mod ReportLemmas
 pub mod RowLemmas
 pub mod TextLemmas

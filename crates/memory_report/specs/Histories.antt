@@ -1,6 +1,7 @@
 -- Histories: lists of log entries, their states, and which of them are legal.
 use Rattle.std.specs.Prelude.{◌≡◌, ◌≤◌, ℕ, ◌==◌, List, ◌∷◌, ◌++◌, map, length, filter, nat_lt, if◌then◌else◌}
 use Rattle.kernel_calls.specs.Decisions.{charge_after}
+use Rattle.kernel_calls.specs.Isolation.{Exchange, IsIsolated}
 use Rattle.kernel_calls.specs.Machine.{answer, answers, end_of}
 use Rattle.kernel_calls.specs.declared.calls.Call.{Call}
 use Rattle.kernel_calls.specs.declared.calls.Event.{Event}
@@ -20,6 +21,14 @@ replies_of log = map (λ e. e.reply) log
 -- the last state of the machine's run over the events of these entries, from the opening of that many frames
 abbrev pub state_after : ℕ → List LogEntry → State
 state_after frames log = end_of (open_with frames) (events_of log)
+
+-- the events of these entries, each with its reply
+abbrev pub exchanges_of : List LogEntry → List Exchange
+exchanges_of log = map (λ e. (event_of e, e.reply)) log
+
+-- each process that these entries make is told behind the entry that made it, up to its first Exit, what it would be told alone, as long as it keeps to itself
+abbrev pub AreIsolated : ℕ → List LogEntry → Type 0
+AreIsolated frames log = IsIsolated (open_with frames) (events_of log) (replies_of log)
 
 -- the entries of one CPU
 abbrev pub entries_of : ℕ → List LogEntry → List LogEntry

@@ -1,10 +1,13 @@
 -- Laws on histories and reports.
-use Rattle.std.specs.Prelude.{◌≡◌, ℕ, ◌≤◌, List, [], ◌∷◌, ◌++◌}
+use Rattle.std.specs.Prelude.{◌≡◌, ℕ, ◌≤◌, ◌==◌, List, [], ◌∷◌, ◌++◌, filter}
+use Rattle.kernel_calls.specs.Isolation.{InvolvesNobody, own, own_behind}
 use Rattle.kernel_calls.specs.declared.calls.Call.{Call}
-use Rattle.memory_report.specs.Histories.{Legal, entry_after}
+use Rattle.kernel_calls.specs.declared.calls.Event.{Event}
+use Rattle.kernel_calls.specs.declared.calls.Reply.TheVariants.{Child}
+use Rattle.memory_report.specs.Histories.{Legal, AreIsolated, entry_after, event_of, events_of, exchanges_of}
 use Rattle.memory_report.specs.Reports.{report_of, total_of}
 use Rattle.memory_report.specs.declared.entries.LogEntry.{LogEntry}
-use Rattle.process_table.specs.State.{State}
+use Rattle.process_table.specs.State.{State, open_with}
 use Rattle.process_table.specs.WellFormed.{IsWellFormed, total}
 
 -- no entry is a legal history of every machine that boots
@@ -18,6 +21,16 @@ GrowsLegal = (frames : ℕ) (log : List LogEntry) (cpu pid : ℕ) (call : Call) 
 -- a beginning of a legal history is legal
 abbrev pub BeginsLegal : Type 0
 BeginsLegal = (frames : ℕ) (log rest : List LogEntry) → Legal frames (log ++ rest) → Legal frames log
+
+-- what a process is told in a legal history is what it is told alone
+abbrev pub HistoriesAreIsolated : Type 0
+HistoriesAreIsolated = (frames : ℕ) (log : List LogEntry) → Legal frames log → AreIsolated frames log
+
+-- and what it is told in the machine's run without the later events of all others
+abbrev pub OthersMakeNoDifference : Type 0
+OthersMakeNoDifference = (frames : ℕ) (before : List LogEntry) (e : LogEntry) (later : List LogEntry) (p : ℕ) → Legal frames (before ++ e ∷ later) → e.reply ≡ Child p
+    → InvolvesNobody (own p (exchanges_of later))
+    → own_behind p (open_with frames) (events_of before) (event_of e) (filter (λ (other : Event). other.pid == p) (events_of later)) ≡ own p (exchanges_of later)
 
 -- the total of a report is what all live processes cost together
 abbrev pub TotalIsCost : Type 0

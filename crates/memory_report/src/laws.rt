@@ -1,6 +1,6 @@
 //! Laws of histories and reports. Each is the contract of a function that computes nothing.
 
-ghost use Rattle.memory_report.specs.Laws.{BeginsLegal, EmptyIsLegal, GrowsLegal, TotalIsCost};
+ghost use Rattle.memory_report.specs.Laws.{BeginsLegal, EmptyIsLegal, GrowsLegal, HistoriesAreIsolated, OthersMakeNoDifference, TotalIsCost};
 
 /// What is logged of one call after another, from the opening, is a legal history, and so is each
 /// beginning of one. It computes nothing.
@@ -8,6 +8,17 @@ pub fn runs_are_legal()
     ensures empty { EmptyIsLegal }
     ensures grows { GrowsLegal }
     ensures begins { BeginsLegal }
+{}
+
+/// In every legal history, what a new process is told behind the entry that made it, up to its first Exit,
+/// is what it would be told as process 1 of a machine where it is alone with its quota and the pages that
+/// it got from a fork, as long as it makes and takes no offer and makes no child. It is what the machine
+/// tells it where the later events of all others are left out. So in the history of a kernel neither
+/// other processes nor the order in which their threads' calls come have an effect on it. It computes
+/// nothing.
+pub fn histories_are_isolated()
+    ensures alone { HistoriesAreIsolated }
+    ensures others { OthersMakeNoDifference }
 {}
 
 /// The total of a report of a well-formed state is what all live processes cost together. It computes

@@ -1,9 +1,11 @@
-use Rattle.std.proofs.Common.{rules, ◌≡◌, ap, subst}
+use Rattle.std.proofs.Common.{rules, ◌≡◌, ◌∙◌, ap, sym, subst}
 use Rattle.kernel_calls.specs.declared.calls.Decision.{Decision}
 use Rattle.locked_core.proofs.Entries.{makes, prevents_refuses}
 use Rattle.locked_core.proofs.cpu.Cpu.call.Goals as goal
 use Rattle.locked_core.specs.Held.{Held}
-use Rattle.memory_report.specs.Histories.{Legal, StartsWith, calls_of}
+use Rattle.locked_core.specs.Makers.{Maker}
+use Rattle.memory_report.proofs.IsolatedHistories.{histories_isolated}
+use Rattle.memory_report.specs.Histories.{AreIsolated, Legal, StartsWith, calls_of}
 
 -- the log on which a call was judged is the one that it was to be carried out on
 pub returns-in-Err-carry_out-clause-refused : goal.returns-in-Err-carry_out-clause-refused
@@ -26,3 +28,10 @@ returns-clause-made g c =
     subst (λ (h : Held). StartsWith h.log before.seen × (calls_of before.number h.log ≡ calls_of before.number before.seen)) same c.in-Ok.ensures.fits in
     makes g.N.Name.frames before c.made.new.self c.args.pid c.args.call c.in-Ok-carry_out.carried.0 c.in-Ok.ready.decision.event c.deref_mut.result.now.log c.carry_out.new.self.log c.in-Ok-carry_out.carried.1
     (ap (λ (d : Decision). d.event) c.in-Ok.ensures.decided) fits done.legal done.log done.reply done.front.0 c.made.ensures
+
+-- what it has seen is the log with its entry, which is a legal history
+pub returns-clause-isolated : goal.returns-clause-isolated
+returns-clause-isolated g c =
+    let done = c.in-Ok-carry_out.ensures in
+    let seen : c.made.new.self.seen ≡ c.carry_out.new.self.log = ap (λ (m : Maker). m.seen) c.made.ensures ∙ done.front.0 in
+    subst (AreIsolated g.N.Name.frames) (sym seen) (histories_isolated g.N.Name.frames c.carry_out.new.self.log done.legal)

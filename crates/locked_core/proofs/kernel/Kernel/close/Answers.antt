@@ -1,9 +1,37 @@
-use Rattle.std.proofs.Common.{rules}
-use Rattle.locked_core.specs.Makers.{AreAll, IsOneOf}
+use Rattle.std.proofs.Common.{◌≡◌, List, Result, Ok, Err, length, take, subst}
+use Rattle.std.specs.Prelude.{IfOk}
+use Rattle.std.proofs.lemmas.List.Elements.{All-weaker}
+use Rattle.locked_core.specs.Makers.{Maker, AreAll, IsFit, IsOneOf}
+use Rattle.locked_core.specs.declared.faults.Fault.{Fault}
 use Rattle.locked_core.proofs.kernel.Kernel.close.Goals as goal
+use Rattle.memory_report.specs.Histories.{calls_of}
+use Rattle.memory_report.proofs.IsolatedHistories.{histories_isolated}
+
+-- what follows from what is known of a value that is there
+ok_weaker : {X : Type 0} {P Q : X → Type 0} (r : Result X Fault) → IfOk r P → ((x : X) → P x → Q x) → IfOk r Q
+ok_weaker (Ok x) p f = f x p
+ok_weaker (Err e) p f = tt
+
+pub returns-clause-isolated : goal.returns-clause-isolated
+returns-clause-isolated g c = ok_weaker c.close.result c.close.ensures.legal (λ h legal. histories_isolated g.N.Name.frames h.entries.items legal.0)
+
+pub returns-clause-begins : goal.returns-clause-begins
+returns-clause-begins g c =
+    let cpus : List Maker = c.args.cpus.items in
+    ok_weaker c.close.result c.close.ensures.all (λ h all.
+    let mine = subst (AreAll c.self.inside.cpus h.entries.items) c.as_slice.ensures.value all in
+    All-weaker (IsFit h.entries.items) (λ (m : Maker). take (length m.seen) h.entries.items ≡ m.seen) (λ m fit. fit.0) cpus mine.fit)
+
+pub returns-clause-calls : goal.returns-clause-calls
+returns-clause-calls g c =
+    let cpus : List Maker = c.args.cpus.items in
+    ok_weaker c.close.result c.close.ensures.all (λ h all.
+    let mine = subst (AreAll c.self.inside.cpus h.entries.items) c.as_slice.ensures.value all in
+    All-weaker (IsFit h.entries.items) (λ (m : Maker). calls_of m.number h.entries.items ≡ calls_of m.number m.seen) (λ m fit. fit.1) cpus mine.fit)
 
 pub returns-clause-all : goal.returns-clause-all
 unfolding IsOneOf
 returns-clause-all g c =
-    let all : AreAll c.args.self.cpus c.into_entries.result.items c.args.cpus.items = search rules in
-    all.known
+    ok_weaker c.close.result c.close.ensures.all (λ h all.
+    let mine = subst (AreAll c.self.inside.cpus h.entries.items) c.as_slice.ensures.value all in
+    mine.known)

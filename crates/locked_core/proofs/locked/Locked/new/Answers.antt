@@ -8,4 +8,4 @@ invariant_of-result g c =
     let none = c.requires.log in
     let begun = legal_opening g.N.Name.frames c.args.log.entries c.args.core.state c.requires.size.0 c.requires.size.1 none c.requires.core in
     let w = c.requires.writer in
-    (begun.0, begun.1, w.0 ∙ ap (page g.N.Name.frames g.N.Name.book) (sym none), w.1, w.2)
+    (begun.0, begun.1, w.0 ∙ ap (page g.N.Name.frames g.N.Name.book) (sym none), w.1)

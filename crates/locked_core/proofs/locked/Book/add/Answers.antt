@@ -1,0 +1,16 @@
+use Rattle.std.proofs.Common.{sym, ◌∙◌, ap}
+use Rattle.locked_core.proofs.Adding.{adds_moves}
+use Rattle.locked_core.proofs.locked.Book.add.Goals as goal
+
+pub compare_exchange-found-requires : goal.compare_exchange-found-requires
+compare_exchange-found-requires g c =
+    let h = c.args.self.now.head_is in
+    let offer = c.plain-offer.ensures in
+    let pen = c.no_pen-pen.ensures in
+    let here = c.requires.seen.1 ∙ sym (ap (λ w. w.book) h) in (
+      ap (λ w. w.tracked) h,
+      here,
+      pen.0 ∙ here,
+      offer.0,
+      rw (ap (λ w. w.key) h, pen.1, offer.1, offer.3) (adds_moves c.args.seen.now.log c.args.entry.now c.args.count (sym c.requires.seen.0)),
+    )

@@ -1,5 +1,0 @@
-use Rattle.locked_core.proofs.tests.a_monitor_reports_each_call.Given as goal
-
--- the kernel that was just booted
-abbrev pub ghosts-in_turn : goal.ghosts-in_turn
-ghosts-in_turn g a = record { frames = a.blank.frames; book = a.blank.opened.seen.book }

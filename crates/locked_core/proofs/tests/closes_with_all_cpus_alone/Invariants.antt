@@ -1,5 +1,0 @@
-use Rattle.locked_core.proofs.tests.closes_with_all_cpus_alone.Given as goal
-
--- the kernel that was just booted
-abbrev pub ghosts-empty : goal.ghosts-empty
-ghosts-empty g a = record { frames = a.blank.frames; book = a.blank.opened.seen.book }

@@ -1,0 +1,5 @@
+use Rattle.thread_tests.proofs.gate_tests.a_second_cpu_waits_while_a_call_is_held.Given as goal
+
+-- the kernel that was just booted
+abbrev pub ghosts-waited : goal.ghosts-waited
+ghosts-waited g a = record { frames = a.blank.frames; book = a.blank.book }

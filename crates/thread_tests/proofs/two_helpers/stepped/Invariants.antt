@@ -1,0 +1,5 @@
+use Rattle.parallel_audit.specs.Steps.{IsOf}
+use Rattle.thread_tests.proofs.two_helpers.stepped.Given as goal
+
+abbrev pub invariant-loop-turn : goal.invariant-loop-turn
+invariant-loop-turn l = IsOf l.audit l.helper
