@@ -9,8 +9,8 @@ use Rattle.locked_core.specs.declared.faults.BootFault.{BootFault}
 use Rattle.locked_core.specs.declared.faults.BootFault.TheVariants as boot
 use Rattle.locked_core.specs.declared.faults.Fault.{Fault}
 use Rattle.locked_core.specs.declared.faults.Fault.TheVariants as kernel
-use Rattle.parallel_audit.specs.declared.faults.AuditFault.{AuditFault}
-use Rattle.parallel_audit.specs.declared.faults.AuditFault.TheVariants as audit
+use Rattle.integrity_checker.specs.declared.faults.AuditFault.{AuditFault}
+use Rattle.integrity_checker.specs.declared.faults.AuditFault.TheVariants as audit
 use Rattle.guest_race.specs.declared.faults.RoundFault.{RoundFault}
 use Rattle.guest_race.specs.declared.faults.RoundFault.TheVariants.{NoMemory, Turns, Failed}
 

@@ -7,7 +7,7 @@ use Rattle.guest_cpu.specs.Guests.{View, opening_guest}
 use Rattle.guest_cpu.specs.Runs.{IsRun}
 use Rattle.guest_cpu.specs.declared.runs.End.TheVariants as end
 use Rattle.guest_race.specs.Programs.{opening_events, race_program, turns}
-use Rattle.integrity_checker.specs.Told.{fails_nothing, verdict_on}
+use Rattle.image_check.specs.Told.{fails_nothing, verdict_on}
 use Rattle.kernel_calls.specs.declared.calls.Event.{Event}
 use Rattle.locked_core.specs.Makers.{Maker, maker, IsTaken}
 use Rattle.memory_image.specs.Image.{Image}

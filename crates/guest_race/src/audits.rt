@@ -2,14 +2,14 @@
 
 ghost use Rattle.std.specs.Prelude.{◌≡◌, ◌≤◌, ◌∷◌, [], IfNone, IfOk, true, vec_len};
 ghost use Rattle.std.specs.Vec.{vec_capacity};
-ghost use Rattle.integrity_checker.specs.Told.{fails_nothing, verdict_on};
-ghost use Rattle.parallel_audit.specs.Steps.{IsOf};
+ghost use Rattle.image_check.specs.Told.{fails_nothing, verdict_on};
+ghost use Rattle.integrity_checker.specs.Steps.{IsOf};
 ghost use Rattle.guest_race.specs.Rounds.{Audited};
 
 use crate::faults::RoundFault;
+use integrity_checker::{Audit, Helper, Step};
 use locked_core::{Cpu, Kernel, Name, OpenGate};
 use memory_image::Image;
-use parallel_audit::{Audit, Helper, Step};
 use std::alloc::Global;
 use std::sync::Wait;
 use std::thread;

@@ -3,8 +3,8 @@
 ghost use Rattle.std.specs.Prelude.{◌≡◌};
 
 use guest_cpu::End;
+use integrity_checker::AuditFault;
 use locked_core::{BootFault, Fault};
-use parallel_audit::AuditFault;
 use thiserror::Error;
 
 /// Why a round ends early. Of several causes the first of these is told.

@@ -1,27 +1,20 @@
-//! The check of an image of a machine: for each process and each frame the first clause that fails, none
-//! exactly where the image is sound.
+//! Images of a machine and their check, by one or by several helpers at once, who draw the numbers of
+//! processes from one word. All that is needed for images and verdicts is handed out here.
 #![tactic(auto)]
 
-mod clauses;
-mod counting;
-mod judging;
-mod laws;
-mod naming;
-mod serving;
-#[cfg(test)]
-mod tests;
-mod text;
-mod verdicts;
-mod walking;
-mod words;
+mod audit;
+mod draw;
+mod faults;
+mod findings;
+mod parts;
+mod stepping;
 
-pub use clauses::{FrameClause, ProcessClause};
-pub use counting::pid_of;
-pub use judging::judge_process;
-pub use laws::{draws_add_up, sound_where_nothing_fails, tests_decide};
-pub use memory_image::{
-    Image, ImageFault, NoMemory, Process, WriteFailed, bytes_are_refused_where_they_spell_none,
-    fault_in, images_are_judged_as_machines, images_have_one_spelling, images_of_machines_stand,
-    images_stand_for_one, read_image, write_image,
+pub use draw::{About, Drawer, Draws};
+pub use faults::AuditFault;
+pub use image_check::{
+    FrameClause, Image, ImageFault, NoMemory, Process, ProcessClause, Verdict, WriteFailed,
+    bytes_are_refused_where_they_spell_none, check, fault_in, images_are_judged_as_machines,
+    images_have_one_spelling, images_of_machines_stand, images_stand_for_one, read_image,
+    sound_where_nothing_fails, tests_decide, write_image,
 };
-pub use verdicts::{Verdict, check};
+pub use parts::{Audit, DrawTable, Helper, Step};

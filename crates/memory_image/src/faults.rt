@@ -23,5 +23,6 @@ pub enum ImageFault {
 }
 
 /// The allocator refused what a call needs.
-#[derive(Clone, Copy, Debug, PartialEq, Eq)]
+#[derive(Clone, Copy, Debug, PartialEq, Eq, Error)]
+#[error("out of memory")]
 pub struct NoMemory;

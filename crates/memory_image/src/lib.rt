@@ -9,8 +9,6 @@ mod laws;
 mod making;
 mod processes;
 mod reading;
-#[cfg(test)]
-mod tests;
 mod writing;
 
 pub use faults::{ImageFault, NoMemory};

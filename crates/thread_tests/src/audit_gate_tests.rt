@@ -1,14 +1,14 @@
 //! A call that is held under the lock, while two helpers in two threads audit an earlier snapshot.
 
 ghost use Rattle.std.specs.Prelude.{◌≡◌};
-ghost use Rattle.parallel_audit.specs.Steps.{IsOf};
+ghost use Rattle.integrity_checker.specs.Steps.{IsOf};
 
 use crate::two_helpers::{handed_back, stepped, taken};
+use integrity_checker::{Audit, Helper};
 use kernel_calls::{Call, Reply};
 use locked_core::{Blank, Boot, Cpu, Gate, Kernel, Name, Point};
 use memory_image::Image;
 use page_words::{Pid, Size, Vaddr};
-use parallel_audit::{Audit, Helper};
 use std::alloc::Global;
 use std::marker::Brand;
 use std::process::Abort;

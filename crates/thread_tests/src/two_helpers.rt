@@ -1,9 +1,9 @@
 //! Two helpers of an audit, for the tests: taken from it, stepped, and handed back.
 
 ghost use Rattle.std.specs.Prelude.{All, IfSome};
-ghost use Rattle.parallel_audit.specs.Steps.{IsOf};
+ghost use Rattle.integrity_checker.specs.Steps.{IsOf};
 
-use parallel_audit::{Audit, Helper, Step};
+use integrity_checker::{Audit, Helper, Step};
 use std::alloc::Global;
 
 /// Takes the last helper.

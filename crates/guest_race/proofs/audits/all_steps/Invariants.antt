@@ -1,5 +1,5 @@
 -- The helper is one of this audit.
-use Rattle.parallel_audit.specs.Steps.{IsOf}
+use Rattle.integrity_checker.specs.Steps.{IsOf}
 use Rattle.guest_race.proofs.audits.all_steps.Given as goal
 
 abbrev pub invariant-loop-step : goal.invariant-loop-step

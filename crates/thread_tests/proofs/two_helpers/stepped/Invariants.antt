@@ -1,4 +1,4 @@
-use Rattle.parallel_audit.specs.Steps.{IsOf}
+use Rattle.integrity_checker.specs.Steps.{IsOf}
 use Rattle.thread_tests.proofs.two_helpers.stepped.Given as goal
 
 abbrev pub invariant-loop-turn : goal.invariant-loop-turn

@@ -1,0 +1,17 @@
+pub mod RangeLemmas
+pub mod WordLemmas
+pub mod CountLemmas
+pub mod Sizes
+pub mod Linked
+pub mod ClauseLemmas
+pub mod Backward
+pub mod Forward
+pub mod Agreement
+pub mod SlotLemmas
+pub mod AddLemmas
+pub mod WorkedImages
+pub mod DrawLemmas
+pub mod ToldLemmas
+pub mod TextLemmas
+pub mod VerdictTexts
+pub mod NamingLemmas

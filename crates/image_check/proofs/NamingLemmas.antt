@@ -1,0 +1,153 @@
+-- What a directory names and maps, added up by the frames that it names in place of its slots.
+use Rattle.std.proofs.Common.{◌≡◌, ℕ, zero, suc, ◌+◌, ◌-◌, ◌*◌, ◌<◌, ◌≤◌, Bool, List, length, replicate, mul-add, add-mul, mul-le-mul_left, mul-zero, zero-mul, one-mul, refl, sym, ap, subst, ◌∙◌, arith, inl, inr, Option, Some, None}
+use Rattle.std.specs.Prelude.{slice_index, ◌==◌, if◌then◌else◌}
+use Rattle.std.proofs.lemmas.Bool.{cases_lt, eq-eqb, ne_eqb}
+use Rattle.std.proofs.lemmas.List.{length-replicate}
+use Rattle.page_words.specs.Words.{is_present}
+use Rattle.page_map.specs.Pages.{counted, count_range}
+use Rattle.page_map.proofs.PageLemmas.{count_range-add, count_range-le, count_range-none, count_range-zero, count_word}
+use Rattle.address_space.specs.Image.{table_at}
+use Rattle.memory_image.specs.Image.{Image, frames, memory_of}
+use Rattle.memory_image.specs.Words.{own_frame}
+use Rattle.memory_image.proofs.ImageReads.{no_word}
+use Rattle.image_check.specs.Counts.{sum_range, is_this, frame_of, names_by, maps_by}
+use Rattle.image_check.specs.Adds.{Adds, Counts, HaveRoom, MayGrow, frame_named, words_naming}
+use Rattle.image_check.proofs.RangeLemmas.{sum-none, sum-one, sum-same, sum-add, sum_goes_on}
+use Rattle.image_check.proofs.AddLemmas.{adds_nothing, adds_both}
+use Rattle.image_check.proofs.SlotLemmas.{maps_in_table, maps_without_table}
+
+-- ---- Sums of products
+
+sum-plus : (f g : ℕ → ℕ) (first count : ℕ) → sum_range (λ k. f k + g k) first count ≡ sum_range f first count + sum_range g first count
+unfolding sum_range
+sum-plus f g first zero = refl
+sum-plus f g first (suc count) = let r = sum-plus f g (first + 1) count in omega (arith, r)
+
+-- what g gives for a frame, where there is one
+abbrev given : (ℕ → ℕ) → Option ℕ → ℕ
+given g None = 0
+given g (Some t) = g t
+
+-- of all frames, the one that is named
+by-name : (g : ℕ → ℕ) (n : ℕ) → ((t : ℕ) → n ≤ t → g t ≡ 0) → (x : Option ℕ) → sum_range (λ t. counted (is_this t x) * g t) 0 n ≡ given g x
+by-name g n past None = sum-none (λ t. counted (is_this t None) * g t) 0 n (λ t low high. zero-mul (g t))
+by-name g n past (Some u) = elim (cases_lt u n) [
+  | inl inside ↦
+      sum-one (λ t. counted (u == t) * g t) 0 n u (omega arith) (omega arith) (λ t other. ap (λ b. counted b * g t) (ne_eqb u t (λ e. other (sym e))) ∙ zero-mul (g t))
+      ∙ ap (λ b. counted b * g u) (eq-eqb u u refl) ∙ one-mul (g u)
+  | inr outside ↦
+      sum-none (λ t. counted (u == t) * g t) 0 n (λ t low high. ap (λ b. counted b * g t) (ne_eqb u t (λ e. omega arith)) ∙ zero-mul (g t))
+      ∙ sym (past u outside)
+]
+
+-- by frames, each as often as it is named, or by the slots that name them
+by-slots : (tab : ℕ → Option ℕ) (g : ℕ → ℕ) (n : ℕ) → ((t : ℕ) → n ≤ t → g t ≡ 0) → (first count : ℕ)
+    → sum_range (λ t. count_range (λ s. is_this t (tab s)) first count * g t) 0 n ≡ sum_range (λ s. given g (tab s)) first count
+unfolding sum_range count_range
+by-slots tab g n past first zero = sum-none (λ t. 0 * g t) 0 n (λ t low high. zero-mul (g t))
+by-slots tab g n past first (suc count) =
+    sum-same (λ t. (counted (is_this t (tab first)) + count_range (λ s. is_this t (tab s)) (first + 1) count) * g t) (λ t. counted (is_this t (tab first)) * g t + count_range (λ s. is_this t (tab s)) (first + 1) count * g t) 0 n
+    (λ t low high. add-mul (counted (is_this t (tab first))) (count_range (λ s. is_this t (tab s)) (first + 1) count) (g t))
+    ∙ sum-plus (λ t. counted (is_this t (tab first)) * g t) (λ t. count_range (λ s. is_this t (tab s)) (first + 1) count * g t) 0 n
+    ∙ (λ i. by-name g n past (tab first) i + by-slots tab g n past (first + 1) count i)
+
+-- a count over pages, slot by slot
+by-regions : (p : ℕ → Bool) (first count : ℕ) → count_range p (1024 * first) (1024 * count) ≡ sum_range (λ s. count_range p (1024 * s) 1024) first count
+unfolding sum_range count_range
+by-regions p first zero = refl
+by-regions p first (suc count) =
+    let a : 1024 * suc count ≡ 1024 + 1024 * count = omega arith in
+    let b : 1024 * first + 1024 ≡ 1024 * (first + 1) = omega arith in
+    ap (count_range p (1024 * first)) a ∙ count_range-add p (1024 * first) 1024 (1024 * count)
+    ∙ (λ i. count_range p (1024 * first) 1024 + count_range p (b i) (1024 * count))
+    ∙ ap (λ k. count_range p (1024 * first) 1024 + k) (by-regions p (first + 1) count)
+
+-- ---- One process
+
+module _ (image : Image) (p f : ℕ) (size : length image.bytes ≡ 4096 * frames image) where
+  -- a frame past the end names none
+  past_names_none : (t : ℕ) → frames image ≤ t → words_naming image t f ≡ 0
+  past_names_none t past = count_range-none (λ i. is_this f (frame_named image t i)) 0 1024
+      (λ i low. ap (λ w. is_this f (if is_present w then own_frame image.version w else None)) (sym (no_word image.bytes (frames image) t (0 + i) size past)))
+
+  by-slot : (s : ℕ) (x : Option ℕ) → table_at (memory_of image) p s ≡ x → given (λ t. words_naming image t f) x ≡ count_range (λ page. is_this f (frame_of image p page)) (1024 * s) 1024
+  by-slot s None none = sym (maps_without_table image p s f none)
+  by-slot s (Some t) there = maps_in_table image p s t f size there
+
+  -- what the tables of a process map, by the frames that it names
+  pub maps_by_names : sum_range (λ t. names_by image p t * words_naming image t f) 0 (frames image) ≡ maps_by image p f
+  maps_by_names =
+      by-slots (table_at (memory_of image) p) (λ t. words_naming image t f) (frames image) past_names_none 256 704
+      ∙ sum-same (λ s. given (λ t. words_naming image t f) (table_at (memory_of image) p s)) (λ s. count_range (λ page. is_this f (frame_of image p page)) (1024 * s) 1024) 256 704
+      (λ s low high. by-slot s (table_at (memory_of image) p s) refl)
+      ∙ sym (by-regions (λ page. is_this f (frame_of image p page)) 256 704)
+
+-- ---- Steps of the loops
+
+-- so many more of a range
+pub times_go_on : (p : ℕ → ℕ → Bool) (xs ys zs : List ℕ) (times k : ℕ)
+    → Adds xs ys (λ f. times * count_range (p f) 0 k) → Adds ys zs (λ f. times * counted (p f k)) → Adds xs zs (λ f. times * count_range (p f) 0 (k + 1))
+times_go_on p xs ys zs times k a b = adds_both xs ys zs (λ f. times * count_range (p f) 0 k) (λ f. times * counted (p f k)) (λ f. times * count_range (p f) 0 (k + 1)) a b
+    (λ f. sym (times_more (p f) times k))
+  where
+    times_more : (p : ℕ → Bool) (times k : ℕ) → times * count_range p 0 (k + 1) ≡ times * count_range p 0 k + times * counted (p k)
+    times_more p times k = ap (λ n. times * n) (sym (count_word p k (count_range p 0 k) (counted (p k)) refl refl)) ∙ mul-add times (count_range p 0 k) (counted (p k))
+
+pub times_begin : (p : ℕ → ℕ → Bool) (xs : List ℕ) (times : ℕ) → Adds xs xs (λ f. times * count_range (p f) 0 0)
+times_begin p xs times = adds_nothing xs (λ f. times * count_range (p f) 0 0) (λ f. ap (λ n. times * n) (count_range-zero (p f) 0) ∙ mul-zero times)
+
+-- room for so many more of a range
+pub times_room : (p : ℕ → ℕ → Bool) (xs ys : List ℕ) (times count k : ℕ) → k < count → MayGrow xs (λ f. times * count_range (p f) 0 count)
+    → Adds xs ys (λ f. times * count_range (p f) 0 k) → MayGrow ys (λ f. times * counted (p f k))
+times_room p xs ys times count k low room a f inside =
+    let s = a.same in
+    let i : f < length xs = omega arith in
+    let whole : count_range (p f) 0 count ≡ count_range (p f) 0 (k + 1) + count_range (p f) (0 + (k + 1)) (count - (k + 1)) =
+    ap (count_range (p f) 0) (let e : count ≡ k + 1 + (count - (k + 1)) = omega arith in e) ∙ count_range-add (p f) 0 (k + 1) (count - (k + 1)) in
+    let part : times * count_range (p f) 0 (k + 1) ≤ times * count_range (p f) 0 count = mul-le-mul_left times (omega (arith, whole)) in
+    let more = ap (λ n. times * n) (count_word (p f) k (count_range (p f) 0 k) (counted (p f k)) refl refl) in
+    let split = mul-add times (count_range (p f) 0 k) (counted (p f k)) in
+    omega (arith, room f i, a.each f i, part, more, split)
+
+-- room for one term more of a sum
+pub term_room : (g : ℕ → ℕ → ℕ) (xs ys : List ℕ) (n k : ℕ) → k < n → MayGrow xs (λ f. sum_range (g f) 0 n) → Adds xs ys (λ f. sum_range (g f) 0 k) → MayGrow ys (λ f. g f k)
+term_room g xs ys n k low room a f inside =
+    let s = a.same in
+    let i : f < length xs = omega arith in
+    let more = sum_goes_on (g f) k (sum_range (g f) 0 k) (g f k) refl refl in
+    let whole : sum_range (g f) 0 n ≡ sum_range (g f) 0 (k + 1) + sum_range (g f) (0 + (k + 1)) (n - (k + 1)) =
+    ap (sum_range (g f) 0) (let e : n ≡ k + 1 + (n - (k + 1)) = omega arith in e) ∙ sum-add (g f) 0 (k + 1) (n - (k + 1)) in
+    omega (arith, room f i, a.each f i, more, whole)
+
+-- no time adds nothing
+pub no_times : (xs : List ℕ) (times : ℕ) (g : ℕ → ℕ) → times ≡ 0 → Adds xs xs (λ f. times * g f)
+no_times xs times g none = adds_nothing xs (λ f. times * g f) (λ f. ap (λ n. n * g f) none ∙ zero-mul (g f))
+
+-- ---- What was counted from zeros
+
+module _ (image : Image) (p : ℕ) (named : List ℕ) (size : length image.bytes ≡ 4096 * frames image) (few : frames image ≤ 4096) (counts : Counts named 4096 (λ t. names_by image p t)) where
+  pub maps_by_named : (f : ℕ) → sum_range (λ t. slice_index named t * words_naming image t f) 0 (frames image) ≡ maps_by image p f
+  maps_by_named f =
+      sum-same (λ t. slice_index named t * words_naming image t f) (λ t. names_by image p t * words_naming image t f) 0 (frames image) (λ t low high. ap (λ k. k * words_naming image t f) (counts.each t (omega arith)))
+      ∙ maps_by_names image p f size
+
+  pub room_by_named : (maps : List ℕ) → HaveRoom maps 720896 → MayGrow maps (λ f. sum_range (λ t. slice_index named t * words_naming image t f) 0 (frames image))
+  room_by_named maps room f inside =
+      let most = count_range-le (λ page. is_this f (frame_of image p page)) 0x40000 0xb0000 in
+      omega (arith, room f inside, maps_by_named f, most)
+
+zero_at : (n f : ℕ) → slice_index (replicate n 0) f ≡ 0
+zero_at zero f = refl
+zero_at (suc n) zero = refl
+zero_at (suc n) (suc f) = zero_at n f
+
+-- zeros have room for all slots of a directory
+pub zeros_have_room : HaveRoom (replicate 4096 0) 704
+zeros_have_room f inside = let z = zero_at 4096 f in omega (arith, z)
+
+-- what was added to zeros is what was counted
+pub counts_from_zeros : (xs : List ℕ) (k : ℕ → ℕ) → Adds (replicate 4096 0) xs k → Counts xs 4096 k
+counts_from_zeros xs k a = record {
+  long = a.same ∙ length-replicate {A = ℕ} 4096 0;
+  each = λ f low. let z = zero_at 4096 f in omega (arith, a.each f (subst (λ n. f < n) (sym (length-replicate {A = ℕ} 4096 0)) low), z);
+}

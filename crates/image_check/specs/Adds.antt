@@ -1,0 +1,37 @@
+-- Counts, one for each frame, and what was added to them.
+use Rattle.std.specs.Prelude.{◌≡◌, ℕ, ◌+◌, ◌<◌, ◌^◌, List, length, slice_index, Option, None, if◌then◌else◌}
+use Rattle.page_words.specs.Words.{is_present}
+use Rattle.address_space.specs.Image.{word_of}
+use Rattle.page_map.specs.Pages.{count_range}
+use Rattle.memory_image.specs.Image.{Image, memory_of}
+use Rattle.memory_image.specs.Words.{own_frame}
+use Rattle.image_check.specs.Counts.{is_this}
+
+-- each frame's count grew by what k gives for it
+pub record Adds (old new : List ℕ) (k : ℕ → ℕ) : Type 0 where
+  pub same : length new ≡ length old
+  pub each : (f : ℕ) → f < length old → slice_index new f ≡ slice_index old f + k f
+
+-- each count may grow by that much
+abbrev pub HaveRoom : List ℕ → ℕ → Type 0
+HaveRoom counts most = (f : ℕ) → f < length counts → slice_index counts f + most < 2 ^ 32
+
+-- each count may grow by what k gives for it
+abbrev pub MayGrow : List ℕ → (ℕ → ℕ) → Type 0
+MayGrow counts k = (f : ℕ) → f < length counts → slice_index counts f + k f < 2 ^ 32
+
+abbrev pub AreZeros : List ℕ → Type 0
+AreZeros counts = (f : ℕ) → f < length counts → slice_index counts f ≡ 0
+
+-- the frame of its own that a word of a table names, where it is present
+abbrev pub frame_named : Image → ℕ → ℕ → Option ℕ
+frame_named image t i = if is_present (word_of (memory_of image) t i) then own_frame image.version (word_of (memory_of image) t i) else None
+
+-- how many words of a table name the frame
+abbrev pub words_naming : Image → ℕ → ℕ → ℕ
+words_naming image t f = count_range (λ i. is_this f (frame_named image t i)) 0 1024
+
+-- these counts, of so many frames, are what k gives
+pub record Counts (counts : List ℕ) (n : ℕ) (k : ℕ → ℕ) : Type 0 where
+  pub long : length counts ≡ n
+  pub each : (f : ℕ) → f < n → slice_index counts f ≡ k f

@@ -1,0 +1,24 @@
+//! Tests of images, their check, audits and the program's commands, by their public calls. They stand here
+//! and not beside what they test, so that each of those crates is proved once.
+#![tactic(auto)]
+
+#[cfg(test)]
+mod audit_memory_tests;
+#[cfg(test)]
+mod audit_tests;
+#[cfg(test)]
+mod check_tests;
+#[cfg(test)]
+mod command_memory_tests;
+#[cfg(test)]
+mod command_tests;
+#[cfg(test)]
+mod damaged_tests;
+#[cfg(test)]
+mod race_tests;
+#[cfg(test)]
+mod spelling_tests;
+#[cfg(test)]
+mod status_tests;
+#[cfg(test)]
+mod worked_tests;

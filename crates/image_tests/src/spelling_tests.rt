@@ -1,0 +1,264 @@
+//! The image of a core, its bytes, and what is refused of bytes that were changed.
+
+use arrayvec::ArrayVec;
+use kernel_calls::{Call, Core, Event, Role};
+use memory_image::{Image, ImageFault, NoMemory, WriteFailed, read_image, write_image};
+use page_words::{Frame, Pid, Size, Vaddr};
+use std::io;
+use std::io::Write;
+use std::test::Fail;
+
+/// How many bytes an image of 16 frames has.
+const LENGTH: usize = 67_340;
+
+/// Keeps what is written, and fails once it has taken so many bytes.
+#[derive(Drop)]
+struct BrokenWriter {
+    written: ArrayVec<u8, 64>,
+    left: usize,
+}
+
+impl Write for BrokenWriter {
+    ghost use Rattle.std.specs.Prelude.{Some};
+
+    ghost contents = { λ writer. Some writer.written.items };
+
+    fn write(&mut self, buf: &[u8]) -> io::Result<usize> {
+        if self.left == 0 {
+            return Err(io::Error::from(io::ErrorKind::BrokenPipe));
+        }
+        let count = buf.len().min(self.left);
+        match self.written.try_extend_from_slice(&buf[..count]) {
+            Ok(()) => {
+                self.left -= count;
+                Ok(count)
+            }
+            Err(_) => Err(io::Error::from(io::ErrorKind::WriteZero)),
+        }
+    }
+
+    fn flush(&mut self) -> io::Result<()> {
+        Ok(())
+    }
+}
+
+/// The bytes of the image of a freshly booted core of 16 frames.
+fn booted(rt: &HostRuntime) -> Result<Vec<u8>, Fail> {
+    let core = Core::boot(rt.alloc(), 16)?;
+    let image = Image::of(rt.alloc(), &core)?;
+    let mut bytes = Vec::new(rt.alloc());
+    write_image(&image, &mut bytes)?;
+    Ok(bytes)
+}
+
+/// Puts a word at a place.
+fn put(bytes: &mut [u8], place: usize, word: u32) {
+    for (i, byte) in word.to_le_bytes().iter().enumerate() {
+        if let Some(old) = bytes.get_mut(place.wrapping_add(i)) {
+            *old = *byte;
+        }
+    }
+}
+
+/// The word at a place.
+fn word(bytes: &[u8], place: usize) -> u32 {
+    match bytes.get(place..) {
+        Some([a, b, c, d, ..]) => u32::from_le_bytes([*a, *b, *c, *d]),
+        _ => 0,
+    }
+}
+
+fn fault(rt: &HostRuntime, bytes: &[u8]) -> Option<ImageFault> {
+    read_image(rt.alloc(), bytes).err()
+}
+
+#[test]
+fn spells_a_booted_core(rt: HostRuntime) -> Result<(), Fail> {
+    let bytes = booted(&rt)?;
+    assert_eq!(rt; bytes.len(), LENGTH);
+    assert_eq!(rt;
+        bytes.get(..12),
+        Some(b"mC2I\x02\0\0\0\x10\0\0\0".as_slice())
+    );
+    let core = Core::boot(rt.alloc(), 16)?;
+    let root = Pid::new(0).ok_or("no root")?;
+    let directory = core.directory(root).ok_or("no directory")?;
+    let record = [1, 0, 15, 1, 0, directory.0];
+    for (i, field) in record.iter().enumerate() {
+        assert_eq!(rt;
+            word(&bytes, 12_usize.wrapping_add(i.wrapping_mul(4))),
+            *field
+        );
+    }
+    Ok(())
+}
+
+#[test]
+fn reads_back_what_it_wrote(rt: HostRuntime) -> Result<(), Fail> {
+    let root = Pid::new(0).ok_or("no root")?;
+    let mut core = Core::boot(rt.alloc(), 16)?;
+    core.step(&Event {
+        cpu: 0,
+        pid: root,
+        call: Call::Store {
+            addr: Vaddr(0x4000_0000),
+            size: Size::Four,
+            value: 7,
+        },
+    });
+    let image = Image::of(rt.alloc(), &core)?;
+    let mut bytes = Vec::new(rt.alloc());
+    write_image(&image, &mut bytes)?;
+    let read = read_image(rt.alloc(), &bytes)?;
+    assert_eq!(rt; read.version(), 2);
+    assert_eq!(rt; read.frames(), 16);
+    assert_eq!(rt; read.process(root), image.process(root));
+    assert_eq!(rt; read.bytes(), core.memory().bytes());
+    for frame in 0..16 {
+        assert_eq!(rt; read.role(Frame(frame)), Some(core.role(Frame(frame))));
+    }
+    assert_eq!(rt; read.role(Frame(16)), None);
+    let mut again = Vec::new(rt.alloc());
+    write_image(&read, &mut again)?;
+    assert_eq!(rt; again, bytes);
+    Ok(())
+}
+
+#[test]
+fn refuses_what_is_no_image(rt: HostRuntime) -> Result<(), Fail> {
+    let mut bytes = booted(&rt)?;
+    assert_eq!(rt; fault(&rt, b""), Some(ImageFault::NotImage));
+    assert_eq!(rt; fault(&rt, b"mC2"), Some(ImageFault::NotImage));
+    assert_eq!(rt; fault(&rt, b"mC2I"), Some(ImageFault::BadLength));
+    assert_eq!(rt;
+        fault(&rt, b"mC2I\x02\0\0\0\x10\0\0"),
+        Some(ImageFault::BadLength)
+    );
+    let fewer = bytes.len().wrapping_sub(1);
+    assert_eq!(rt;
+        bytes.get(..fewer).and_then(|front| fault(&rt, front)),
+        Some(ImageFault::BadLength)
+    );
+    assert_eq!(rt; fault(&rt, &bytes), None);
+    bytes.push(0)?;
+    assert_eq!(rt; fault(&rt, &bytes), Some(ImageFault::BadLength));
+    Ok(())
+}
+
+#[test]
+fn refuses_a_changed_word(rt: HostRuntime) -> Result<(), Fail> {
+    let bad = |offset| ImageFault::BadField { offset };
+    let changes = [
+        (0, 0x4932_4300, ImageFault::NotImage),
+        (4, 0, ImageFault::BadVersion),
+        (4, 3, ImageFault::BadVersion),
+        (8, 15, bad(8)),
+        (8, 4097, bad(8)),
+        (8, 17, ImageFault::BadLength),
+        // live, parent, and the directory's frame, of process 0
+        (12, 2, bad(12)),
+        (16, 64, bad(16)),
+        (16, 1, bad(16)),
+        (32, 16, bad(32)),
+        // process 5 is not live
+        (136, 1, bad(136)),
+        (140, 1, bad(140)),
+        (152, 1, bad(152)),
+        // frame 3 is free
+        (1596, 5, bad(1596)),
+        (1600, 1, bad(1600)),
+        (1604, 1, bad(1604)),
+        (1608, 1, bad(1608)),
+        // the last field of all
+        (1800, 1, bad(1800)),
+    ];
+    let mut bytes = booted(&rt)?;
+    for (place, changed, expected) in changes {
+        let old = word(&bytes, place);
+        put(&mut bytes, place, changed);
+        assert_eq!(rt; fault(&rt, &bytes), Some(expected), "word {place}");
+        put(&mut bytes, place, old);
+    }
+    assert_eq!(rt; fault(&rt, &bytes), None);
+    put(&mut bytes, 4, 1);
+    assert_eq!(rt; read_image(rt.alloc(), &bytes)?.version(), 1);
+    Ok(())
+}
+
+#[test]
+fn tells_the_role_of_each_kind(rt: HostRuntime) -> Result<(), Fail> {
+    let mut bytes = booted(&rt)?;
+    let last = Pid::new(63).ok_or("no process")?;
+    put(&mut bytes, 1596, 3);
+    put(&mut bytes, 1600, 63);
+    put(&mut bytes, 1604, 1023);
+    put(&mut bytes, 1612, 4);
+    put(&mut bytes, 1624, u32::MAX);
+    let image = read_image(rt.alloc(), &bytes)?;
+    assert_eq!(rt;
+        image.role(Frame(3)),
+        Some(Role::Table {
+            pid: last,
+            slot: 1023
+        })
+    );
+    assert_eq!(rt; image.role(Frame(4)), Some(Role::Page { count: u32::MAX }));
+    Ok(())
+}
+
+#[test]
+fn stops_where_a_write_fails(rt: HostRuntime) -> Result<(), Fail> {
+    let core = Core::boot(rt.alloc(), 16)?;
+    let image = Image::of(rt.alloc(), &core)?;
+    let mut writer = BrokenWriter {
+        written: ArrayVec::new(),
+        left: 40,
+    };
+    assert_eq!(rt; write_image(&image, &mut writer), Err(WriteFailed));
+    assert_eq!(rt; Some(writer.written.as_slice()), booted(&rt)?.get(..40));
+    Ok(())
+}
+
+#[test]
+fn faults_have_their_texts(rt: HostRuntime) -> Result<(), Fail> {
+    let texts = [
+        (ImageFault::NotImage, "not an image"),
+        (ImageFault::BadLength, "wrong image length"),
+        (ImageFault::BadVersion, "unknown image version"),
+        (
+            ImageFault::BadField { offset: 140 },
+            "bad field at byte 140",
+        ),
+        (ImageFault::NoMemory, "out of memory"),
+    ];
+    for (fault, expected) in texts {
+        let text = format!(in rt.alloc(); "{fault}")?;
+        assert_eq!(rt; text.as_str(), expected);
+    }
+    Ok(())
+}
+
+/// `rt try --test --fail-alloc N` refuses the Nth allocation of this test alone. The first four are those
+/// of the core; then come two of `Image::of`, one of the bytes, and two of `read_image`. Each of these calls
+/// that meets a refusal answers NoMemory, the same call with memory then succeeds, and a line is printed that
+/// says so.
+#[test]
+fn goes_on_after_want_of_memory(rt: HostRuntime) -> Result<(), Fail> {
+    let core = Core::boot(rt.alloc(), 16)?;
+    let mut made = Image::of(rt.alloc(), &core);
+    if made.is_err() {
+        assert_eq!(rt; made.err(), Some(NoMemory));
+        made = Image::of(rt.alloc(), &core);
+        println!(rt; "NoMemory, and then an image of a core")?;
+    }
+    let mut bytes = Vec::with_capacity(rt.alloc(), LENGTH)?;
+    write_image(&made?, &mut bytes)?;
+    let mut read = read_image(rt.alloc(), &bytes);
+    if read.is_err() {
+        assert_eq!(rt; read.err(), Some(ImageFault::NoMemory));
+        read = read_image(rt.alloc(), &bytes);
+        println!(rt; "NoMemory, and then an image of bytes")?;
+    }
+    assert_eq!(rt; read?.frames(), 16);
+    Ok(())
+}

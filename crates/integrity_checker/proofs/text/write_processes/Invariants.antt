@@ -1,8 +1,0 @@
--- What is not written yet are the lines from the next one on.
-use Rattle.std.proofs.Common.{drop}
-use Rattle.text_output.specs.Output.{LeavesUnwritten}
-use Rattle.integrity_checker.specs.Text.{lines_from, process_line}
-use Rattle.integrity_checker.proofs.text.write_processes.Given as goal
-
-abbrev pub invariant-loop-number : goal.invariant-loop-number
-invariant-loop-number g l = LeavesUnwritten (g.W.Write.contents l.fn.writer) (g.W.Write.contents l.writer) (lines_from process_line 0 l.clauses) (lines_from process_line l.number (drop l.number l.clauses))

@@ -1,5 +1,0 @@
-use Rattle.parallel_audit.specs.Steps.{IsOf}
-use Rattle.parallel_audit.proofs.tests.steps.Given as goal
-
-abbrev pub invariant-loop-turn : goal.invariant-loop-turn
-invariant-loop-turn l = IsOf l.audit l.helper

@@ -1,3 +1,0 @@
-pub mod JobLemmas
-pub mod ValueLemmas
-pub mod CommandLemmas

@@ -1,4 +1,0 @@
-pub mod Faults
-pub mod Images
-pub mod Jobs
-pub mod Races

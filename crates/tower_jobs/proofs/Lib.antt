@@ -1,0 +1,4 @@
+pub mod JobLemmas
+pub mod ValueLemmas
+pub mod CommandLemmas
+pub mod ImageLemmas

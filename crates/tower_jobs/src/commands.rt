@@ -1,0 +1,141 @@
+//! The four jobs, each with the answer that comes of it.
+
+ghost use Rattle.std.specs.Prelude.{◌≡◌, ◌≤◌, ◌⊎◌, None, map, IfOk, IfErr};
+ghost use Rattle.tower_jobs.specs.Answers.{AnswersWords, ChecksFile, DoesJob, ImagesScript, IsRead, PlaysRace, RunsScript};
+ghost use Rattle.tower_jobs.specs.Jobs.{HasRounds, told};
+
+use crate::answers::{Answer, refuse};
+use crate::images::{check_bytes, write_script_image};
+use crate::jobs::{Job, job_of};
+use crate::races::race;
+use crate::tools::ToolFault;
+use script_run::run_script;
+use std::alloc::Global;
+use std::convert::AsStr;
+use std::fs::Files;
+use std::io::{Read, Write};
+use std::sync::Wait;
+use std::thread::Threads;
+use std::{fs, io};
+
+/// One byte more than an image of 4,096 frames has.
+const FILE_BYTES: u64 = 16_844_301;
+
+/// Runs a script on a machine of so many frames, and writes its replies.
+fn run_replies<I: Read, O: Write>(
+    alloc: Global,
+    input: &mut I,
+    output: &mut O,
+    frames: u32,
+) -> Answer
+    ensures { RunsScript frames result (I.remaining input.old) (I.remaining input.new) (O.contents output.old) (O.contents output.new) }
+{
+    match run_script(alloc, input, output, frames) {
+        Ok(_) => Answer::Done,
+        Err(fault) => Answer::Failed(ToolFault::from(fault)),
+    }
+}
+
+/// Runs a script on a machine of so many frames, and writes the image of its last state.
+fn write_image_of<I: Read, O: Write>(
+    alloc: Global,
+    input: &mut I,
+    output: &mut O,
+    frames: u32,
+) -> Answer
+    ensures { ImagesScript frames result (I.remaining input.old) (I.remaining input.new) (O.contents output.old) (O.contents output.new) }
+{
+    match write_script_image(alloc, input, output, frames) {
+        Ok(()) => Answer::Done,
+        Err(fault) => Answer::Failed(ToolFault::from(fault)),
+    }
+}
+
+/// The bytes of a file, of which no more are read than one more than the largest image has.
+fn bytes_of<F: Read + Drop>(alloc: Global, file: F) -> Result<Vec<u8>, ToolFault>
+    ensures read { IfOk result (λ bytes. IsRead (F.remaining file) bytes.items) }
+    ensures fault { IfErr result (λ fault. (fault ≡ ToolFault.NoMemory) ⊎ (fault ≡ ToolFault.ReadFailed)) }
+{
+    let mut bytes = Vec::new(alloc);
+    match file.take(FILE_BYTES).read_to_end(&mut bytes) {
+        Ok(_) => Ok(bytes),
+        Err(error) if error.kind() == io::ErrorKind::OutOfMemory => Err(ToolFault::NoMemory),
+        Err(_) => Err(ToolFault::ReadFailed),
+    }
+}
+
+/// Checks the image that a file has, and writes the verdict on it. Of the file no more is read than one
+/// byte more than the largest image has.
+fn check_file<F: Read + Drop, O: Write>(alloc: Global, file: F, output: &mut O) -> Answer
+    ensures { ChecksFile result (F.remaining file) (O.contents output.old) (O.contents output.new) }
+{
+    let bytes = match bytes_of(alloc, file) {
+        Ok(bytes) => bytes,
+        Err(fault) => return Answer::Failed(fault),
+    };
+    match check_bytes(alloc, bytes.as_slice(), output) {
+        Ok(true) => Answer::Done,
+        Ok(false) => Answer::NotSound,
+        Err(fault) => Answer::Failed(fault),
+    }
+}
+
+/// Checks the image in the file of that name; ReadFailed where it can't be opened.
+fn check_named<R: AllocGlobal + Files, O: Write>(rt: &R, name: &str, output: &mut O) -> Answer
+    ensures { ChecksFile result None (O.contents output.old) (O.contents output.new) }
+{
+    match fs::open(rt, name) {
+        Ok(file) => check_file(rt.alloc(), file, output),
+        Err(_) => Answer::Failed(ToolFault::ReadFailed),
+    }
+}
+
+/// Plays so many rounds of a race, at least one, and writes what is said of them. It may wait.
+fn play_race<R: AllocGlobal + Threads + Wait + Sync, O: Write>(
+    rt: &R,
+    output: &mut O,
+    frames: u32,
+    rounds: u32,
+) -> Answer
+    requires { 1 ≤ rounds }
+    ensures { PlaysRace frames rounds result (O.contents output.old) (O.contents output.new) }
+{
+    match race(rt, rt.alloc(), output, frames, rounds) {
+        Ok(()) => Answer::Done,
+        Err(fault) => Answer::Failed(fault),
+    }
+}
+
+/// Does a job: a script is read from `input`, and what the job gives is written to `output`. A race may
+/// wait.
+fn answer_job<R: AllocGlobal + Files + Threads + Wait + Sync, I: Read, O: Write>(
+    rt: &R,
+    job: Job<'_>,
+    input: &mut I,
+    output: &mut O,
+) -> Answer
+    requires { HasRounds job }
+    ensures { DoesJob (told job.entry) result (I.remaining input.old) (I.remaining input.new) (O.contents output.old) (O.contents output.new) }
+{
+    match job {
+        Job::Run { frames } => run_replies(rt.alloc(), input, output, frames),
+        Job::Image { frames } => write_image_of(rt.alloc(), input, output, frames),
+        Job::Check { file } => check_named(rt, file, output),
+        Job::Race { frames, rounds } => play_race(rt, output, frames, rounds),
+    }
+}
+
+/// Does what the words ask for, of which the first is the program's name. A race may wait.
+pub fn answer<R: AllocGlobal + Files + Threads + Wait + Sync, S: AsStr, I: Read, O: Write>(
+    rt: &R,
+    words: &[S],
+    input: &mut I,
+    output: &mut O,
+) -> Answer
+    ensures { AnswersWords (map S.text words.now) result (I.remaining input.old) (I.remaining input.new) (O.contents output.old) (O.contents output.new) }
+{
+    match job_of(rt.alloc(), words) {
+        Ok(job) => answer_job(rt, job, input, output),
+        Err(error) => refuse(error),
+    }
+}

@@ -1,0 +1,86 @@
+//! The race: rounds of two guests, and what is written of all of them.
+
+ghost use Rattle.std.specs.Prelude.{◌≡◌, ◌≤◌, ◌↔◌, IfOk, IfErr, IsErrOf, OnOk, OnErr};
+ghost use Rattle.std.specs.Io.KnownBytes.{Appends};
+ghost use Rattle.tower_jobs.specs.Races.{Raced, Writes, EndsRace, race_heading, race_text};
+ghost use Rattle.text_output.specs.Output.{AppendsFront};
+
+use crate::tools::ToolFault;
+use arrayvec::ArrayVec;
+use guest_race::{RoundFault, round};
+use memory_report::Report;
+use page_words::{MAX_FRAMES, MIN_FRAMES};
+use std::alloc::Global;
+use std::io::Write;
+use std::sync::Wait;
+use std::thread::Threads;
+use text_output::{WriteFailed, push_number, push_word, write_whole};
+
+/// Room for the lines before the report.
+const ROOM: usize = 64;
+
+/// Plays so many rounds, each on a kernel of its own. The report of the last one.
+fn play<R: Threads + Wait + Sync>(
+    rt: &R,
+    alloc: Global,
+    frames: u32,
+    rounds: u32,
+) -> Result<Report, RoundFault>
+    requires { 1 ≤ rounds }
+    ensures { IfOk result (Raced frames rounds) }
+{
+    let mut report = round(rt, alloc, frames)?;
+    for played in 1..rounds {
+        report = round(rt, alloc, frames)?;
+    }
+    Ok(report)
+}
+
+/// The lines before the report.
+#[tactic(auto, unfolding(crate::specs::Races::race_heading))]
+fn heading(rounds: u32) -> ArrayVec<u8, ROOM>
+    ensures { result.items ≡ race_heading rounds }
+{
+    let mut text = ArrayVec::new();
+    push_number(&mut text, "rounds ", rounds);
+    push_word(&mut text, "\nhistory legal\nreport equal\nverdict sound\n");
+    text
+}
+
+/// Writes what is said of so many rounds.
+#[tactic(auto, unfolding(crate::specs::Races::race_text))]
+fn write_race<W: Write>(writer: &mut W, rounds: u32, report: &Report) -> Result<(), WriteFailed>
+    ensures ok { OnOk result (Appends (W.contents writer.old) (W.contents writer.new) (race_text rounds report.now)) }
+    ensures err { OnErr result (AppendsFront (W.contents writer.old) (W.contents writer.new) (race_text rounds report.now)) }
+{
+    write_whole(writer, heading(rounds).as_slice())?;
+    report.write_text(writer)
+}
+
+/// Plays so many rounds of a race, at least one, each on a freshly booted kernel of so many frames, and
+/// then writes that all histories were legal, all reports equal and all images sound, and the report of the
+/// last round. It may wait, as each round's threads do.
+///
+/// `BadSize` comes where there are not 16 to 4,096 frames. Then the first round that ends early ends the
+/// race: `NoMemory` where memory runs out, else `RaceTurns` where a guest ran out of turns, else
+/// `RaceFailed`. Nothing is written before all rounds are done. `WriteFailed` comes last, and what was
+/// written is then a front of the text.
+pub fn race<R: Threads + Wait + Sync, W: Write>(
+    rt: &R,
+    alloc: Global,
+    writer: &mut W,
+    frames: u32,
+    rounds: u32,
+) -> Result<(), ToolFault>
+    requires { 1 ≤ rounds }
+    ensures size { IsErrOf result ToolFault.BadSize ↔ (16 ≤ frames → frames ≤ 4096 → ⊥) }
+    ensures text { OnOk result (Writes frames rounds (W.contents writer.old) (W.contents writer.new)) }
+    ensures fault { IfErr result (λ fault. EndsRace frames rounds fault (W.contents writer.old) (W.contents writer.new)) }
+{
+    if !(MIN_FRAMES..=MAX_FRAMES).contains(&frames) {
+        return Err(ToolFault::BadSize);
+    }
+    let report = play(rt, alloc, frames, rounds)?;
+    write_race(writer, rounds, &report)?;
+    Ok(())
+}
