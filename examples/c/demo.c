@@ -85,8 +85,10 @@ static void maps_and_loads(void) {
            "its second byte too");
     expect(faults((struct tower_event){.call = TOWER_LOAD, .flag = 4, .first = 0x1000}, 4),
            "below the user range it faults");
-    expect(is_refused((struct tower_event){.call = TOWER_LOAD, .flag = 4, .first = ADDRESS + 2}, TOWER_MISALIGNED),
-           "at an odd place it is refused");
+    expect(loads((struct tower_event){.call = TOWER_LOAD, .flag = 2, .first = ADDRESS + 9}, WORD >> 8 & 0xffff),
+           "two bytes at an odd place");
+    expect(loads((struct tower_event){.call = TOWER_LOAD, .flag = 4, .first = ADDRESS + 4094}, 0),
+           "and four over two pages");
 }
 
 static void shares(void) {

@@ -80,8 +80,7 @@ enum tower_kind {
 enum tower_cause {
     TOWER_NO_PROCESS = 1,
     TOWER_BAD_PAGE = 2,
-    TOWER_MISALIGNED = 3,
-    TOWER_NOT_MAPPED = 4,
+    TOWER_NOT_MAPPED = 4,                    /* 3 is the number of no cause */
     TOWER_MAPPED = 5,
     TOWER_OVER_QUOTA = 6,
     TOWER_RIGHTS = 7,

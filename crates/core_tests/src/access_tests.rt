@@ -377,7 +377,7 @@ fn change(core: &mut Core, plain: &mut Plain, pid: Pid, page: Page, kind: u32) -
     };
     let done = told(core, pid, call) == Reply::Done;
     if done {
-        match call {
+        match &call {
             Call::Map { .. } => plain.map(pid, address, write),
             Call::Protect { .. } => plain.put(pid, address, Slot { write, ..slot }),
             _ => plain.put(pid, address, BLANK),

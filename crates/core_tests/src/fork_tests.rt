@@ -1,6 +1,7 @@
 //! A process of a thousand pages, half of them lazy, copies itself until it is refused.
 
 use kernel_calls::{Call, Cause, Core, Event, Frame, Page, Pid, Reply, Role, Size, Vaddr};
+use page_words::{DirWord, TableWord, index_of, slot_of};
 use std::process::Abort;
 use std::test::Fail;
 
@@ -80,14 +81,49 @@ fn build(rt: &impl Abort, core: &mut Core, pid: Pid) {
     }
 }
 
-/// Whether two processes have the same bytes at a page.
-fn same_bytes(core: &Core, pid: Pid, copy: Pid, n: u32) -> bool {
-    let mut same = true;
-    for word in 0..32_u32 {
-        let addr = address_at(n, word.wrapping_mul(4));
-        same = same && seen(core, pid, addr) == seen(core, copy, addr);
+/// The word of an index of a frame, or 0 outside memory.
+fn word_at(core: &Core, frame: Frame, index: u32) -> u32 {
+    let place = frame.0 as usize * 4096 + index as usize * 4;
+    let inside = place + 4 <= core.memory().bytes().len();
+    if inside {
+        core.memory().read_word(place)
+    } else {
+        0
     }
-    same
+}
+
+/// The frame that a process's page has: frame 0 where it is lazy.
+fn frame_of(core: &Core, pid: Pid, page: Page) -> Option<Frame> {
+    let directory = core.directory(pid)?;
+    let table = DirWord::read(word_at(core, directory, slot_of(page))).frame();
+    Some(TableWord::read(word_at(core, table, index_of(page))).frame())
+}
+
+/// The bytes of a frame, or none outside memory.
+fn bytes_of(core: &Core, frame: Frame) -> &[u8] {
+    let at = frame.0 as usize * 4096;
+    let bytes = core.memory().bytes();
+    if at + 4096 <= bytes.len() {
+        &bytes[at..at + 4096]
+    } else {
+        &[]
+    }
+}
+
+/// Whether two processes have the same 4,096 bytes at a page: both on frame 0 where it is lazy, and else on two
+/// frames.
+fn same_bytes(core: &Core, pid: Pid, copy: Pid, n: u32) -> bool {
+    let page = page_at(n);
+    match (frame_of(core, pid, page), frame_of(core, copy, page)) {
+        (Some(one), Some(two)) => {
+            let lazy = n % 2 == 1;
+            lazy == (one == Frame(0))
+                && lazy == (one == two)
+                && bytes_of(core, one).len() == 4096
+                && bytes_of(core, one) == bytes_of(core, two)
+        }
+        _ => false,
+    }
 }
 
 /// Whether a page's flags are those of an untouched copy of another's.
