@@ -12,7 +12,8 @@ ghost use Rattle.address_space.specs.Sound.{IsSound, IsSpaces};
 ghost use Rattle.address_space.specs.Counts.{IsCounted, AlwaysMapsAlike};
 ghost use Rattle.address_space.specs.Changes.{IsEmptySpace, SlotCopied, PageCopied, PagesCopied};
 
-use crate::{Directories, give_table, region_counts, take};
+use crate::links::give_table;
+use crate::{Directories, region_counts, take};
 use alloc_table::{FrameTable, Role};
 use page_map::PageEntry;
 use page_words::{Frame, Page, Pid, slot_of};

@@ -6,7 +6,8 @@ ghost use Rattle.address_space.specs.Sound.{IsSpaces};
 ghost use Rattle.address_space.specs.Counts.{IsCounted, KeepsCounts};
 ghost use Rattle.address_space.specs.Changes.{IsEmptySpace, PagesDropped, DirectoryDropped, SpaceDropped};
 
-use crate::{Directories, home, remove_entry};
+use crate::links::remove_entry;
+use crate::{Directories, home};
 use alloc_table::FrameTable;
 use page_words::{Frame, Page, Pid};
 use phys_memory::Memory;

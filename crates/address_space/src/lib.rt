@@ -6,31 +6,30 @@
 //! costs allows.
 #![tactic(auto)]
 
-ghost use Rattle.std.specs.Prelude.{◌≡◌, ◌≢◌, ◌↔◌, IfOk, IfSome, IsSome, IsNone, IsErrOf, replicate, ℕ, ◌+◌, ◌*◌, ◌/◌, ◌%◌, ◌^◌, ◌<◌, ◌≤◌, [], ◌∷◌, Some, None, length, slice_get, slice_set, is_some, true, false, not, ◌&&◌, ◌==◌};
+ghost use Rattle.std.specs.Prelude.{◌≡◌, ◌≢◌, ◌↔◌, IfOk, IfSome, IsSome, IsNone, IsErrOf, replicate, ℕ, ◌+◌, ◌*◌, ◌/◌, ◌%◌, ◌^◌, ◌<◌, ◌≤◌, [], ◌∷◌, Some, None, length, slice_get, is_some, true, false, not, ◌&&◌, ◌==◌};
 ghost use Rattle.page_words.specs.Addresses.{slot_number, page_number, offset_number, byte_count, covered, second_page, touched, EachTouched, IsUserPage};
-ghost use Rattle.phys_memory.specs.Bytes.{blank_bytes, frame_bytes, with_frame};
-ghost use Rattle.alloc_table.specs.Roles.{free_frames, frames_in_use, CanBeTaken, IsTaken, IsPageBelow, IsInUse, opening_roles};
-ghost use Rattle.page_map.specs.Entries.{table_of, entry_at, is_lazy_entry, IsPageMap};
+ghost use Rattle.phys_memory.specs.Bytes.{blank_bytes};
+ghost use Rattle.alloc_table.specs.Roles.{free_frames, CanBeTaken, IsTaken, opening_roles};
 ghost use Rattle.page_words.specs.FiniteMap as map;
-ghost use Rattle.address_space.specs.Spaces.{Slot, need, page_need, access_need, with_page, fresh, joined, byte_at, number_of, all_accessed, all_stored, stored, write_at, bytes_of, without, slot_at, value_of, bytes_at, cell_or_fresh, accessed, protected, cost, is_slot, is_of, at_page, copied};
+ghost use Rattle.address_space.specs.Spaces.{Slot, need, page_need, access_need, with_page, fresh, joined, byte_at, number_of, all_accessed, all_stored, stored, bytes_of, without, slot_at, cell_or_fresh, accessed, protected, cost, is_slot, is_of, at_page, copied};
 ghost use Rattle.address_space.specs.Image.{StandsFor, StandsForOne, LeavesRoom, image_of, is_lazy_at, takes_stores};
 ghost use Rattle.address_space.specs.Walks.{WalksAgree};
 ghost use Rattle.address_space.specs.Shown.{shown};
 ghost use Rattle.std.specs.Option.{option_map};
-ghost use Rattle.address_space.specs.View.{directory_of, table_in, entries_in, spaces_in, total_cost};
-ghost use Rattle.address_space.specs.Sound.{IsSound, Names, Inside, IsSpaces};
-ghost use Rattle.address_space.specs.Counts.{IsCounted, AlwaysMapsAlike, KeepsCounts};
-ghost use Rattle.address_space.specs.Changes.{table_need, TableGiven, PageAdded, SlotJoined, Touched, TableFreed, EntryLeft, SlotRemoved, SpaceAdded, PageFilled};
+ghost use Rattle.address_space.specs.View.{directory_of, spaces_in, total_cost};
 
 mod accesses;
+mod cells;
 mod charges;
 mod copies;
 mod drops;
 mod fills;
+mod links;
 mod region_counts;
 
 use alloc_table::{FrameTable, Role};
-use page_map::PageEntry;
+use cells::{cell_in, need_in};
+use links::{add_directory, add_holder, add_page, give_table, remove_entry};
 use page_words::{
     Frame, MAX_FRAMES, MIN_FRAMES, Page, Pid, Size, Vaddr, offset_of, page_of, second_page,
     slot_of, start_of,
@@ -89,171 +88,6 @@ fn home(directories: &Directories, pid: Pid) -> Frame
     directories[pid.number() as usize].unwrap()
 }
 
-/// Links a blank table, where the slot has none.
-fn give_table(
-    memory: &mut Memory,
-    frames: &mut FrameTable,
-    directories: &Directories,
-    pid: Pid,
-    directory: Frame,
-    slot: u32,
-)
-    requires sound { IsSound directories.now memory.old frames.old }
-    requires live { directory_of directories.now pid ≡ Some directory }
-    requires low { 256 ≤ slot }
-    requires high { slot < 960 }
-    requires room { table_need (table_in (directory_of directories.now) (frame_bytes memory.old) pid slot) ≤ free_frames frames.old }
-    ensures given { TableGiven directories.now pid slot memory.old frames.old memory.new frames.new }
-    ensures counted { KeepsCounts (spaces_in directories.now memory.old) frames.old (spaces_in directories.now memory.new) frames.new }
-{
-    if !page_map::has_table(memory, directory, slot) {
-        let table = take(frames, Role::Table { pid, slot });
-        page_map::link_table(memory, directory, slot, table);
-    }
-}
-
-/// Maps a lazy page, which reads as zeros.
-fn add_page(
-    memory: &mut Memory,
-    frames: &FrameTable,
-    directories: &Directories,
-    pid: Pid,
-    directory: Frame,
-    page: Page,
-    write: bool,
-)
-    requires sound { IsSound directories.now memory.old frames.now }
-    requires live { directory_of directories.now pid ≡ Some directory }
-    requires user { IsUserPage page }
-    requires unmapped { map.get (spaces_in directories.now memory.old) (at_page pid page) ≡ None }
-    requires table { is_some (table_of (frame_bytes memory.old) directory (slot_number page)) ≡ true }
-    ensures { PageAdded directories.now pid page write memory.old frames.now memory.new frames.now }
-{
-    page_map::set_entry(
-        memory,
-        directory,
-        page,
-        PageEntry {
-            frame: Frame(0),
-            write,
-            may: true,
-            accessed: false,
-            dirty: false,
-            lazy: true,
-        },
-    );
-}
-
-/// Adds a slot to the group of a page.
-fn add_holder(
-    memory: &mut Memory,
-    frames: &mut FrameTable,
-    directories: &Directories,
-    giver: Pid,
-    giver_page: Page,
-    pid: Pid,
-    directory: Frame,
-    page: Page,
-    frame: Frame,
-    right: bool,
-)
-    requires sound { IsSound directories.now memory.old frames.old }
-    requires live { directory_of directories.now pid ≡ Some directory }
-    requires user { IsUserPage page }
-    requires unmapped { map.get (spaces_in directories.now memory.old) (at_page pid page) ≡ None }
-    requires table { is_some (table_of (frame_bytes memory.old) directory (slot_number page)) ≡ true }
-    requires given { Names (entries_in (directory_of directories.now) (frame_bytes memory.old)) (at_page giver giver_page) frame }
-    requires real { 1 ≤ frame }
-    ensures joined { SlotJoined directories.now giver giver_page pid page right memory.old frames.old memory.new frames.new }
-    ensures alike { AlwaysMapsAlike frames.old frames.new }
-{
-    frames.hold(frame);
-    page_map::set_entry(
-        memory,
-        directory,
-        page,
-        PageEntry {
-            frame,
-            write: right,
-            may: right,
-            accessed: false,
-            dirty: false,
-            lazy: false,
-        },
-    );
-}
-
-/// Frees a table that was unlinked.
-fn free_table(frames: &mut FrameTable, freed: Option<Frame>)
-    requires { (t : ℕ) → freed ≡ Some t → IsInUse frames.old t }
-    ensures { TableFreed frames.old freed frames.new }
-{
-    if let Some(table) = freed {
-        frames.release(table);
-    }
-}
-
-/// Releases the frame of an entry that went, where it had one of its own.
-fn leave(frames: &mut FrameTable, entry: PageEntry)
-    requires { entry.lazy ≡ false → IsInUse frames.old entry.frame }
-    ensures { EntryLeft frames.old entry frames.new }
-{
-    if !entry.lazy {
-        frames.release(entry.frame);
-    }
-}
-
-/// Takes a slot out of its group.
-fn remove_entry(
-    memory: &mut Memory,
-    frames: &mut FrameTable,
-    directories: &Directories,
-    counts: &mut Vec<u32>,
-    pid: Pid,
-    directory: Frame,
-    page: Page,
-)
-    requires spaces { IsSpaces directories.now memory.old frames.old }
-    requires live { directory_of directories.now pid ≡ Some directory }
-    requires user { IsUserPage page }
-    requires mapped { is_some (entry_at (frame_bytes memory.old) directory page) ≡ true }
-    requires counted { IsCounted (spaces_in directories.now memory.old) frames.old counts.old.items }
-    ensures removed { SlotRemoved directories.now pid page memory.old frames.old memory.new frames.new }
-    ensures counted { IsCounted (spaces_in directories.now memory.new) frames.new counts.new.items }
-{
-    let entry = page_map::entry(memory, directory, page).unwrap();
-    let mapped = region_counts::uncount_page(
-        memory,
-        frames,
-        directories,
-        counts,
-        pid,
-        directory,
-        page,
-    );
-    let freed = page_map::clear_counted_entry(memory, directory, page, mapped);
-    leave(frames, entry);
-    free_table(frames, freed);
-}
-
-/// Gives a process a blank directory.
-fn add_directory(
-    memory: &mut Memory,
-    frames: &mut FrameTable,
-    directories: &mut Directories,
-    pid: Pid,
-)
-    requires spaces { IsSpaces directories.old memory.old frames.old }
-    requires none { directory_of directories.old pid ≡ None }
-    requires room { 2 + total_cost directories.old (spaces_in directories.old memory.old) ≤ length frames.old }
-    ensures added { SpaceAdded directories.old pid memory.old frames.old directories.new memory.new frames.new }
-    ensures counted { KeepsCounts (spaces_in directories.old memory.old) frames.old (spaces_in directories.new memory.new) frames.new }
-{
-    let directory = take(frames, Role::Directory { pid });
-    memory.zero_frame(directory);
-    directories[pid.number() as usize] = Some(directory);
-}
-
 /// Address spaces over blank memory, without any space.
 fn opened(memory: Memory, table: FrameTable, counts: Vec<u32>, frames: u32) -> Spaces
     requires memory { memory ≡ blank_bytes frames }
@@ -288,71 +122,6 @@ pub struct Cell {
     pub dirty: bool,
     /// How many slots the page's group has, this one among them.
     pub holders: u32,
-}
-
-/// How many slots name a page's frame.
-fn holders(frames: &FrameTable, frame: Frame) -> u32
-    requires { IsPageBelow frames.now frame 4294967295 }
-    ensures { slice_get frames.now frame ≡ Some (Role.Page result) }
-{
-    match frames.role(frame) {
-        Role::Page { count } => count,
-        _ => unreachable!(),
-    }
-}
-
-/// How many slots a group has: a lazy page is alone, and any other has the slots that name its frame.
-fn group_size(frames: &FrameTable, lazy: bool, frame: Frame) -> u32
-    requires { lazy ≡ false → IsPageBelow frames.now frame 4294967295 }
-    ensures lazy { lazy ≡ true → result ≡ 1 }
-    ensures real { lazy ≡ false → slice_get frames.now frame ≡ Some (Role.Page result) }
-{
-    if lazy { 1 } else { holders(frames, frame) }
-}
-
-/// The cell of a slot.
-fn cell_in(
-    memory: &Memory,
-    frames: &FrameTable,
-    directories: &Directories,
-    pid: Pid,
-    page: Page,
-) -> Option<Cell>
-    requires sound { IsSound directories.now memory.now frames.now }
-    requires user { IsUserPage page }
-    ensures { result ≡ option_map shown (map.get (spaces_in directories.now memory.now) (at_page pid page)) }
-{
-    let directory = space_of(directories, pid)?;
-    let entry = page_map::entry(memory, directory, page)?;
-    Some(Cell {
-        write: entry.write,
-        may: entry.may,
-        accessed: entry.accessed,
-        dirty: entry.dirty,
-        holders: group_size(frames, entry.lazy, entry.frame),
-    })
-}
-
-/// What one more page costs a process.
-fn need_in(
-    memory: &Memory,
-    frames: &FrameTable,
-    directories: &Directories,
-    pid: Pid,
-    page: Page,
-) -> u32
-    requires spaces { IsSpaces directories.now memory.now frames.now }
-    requires live { is_some (directory_of directories.now pid) ≡ true }
-    requires user { IsUserPage page }
-    ensures value { result ≡ need (spaces_in directories.now memory.now) pid page }
-    ensures most { result ≤ 2 }
-{
-    let directory = home(directories, pid);
-    if page_map::has_table(memory, directory, slot_of(page)) {
-        1
-    } else {
-        2
-    }
 }
 
 /// Why there are no address spaces.

@@ -7,7 +7,7 @@ use Rattle.address_space.proofs.steps.Stores.{named_entry, page_of_name, entry_r
 use Rattle.address_space.proofs.steps.Leaves.{slot_removed, freed_table}
 use Rattle.address_space.specs.View.{spaces_in}
 use Rattle.address_space.proofs.steps.CountSteps.{one_less, mapped_there, counted_roles, alike_left, counted_freed, table_freed}
-use Rattle.address_space.proofs.remove_entry.Goals as goal
+use Rattle.address_space.proofs.links.remove_entry.Goals as goal
 
 pub entry-requires-clause-map : goal.entry-requires-clause-map
 entry-requires-clause-map c = page_map_of c.args.directories.now c.args.memory.now c.args.frames.now c.args.pid c.args.directory c.requires.spaces.sound c.requires.live

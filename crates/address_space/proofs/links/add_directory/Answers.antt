@@ -6,7 +6,7 @@ use Rattle.address_space.specs.View.{spaces_in}
 use Rattle.address_space.proofs.steps.CountSteps.{counts_kept, alike_taken}
 use Rattle.address_space.proofs.steps.Openings.{space_added, room_for_directory}
 use Rattle.address_space.proofs.steps.Steps.{inside, zeroed}
-use Rattle.address_space.proofs.add_directory.Goals as goal
+use Rattle.address_space.proofs.links.add_directory.Goals as goal
 
 pub take-directory-requires-clause-free : goal.take-directory-requires-clause-free
 take-directory-requires-clause-free c = room_for_directory c.args.directories.now c.args.memory.now c.args.frames.now c.requires.spaces c.requires.room

@@ -4,7 +4,7 @@ use Rattle.page_map.specs.Entries.{table_of}
 use Rattle.alloc_table.specs.declared.Role.TheVariants.{Free}
 use Rattle.address_space.proofs.steps.Steps.{page_map_of, inside, table_given}
 use Rattle.address_space.proofs.steps.CountSteps.{table_counted}
-use Rattle.address_space.proofs.give_table.Goals as goal
+use Rattle.address_space.proofs.links.give_table.Goals as goal
 use Rattle.page_words.proofs.OptionLemmas.{no_value}
 
 pub has_table-requires-clause-map : goal.has_table-requires-clause-map

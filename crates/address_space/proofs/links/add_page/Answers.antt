@@ -1,5 +1,5 @@
 use Rattle.address_space.proofs.steps.Steps.{page_map_of, page_added}
-use Rattle.address_space.proofs.add_page.Goals as goal
+use Rattle.address_space.proofs.links.add_page.Goals as goal
 use Rattle.page_words.proofs.OptionLemmas.{some_value}
 
 pub set_entry-requires-clause-map : goal.set_entry-requires-clause-map

@@ -6,7 +6,7 @@ use Rattle.phys_memory.specs.Bytes.{frame_bytes}
 use Rattle.page_map.specs.Entries.{table_of}
 use Rattle.address_space.proofs.steps.Steps.{page_map_of, live_small}
 use Rattle.address_space.proofs.entries.Readings.{need_read}
-use Rattle.address_space.proofs.need_in.Goals as goal
+use Rattle.address_space.proofs.cells.need_in.Goals as goal
 
 pub has_table-requires-clause-map : goal.has_table-requires-clause-map
 has_table-requires-clause-map c = page_map_of c.args.directories.now c.args.memory.now c.args.frames.now c.args.pid c.home-directory.result c.requires.spaces.sound c.home-directory.ensures

@@ -12,7 +12,7 @@ use Rattle.address_space.proofs.frames.FewHolders.{count_few}
 use Rattle.address_space.proofs.steps.Stores.{named_entry, page_of_name, entry_rules}
 use Rattle.address_space.proofs.entries.Readings.{get-spaces_in, group_counted}
 use Rattle.address_space.specs.Spaces.{at_page}
-use Rattle.address_space.proofs.cell_in.Goals as goal
+use Rattle.address_space.proofs.cells.cell_in.Goals as goal
 
 pub returns-in_err-directory : goal.returns-in_err-directory
 returns-in_err-directory c =

@@ -7,7 +7,7 @@ use Rattle.address_space.proofs.frames.FewHolders.{count_few}
 use Rattle.address_space.proofs.steps.Joins.{slot_joined}
 use Rattle.address_space.proofs.steps.Stores.{page_of_name}
 use Rattle.address_space.proofs.steps.CountSteps.{alike_held}
-use Rattle.address_space.proofs.add_holder.Goals as goal
+use Rattle.address_space.proofs.links.add_holder.Goals as goal
 
 pub hold-requires : goal.hold-requires
 hold-requires c =
