@@ -242,7 +242,11 @@ impl Plain {
         }
         if two {
             let opened = one && last / 0x40_0000 == first / 0x40_0000;
-            need += if opened || self.has_region(pid, last) { 1 } else { 2 };
+            need += if opened || self.has_region(pid, last) {
+                1
+            } else {
+                2
+            };
         }
         need
     }

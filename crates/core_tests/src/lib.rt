@@ -7,4 +7,6 @@ mod access_tests;
 #[cfg(test)]
 mod fork_tests;
 #[cfg(test)]
+mod two_page_tests;
+#[cfg(test)]
 mod walk_tests;

@@ -1,8 +1,8 @@
 //! The walk and the mark on words that stand in memory.
 use page_words::{DirWord, Frame, Vaddr};
 use phys_memory::Memory;
-use table_walk::{Access, PageFault, WalkEnd, mark, walk};
 use std::test::Fail;
+use table_walk::{Access, PageFault, WalkEnd, mark, walk};
 
 const ADDRESS: Vaddr = Vaddr(0x4000_0000);
 
