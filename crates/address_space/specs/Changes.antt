@@ -11,7 +11,7 @@ use Rattle.page_map.specs.Entries.{dir_word, with_entry, is_lazy_entry}
 use Rattle.page_words.specs.FiniteMap as map
 use Rattle.page_words.specs.FiniteSet as set
 use Rattle.address_space.specs.Spaces.{cell_or_fresh, Slot, Spaces, need, fresh, joined, without, is_slot, is_of, at_page, copy_of, copied}
-use Rattle.address_space.specs.Cells.{holders_of, lazy_count}
+use Rattle.address_space.specs.Cells.{holders_of}
 use Rattle.address_space.specs.View.{table_in, total_cost, spaces_in, entries_in, entry_in, directory_of}
 use Rattle.address_space.specs.Sound.{InUse, IsSound, InUseAt, weight_in, IsSpaces}
 

@@ -43,6 +43,8 @@ mod strange_tests;
 #[cfg(test)]
 mod text_tests;
 #[cfg(test)]
+mod two_page_tests;
+#[cfg(test)]
 mod walk_tests;
 #[cfg(test)]
 mod word_tests;

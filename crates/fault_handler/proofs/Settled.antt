@@ -1,10 +1,10 @@
 -- An access that goes on: what its plan tells, and that its pages, mapped first, leave what the definition says.
-use Rattle.std.proofs.Common.{◌≡◌, ◌≢◌, ℕ, ◌+◌, ◌-◌, ◌<◌, ◌≤◌, nat_lt, arith, Bool, true, false, not, ◌&&◌, cond, List, [], ◌∷◌, map as each, refl, sym, ap, subst, ◌∙◌, inl, inr, Option, Some, None, is_some, unwrap_or, Ok}
-use Rattle.std.specs.Prelude.{if◌then◌else◌, ◌⊎◌, IsOk, IfSome, find, slice_index, nat_le}
+use Rattle.std.proofs.Common.{◌≡◌, ℕ, ◌-◌, ◌≤◌, nat_lt, arith, Bool, true, false, not, ◌&&◌, cond, List, [], ◌∷◌, map as each, refl, sym, ap, subst, ◌∙◌, inl, inr, Option, Some, None, is_some, unwrap_or, Ok}
+use Rattle.std.specs.Prelude.{if◌then◌else◌, IsOk, IfSome, find, slice_index, nat_le}
 use Rattle.std.specs.Option.{option_map, option_and_then}
 use Rattle.std.proofs.lemmas.Bool.{not-false, not-true, le-ltb, and_parts}
 use Rattle.std.proofs.lemmas.Bool.Decides.{nat_tests}
-use Rattle.page_words.specs.Addresses.{page_number, offset_number, start_number, byte_count, covered, second_page, touched, page_and, EachTouched, IsUserPage, is_user_page}
+use Rattle.page_words.specs.Addresses.{page_number, offset_number, start_number, byte_count, covered, second_page, touched, EachTouched, IsUserPage, is_user_page}
 use Rattle.page_words.specs.declared.addresses.Size.{Size}
 use Rattle.page_words.specs.FiniteMap as map
 use Rattle.page_words.specs.FiniteMap.{same}
@@ -12,13 +12,13 @@ use Rattle.page_words.specs.FiniteSet as set
 use Rattle.page_words.proofs.Accesses.{first_by_page}
 use Rattle.page_words.proofs.MapLemmas.{same_or_not, get-insert}
 use Rattle.page_words.proofs.OptionLemmas.{no_value}
-use Rattle.address_space.specs.Spaces.{Slot, Cell, Spaces, slot_order, at_page, slot_at, cell_or_fresh, fresh, bytes_of, value_of, number_of, byte_at, page_need, access_need, need, regions_of, pages_of, cost, with_page, with_pages, all_accessed, all_stored}
+use Rattle.address_space.specs.Spaces.{Slot, Cell, Spaces, slot_order, at_page, slot_at, cell_or_fresh, fresh, bytes_of, value_of, page_need, access_need, need, regions_of, pages_of, cost, with_page, with_pages, all_accessed, all_stored}
 use Rattle.address_space.specs.Image.{is_lazy_at, takes_stores}
 use Rattle.address_space.proofs.costs.AccessNeeds.{need-in_one, need-in_two, cost-with_page}
-use Rattle.address_space.proofs.costs.MapFirst.{IsThere, with_touched-same, touched-there}
+use Rattle.address_space.proofs.costs.MapFirst.{with_touched-same, touched-there}
 use Rattle.table_walk.specs.declared.Access.{Access}
 use Rattle.table_walk.specs.declared.Access.TheVariants.{Read, Write}
-use Rattle.table_walk.specs.Walk.{is_write, page_fault}
+use Rattle.table_walk.specs.Walk.{is_write}
 use Rattle.quota_tree.specs.Book.{Member, given}
 use Rattle.page_words.specs.Addresses.{slot_number}
 use Rattle.process_table.specs.State.{State, is_live, is_mapped, has_no_room, room, lacks_room}
@@ -32,7 +32,7 @@ use Rattle.fault_handler.specs.declared.plans.PageStep.{PageStep}
 use Rattle.fault_handler.specs.declared.plans.PageStep.TheVariants as step
 use Rattle.fault_handler.specs.declared.plans.Plan.{Plan}
 use Rattle.fault_handler.specs.declared.plans.Plan.TheVariants as plan
-use Rattle.fault_handler.specs.Plans.{outside, is_read_only, read_only, forbidden, fault_or, planned_by, step_of, step_at, plan_of, plan_at, goes_on, at_once, takes_no_frame}
+use Rattle.fault_handler.specs.Plans.{outside, is_read_only, forbidden, fault_or, planned_by, step_at, plan_at, goes_on, at_once, takes_no_frame}
 
 -- ---- Where no byte stops an access
 

@@ -1,6 +1,6 @@
 -- What an access needs: what its first page needs, and what the second needs once the first is mapped.
-use Rattle.std.proofs.Common.{◌≡◌, ◌≢◌, ℕ, ◌+◌, ◌<◌, ◌==◌, Bool, true, false, cond, not, ◌||◌, ◌&&◌, List, [], ◌∷◌, refl, ap, sym, ◌∙◌, arith, inl, inr, Option, Some, None}
-use Rattle.std.specs.Prelude.{is_some, if◌then◌else◌}
+use Rattle.std.proofs.Common.{◌≡◌, ◌≢◌, ℕ, ◌+◌, ◌==◌, Bool, true, false, cond, not, ◌||◌, ◌&&◌, [], ◌∷◌, refl, ap, sym, ◌∙◌, arith, Option, Some, None}
+use Rattle.std.specs.Prelude.{if◌then◌else◌}
 use Rattle.std.proofs.lemmas.Bool.{eqb-true, eq-eqb}
 use Rattle.page_words.specs.Addresses.{slot_number, page_number, touched, page_and, second_page}
 use Rattle.page_words.specs.declared.addresses.Size.{Size}
@@ -10,8 +10,8 @@ use Rattle.page_words.specs.FiniteSet as set
 use Rattle.page_words.specs.FiniteSet.{Set}
 use Rattle.page_words.proofs.Accesses.{crosses}
 use Rattle.page_words.proofs.OptionLemmas.{no_value}
-use Rattle.page_words.proofs.MapLemmas.{same_or_not, same_itself, same-true, get-insert, contains-insert, retain-insert, retain-insert_other, len-insert}
-use Rattle.page_words.proofs.SetLemmas.{same_apart, same_sym}
+use Rattle.page_words.proofs.MapLemmas.{same_itself, contains-insert, retain-insert, retain-insert_other, len-insert}
+use Rattle.page_words.proofs.SetLemmas.{same_apart}
 use Rattle.address_space.specs.Spaces.{Slot, slot_order, Spaces, Cell, at_page, fresh, cost, pages_of, regions_of, need, page_need, missing, need_of, access_need, with_page, with_pages}
 use Rattle.address_space.proofs.costs.AccessCosts.{key-insert}
 use Rattle.address_space.proofs.costs.Costs.{pages-insert, regions-insert, cost-insert}

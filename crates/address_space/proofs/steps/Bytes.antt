@@ -1,6 +1,6 @@
 -- Accesses byte by byte, and as one where their bytes lie in one page.
 use Rattle.std.proofs.Common.{◌≡◌, ℕ, zero, suc, ◌+◌, ◌*◌, ◌/◌, ◌%◌, ◌<◌, ◌≤◌, Bool, true, false, cond, List, [], ◌∷◌, ◌++◌, map as each, length, take, drop, refl, ap, sym, ◌∙◌, subst, arith, inl, inr, Option, Some, None, unwrap_or, get_or-drop, drop-drop}
-use Rattle.std.specs.Prelude.{slice_index, if◌then◌else◌, ◌⊎◌, IfSome, is_some}
+use Rattle.std.specs.Prelude.{slice_index, if◌then◌else◌, ◌⊎◌, IfSome}
 use Rattle.std.specs.List.{range_with_len}
 use Rattle.std.specs.Option.{option_map}
 use Rattle.page_words.specs.Addresses.{page_number, offset_number, byte_count, covered, second_page, EachTouched}

@@ -1,4 +1,4 @@
-use Rattle.std.proofs.Common.{◌≡◌, sym, ◌∙◌, true}
+use Rattle.std.proofs.Common.{sym, ◌∙◌}
 use Rattle.fault_handler.proofs.Settled.{store_at_once, at_once_store}
 use Rattle.fault_handler.proofs.try_store.Goals as goal
 

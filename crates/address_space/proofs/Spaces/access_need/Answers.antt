@@ -1,7 +1,6 @@
 use Rattle.std.proofs.Common.{sym, ◌+◌, ◌∙◌, ap}
 use Rattle.address_space.specs.Spaces.{page_need, with_page}
-use Rattle.address_space.proofs.costs.AccessNeeds.{need-in_two, cost-with_touched}
-use Rattle.address_space.proofs.costs.MapFirst.{load_in_page}
+use Rattle.address_space.proofs.costs.AccessNeeds.{need-in_two}
 use Rattle.address_space.proofs.Spaces.access_need.Goals as goal
 
 pub returns-in-Some-clause-value : goal.returns-in-Some-clause-value

@@ -1,4 +1,4 @@
-use Rattle.std.proofs.Common.{◌≡◌, ◌==◌, ap, sym, ◌∙◌, ℕ, Bool, true, false, not}
+use Rattle.std.proofs.Common.{◌≡◌, ◌==◌, ap, sym, ◌∙◌, true, false, not}
 use Rattle.std.specs.Prelude.{is_some, ◌&&◌, if◌then◌else◌}
 use Rattle.page_words.specs.Addresses.{slot_number}
 use Rattle.page_words.specs.FiniteMap as map

@@ -1,7 +1,7 @@
-use Rattle.std.proofs.Common.{◌≡◌, ◌<◌, ℕ, ◌+◌, ap, sym, subst, ◌∙◌, false, arith}
-use Rattle.page_words.specs.Addresses.{page_number, EachTouched}
+use Rattle.std.proofs.Common.{◌≡◌, ℕ, ◌+◌, ap, ◌∙◌, false, arith}
+use Rattle.page_words.specs.Addresses.{EachTouched}
 use Rattle.page_words.specs.declared.addresses.Size.TheVariants.{Two, Four}
-use Rattle.address_space.specs.Spaces.{Slot, at_page, slot_at}
+use Rattle.address_space.specs.Spaces.{at_page, slot_at}
 use Rattle.address_space.specs.Image.{image_of, is_lazy_at}
 use Rattle.address_space.proofs.steps.Bytes.{each_byte, stored_four}
 use Rattle.address_space.proofs.Spaces.write_by_bytes.Goals as goal

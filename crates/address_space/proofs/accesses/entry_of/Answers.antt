@@ -1,7 +1,4 @@
-use Rattle.std.proofs.Common.{◌≡◌, ap, sym, ◌∙◌, Some}
-use Rattle.std.specs.Option.{option_and_then}
-use Rattle.phys_memory.specs.Bytes.{frame_bytes}
-use Rattle.page_map.specs.Entries.{entry_at}
+use Rattle.std.proofs.Common.{sym, ◌∙◌}
 use Rattle.address_space.proofs.steps.Steps.{page_map_of}
 use Rattle.address_space.proofs.accesses.entry_of.Goals as goal
 
