@@ -496,12 +496,13 @@ fn accesses_agree_with_a_plain_map(rt: HostRuntime) -> Result<(), Fail> {
 fn byte_by_byte(core: &mut Core, access: &Access) -> Reply {
     let mut value = 0_u32;
     let mut weight = 1_u32;
+    let mut rest = access.value;
     let mut reply = Reply::Done;
     for k in 0..access.size.bytes() {
         let byte = Access {
             addr: Vaddr(access.byte(k)),
             size: Size::One,
-            value: access.value / weight,
+            value: rest,
             ..*access
         };
         reply = told(core, access.pid, byte.call());
@@ -509,9 +510,8 @@ fn byte_by_byte(core: &mut Core, access: &Access) -> Reply {
             value = value.wrapping_add(part.wrapping_mul(weight));
             reply = Reply::Value(value);
         }
-        if k < 3 {
-            weight = weight.wrapping_mul(256);
-        }
+        weight = weight.wrapping_mul(256);
+        rest /= 256;
     }
     reply
 }
