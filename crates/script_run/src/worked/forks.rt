@@ -2,7 +2,7 @@
 
 use super::Worked;
 
-pub const SCRIPTS: [Worked; 2] = [
+pub const SCRIPTS: [Worked; 4] = [
     // a copy has its parent's bytes and rights, and from then on its own; it is charged for all of it
     Worked {
         name: "fork_copies",
@@ -28,6 +28,32 @@ pub const SCRIPTS: [Worked; 2] = [
         replies: "\
             done\nchild 1\ndone\ndone\nchild 2\nrefused Rights\ninfo 1 1 1 1 2\ninfo 0 0 0 0 1\ndone\n\
             value 00000001\n",
+        malformed: None,
+    },
+    // a copy is told what it is told alone, though its parent stores to the page that was copied
+    Worked {
+        name: "copy_beside_its_parent",
+        frames: 16,
+        script: "\
+            0 0 spawn 9\n0 1 store 40000ffe 4 4030201\n0 1 fork 5\n0 1 store 40000ffe 4 0\n\
+            0 2 load 40000ffe 4\n0 2 info 40001\n0 2 store 40001fff 2 605\n0 2 load 40001ffe 4\n\
+            0 2 load 40002fff 2\n0 2 quota\n",
+        replies: "\
+            child 1\ndone\nchild 2\ndone\nvalue 04030201\ninfo 1 1 1 0 1\ndone\nvalue 00060500\n\
+            refused Quota\nquota 5 5 0\n",
+        malformed: None,
+    },
+    // and so with more frames
+    Worked {
+        name: "copy_beside_its_parent_64",
+        frames: 64,
+        script: "\
+            0 0 spawn 9\n0 1 store 40000ffe 4 4030201\n0 1 fork 5\n0 1 store 40000ffe 4 0\n\
+            0 2 load 40000ffe 4\n0 2 info 40001\n0 2 store 40001fff 2 605\n0 2 load 40001ffe 4\n\
+            0 2 load 40002fff 2\n0 2 quota\n",
+        replies: "\
+            child 1\ndone\nchild 2\ndone\nvalue 04030201\ninfo 1 1 1 0 1\ndone\nvalue 00060500\n\
+            refused Quota\nquota 5 5 0\n",
         malformed: None,
     },
 ];
