@@ -2,27 +2,23 @@
  * its own, and a start of its own for Linux on x86-64. It ends with status 0 where all went as expected,
  * and else with the number of what did not. */
 #include "tower.h"
+#include "tower_heap.h"
 
-enum { PAGE = 0x40000, ADDRESS = PAGE << 12 };
+enum { PAGE = TOWER_FIRST_PAGE, ADDRESS = PAGE << 12 };
 
 static _Alignas(16) uint8_t pool[1 << 20];
 static size_t used, blocks;
 static uint8_t nothing;
 
-struct tried {
-    bool ok;
-    void *block;
-};
-
 /* The pool's blocks lie one behind another; once all are back it starts anew. */
-struct tried rattle_alloc(size_t size, size_t align) {
+struct rattle_tried rattle_alloc(size_t size, size_t align) {
     size_t at = (used + align - 1) & ~(align - 1);
     if (at > sizeof pool || size > sizeof pool - at) {
-        return (struct tried){false, &nothing};
+        return (struct rattle_tried){false, &nothing};
     }
     used = at + size;
     blocks++;
-    return (struct tried){true, pool + at};
+    return (struct rattle_tried){true, pool + at};
 }
 
 void rattle_dealloc(void *block) {
@@ -61,7 +57,7 @@ static void leave(long status) {
 }
 
 static bool answers(struct tower *tower, struct tower_event event, uint32_t kind, uint32_t first) {
-    struct tower_reply reply;
+    struct tower_reply reply = {0};
     return tower_step(tower, &event, &reply) && reply.kind == kind && reply.first == first;
 }
 

@@ -1,12 +1,12 @@
-/* Boots a core, maps, stores, loads and shares, and reads the page tables as a processor does, over frames
- * that it copied out. It ends with status 1 at the first answer that is not the expected one. */
+/* Boots a core, maps, stores, loads and shares, and reads memory where the page tables lead: the walk is the
+ * library's, and the word comes from a frame that was copied out. It ends with status 1 at the first answer that is not the expected one. */
 #include <stdio.h>
 #include <stdlib.h>
 #include <string.h>
 
 #include "tower.h"
 
-enum { PAGE = 0x40000, ADDRESS = PAGE << 12, OTHER_PAGE = 0x50000, WORD = 0x11223344 };
+enum { PAGE = TOWER_FIRST_PAGE, ADDRESS = PAGE << 12, OTHER_PAGE = 0x50000, WORD = 0x11223344 };
 
 static struct tower tower = TOWER_NONE;
 
@@ -48,23 +48,21 @@ static bool loads(struct tower_event event, uint32_t value) {
     return reply.kind == TOWER_VALUE && reply.first == value;
 }
 
-/* The word at an offset of a frame, from a copy. */
-static uint32_t word_of(uint32_t frame, uint32_t offset) {
-    static uint8_t bytes[4096];
+/* The word at an address of a process, by the walk of its tables. */
+static uint32_t walked(uint32_t pid, uint32_t address) {
+    static uint8_t bytes[TOWER_FRAME_BYTES];
+    struct tower_walk found = {0};
     uint32_t word;
-    need(tower_copy_frame(&tower, frame, bytes, sizeof bytes), "a frame is copied");
-    memcpy(&word, bytes + offset, sizeof word);
+    need(tower_walk(&tower, pid, address, false, &found) && found.kind == TOWER_WALK_FRAME, "the walk finds a frame");
+    need(tower_copy_frame(&tower, found.frame, bytes, sizeof bytes), "a frame is copied");
+    memcpy(&word, bytes + (address & 4095), sizeof word);
     return word;
 }
 
-/* The word at an address of a process, by its directory and its table alone. */
-static uint32_t walked(uint32_t pid, uint32_t address) {
-    uint32_t directory = 0;
-    need(tower_directory(&tower, pid, &directory), "a process has a directory");
-    uint32_t table = word_of(directory, 4 * (address >> 22));
-    uint32_t page = word_of(table >> 12, 4 * (address >> 12 & 1023));
-    need((table & 1) && (page & 1), "both entries are present");
-    return word_of(page >> 12, address & 4095);
+static bool walk_faults(uint32_t pid, uint32_t address, bool write, uint32_t code) {
+    struct tower_walk found = {0};
+    need(tower_walk(&tower, pid, address, write, &found), "the process is live");
+    return found.kind == TOWER_WALK_FAULT && found.code == code && found.frame == 0;
 }
 
 static void boots(void) {
@@ -78,6 +76,7 @@ static void boots(void) {
 
 static void maps_and_loads(void) {
     expect(is_done((struct tower_event){.call = TOWER_MAP, .flag = 1, .first = PAGE}), "a page is mapped");
+    expect(is_refused((struct tower_event){.call = TOWER_MAP, .flag = 1, .first = PAGE}, TOWER_MAPPED), "but once");
     expect(is_done((struct tower_event){.call = TOWER_STORE, .flag = 4, .first = ADDRESS + 8, .second = WORD}),
            "a word is stored");
     expect(loads((struct tower_event){.call = TOWER_LOAD, .flag = 4, .first = ADDRESS + 8}, WORD), "and loaded");
@@ -105,6 +104,8 @@ static void shares(void) {
            "and may not write");
     expect(walked(0, ADDRESS + 8) == WORD, "process 0's tables lead to it");
     expect(walked(pid, (OTHER_PAGE << 12) + 8) == WORD, "process 1's tables too");
+    expect(walk_faults(pid, OTHER_PAGE << 12, true, 7), "by which it may not write");
+    expect(walk_faults(pid, ADDRESS, false, 4), "and which lead to no other page");
 }
 
 static void asks(void) {
@@ -118,6 +119,8 @@ static void asks(void) {
     expect(role.kind == TOWER_FRAME_DIRECTORY && role.pid == 0, "and it is process 0's");
     expect(!tower_role(&tower, 64, &role) && !tower_directory(&tower, 64, &directory), "no frame or process 64");
     expect(!tower_copy_frame(&tower, 0, little, sizeof little), "100 bytes are no room for a frame");
+    expect(tower_version() == TOWER_VERSION, "header and library are of one version");
+    expect(strcmp(tower_cause_name(TOWER_OVER_QUOTA), "Quota") == 0 && !*tower_cause_name(3), "causes have names");
 }
 
 static void runs(void) {

@@ -11,10 +11,6 @@
 static const char *const calls[] = {"load",   "store", "map",  "unmap", "protect", "info", "offer", "withdraw",
                                     "accept", "spawn", "exit", "quota", "fork"};
 
-static const char *const causes[] = {
-    "",       "NoProcess", "BadPage",  "",             "NotMapped",     "Mapped",  "Quota",     "Rights",   "SelfOffer",
-    "NoTarget", "OfferPending", "TooManyOffers", "NoOffer", "TableFull", "BadQuota", "HasChildren", "RootExit", "TooSmall"};
-
 /* What is left of a line. */
 struct tokens {
     char *rest;
@@ -126,15 +122,15 @@ static void print_reply(const struct tower_reply *reply) {
         printf("fault %08x %u\n", reply->first, reply->second);
         break;
     case TOWER_REFUSED:
-        printf("refused %s\n", causes[reply->first]);
+        printf("refused %s\n", tower_cause_name(reply->first));
         break;
     }
 }
 
 /* Whether the line was carried out, or is one to skip. */
 static bool carried_out(struct tower *tower, char *text) {
-    struct tower_event event;
-    struct tower_reply reply;
+    struct tower_event event = {0};
+    struct tower_reply reply = {0};
     if (text[0] == '#' || text[strspn(text, " ")] == 0) {
         return true;
     }

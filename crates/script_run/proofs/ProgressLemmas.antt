@@ -1,6 +1,6 @@
 -- A session goes on by a piece, by a line, or stops at one.
 use Rattle.std.proofs.Common.{◌≡◌, ℕ, ◌+◌, ◌-◌, ◌<◌, ◌≤◌, true, false, List, [], ◌∷◌, ◌++◌, length, take, drop, get_or, refl, sym, ap, subst, ◌∙◌, arith, append_assoc, append-nil, length-append, take-append-drop, inl, inr, Option}
-use Rattle.std.specs.Io.KnownBytes.{Keeps}
+use Rattle.std.specs.Io.KnownBytes.{Keeps, Appends}
 use Rattle.std.specs.List.{list_all, All}
 use Rattle.std.proofs.KnownBytes.{Appends-trans, Appends-kept}
 use Rattle.std.proofs.lemmas.Bool.{lt-ltb, eqb-true, cases_Bool}
@@ -66,6 +66,13 @@ wrote_front a b c text waited before after = (
 
 pub wrote_none : (a b c : Option (List ℕ)) (text waits : List ℕ) → LeavesUnwritten a b text waits → Keeps b c → LeavesUnwritten a c text waits
 wrote_none a b c text waits before kept = record { written = before.written; whole = before.whole; grown = Appends-kept a b c before.written before.grown kept }
+
+pub wrote_all : (a b c : Option (List ℕ)) (text waited : List ℕ) → LeavesUnwritten a b text waited → Appends b c waited → LeavesUnwritten a c text []
+wrote_all a b c text waited before wrote = record {
+  written = before.written ++ waited;
+  whole = before.whole ∙ sym (append-nil (before.written ++ waited));
+  grown = Appends-trans a b c before.written waited before.grown wrote;
+}
 
 -- ---- How scripts that go on from some bytes begin
 
@@ -211,3 +218,24 @@ stops_within frames read all taken rest line after fault waits start now whole c
 
 pub at_rest : (read all taken rest : List ℕ) → all ≡ taken ++ rest → (read ++ taken) ++ rest ≡ read ++ all
 at_rest read all taken rest whole = append_assoc read taken rest ∙ ap (λ bs. read ++ bs) (sym whole)
+
+-- ---- Replies that waited
+
+-- a session whose replies were all written stands where it stood
+pub written_out : (frames : ℕ) (read : List ℕ) (old new : Session) (start held holds : Option (List ℕ)) → Reached frames read old start held
+    → new.core ≡ old.core → new.line ≡ old.line → new.lines ≡ old.lines → new.output ≡ [] → Appends held holds old.output → Reached frames read new start holds
+written_out frames read old new start held holds reached core line lines output wrote = record {
+  sound = reached.sound;
+  line = ap (λ l. l.items) line ∙ reached.line;
+  short = subst (λ (bs : List ℕ). length bs ≤ 100) (sym (ap (λ l. l.items) line)) reached.short;
+  lines = lines ∙ reached.lines;
+  state = ap (λ c. c.state) core ∙ reached.state;
+  text = subst (λ (waits : List ℕ). LeavesUnwritten start holds (replies_text frames (events_in (closed_lines read))) waits) (sym output)
+      (wrote_all start held holds (replies_text frames (events_in (closed_lines read))) old.output reached.text wrote);
+}
+
+-- and one whose write failed stops there
+pub stops_writing : (frames : ℕ) (read : List ℕ) (old : Session) (waits : List ℕ) (start held holds : Option (List ℕ)) → Reached frames read old start held
+    → waits ≡ [] → AppendsFront held holds old.output → Stops frames read WriteFailed waits start holds
+stops_writing frames read old waits start held holds reached none front =
+    (closed_lines read, none, begins_at read reached.sound, wrote_front start held holds (replies_text frames (events_in (closed_lines read))) old.output reached.text front)

@@ -87,7 +87,7 @@ impl Session {
     }
 
     /// Takes the next bytes of the script, and carries out each line that they end.
-    fn feed<W: Write>(&mut self, bytes: &[u8], writer: &mut W) -> Result<(), ScriptFault>
+    fn take_lines<W: Write>(&mut self, bytes: &[u8], writer: &mut W) -> Result<(), ScriptFault>
         requires { self.old.lines + length bytes.now + 1 < 2 ^ 32 }
         ensures lines { OnOk result (self.new.lines ≤ self.old.lines + length bytes.now) }
         ensures ok { (frames : ℕ) (read : List ℕ) (start : Option (List ℕ)) → Reached frames read self.old start (W.contents writer.old) → OnOk result (Reached frames (read ++ bytes.now) self.new start (W.contents writer.new)) }
@@ -99,6 +99,29 @@ impl Session {
             rest = after;
         }
         self.keep(rest)
+    }
+
+    /// Writes the replies that wait.
+    fn write_out<W: Write>(&mut self, writer: &mut W) -> Result<(), ScriptFault>
+        ensures lines { self.new.lines ≡ self.old.lines }
+        ensures ok { (frames : ℕ) (read : List ℕ) (start : Option (List ℕ)) → Reached frames read self.old start (W.contents writer.old) → OnOk result (Reached frames read self.new start (W.contents writer.new)) }
+        ensures err { (frames : ℕ) (read : List ℕ) (start : Option (List ℕ)) → Reached frames read self.old start (W.contents writer.old) → IfErr result (λ fault. Stops frames read fault self.new.output start (W.contents writer.new)) }
+    {
+        self.output.flush(writer)?;
+        Ok(())
+    }
+
+    /// Takes the next bytes of the script, carries out each line that they end, and writes the replies: a
+    /// caller that waits for them before it sends more has them.
+    fn feed<W: Write>(&mut self, bytes: &[u8], writer: &mut W) -> Result<(), ScriptFault>
+        requires { self.old.lines + length bytes.now + 1 < 2 ^ 32 }
+        ensures lines { OnOk result (self.new.lines ≤ self.old.lines + length bytes.now) }
+        ensures ok { (frames : ℕ) (read : List ℕ) (start : Option (List ℕ)) → Reached frames read self.old start (W.contents writer.old) → OnOk result (Reached frames (read ++ bytes.now) self.new start (W.contents writer.new)) }
+        ensures err { (frames : ℕ) (read : List ℕ) (start : Option (List ℕ)) → Reached frames read self.old start (W.contents writer.old) → IfErr result (λ fault. Stops frames (read ++ bytes.now) fault self.new.output start (W.contents writer.new)) }
+    {
+        self.take_lines(bytes, writer)?;
+        self.write_out(writer)?;
+        Ok(())
     }
 
     /// Carries out the last line, without a line feed, where the script has ended.

@@ -1,9 +1,14 @@
 -- Events and replies as numbers.
-use Rattle.std.specs.Prelude.{ℕ, Bool, true, false, ◌==◌, ◌&&◌, nat_lt, Option, None, Some, if◌then◌else◌, List, [], ◌∷◌, length, slice_get}
+use Rattle.std.specs.Prelude.{ℕ, Bool, true, false, ◌==◌, ◌&&◌, nat_lt, Option, None, Some, Result, Ok, Err, if◌then◌else◌, List, [], ◌∷◌, length, slice_get}
 use Rattle.std.specs.Option.{option_map}
 use Rattle.page_words.specs.declared.addresses.Size.{Size}
 use Rattle.page_words.specs.declared.addresses.Size.TheVariants.{One, Two, Four}
 use Rattle.phys_memory.specs.Bytes.{frame_bytes}
+use Rattle.table_walk.specs.Walk.{walk_of}
+use Rattle.table_walk.specs.declared.Access.{Access}
+use Rattle.table_walk.specs.declared.Access.TheVariants.{Read, Write}
+use Rattle.table_walk.specs.declared.WalkEnd.{WalkEnd}
+use Rattle.table_walk.specs.declared.WalkEnd.TheVariants.{Fault, Outside}
 use Rattle.address_space.specs.View.{directory_of}
 use Rattle.process_table.specs.State.{State, container_of}
 use Rattle.process_table.specs.View.{View}
@@ -22,6 +27,7 @@ use Rattle.tower_c.specs.declared.words.TowerContainer.{TowerContainer}
 use Rattle.tower_c.specs.declared.words.TowerRole.{TowerRole}
 use Rattle.tower_c.specs.declared.words.TowerEvent.{TowerEvent}
 use Rattle.tower_c.specs.declared.words.TowerReply.{TowerReply}
+use Rattle.tower_c.specs.declared.words.TowerWalk.{TowerWalk}
 
 -- ---- Events
 
@@ -199,3 +205,25 @@ role_in None frame = None
 abbrev pub copy_in : Option View → ℕ → ℕ → Option (List ℕ)
 copy_in (Some core) frame room = if nat_lt frame (length core.roles) && (room == 4096) then Some (frame_bytes core.bytes frame) else None
 copy_in None frame room = None
+
+-- what a walk asks for: the right to write, or to read alone
+abbrev pub access_of : Bool → Access
+access_of true = Write
+access_of false = Read
+
+-- how a walk ends, in numbers
+abbrev pub walk_numbers : Result ℕ WalkEnd → TowerWalk
+walk_numbers (Ok frame) = record { kind = 0; frame = frame; code = 0 }
+walk_numbers (Err (Fault fault)) = record { kind = 1; frame = 0; code = fault.code }
+walk_numbers (Err Outside) = record { kind = 2; frame = 0; code = 0 }
+
+-- how the processor's walk from a process's directory ends, where there are a core and such a process
+abbrev pub walk_in : Option View → ℕ → ℕ → Bool → Option TowerWalk
+walk_in (Some core) pid address write = option_map (λ directory. walk_numbers (walk_of core.bytes directory address (access_of write))) (directory_at core (pid_of pid))
+walk_in None pid address write = None
+
+-- ---- The version
+
+-- 10,000 for each major version, 100 for each minor one, 1 for each patch
+abbrev pub version : ℕ
+version = 100

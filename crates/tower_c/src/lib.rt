@@ -9,7 +9,7 @@ ghost use Rattle.std.specs.Prelude.{◌≡◌, ◌≢◌, ◌↔◌, ◌≤◌, 
 ghost use Rattle.process_table.specs.State.{open_with};
 ghost use Rattle.process_table.specs.Image.{StandsFor, image_of};
 ghost use Rattle.phys_memory.specs.Bytes.{frame_bytes};
-ghost use Rattle.tower_c.specs.Border.{event_of, reply_in, state_after, is_carried_out, replies_in, end_after, given, frames_in, directory_in, container_in, role_in, copy_in};
+ghost use Rattle.tower_c.specs.Border.{event_of, reply_in, state_after, is_carried_out, replies_in, end_after, given, frames_in, directory_in, container_in, role_in, copy_in, walk_in, version};
 ghost use Rattle.tower_c.specs.Handle.{IsTower};
 
 mod handle;
@@ -20,10 +20,24 @@ mod words;
 pub use handle::{Tower, handle_sends};
 use handle::{put, take};
 use kernel_calls::{BootFault, Core};
-use page_words::Frame;
+use page_words::{Frame, Vaddr};
 use std::alloc::Global;
-use words::{container_from, event_from, no_event, pid_from, role_from, told_from};
-pub use words::{TowerContainer, TowerEvent, TowerReply, TowerRole};
+use table_walk::walk;
+use words::{
+    access_from, container_from, event_from, no_event, pid_from, role_from, told_from, walk_from,
+};
+pub use words::{TowerContainer, TowerEvent, TowerReply, TowerRole, TowerWalk};
+
+/// The library's version, 0.1.0.
+const VERSION: u32 = 100;
+
+/// The library's version: 10,000 for each major version, 100 for each minor one, 1 for each patch.
+#[unsafe(no_mangle)]
+pub extern "C" fn tower_version() -> u32
+    ensures { result ≡ version }
+{
+    VERSION
+}
 
 /// Boots a core of that many frames: 0; or 1 where that is not 16 to 4,096, 2 where there is no memory,
 /// and 3 where the handle has a core already. All but 0 leave the handle as it was.
@@ -258,6 +272,48 @@ pub extern "C" fn tower_container(
             match found {
                 Some(found) => {
                     *container = container_from(&found);
+                    true
+                }
+                None => false,
+            }
+        }
+        None => false,
+    }
+}
+
+/// How the walk ends from the directory of that process; None where the process is not live.
+fn walked(core: &Core, pid: u32, address: u32, write: bool) -> Option<TowerWalk>
+    ensures { result ≡ walk_in (Some core.now) pid address write }
+{
+    let directory = core.directory(pid_from(pid)?)?;
+    let end = walk(core.memory(), directory, Vaddr(address), access_from(write));
+    Some(walk_from(end))
+}
+
+/// How the processor's walk of a process's tables ends, for a load or a store at an address. It changes
+/// nothing, and reads the words as they stand. False where there is no core or the process is not live.
+#[unsafe(no_mangle)]
+pub extern "C" fn tower_walk(
+    alloc: Global,
+    tower: &mut Tower,
+    pid: u32,
+    address: u32,
+    write: bool,
+    found: &mut TowerWalk,
+) -> bool
+    requires { IsTower tower.old }
+    ensures kept { IsTower tower.new }
+    ensures same { tower.new.hold.core ≡ tower.old.hold.core }
+    ensures walk { given result found.new ≡ walk_in tower.old.hold.core pid address write }
+    ensures none { result ≡ false → found.new ≡ found.old }
+{
+    match take(alloc, tower) {
+        Some(core) => {
+            let end = walked(&core, pid, address, write);
+            put(tower, core);
+            match end {
+                Some(end) => {
+                    *found = end;
                     true
                 }
                 None => false,

@@ -1,12 +1,13 @@
 //! Events and replies as the numbers that cross to C.
 
 ghost use Rattle.std.specs.Prelude.{◌≡◌};
-ghost use Rattle.tower_c.specs.Border.{size_of, right_of, pid_of, call_of, event_of, cause_number, numbers, no_event, told, role_numbers, container_numbers};
+ghost use Rattle.tower_c.specs.Border.{size_of, right_of, pid_of, call_of, event_of, cause_number, numbers, no_event, told, role_numbers, container_numbers, access_of, walk_numbers};
 
 use alloc_table::Role;
 use kernel_calls::{Call, Cause, Event, Reply};
-use page_words::{Page, Pid, Size, Vaddr};
+use page_words::{Frame, Page, Pid, Size, Vaddr};
 use quota_tree::Container;
+use table_walk::{Access, WalkEnd};
 
 /// An event, as C gives it.
 #[repr(C)]
@@ -19,7 +20,7 @@ pub struct TowerEvent {
     /// 0 Load, 1 Store, 2 Map, 3 Unmap, 4 Protect, 5 Info, 6 Offer, 7 Withdraw, 8 Accept, 9 Spawn,
     /// 10 Exit, 11 Quota, 12 Fork.
     pub call: u8,
-    /// The size of Load and Store, 1 or 4; the right of Map, Protect and Offer, 0 or 1.
+    /// The size of Load and Store, 1, 2 or 4; the right of Map, Protect and Offer, 0 or 1.
     pub flag: u8,
     /// The address, the page (the giver's for Accept) or the quota.
     pub first: u32,
@@ -270,4 +271,34 @@ pub fn container_from(container: &Container) -> TowerContainer
         given: container.given,
         children: container.children,
     }
+}
+
+/// How a processor's walk ends: kind 0 at a frame, 1 as a page fault with that code, 2 outside memory.
+#[repr(C)]
+#[derive(Clone, Copy)]
+pub struct TowerWalk {
+    pub kind: u32,
+    /// The frame that it finds.
+    pub frame: u32,
+    /// The error code of its page fault, 4 to 7.
+    pub code: u32,
+}
+
+/// What a walk asks for.
+pub fn access_from(write: bool) -> Access
+    ensures { result ≡ access_of write }
+{
+    if write { Access::Write } else { Access::Read }
+}
+
+/// A walk's end as numbers.
+pub fn walk_from(end: Result<Frame, WalkEnd>) -> TowerWalk
+    ensures { result ≡ walk_numbers end }
+{
+    let (kind, frame, code) = match end {
+        Ok(Frame(at)) => (0, at, 0),
+        Err(WalkEnd::Fault(fault)) => (1, 0, u32::from(fault.code)),
+        Err(WalkEnd::Outside) => (2, 0, 0),
+    };
+    TowerWalk { kind, frame, code }
 }

@@ -1,7 +1,7 @@
 -- The bytes before the rest were taken.
 use Rattle.std.proofs.Common.{◌≡◌, ℕ, ◌+◌, ◌≤◌, ◌++◌, List, Option, length}
 use Rattle.script_run.specs.Progress.{Reached}
-use Rattle.script_run.proofs.session.Session.feed.Given as goal
+use Rattle.script_run.proofs.session.Session.take_lines.Given as goal
 
 abbrev pub invariant-loop-line : goal.invariant-loop-line
 invariant-loop-line g l = record {

@@ -8,8 +8,12 @@
  *  - Each pointer is to memory that is valid, aligned and, where it is not const, writable, and that no
  *    other argument of the same call shares. A slice is a pointer and its length; the pointer is valid,
  *    and not null, where the length is 0 too. Each `bool` is 0 or 1.
- *  - memset and memmove do what the C library's do, and rattle_alloc and rattle_dealloc what heap.c says.
- *    No call is made from a signal handler.
+ *  - memset and memmove do what the C library's do, and rattle_alloc and rattle_dealloc what
+ *    tower_heap.h says. No call is made from a signal handler.
+ *
+ * A query takes a const handle: it leaves the core as it was. It is a call all the same, so it comes one
+ * at a time with the others, and the handle itself isn't a const object: the call takes the core out of it
+ * and puts it back.
  */
 #ifndef TOWER_H
 #define TOWER_H
@@ -21,6 +25,20 @@
 #ifdef __cplusplus
 extern "C" {
 #endif
+
+/* 10,000 for each major version, 100 for each minor one, 1 for each patch: the header's, and by
+ * tower_version() the library's. */
+#define TOWER_VERSION 100
+
+/* Limits. A page is an address without its last 12 bits; the user range has the pages from
+ * TOWER_FIRST_PAGE to TOWER_LAST_PAGE. A process's number is below TOWER_PROCESSES. */
+#define TOWER_FRAME_BYTES 4096
+#define TOWER_MIN_FRAMES 16
+#define TOWER_MAX_FRAMES 4096
+#define TOWER_PROCESSES 64
+#define TOWER_OFFERS 32 /* pending, for each offerer */
+#define TOWER_FIRST_PAGE 0x40000
+#define TOWER_LAST_PAGE 0xeffff
 
 struct tower {
     bool live;
@@ -96,6 +114,29 @@ enum tower_cause {
     TOWER_TOO_SMALL = 17,
 };
 
+/* The name of a cause, as docs/MACHINE.md has it; "" for a number of no cause. */
+static inline const char *tower_cause_name(uint32_t cause) {
+    switch (cause) {
+    case TOWER_NO_PROCESS: return "NoProcess";
+    case TOWER_BAD_PAGE: return "BadPage";
+    case TOWER_NOT_MAPPED: return "NotMapped";
+    case TOWER_MAPPED: return "Mapped";
+    case TOWER_OVER_QUOTA: return "Quota";
+    case TOWER_RIGHTS: return "Rights";
+    case TOWER_SELF_OFFER: return "SelfOffer";
+    case TOWER_NO_TARGET: return "NoTarget";
+    case TOWER_OFFER_PENDING: return "OfferPending";
+    case TOWER_TOO_MANY_OFFERS: return "TooManyOffers";
+    case TOWER_NO_OFFER: return "NoOffer";
+    case TOWER_TABLE_FULL: return "TableFull";
+    case TOWER_BAD_QUOTA: return "BadQuota";
+    case TOWER_HAS_CHILDREN: return "HasChildren";
+    case TOWER_ROOT_EXIT: return "RootExit";
+    case TOWER_TOO_SMALL: return "TooSmall";
+    default: return "";
+    }
+}
+
 /* One reply. What its kind does not tell is 0. */
 struct tower_reply {
     uint32_t kind;
@@ -133,6 +174,22 @@ struct tower_container {
     uint32_t children;
 };
 
+/* How the processor's walk of a process's tables ends. What its kind does not tell is 0. */
+enum tower_end {
+    TOWER_WALK_FRAME = 0,    /* at a frame */
+    TOWER_WALK_FAULT = 1,    /* as a page fault with that error code */
+    TOWER_WALK_OUTSIDE = 2,  /* at a word that names no frame of memory; a booted core has none */
+};
+
+struct tower_walk {
+    uint32_t kind;
+    uint32_t frame;
+    uint32_t code;
+};
+
+/* The library's version. */
+uint32_t tower_version(void);
+
 /* A status. Only this function asks for memory, and only tower_free and a boot that fails give it back. */
 uint32_t tower_boot(uint32_t frames, struct tower *tower);
 
@@ -145,14 +202,17 @@ bool tower_run(struct tower *tower, const struct tower_event *events, size_t eve
                struct tower_reply *replies, size_t reply_count);
 
 /* How many frames the core has, and 0 where the handle has none. */
-uint32_t tower_frames(struct tower *tower);
+uint32_t tower_frames(const struct tower *tower);
 
 /* These change nothing of the core, and write where they answer true alone: that is exactly where there
- * is a core and a live process of that number, or such a frame. A copy asks for 4,096 bytes of room. */
-bool tower_directory(struct tower *tower, uint32_t pid, uint32_t *frame);
-bool tower_container(struct tower *tower, uint32_t pid, struct tower_container *container);
-bool tower_role(struct tower *tower, uint32_t frame, struct tower_role *role);
-bool tower_copy_frame(struct tower *tower, uint32_t frame, uint8_t *bytes, size_t byte_count);
+ * is a core and a live process of that number, or such a frame. A walk is that of a load, or of a store
+ * where `write` is true, at the first byte of the access; it sets no flag. A copy wants byte_count to be
+ * TOWER_FRAME_BYTES, and else answers false. */
+bool tower_directory(const struct tower *tower, uint32_t pid, uint32_t *frame);
+bool tower_container(const struct tower *tower, uint32_t pid, struct tower_container *container);
+bool tower_role(const struct tower *tower, uint32_t frame, struct tower_role *role);
+bool tower_walk(const struct tower *tower, uint32_t pid, uint32_t address, bool write, struct tower_walk *found);
+bool tower_copy_frame(const struct tower *tower, uint32_t frame, uint8_t *bytes, size_t byte_count);
 
 /* Frees the core, if the handle has one. The handle may be booted again. */
 void tower_free(struct tower *tower);

@@ -1,0 +1,184 @@
+//! A booted core: all calls and queries of the library.
+
+use crate::raw;
+use crate::words::{
+    Access, Container, Event, FRAME_BYTES, Frame, Page, Pid, Reply, Role, Vaddr, WalkEnd,
+};
+use ::core::cell::UnsafeCell;
+use ::core::error::Error;
+use ::core::fmt;
+use ::core::ptr::null_mut;
+
+/// Why no core is booted.
+#[derive(Clone, Copy, Debug, PartialEq, Eq)]
+pub enum BootFault {
+    /// The number of frames is not 16 to 4,096.
+    BadSize,
+    /// There is no memory.
+    NoMemory,
+}
+
+impl fmt::Display for BootFault {
+    fn fmt(&self, to: &mut fmt::Formatter<'_>) -> fmt::Result {
+        to.write_str(match self {
+            BootFault::BadSize => "frames must be 16 to 4096",
+            BootFault::NoMemory => "out of memory",
+        })
+    }
+}
+
+impl Error for BootFault {}
+
+/// There are not as many places for replies as events.
+#[derive(Clone, Copy, Debug, PartialEq, Eq)]
+pub struct UnequalLengths;
+
+/// The library's version: 10,000 for each major version, 100 for each minor one, 1 for each patch.
+pub fn version() -> u32 {
+    raw::tower_version()
+}
+
+/// How many events cross at once.
+const CHUNK: usize = 32;
+
+/// A booted core. A query takes it shared and is a call of the library all the same, which takes the core
+/// out of its handle and puts it back; so a `Core` is not `Sync`.
+pub struct Core {
+    handle: UnsafeCell<raw::Tower>,
+}
+
+// SAFETY: `Send` of the handle is proved, in crates/tower_c.
+unsafe impl Send for Core {}
+
+impl Core {
+    /// A machine of so many frames, 16 to 4,096, as it boots: process 0 alone, with all frames but one as its
+    /// quota.
+    pub fn boot(frames: u32) -> Result<Core, BootFault> {
+        let mut handle = raw::Tower {
+            live: false,
+            core: null_mut(),
+        };
+        // SAFETY: the handle is all zeros, and nobody else has it.
+        match unsafe { raw::tower_boot(frames, &mut handle) } {
+            0 => Ok(Core {
+                handle: UnsafeCell::new(handle),
+            }),
+            1 => Err(BootFault::BadSize),
+            _ => Err(BootFault::NoMemory),
+        }
+    }
+
+    /// Carries out one event.
+    pub fn step(&mut self, event: &Event) -> Reply {
+        let mut reply = raw::Reply::default();
+        // SAFETY: the handle was booted and is borrowed alone; all three lie apart.
+        unsafe { raw::tower_step(self.handle.get_mut(), &event.into(), &mut reply) };
+        (&reply).into()
+    }
+
+    /// Carries out events in order, and writes the reply to each in its place.
+    pub fn run(&mut self, events: &[Event], replies: &mut [Reply]) -> Result<(), UnequalLengths> {
+        if events.len() != replies.len() {
+            return Err(UnequalLengths);
+        }
+        for (events, replies) in events.chunks(CHUNK).zip(replies.chunks_mut(CHUNK)) {
+            self.run_chunk(events, replies);
+        }
+        Ok(())
+    }
+
+    /// At most `CHUNK` events, with as many places for replies.
+    fn run_chunk(&mut self, events: &[Event], replies: &mut [Reply]) {
+        let mut asked = [raw::Event::default(); CHUNK];
+        let mut told = [raw::Reply::default(); CHUNK];
+        for (raw, event) in asked.iter_mut().zip(events) {
+            *raw = event.into();
+        }
+        let count = events.len();
+        // SAFETY: as for `step`, and `count` is within both arrays.
+        unsafe {
+            raw::tower_run(
+                self.handle.get_mut(),
+                asked.as_ptr(),
+                count,
+                told.as_mut_ptr(),
+                count,
+            )
+        };
+        for (reply, raw) in replies.iter_mut().zip(&told) {
+            *reply = raw.into();
+        }
+    }
+
+    /// How many frames the machine has.
+    pub fn frames(&self) -> u32 {
+        // SAFETY: the handle was booted; as a `Core` is not `Sync`, no other call has it.
+        unsafe { raw::tower_frames(self.handle.get()) }
+    }
+
+    /// The frame of a process's directory; None where the process is not live.
+    pub fn directory(&self, pid: Pid) -> Option<Frame> {
+        let mut frame = 0;
+        // SAFETY: as for `frames`, and `frame` lies apart.
+        let is_there =
+            unsafe { raw::tower_directory(self.handle.get(), pid.number().into(), &mut frame) };
+        is_there.then_some(Frame(frame))
+    }
+
+    /// What a process may use, uses and gives; None where it is not live.
+    pub fn container(&self, pid: Pid) -> Option<Container> {
+        let mut container = raw::Container::default();
+        // SAFETY: as for `directory`.
+        let is_there =
+            unsafe { raw::tower_container(self.handle.get(), pid.number().into(), &mut container) };
+        is_there.then(|| container.into())
+    }
+
+    /// What a frame serves; None where memory has no such frame.
+    pub fn role(&self, frame: Frame) -> Option<Role> {
+        let mut role = raw::Role::default();
+        // SAFETY: as for `directory`.
+        let is_there = unsafe { raw::tower_role(self.handle.get(), frame.0, &mut role) };
+        is_there.then(|| role.into())
+    }
+
+    /// How the processor's walk of a process's tables ends, for an access to a byte; None where the process
+    /// is not live.
+    pub fn walk(&self, pid: Pid, addr: Vaddr, access: Access) -> Option<Result<Frame, WalkEnd>> {
+        let mut found = raw::Walk::default();
+        let write = access == Access::Write;
+        // SAFETY: as for `directory`.
+        let is_there = unsafe {
+            raw::tower_walk(
+                self.handle.get(),
+                pid.number().into(),
+                addr.0,
+                write,
+                &mut found,
+            )
+        };
+        is_there.then(|| found.into())
+    }
+
+    /// Copies a frame's bytes out; false where memory has no such frame, and then nothing is written.
+    pub fn copy_frame(&self, frame: Frame, bytes: &mut [u8; FRAME_BYTES]) -> bool {
+        // SAFETY: as for `directory`, and the length is the array's.
+        unsafe {
+            raw::tower_copy_frame(self.handle.get(), frame.0, bytes.as_mut_ptr(), FRAME_BYTES)
+        }
+    }
+}
+
+impl Drop for Core {
+    fn drop(&mut self) {
+        // SAFETY: as for `step`.
+        unsafe { raw::tower_free(self.handle.get_mut()) }
+    }
+}
+
+impl Vaddr {
+    /// The page of an address.
+    pub const fn page(self) -> Page {
+        Page(self.0 >> 12)
+    }
+}

@@ -1,0 +1,92 @@
+//! The library's structs and functions, as c/include/tower.h has them.
+
+use ::core::ffi::c_void;
+
+#[repr(C)]
+pub struct Tower {
+    pub live: bool,
+    pub core: *mut c_void,
+}
+
+#[repr(C)]
+#[derive(Clone, Copy, Default)]
+pub struct Event {
+    pub cpu: u8,
+    pub pid: u8,
+    pub call: u8,
+    pub flag: u8,
+    pub first: u32,
+    pub second: u32,
+    pub third: u32,
+}
+
+#[repr(C)]
+#[derive(Clone, Copy, Default)]
+pub struct Reply {
+    pub kind: u32,
+    pub first: u32,
+    pub second: u32,
+    pub third: u32,
+    pub write: bool,
+    pub may: bool,
+    pub accessed: bool,
+    pub dirty: bool,
+}
+
+#[repr(C)]
+#[derive(Clone, Copy, Default)]
+pub struct Role {
+    pub kind: u32,
+    pub pid: u32,
+    pub slot: u32,
+    pub count: u32,
+}
+
+#[repr(C)]
+#[derive(Clone, Copy, Default)]
+pub struct Container {
+    pub parent: u32,
+    pub quota: u32,
+    pub used: u32,
+    pub given: u32,
+    pub children: u32,
+}
+
+#[repr(C)]
+#[derive(Clone, Copy, Default)]
+pub struct Walk {
+    pub kind: u32,
+    pub frame: u32,
+    pub code: u32,
+}
+
+unsafe extern "C" {
+    pub safe fn tower_version() -> u32;
+    pub fn tower_boot(frames: u32, tower: *mut Tower) -> u32;
+    pub fn tower_step(tower: *mut Tower, event: *const Event, reply: *mut Reply) -> bool;
+    pub fn tower_run(
+        tower: *mut Tower,
+        events: *const Event,
+        event_count: usize,
+        replies: *mut Reply,
+        reply_count: usize,
+    ) -> bool;
+    pub fn tower_frames(tower: *const Tower) -> u32;
+    pub fn tower_directory(tower: *const Tower, pid: u32, frame: *mut u32) -> bool;
+    pub fn tower_container(tower: *const Tower, pid: u32, container: *mut Container) -> bool;
+    pub fn tower_role(tower: *const Tower, frame: u32, role: *mut Role) -> bool;
+    pub fn tower_walk(
+        tower: *const Tower,
+        pid: u32,
+        address: u32,
+        write: bool,
+        found: *mut Walk,
+    ) -> bool;
+    pub fn tower_copy_frame(
+        tower: *const Tower,
+        frame: u32,
+        bytes: *mut u8,
+        byte_count: usize,
+    ) -> bool;
+    pub fn tower_free(tower: *mut Tower);
+}
