@@ -1,0 +1,21 @@
+"""What a bench wants, and where it isn't there one line that says so, with status 2."""
+import pathlib
+import shutil
+import sys
+
+HINTS = {
+    "rt": "'rt' of the Rattle kit on PATH (README.md)",
+    "tower": "the proved program ('./tower prove' makes it)",
+    "valgrind": "'valgrind' on PATH",
+    "cc": "a C compiler, 'cc' on PATH",
+}
+
+
+def wants(bench, *needs):
+    """Ends the bench at the first need that isn't met: a command on PATH, or a path."""
+    for need in needs:
+        is_path = isinstance(need, pathlib.PurePath) or "/" in need
+        if not (pathlib.Path(need).exists() if is_path else shutil.which(need)):
+            name = pathlib.Path(need).name
+            print(f"{bench}: wants {HINTS.get(name, need)}", file=sys.stderr)
+            sys.exit(2)
