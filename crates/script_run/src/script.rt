@@ -19,7 +19,7 @@ const BLOCK: usize = 65_536;
 
 /// Runs a script on a machine of so many frames: carries out its events, writes a line for each
 /// reply, and hands back the machine. Reads and writes go in blocks, and all memory is taken before
-/// the first read.
+/// the first read. The replies to what was read are written before the next read, which may wait.
 ///
 /// `BadSize` comes where there are not 16 to 4,096 frames, and `NoMemory` where memory runs out, both
 /// before anything is read or written. After that, what is met first decides: `Malformed` with the
