@@ -1,6 +1,7 @@
 //! The library's structs and functions, as c/include/tower.h has them.
 
 use ::core::ffi::c_void;
+use ::core::mem::size_of;
 
 #[repr(C)]
 pub struct Tower {
@@ -59,6 +60,12 @@ pub struct Walk {
     pub frame: u32,
     pub code: u32,
 }
+
+// The sizes that c/layout holds the header to.
+const _: () = {
+    assert!(size_of::<Tower>() == 16 && size_of::<Event>() == 16 && size_of::<Reply>() == 20);
+    assert!(size_of::<Role>() == 16 && size_of::<Container>() == 20 && size_of::<Walk>() == 12);
+};
 
 unsafe extern "C" {
     pub safe fn tower_version() -> u32;
