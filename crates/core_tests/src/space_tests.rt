@@ -75,6 +75,35 @@ fn load_word(rt: &impl Abort, spaces: &mut Spaces, pid: Pid, address: Vaddr) -> 
     spaces.read(pid, address, Size::Four)
 }
 
+/// Loads two bytes at once, of one page of the user range.
+fn load_at_once(rt: &impl Abort, spaces: &mut Spaces, pid: Pid, address: Vaddr) -> Option<u32> {
+    assert!(rt; in_user_range(page_of(address)));
+    assert!(rt; second_page(address, Size::Two).is_none());
+    spaces.try_read(pid, address, Size::Two)
+}
+
+/// Stores two bytes at once, of one page of the user range. Whether it was done.
+fn store_at_once(
+    rt: &impl Abort,
+    spaces: &mut Spaces,
+    pid: Pid,
+    address: Vaddr,
+    value: u32,
+) -> bool {
+    assert!(rt; in_user_range(page_of(address)));
+    assert!(rt; second_page(address, Size::Two).is_none());
+    spaces.try_write(pid, address, Size::Two, value)
+}
+
+/// Has a frame given to a page that is mapped.
+fn fill_page(rt: &impl Abort, spaces: &mut Spaces, pid: Pid, page: Page)
+    requires user { IsUserPage page }
+{
+    assert!(rt; spaces.cell(pid, page).is_some());
+    spaces.fill(pid, page);
+    assert!(rt; !spaces.is_lazy(pid, page));
+}
+
 /// Maps all 1,024 pages from a first one on.
 fn map_region(rt: &impl Abort, spaces: &mut Spaces, pid: Pid, first: u32)
     requires low { 0x40000 ≤ first }
@@ -202,6 +231,40 @@ fn a_table_goes_with_its_last_page(rt: HostRuntime) -> Result<(), Fail> {
         let is_free = spaces.role(Frame(frame)) == Role::Free;
         assert_eq!(rt; is_free, directory != Some(Frame(frame)));
     }
+    Ok(())
+}
+
+#[test]
+fn loads_and_stores_at_once_what_is_there(rt: HostRuntime) -> Result<(), Fail> {
+    let mut spaces = Spaces::new(rt.alloc(), 16)?;
+    let root = Pid::new(0).ok_or("no root")?;
+    let page = Page(0x40000);
+    let address = Vaddr(0x4000_0ffe);
+    begin(&rt, &mut spaces, root);
+    assert_eq!(rt; load_at_once(&rt, &mut spaces, root, address), None);
+    assert!(rt; !store_at_once(&rt, &mut spaces, root, address, 0xbeef));
+    map_page(&rt, &mut spaces, root, page);
+    assert_eq!(rt; load_at_once(&rt, &mut spaces, root, address), Some(0));
+    assert!(rt; !store_at_once(&rt, &mut spaces, root, address, 0xbeef));
+    fill_page(&rt, &mut spaces, root, page);
+    assert!(rt; store_at_once(&rt, &mut spaces, root, address, 0xbeef));
+    assert_eq!(rt; load_at_once(&rt, &mut spaces, root, address), Some(0xbeef));
+    Ok(())
+}
+
+#[test]
+fn stores_nothing_at_once_without_the_right(rt: HostRuntime) -> Result<(), Fail> {
+    let mut spaces = Spaces::new(rt.alloc(), 16)?;
+    let root = Pid::new(0).ok_or("no root")?;
+    let page = Page(0x40000);
+    let address = Vaddr(0x4000_0000);
+    begin(&rt, &mut spaces, root);
+    map_page(&rt, &mut spaces, root, page);
+    fill_page(&rt, &mut spaces, root, page);
+    assert!(rt; spaces.cell(root, page).is_some());
+    spaces.protect(root, page, false);
+    assert!(rt; !store_at_once(&rt, &mut spaces, root, address, 1));
+    assert_eq!(rt; load_at_once(&rt, &mut spaces, root, address), Some(0));
     Ok(())
 }
 

@@ -8,6 +8,7 @@ use Rattle.locked_core.proofs.Prefixes.{same_entries}
 use Rattle.memory_report.specs.Histories.{calls_of, entries_of}
 use Rattle.memory_report.specs.declared.entries.LogEntry.{LogEntry}
 use Rattle.memory_report.specs.declared.rows.Row.{Row}
+use Rattle.guest_race.specs.Asked.{IsAsked}
 use Rattle.guest_race.specs.Causes.{told_cause}
 use Rattle.guest_race.specs.Rounds.{Audited, BothHalt, Closes, IsReported, Reports}
 use Rattle.guest_race.specs.declared.faults.RoundFault.{RoundFault}
@@ -79,3 +80,14 @@ round_reports frames first second played audited cause reported report (Ok rows)
     let ends = subst (λ (r : Result (List (Option Row)) RoundFault). IfOk r (λ rows. Closes frames (first ∷ second ∷ []) rows × (reported ≡ Some rows))) judged.1 closed in
     let one = subst (λ (r : Option (List (Option Row))). IfSome r (λ rows. Reports frames first.seen second.seen rows)) ends.1 told in
     round_is frames first second rows number.0 number.1 halted one found ends.0
+
+-- a referee who asked in a round that was played
+pub asked_both : {S : Type 0} (asks_report asks_verdict : S → S → Type 0) (before between after : S) (played audited cause : Option RoundFault) (report result : Result (List (Option Row)) RoundFault)
+    → asks_report before between → IfNone audited (asks_verdict between after) → cause ≡ told_cause played audited → IfOk result (λ rows. (cause ≡ None) × (report ≡ Ok rows))
+    → IfOk result (λ _. IsAsked asks_report asks_verdict before after)
+asked_both asks_report asks_verdict before between after played audited cause report (Err fault) reported sound is judged = tt
+asked_both asks_report asks_verdict before between after played audited cause report (Ok rows) reported sound is judged = record {
+  between = between;
+  report = reported;
+  verdict = subst (λ (c : Option RoundFault). IfNone c (asks_verdict between after)) (no_second played audited (sym is ∙ judged.0)) sound;
+}

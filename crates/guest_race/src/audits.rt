@@ -7,6 +7,7 @@ ghost use Rattle.integrity_checker.specs.Steps.{IsOf};
 ghost use Rattle.guest_race.specs.Rounds.{Audited};
 
 use crate::faults::RoundFault;
+use crate::referees::Referee;
 use integrity_checker::{Audit, Helper, Step};
 use locked_core::{Cpu, Kernel, Name, OpenGate};
 use memory_image::Image;
@@ -55,8 +56,14 @@ fn steps_of_both<R: Threads + Sync>(
 }
 
 /// Whether two helpers find nothing that fails in an image.
-fn is_sound<R: Threads + Sync>(rt: &R, alloc: Global, image: Image) -> Result<bool, RoundFault>
-    ensures { IfOk result (λ sound. sound ≡ fails_nothing (verdict_on image)) }
+fn is_sound<R: Threads + Sync, F: Referee>(
+    rt: &R,
+    alloc: Global,
+    image: Image,
+    referee: &mut F,
+) -> Result<bool, RoundFault>
+    ensures asked { IfOk result (λ _. F.judged referee.old referee.new) }
+    ensures sound { IfOk result (λ sound. sound ≡ fails_nothing (verdict_on image)) }
 {
     let (audit, mut helpers) = Audit::new(alloc, image, 2)?;
     let second = helpers.pop().unwrap();
@@ -64,25 +71,27 @@ fn is_sound<R: Threads + Sync>(rt: &R, alloc: Global, image: Image) -> Result<bo
     let (first, second) = steps_of_both(rt, &audit, first, second);
     helpers.push(first).unwrap();
     helpers.push(second).unwrap();
-    let verdict = audit.finish(helpers)?;
+    let verdict = referee.verdict(audit, helpers)?;
     Ok(verdict.sound())
 }
 
 /// Why an image of the kernel's memory was not found sound; None where it was. What the CPU has seen stays.
-pub(crate) fn audit_memory<N: Name, R: Threads + Wait + Sync>(
+pub(crate) fn audit_memory<N: Name, R: Threads + Wait + Sync, F: Referee>(
     rt: &R,
     alloc: Global,
     kernel: &Kernel<N, OpenGate>,
     cpu: &mut Cpu<N>,
+    referee: &mut F,
 ) -> Option<RoundFault>
     ensures kept { cpu.new ≡ cpu.old }
+    ensures asked { IfNone result (F.judged referee.old referee.new) }
     ensures sound { IfNone result (Audited N.frames cpu.old) }
 {
     let image = match kernel.snapshot(rt, cpu) {
         Ok(image) => image,
         Err(fault) => return Some(RoundFault::from(fault)),
     };
-    match is_sound(rt, alloc, image) {
+    match is_sound(rt, alloc, image, referee) {
         Ok(true) => None,
         Ok(false) => Some(RoundFault::Failed),
         Err(fault) => Some(fault),

@@ -4,11 +4,13 @@ ghost use Rattle.std.specs.Prelude.{◌≡◌, ◌∷◌, ◌≤◌, [], IfOk, I
 ghost use Rattle.std.specs.Vec.{vec_capacity};
 ghost use Rattle.locked_core.specs.Makers.{maker};
 ghost use Rattle.memory_report.specs.Reports.{report_of};
+ghost use Rattle.guest_race.specs.Asked.{IsAsked};
 ghost use Rattle.guest_race.specs.Rounds.{Closes, IsReported, Reports};
 
 use crate::audits::audit_memory;
 use crate::faults::{RoundFault, graver, told_cause};
 use crate::guests::play_opened;
+use crate::referees::{Asks, Referee};
 use locked_core::{Blank, Boot, Cpu, History, Kernel, Monitor, Name, OpenGate};
 use memory_report::{Report, report_of};
 use std::alloc::Global;
@@ -17,12 +19,18 @@ use std::sync::Wait;
 use std::thread::Threads;
 
 /// What a monitor reports that is told all that both CPUs have seen.
-fn report_told<N: Name>(monitor: &mut Monitor<N>, first: &Cpu<N>, second: &Cpu<N>) -> Option<Report>
-    ensures { IfSome result (λ report. Reports N.frames first.now.seen second.now.seen report) }
+fn report_told<N: Name, F: Referee>(
+    referee: &mut F,
+    monitor: &mut Monitor<N>,
+    first: &Cpu<N>,
+    second: &Cpu<N>,
+) -> Option<Report>
+    ensures asked { F.reported referee.old referee.new }
+    ensures report { IfSome result (λ report. Reports N.frames first.now.seen second.now.seen report) }
 {
     monitor.learn(first.tell());
     monitor.learn(second.tell());
-    let seen = monitor.report()?;
+    let seen = referee.report(monitor)?;
     Some(seen.report)
 }
 
@@ -94,14 +102,16 @@ fn close_all<N: Name, R: Wait>(
 /// A round on a kernel that has just booted: both guests are played, a monitor that was told by both CPUs
 /// reports, an image of the memory is judged, and the kernel is closed. The report, which is the same before
 /// and after.
-fn play_round<N: Name + Send + Sync, R: Threads + Wait + Sync>(
+fn play_round<N: Name + Send + Sync, R: Threads + Wait + Sync, F: Referee>(
     rt: &R,
     alloc: Global,
     blank: Blank<OpenGate>,
+    referee: &mut F,
 ) -> Result<Report, RoundFault>
     requires name { (blank.frames ≡ N.frames) × (blank.book ≡ N.book) }
     requires seats { (blank.cpus ≡ 2) × (blank.monitors ≡ 1) }
-    ensures { IfOk result (IsReported blank.frames) }
+    ensures round { IfOk result (IsReported blank.frames) }
+    ensures asked { IfOk result (λ _. IsAsked F.reported F.judged referee.old referee.new) }
 {
     let Boot {
         kernel,
@@ -111,17 +121,32 @@ fn play_round<N: Name + Send + Sync, R: Threads + Wait + Sync>(
     let (first, second) = take_both(&mut cpus);
     let mut monitor = monitors.pop().unwrap();
     let (mut first, second, played) = play_opened(rt, &kernel, first, second);
-    let reported = report_told(&mut monitor, &first, &second);
-    let audited = audit_memory(rt, alloc, &kernel, &mut first);
+    let reported = report_told(referee, &mut monitor, &first, &second);
+    let audited = audit_memory(rt, alloc, &kernel, &mut first, referee);
     put_both(&mut cpus, first, second);
     let report = close_all(rt, kernel, cpus, reported);
     judged(told_cause(played, audited), report)
 }
 
-/// A round on a kernel of its own, of 16 to 4,096 frames. The report on its memory at the end.
+/// A round on a kernel of its own, of 16 to 4,096 frames, whose two questions a referee asks: a monitor for
+/// its report, and then an audit for its verdict, each once. The report on its memory at the end.
 ///
 /// NoMemory where there is not enough memory, else Turns where a guest ran out of turns, else Failed
 /// where anything else ended it early, as a number of frames that no kernel has.
+pub fn round_by<R: Threads + Wait + Sync, F: Referee>(
+    rt: &R,
+    alloc: Global,
+    frames: u32,
+    referee: &mut F,
+) -> Result<Report, RoundFault>
+    ensures round { IfOk result (IsReported frames) }
+    ensures asked { IfOk result (λ _. IsAsked F.reported F.judged referee.old referee.new) }
+{
+    let blank = Kernel::<Brand, OpenGate>::boot(rt, alloc, frames, 2, 1, OpenGate)?;
+    play_round::<Brand, R, F>(rt, alloc, blank, referee)
+}
+
+/// A round as `round_by` makes it, with a referee that keeps nothing.
 pub fn round<R: Threads + Wait + Sync>(
     rt: &R,
     alloc: Global,
@@ -129,6 +154,5 @@ pub fn round<R: Threads + Wait + Sync>(
 ) -> Result<Report, RoundFault>
     ensures { IfOk result (IsReported frames) }
 {
-    let blank = Kernel::<Brand, OpenGate>::boot(rt, alloc, frames, 2, 1, OpenGate)?;
-    play_round::<Brand, R>(rt, alloc, blank)
+    round_by(rt, alloc, frames, &mut Asks)
 }

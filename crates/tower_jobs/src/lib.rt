@@ -16,6 +16,6 @@ pub use commands::answer;
 pub use given_words::{WordsFault, words};
 pub use images::{check_bytes, write_script_image};
 pub use jobs::{Job, job_of};
-pub use races::race;
+pub use races::{race, race_by};
 pub use script_run::{ScriptFault, run_script};
 pub use tools::ToolFault;

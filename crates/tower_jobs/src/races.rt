@@ -2,12 +2,13 @@
 
 ghost use Rattle.std.specs.Prelude.{◌≡◌, ◌≤◌, ◌↔◌, IfOk, IfErr, IsErrOf, OnOk, OnErr};
 ghost use Rattle.std.specs.Io.KnownBytes.{Appends};
+ghost use Rattle.guest_race.specs.Asked.{IsAsked, Times};
 ghost use Rattle.tower_jobs.specs.Races.{Raced, Writes, EndsRace, race_heading, race_text};
 ghost use Rattle.text_output.specs.Output.{AppendsFront};
 
 use crate::tools::ToolFault;
 use arrayvec::ArrayVec;
-use guest_race::{RoundFault, round};
+use guest_race::{Asks, Referee, RoundFault, round_by};
 use memory_report::Report;
 use page_words::{MAX_FRAMES, MIN_FRAMES};
 use std::alloc::Global;
@@ -19,19 +20,21 @@ use text_output::{WriteFailed, push_number, push_word, write_whole};
 /// Room for the lines before the report.
 const ROOM: usize = 64;
 
-/// Plays so many rounds, each on a kernel of its own. The report of the last one.
-fn play<R: Threads + Wait + Sync>(
+/// Plays so many rounds, each on a kernel of its own, and each by the referee. The report of the last one.
+fn play<R: Threads + Wait + Sync, F: Referee>(
     rt: &R,
     alloc: Global,
     frames: u32,
     rounds: u32,
+    referee: &mut F,
 ) -> Result<Report, RoundFault>
     requires { 1 ≤ rounds }
-    ensures { IfOk result (Raced frames rounds) }
+    ensures raced { IfOk result (Raced frames rounds) }
+    ensures asked { IfOk result (λ _. Times (IsAsked F.reported F.judged) rounds referee.old referee.new) }
 {
-    let mut report = round(rt, alloc, frames)?;
+    let mut report = round_by(rt, alloc, frames, referee)?;
     for played in 1..rounds {
-        report = round(rt, alloc, frames)?;
+        report = round_by(rt, alloc, frames, referee)?;
     }
     Ok(report)
 }
@@ -59,12 +62,36 @@ fn write_race<W: Write>(writer: &mut W, rounds: u32, report: &Report) -> Result<
 
 /// Plays so many rounds of a race, at least one, each on a freshly booted kernel of so many frames, and
 /// then writes that all histories were legal, all reports equal and all images sound, and the report of the
-/// last round. It may wait, as each round's threads do.
+/// last round. The referee asks in each round a monitor for its report, and then an audit for its verdict.
+/// It may wait, as each round's threads do.
 ///
 /// `BadSize` comes where there are not 16 to 4,096 frames. Then the first round that ends early ends the
 /// race: `NoMemory` where memory runs out, else `RaceTurns` where a guest ran out of turns, else
 /// `RaceFailed`. Nothing is written before all rounds are done. `WriteFailed` comes last, and what was
 /// written is then a front of the text.
+pub fn race_by<R: Threads + Wait + Sync, W: Write, F: Referee>(
+    rt: &R,
+    alloc: Global,
+    writer: &mut W,
+    frames: u32,
+    rounds: u32,
+    referee: &mut F,
+) -> Result<(), ToolFault>
+    requires { 1 ≤ rounds }
+    ensures size { IsErrOf result ToolFault.BadSize ↔ (16 ≤ frames → frames ≤ 4096 → ⊥) }
+    ensures text { OnOk result (Writes frames rounds (W.contents writer.old) (W.contents writer.new)) }
+    ensures fault { IfErr result (λ fault. EndsRace frames rounds fault (W.contents writer.old) (W.contents writer.new)) }
+    ensures asked { IfOk result (λ _. Times (IsAsked F.reported F.judged) rounds referee.old referee.new) }
+{
+    if !(MIN_FRAMES..=MAX_FRAMES).contains(&frames) {
+        return Err(ToolFault::BadSize);
+    }
+    let report = play(rt, alloc, frames, rounds, referee)?;
+    write_race(writer, rounds, &report)?;
+    Ok(())
+}
+
+/// A race as `race_by` plays it, with a referee that keeps nothing.
 pub fn race<R: Threads + Wait + Sync, W: Write>(
     rt: &R,
     alloc: Global,
@@ -77,10 +104,5 @@ pub fn race<R: Threads + Wait + Sync, W: Write>(
     ensures text { OnOk result (Writes frames rounds (W.contents writer.old) (W.contents writer.new)) }
     ensures fault { IfErr result (λ fault. EndsRace frames rounds fault (W.contents writer.old) (W.contents writer.new)) }
 {
-    if !(MIN_FRAMES..=MAX_FRAMES).contains(&frames) {
-        return Err(ToolFault::BadSize);
-    }
-    let report = play(rt, alloc, frames, rounds)?;
-    write_race(writer, rounds, &report)?;
-    Ok(())
+    race_by(rt, alloc, writer, frames, rounds, &mut Asks)
 }

@@ -1,4 +1,4 @@
-use Rattle.guest_race.proofs.rounds.round.Given as goal
+use Rattle.guest_race.proofs.rounds.round_by.Given as goal
 
 -- the kernel that was just booted
 abbrev pub ghosts-play_round : goal.ghosts-play_round
