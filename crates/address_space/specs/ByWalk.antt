@@ -33,6 +33,11 @@ byte_place bytes directory address = 4096 * frame_number (table_word bytes direc
 abbrev pub number_found : List ℕ → ℕ → ℕ → Size → ℕ
 number_found bytes directory address size = value_of (map (λ a. slice_index bytes (byte_place bytes directory a)) (covered address size))
 
+-- the value of an access by the walk: a load what stands at its bytes, a store 0
+abbrev pub value_found : List ℕ → ℕ → ℕ → Size → Access → ℕ
+value_found bytes directory address size Read = number_found bytes directory address size
+value_found bytes directory address size Write = 0
+
 -- memory after a load: the words that lead to each page are marked
 abbrev pub after_walked_load : List ℕ → ℕ → ℕ → Option ℕ → List ℕ
 after_walked_load bytes directory address second =

@@ -2,12 +2,13 @@
 
 ghost use Rattle.std.specs.Prelude.{◌≡◌, ◌+◌, ◌/◌, ◌%◌, ◌<◌, ◌^◌, ℕ, [], ◌∷◌, Some, is_some, true, IsOk, slice_set};
 ghost use Rattle.std.specs.Option.{option_map, unwrap_or};
-ghost use Rattle.page_words.specs.Addresses.{offset_number, byte_count, covered, second_page, start_number, touched, IsUserPage};
+ghost use Rattle.page_words.specs.Addresses.{offset_number, byte_count, covered, second_page, start_number, touched, EachTouched, IsUserPage};
+ghost use Rattle.page_words.specs.FiniteMap as map;
 ghost use Rattle.table_walk.specs.Walk.{walk_of};
 ghost use Rattle.table_walk.specs.Marks.{marked};
 ghost use Rattle.address_space.specs.ByWalk.{finds, finds_at, byte_place, number_found, after_walked_load, after_walked_store, with_walked};
-ghost use Rattle.address_space.specs.Image.{image_of};
-ghost use Rattle.address_space.specs.Spaces.{accessed, all_accessed, stored, all_stored, bytes_of, number_of, slot_at};
+ghost use Rattle.address_space.specs.Image.{image_of, takes_stores};
+ghost use Rattle.address_space.specs.Spaces.{at_page, accessed, all_accessed, stored, all_stored, bytes_of, number_of, slot_at};
 ghost use Rattle.address_space.specs.View.{directory_of};
 
 use crate::{Spaces, home, space_of, walked};
@@ -94,6 +95,7 @@ impl Spaces {
         requires { finds (image_of self.old) pid address size Access.Read ≡ true }
         ensures found { (directory : ℕ) → directory_of self.old.directories pid ≡ Some directory → result ≡ number_found self.old.bytes directory address size }
         ensures value { result ≡ number_of self.old.spaces pid (covered address size) }
+        ensures mapped { EachTouched address size (λ page. is_some (map.get self.old.spaces (at_page pid page)) ≡ true) }
         ensures spaces { self.new.spaces ≡ all_accessed self.old.spaces pid (touched address size) }
         ensures directories { self.new.directories ≡ self.old.directories }
         ensures roles { self.new.roles ≡ self.old.roles }
@@ -160,6 +162,7 @@ impl Spaces {
     /// lead to each byte are marked, and it is written where they lead. It is the store that `write` makes.
     pub fn store_by_walk(&mut self, pid: Pid, address: Vaddr, size: Size, value: u32)
         requires { finds (image_of self.old) pid address size Access.Write ≡ true }
+        ensures takes { EachTouched address size (λ page. takes_stores self.old.spaces (image_of self.old) (at_page pid page) ≡ true) }
         ensures spaces { self.new.spaces ≡ all_stored self.old.spaces pid address (bytes_of (byte_count size) value) }
         ensures directories { self.new.directories ≡ self.old.directories }
         ensures roles { self.new.roles ≡ self.old.roles }

@@ -1,25 +1,29 @@
 -- What walks that find a frame for each page of an access find at each of its bytes.
 use Rattle.std.proofs.Common.{◌≡◌, ℕ, zero, suc, ◌+◌, ◌^◌, ◌<◌, true, false, List, ◌∷◌, map as each, refl, ap, sym, ◌∙◌, subst, arith, Option, Some, None}
 use Rattle.std.specs.Prelude.{is_some, nat_lt, IfSome, IsOk, slice_index}
-use Rattle.std.specs.Option.{option_map, unwrap_or}
+use Rattle.std.specs.Option.{option_map, option_and_then, unwrap_or}
 use Rattle.std.specs.List.{range_with_len}
 use Rattle.std.specs.Result.{is_ok}
 use Rattle.std.proofs.lemmas.Bool.{and_parts}
 use Rattle.std.proofs.lemmas.Bool.Decides.{nat_tests}
-use Rattle.page_words.specs.Addresses.{IsUserPage, page_number, start_number, byte_count, covered, second_page}
+use Rattle.page_words.specs.Addresses.{IsUserPage, page_number, start_number, byte_count, covered, second_page, EachTouched}
 use Rattle.page_words.specs.declared.addresses.Size.{Size}
 use Rattle.page_words.proofs.Accesses.{some_bytes}
 use Rattle.page_words.specs.FiniteMap as map
+use Rattle.phys_memory.specs.Bytes.{frame_bytes}
 use Rattle.alloc_table.specs.declared.Role.{Role}
 use Rattle.table_walk.specs.declared.Access.{Access}
-use Rattle.table_walk.specs.declared.Access.TheVariants.{Read}
+use Rattle.table_walk.specs.declared.Access.TheVariants.{Read, Write}
 use Rattle.table_walk.specs.Walk.{walk_of}
 use Rattle.address_space.specs.ByWalk.{finds_at, finds, byte_place, number_found}
-use Rattle.address_space.specs.Image.{Image, directory_at}
-use Rattle.address_space.specs.Spaces.{byte_at, number_of, value_of, slot_at}
+use Rattle.address_space.specs.Image.{Image, directory_at, takes_stores}
+use Rattle.address_space.specs.Spaces.{Spaces, at_page, byte_at, number_of, value_of, slot_at}
 use Rattle.address_space.specs.View.{directory_of, spaces_in}
 use Rattle.address_space.specs.Sound.{IsSound}
+use Rattle.address_space.specs.Changes.{takes_stores_through}
 use Rattle.address_space.proofs.entries.Readings.{mapped_read}
+use Rattle.address_space.proofs.standing.Standing.{stores_read}
+use Rattle.page_map.specs.Entries.{entry_at}
 use Rattle.address_space.proofs.steps.Steps.{live_small}
 use Rattle.address_space.proofs.steps.Bytes.{each_byte}
 use Rattle.address_space.proofs.steps.WalkSteps.{found_entry, page_found, found_byte}
@@ -46,6 +50,11 @@ found_at image p d address access live h =
 pub record FoundEach (bytes : List ℕ) (d address : ℕ) (size : Size) (access : Access) : Type 0 where
   pub found : (i : ℕ) → i < byte_count size → IsOk (walk_of bytes d (address + i) access)
   pub user : (i : ℕ) → i < byte_count size → IsUserPage (page_number (address + i))
+
+-- each page of the access is mapped, and takes stores where the access is one
+pub record FoundPages (spaces : Spaces) (image : Image) (p address : ℕ) (size : Size) (access : Access) : Type 0 where
+  pub mapped : EachTouched address size (λ page. is_some (map.get spaces (at_page p page)) ≡ true)
+  pub takes : access ≡ Write → EachTouched address size (λ page. takes_stores spaces image (at_page p page) ≡ true)
 
 pub found_each : (directories : List (Option ℕ)) (bytes : List ℕ) (roles : List Role) (p d address : ℕ) (size : Size) (access : Access) → IsSound directories bytes roles → directory_of directories p ≡ Some d
     → finds (record { directories = directories; bytes = bytes; roles = roles }) p address size access ≡ true → FoundEach bytes d address size access
@@ -129,3 +138,38 @@ pub found_mapped : (directories : List (Option ℕ)) (bytes : List ℕ) (roles :
 found_mapped directories bytes roles p d address access sound live small ok =
     let f = found_entry directories bytes roles p d sound live address access small ok in
     mapped_read directories bytes p d (page_number address) live (live_small directories p d sound.pids live) f.low f.high ∙ ap is_some f.here
+
+-- and where it is for a store, the page takes stores
+found_takes : (directories : List (Option ℕ)) (bytes : List ℕ) (roles : List Role) (p d address : ℕ) → IsSound directories bytes roles → directory_of directories p ≡ Some d
+    → address < 2 ^ 32 → IsOk (walk_of bytes d address Write) → takes_stores (spaces_in directories bytes) (record { directories = directories; bytes = bytes; roles = roles }) (slot_at p address) ≡ true
+found_takes directories bytes roles p d address sound live small ok =
+    let f = found_entry directories bytes roles p d sound live address Write small ok in
+    sym (stores_read directories bytes roles p (page_number address) sound f.low f.high)
+    ∙ ap takes_stores_through (ap (option_and_then (λ d. entry_at (frame_bytes bytes) d (page_number address))) live ∙ f.here)
+    ∙ f.right refl
+
+pub found_pages : (directories : List (Option ℕ)) (bytes : List ℕ) (roles : List Role) (p d address : ℕ) (size : Size) (access : Access) → IsSound directories bytes roles → directory_of directories p ≡ Some d
+    → finds (record { directories = directories; bytes = bytes; roles = roles }) p address size access ≡ true
+    → FoundPages (spaces_in directories bytes) (record { directories = directories; bytes = bytes; roles = roles }) p address size access
+found_pages directories bytes roles p d address size access sound live h =
+    record {
+      mapped = each (λ page. is_some (map.get S (at_page p page)) ≡ true) (λ a is. let f = found_at image p d a access live is in found_mapped directories bytes roles p d a access sound live f.0 f.1);
+      takes = λ store. each (λ page. takes_stores S image (at_page p page) ≡ true)
+          (λ a is. let f = found_at image p d a access live is in found_takes directories bytes roles p d a sound live f.0 (subst (λ (x : Access). IsOk (walk_of bytes d a x)) store f.1));
+    }
+  where
+    S : Spaces
+    S = spaces_in directories bytes
+
+    image : Image
+    image = record { directories = directories; bytes = bytes; roles = roles }
+
+    parts : (finds_at image p access address ≡ true) × (unwrap_or (option_map (λ page. finds_at image p access (start_number page)) (second_page address size)) true ≡ true)
+    parts = and_parts (finds_at image p access address) _ h
+
+    each : (P : ℕ → Type 0) → ((a : ℕ) → finds_at image p access a ≡ true → P (page_number a)) → EachTouched address size P
+    each P at = (at address parts.0, by (second_page address size) parts.1)
+      where
+        by : (x : Option ℕ) → unwrap_or (option_map (λ page. finds_at image p access (start_number page)) x) true ≡ true → IfSome x P
+        by None is = tt
+        by (Some page) is = let e : page_number (start_number page) ≡ page = omega arith in subst P e (at (start_number page) is)
