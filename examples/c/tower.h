@@ -154,6 +154,15 @@ bool tower_container(struct tower *tower, uint32_t pid, struct tower_container *
 bool tower_role(struct tower *tower, uint32_t frame, struct tower_role *role);
 bool tower_copy_frame(struct tower *tower, uint32_t frame, uint8_t *bytes, size_t byte_count);
 
+/* Where the core's memory lies, from the boot until tower_free: frame f is the 4,096 bytes from place
+ * 4,096 f on. It begins where rattle_alloc put the block. False where the handle has no core: nothing is
+ * written then. */
+struct tower_memory {
+    void *begins;
+    size_t length;
+};
+bool tower_memory(struct tower *tower, struct tower_memory *memory);
+
 /* Frees the core, if the handle has one. The handle may be booted again. */
 void tower_free(struct tower *tower);
 
