@@ -105,14 +105,7 @@ struct tried {
 };
 
 static _Alignas(FRAME) uint8_t pool[3 << 20];
-static size_t used, blocks, latest_count;
-
-/* The latest blocks that were given. */
-enum { LATEST = 8 };
-static struct block {
-    uint8_t *begins;
-    size_t size;
-} latest[LATEST];
+static size_t used, blocks;
 
 /* Blocks lie one behind another, and those of a page or more begin at a page, so that a core's memory does.
  * Once all are back it starts anew. */
@@ -124,7 +117,6 @@ struct tried rattle_alloc(size_t size, size_t align) {
     }
     used = at + size;
     blocks++;
-    latest[latest_count++ % LATEST] = (struct block){pool + at, size};
     return (struct tried){true, pool + at};
 }
 
@@ -136,14 +128,11 @@ void rattle_dealloc(void *block) {
 }
 
 uint8_t *memory_of(struct tower *tower) {
-    size_t size = (size_t)tower_frames(tower) * FRAME;
-    for (size_t i = 1; i <= LATEST && i <= latest_count; i++) {
-        struct block *block = &latest[(latest_count - i) % LATEST];
-        if (block->size == size) {
-            return block->begins;
-        }
-    }
-    fail("the library took no block of that size");
+    struct tower_memory memory;
+    need(tower_memory(tower, &memory), "a core has a memory");
+    need(((uintptr_t)memory.begins & (FRAME - 1)) == 0, "a core's memory begins at a page");
+    need(memory.length == (size_t)tower_frames(tower) * FRAME, "a core's memory has its frames");
+    return memory.begins;
 }
 
 void *memset(void *to, int byte, size_t count) {

@@ -21,8 +21,7 @@ void need(bool holds, const char *what);
 void start_slice(void);
 void take_interrupt(void);
 
-/* The block that a core's latest boot was given for its memory, which begins at a page. It is found by its size
- * among the blocks that rattle_alloc gave: no clause says that there is such a block. */
+/* Where a core's memory lies, by tower_memory: it begins at a page, since rattle_alloc aligns large blocks so. */
 uint8_t *memory_of(struct tower *tower);
 
 void *memset(void *to, int byte, size_t count);

@@ -15,11 +15,13 @@ ghost use Rattle.tower_c.specs.Handle.{IsTower};
 mod handle;
 mod hold;
 mod loose;
+mod memory;
 mod words;
 
 pub use handle::{Tower, handle_sends};
 use handle::{put, take};
 use kernel_calls::{BootFault, Core};
+pub use memory::{TowerMemory, tower_memory};
 use page_words::Frame;
 use std::alloc::Global;
 use words::{container_from, event_from, no_event, pid_from, role_from, told_from};
