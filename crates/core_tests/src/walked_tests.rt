@@ -190,3 +190,41 @@ fn a_processor_makes_of_accesses_what_events_make(rt: HostRuntime) -> Result<(),
     assert!(rt; alone > 400, "{alone} accesses");
     Ok(())
 }
+
+/// A load and a store of four bytes, two in each of two pages.
+fn load_and_store(pid: Pid) -> (Event, Event) {
+    let (addr, size) = (Vaddr(0x4000_0ffe), Size::Four);
+    let load = Call::Load { addr, size };
+    let store = Call::Store {
+        addr,
+        size,
+        value: 0xdead_beef,
+    };
+    let (load, store) = (
+        Event {
+            cpu: 0,
+            pid,
+            call: load,
+        },
+        Event {
+            cpu: 0,
+            pid,
+            call: store,
+        },
+    );
+    (load, store)
+}
+
+#[test]
+fn walks_find_a_store_once_both_pages_have_frames(rt: HostRuntime) -> Result<(), Fail> {
+    let mut core = Core::boot(rt.alloc(), 16)?;
+    let (load, store) = load_and_store(process(0)?);
+    assert!(rt; !core.finds(&load) && !core.finds(&store));
+    core.step(&load);
+    assert!(rt; core.finds(&load) && !core.finds(&store));
+    core.step(&store);
+    assert!(rt; core.finds(&load) && core.finds(&store));
+    let (reply, alone) = together(&mut core, &load);
+    assert!(rt; alone && reply == Reply::Value(0xdead_beef));
+    Ok(())
+}

@@ -9,7 +9,7 @@ ghost use Rattle.std.specs.Prelude.{◌≡◌, ◌≢◌, ◌≤◌, ◌↔◌, 
 ghost use Rattle.std.specs.Option.{option_map};
 ghost use Rattle.page_words.specs.Addresses.{page_number, second_page, touched, EachTouched, IsUserPage};
 ghost use Rattle.address_space.specs.Spaces.{at_page, slot_at, page_need, with_page, with_pages};
-ghost use Rattle.process_table.specs.State.{is_live, is_mapped, lacks_room, room};
+ghost use Rattle.process_table.specs.State.{container_of, is_live, is_mapped, lacks_room, room};
 ghost use Rattle.process_table.specs.TestAnswers.{map_answer};
 ghost use Rattle.process_table.specs.Calls.{loaded, access_value, after_access, after_load, after_store, after_map};
 ghost use Rattle.address_space.specs.Image.{is_lazy_at};
@@ -262,6 +262,7 @@ pub fn complete_by_walk(
     ensures roles { processes.new.roles ≡ processes.old.roles }
     ensures bytes { (directory : ℕ) → directory_of processes.old.directories pid ≡ Some directory → processes.new.bytes ≡ after_walked processes.old.bytes directory address size access value }
     ensures found { (directory : ℕ) → directory_of processes.old.directories pid ≡ Some directory → result ≡ value_found processes.old.bytes directory address size access }
+    ensures containers { (p : ℕ) → container_of processes.new.state p ≡ container_of processes.old.state p }
 {
     processes.access_by_walk(pid, address, size, access, value)
 }

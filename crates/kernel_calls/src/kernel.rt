@@ -234,6 +234,7 @@ impl Core {
         ensures state { self.new.state ≡ next self.old.state event.now }
         ensures directories { self.new.directories ≡ self.old.directories }
         ensures roles { self.new.roles ≡ self.old.roles }
+        ensures containers { (p : ℕ) → container_of self.new.state p ≡ container_of self.old.state p }
         ensures bytes { (directory : ℕ) → directory_of self.old.directories event.now.pid ≡ Some directory → self.new.bytes ≡ bytes_accessed self.old.bytes directory event.now.call }
         ensures stands { StandsFor (image_of self.new) self.new.state }
         ensures walks { WalksAgree (memory_of self.new) self.new.state.spaces }

@@ -295,6 +295,7 @@ fn walk_access(
     ensures roles { spaces.new.roles ≡ spaces.old.roles }
     ensures bytes { (directory : ℕ) → directory_of spaces.old.directories pid ≡ Some directory → spaces.new.bytes ≡ after_walked spaces.old.bytes directory address size access value }
     ensures found { (directory : ℕ) → directory_of spaces.old.directories pid ≡ Some directory → result ≡ value_found spaces.old.bytes directory address size access }
+    ensures containers { (p : ℕ) → container_of (state_of spaces.new quotas.now offers.now) p ≡ container_of (state_of spaces.old quotas.now offers.now) p }
 {
     match access {
         Access::Read => spaces.load_by_walk(pid, address, size),
@@ -657,6 +658,7 @@ impl Processes {
         ensures roles { self.new.roles ≡ self.old.roles }
         ensures bytes { (directory : ℕ) → directory_of self.old.directories pid ≡ Some directory → self.new.bytes ≡ after_walked self.old.bytes directory address size access value }
         ensures found { (directory : ℕ) → directory_of self.old.directories pid ≡ Some directory → result ≡ value_found self.old.bytes directory address size access }
+        ensures containers { (p : ℕ) → container_of self.new.state p ≡ container_of self.old.state p }
     {
         walk_access(
             &mut self.spaces,
