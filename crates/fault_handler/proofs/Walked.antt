@@ -1,11 +1,10 @@
 -- An access whose walks find a frame for each of its pages completes as memory stands.
-use Rattle.std.proofs.Common.{◌≡◌, ℕ, ◌+◌, nat_lt, arith, Bool, true, false, not, ◌&&◌, cond, refl, sym, ap, ◌∙◌, Option, Some, None}
+use Rattle.std.proofs.Common.{◌≡◌, ℕ, nat_lt, arith, Bool, true, false, not, ◌&&◌, cond, refl, ap, ◌∙◌, Option, Some, None}
 use Rattle.std.specs.Prelude.{if◌then◌else◌, IfSome, find}
 use Rattle.std.specs.Option.{option_map, option_and_then}
 use Rattle.std.proofs.lemmas.Bool.{not-true, le-ltb, and_parts}
-use Rattle.page_words.specs.Addresses.{page_number, start_number, covered, second_page, touched, EachTouched, IsUserPage, is_user_page}
+use Rattle.page_words.specs.Addresses.{page_number, start_number, covered, second_page, EachTouched, IsUserPage, is_user_page}
 use Rattle.page_words.specs.declared.addresses.Size.{Size}
-use Rattle.page_words.specs.FiniteMap as map
 use Rattle.page_words.proofs.Accesses.{first_by_page}
 use Rattle.address_space.specs.Spaces.{Slot, at_page, cell_or_fresh, access_need, cost}
 use Rattle.address_space.specs.Image.{is_lazy_at, takes_stores}
@@ -13,12 +12,10 @@ use Rattle.address_space.proofs.costs.AccessNeeds.{cost-with_touched}
 use Rattle.address_space.proofs.costs.MapFirst.{with_touched-same}
 use Rattle.table_walk.specs.declared.Access.{Access}
 use Rattle.table_walk.specs.declared.Access.TheVariants.{Read, Write}
-use Rattle.table_walk.specs.Walk.{is_write}
 use Rattle.process_table.specs.State.{State, is_mapped, room, lacks_room}
 use Rattle.process_table.specs.View.{View}
 use Rattle.process_table.specs.Image.{memory_of}
 use Rattle.process_table.specs.declared.causes.Cause.TheVariants.{Quota}
-use Rattle.fault_handler.specs.declared.plans.PageStep.{PageStep}
 use Rattle.fault_handler.specs.declared.plans.PageStep.TheVariants as step
 use Rattle.fault_handler.specs.declared.plans.Plan.TheVariants as plan
 use Rattle.fault_handler.specs.Plans.{outside, is_read_only, forbidden, fault_or, step_at, plan_at, takes_no_frame}

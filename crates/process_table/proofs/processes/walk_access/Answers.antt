@@ -3,7 +3,7 @@ use Rattle.std.specs.Prelude.{IfSome}
 use Rattle.std.proofs.lemmas.Bool.{and_parts}
 use Rattle.page_words.specs.Addresses.{byte_count, touched, page_number, second_page, EachTouched}
 use Rattle.page_words.specs.FiniteMap as map
-use Rattle.address_space.specs.Spaces.{Spaces, cost, bytes_of, at_page, all_accessed, all_stored}
+use Rattle.address_space.specs.Spaces.{cost, bytes_of, at_page, all_accessed, all_stored}
 use Rattle.address_space.specs.Image as memory
 use Rattle.address_space.specs.Image.{takes_stores}
 use Rattle.address_space.proofs.costs.AccessCosts.{cost-same}
