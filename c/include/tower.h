@@ -214,6 +214,15 @@ bool tower_role(const struct tower *tower, uint32_t frame, struct tower_role *ro
 bool tower_walk(const struct tower *tower, uint32_t pid, uint32_t address, bool write, struct tower_walk *found);
 bool tower_copy_frame(const struct tower *tower, uint32_t frame, uint8_t *bytes, size_t byte_count);
 
+/* Where the core's memory lies, from the boot until tower_free: frame f is the 4,096 bytes from place
+ * 4,096 f on. It begins where rattle_alloc put the block. False where the handle has no core: nothing is
+ * written then. */
+struct tower_memory {
+    void *begins;
+    size_t length;
+};
+bool tower_memory(const struct tower *tower, struct tower_memory *memory);
+
 /* Frees the core, if the handle has one. The handle may be booted again. */
 void tower_free(struct tower *tower);
 

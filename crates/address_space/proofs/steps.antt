@@ -3,6 +3,8 @@ pub mod Bytes
 pub mod Copies
 pub mod CountSteps
 pub mod Departures
+pub mod DirWords
+pub mod Finding
 pub mod Joins
 pub mod LazyFilling
 pub mod Leaves
@@ -11,3 +13,4 @@ pub mod Openings
 pub mod Steps
 pub mod Stores
 pub mod Touches
+pub mod WalkSteps

@@ -1,3 +1,4 @@
+pub mod ByWalk
 pub mod Cells
 pub mod Changes
 pub mod Codes

@@ -19,6 +19,7 @@ ghost use Rattle.std.specs.Option.{option_map};
 ghost use Rattle.address_space.specs.View.{directory_of, spaces_in, total_cost};
 
 mod accesses;
+mod by_walk;
 mod cells;
 mod charges;
 mod copies;
@@ -26,6 +27,7 @@ mod drops;
 mod fills;
 mod links;
 mod region_counts;
+mod walked;
 
 use alloc_table::{FrameTable, Role};
 use cells::{cell_in, need_in};

@@ -47,6 +47,8 @@ mod two_page_tests;
 #[cfg(test)]
 mod walk_tests;
 #[cfg(test)]
+mod walked_tests;
+#[cfg(test)]
 mod word_tests;
 #[cfg(test)]
 mod worked_tests;

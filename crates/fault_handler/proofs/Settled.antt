@@ -238,7 +238,7 @@ complete_pages v x p address size access is h =
     by None k = k
     by (Some page) k = k
 
-page_is_user : (page : ℕ) → IsUserPage page → is_user_page page ≡ true
+pub page_is_user : (page : ℕ) → IsUserPage page → is_user_page page ≡ true
 page_is_user page h =
     let low = h.0 in
     let high = h.1 in

@@ -9,10 +9,12 @@ ghost use Rattle.std.specs.Prelude.{◌≡◌, ◌≢◌, ◌≤◌, ◌↔◌, 
 ghost use Rattle.std.specs.Option.{option_map};
 ghost use Rattle.page_words.specs.Addresses.{page_number, second_page, touched, EachTouched, IsUserPage};
 ghost use Rattle.address_space.specs.Spaces.{at_page, slot_at, page_need, with_page, with_pages};
-ghost use Rattle.process_table.specs.State.{is_live, is_mapped, lacks_room, room};
+ghost use Rattle.process_table.specs.State.{container_of, is_live, is_mapped, lacks_room, room};
 ghost use Rattle.process_table.specs.TestAnswers.{map_answer};
 ghost use Rattle.process_table.specs.Calls.{loaded, access_value, after_access, after_load, after_store, after_map};
 ghost use Rattle.address_space.specs.Image.{is_lazy_at};
+ghost use Rattle.address_space.specs.View.{directory_of};
+ghost use Rattle.address_space.specs.ByWalk.{finds, value_found, after_walked};
 ghost use Rattle.process_table.specs.Image.{memory_of};
 ghost use Rattle.fault_handler.specs.Plans.{outside, is_read_only, read_only, forbidden, step_at, plan_of, plan_at, goes_on, at_once, takes_no_frame};
 ghost use Rattle.process_table.specs.View.{View};
@@ -239,6 +241,30 @@ pub fn settle(
 {
     make_ready(processes, &plan, pid, address, size, access);
     processes.access(pid, address, size, access, value)
+}
+
+/// Makes an access as a processor does, where the walks of its process's directory find a frame for each page that
+/// it touches: the value read, or 0 after a write. Its plan completes as memory stands, so that it takes no frame.
+pub fn complete_by_walk(
+    processes: &mut Processes,
+    pid: Pid,
+    address: Vaddr,
+    size: Size,
+    access: Access,
+    value: u32,
+) -> u32
+    requires { finds (memory_of processes.old) pid address size access ≡ true }
+    ensures live { is_live processes.old.state pid ≡ true }
+    ensures plan { takes_no_frame (plan_at processes.old pid address size access) ≡ true }
+    ensures value { result ≡ access_value processes.old.state pid address size access }
+    ensures state { processes.new.state ≡ after_access processes.old.state pid address size access value }
+    ensures directories { processes.new.directories ≡ processes.old.directories }
+    ensures roles { processes.new.roles ≡ processes.old.roles }
+    ensures bytes { (directory : ℕ) → directory_of processes.old.directories pid ≡ Some directory → processes.new.bytes ≡ after_walked processes.old.bytes directory address size access value }
+    ensures found { (directory : ℕ) → directory_of processes.old.directories pid ≡ Some directory → result ≡ value_found processes.old.bytes directory address size access }
+    ensures containers { (p : ℕ) → container_of processes.new.state p ≡ container_of processes.old.state p }
+{
+    processes.access_by_walk(pid, address, size, access, value)
 }
 
 /// Whether the bytes of an access lie in one page of the user range.

@@ -2,6 +2,7 @@ pub mod Decisions
 pub mod Isolation
 pub mod Laws
 pub mod Machine
+pub mod Walked
 pub mod WorkedAccesses
 pub mod WorkedForks
 pub mod WorkedIsolation

@@ -1,8 +1,10 @@
 //! The kernel's core: one machine's memory and its processes.
 
-ghost use Rattle.std.specs.Prelude.{◌≡◌, ◌↔◌, ◌*◌, ◌<◌, ◌≤◌, true, false, Some, IfOk, IfSome, IsSome, IsNone, IsErrOf, length, slice_get};
+ghost use Rattle.std.specs.Prelude.{◌≡◌, ◌↔◌, ℕ, ◌*◌, ◌<◌, ◌≤◌, true, false, Some, IfOk, IfSome, IsSome, IsNone, IsErrOf, length, slice_get};
 ghost use Rattle.address_space.specs.View.{directory_of};
+ghost use Rattle.page_words.specs.Addresses.{IsUserPage};
 ghost use Rattle.address_space.specs.Walks.{WalksAgree};
+ghost use Rattle.address_space.specs.ByWalk.{with_walked};
 ghost use Rattle.process_table.specs.State.{open_with, container_of, is_live};
 ghost use Rattle.process_table.specs.Calls.{loaded, after_load, after_store};
 ghost use Rattle.table_walk.specs.declared.Access.TheVariants as access;
@@ -12,16 +14,18 @@ ghost use Rattle.process_table.specs.WellFormed.{IsWellFormed, total};
 ghost use Rattle.address_space.specs.Image.{LeavesRoom};
 ghost use Rattle.address_space.specs.Spaces.{zeros};
 ghost use Rattle.phys_memory.specs.Bytes.{frame_bytes};
-ghost use Rattle.fault_handler.specs.Plans.{goes_on, plan_of};
+ghost use Rattle.fault_handler.specs.Plans.{goes_on, plan_of, takes_no_frame};
 ghost use Rattle.kernel_calls.specs.Isolation.{IsIsolated};
 ghost use Rattle.kernel_calls.specs.Machine.{answer, after, next, answers, end_of, completes};
-ghost use Rattle.kernel_calls.specs.Decisions.{decision_of, charge_after};
+ghost use Rattle.kernel_calls.specs.Decisions.{decision_of, charge_after, plan_of_event};
+ghost use Rattle.kernel_calls.specs.Walked.{finds_event, reply_found, bytes_accessed};
 
 use crate::calls::{Call, Decision, Event, Reply};
 use crate::decisions::decide_on;
+use crate::walked;
 use alloc_table::Role;
 use fault_handler::{Plan, settle, try_load, try_store};
-use page_words::{Frame, Pid};
+use page_words::{Frame, Page, Pid};
 use phys_memory::Memory;
 use process_table::{Processes, ProcessesFault};
 use quota_tree::Container;
@@ -209,6 +213,51 @@ impl Core {
         for (i, event) in events.iter().enumerate() {
             replies[i] = self.step(event);
         }
+    }
+
+    /// Whether a processor carries out an event by itself: it is a load or a store, and the walk of its process's
+    /// directory finds a frame for each page that it touches, one or two.
+    pub fn finds(&self, event: &Event) -> bool
+        ensures { result ≡ finds_event self.now event.now }
+    {
+        walked::finds(&self.processes, event)
+    }
+
+    /// Carries out an event as a processor does by itself, where its walks find a frame for each page: the words
+    /// that lead to each page are marked, and the value is read, or its bytes are written, where they lead. It is
+    /// what `step` makes of the event, so that memory which a processor changed so is a core's after the event.
+    pub fn accessed(&mut self, event: &Event) -> Reply
+        requires { finds_event self.old event.now ≡ true }
+        ensures plan { takes_no_frame (plan_of_event self.old event.now) ≡ true }
+        ensures reply { result ≡ answer self.old.state event.now }
+        ensures found { (directory : ℕ) → directory_of self.old.directories event.now.pid ≡ Some directory → result ≡ reply_found self.old.bytes directory event.now.call }
+        ensures state { self.new.state ≡ next self.old.state event.now }
+        ensures directories { self.new.directories ≡ self.old.directories }
+        ensures roles { self.new.roles ≡ self.old.roles }
+        ensures containers { (p : ℕ) → container_of self.new.state p ≡ container_of self.old.state p }
+        ensures bytes { (directory : ℕ) → directory_of self.old.directories event.now.pid ≡ Some directory → self.new.bytes ≡ bytes_accessed self.old.bytes directory event.now.call }
+        ensures stands { StandsFor (image_of self.new) self.new.state }
+        ensures walks { WalksAgree (memory_of self.new) self.new.state.spaces }
+    {
+        let reply = walked::access_by_walk(&mut self.processes, event);
+        self.stands();
+        reply
+    }
+
+    /// Sets or clears accessed in the directory word that leads to a page of a live process, where it is present:
+    /// the state and all that is told of it stay, and memory stands for it as before.
+    pub fn set_walked(&mut self, pid: Pid, page: Page, walked: bool)
+        requires live { is_live self.old.state pid ≡ true }
+        requires user { IsUserPage page }
+        ensures state { self.new.state ≡ self.old.state }
+        ensures directories { self.new.directories ≡ self.old.directories }
+        ensures roles { self.new.roles ≡ self.old.roles }
+        ensures bytes { (directory : ℕ) → directory_of self.old.directories pid ≡ Some directory → self.new.bytes ≡ with_walked self.old.bytes directory page walked }
+        ensures stands { StandsFor (image_of self.new) self.new.state }
+        ensures walks { WalksAgree (memory_of self.new) self.new.state.spaces }
+    {
+        self.processes.set_walked(pid, page, walked);
+        self.stands();
     }
 
     /// That memory's own words say what the state says, and that the processor's walk of any directory,

@@ -9,6 +9,7 @@ mod calls;
 mod decisions;
 mod kernel;
 mod laws;
+mod walked;
 mod worked;
 
 pub use alloc_table::Role;

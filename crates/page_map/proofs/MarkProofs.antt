@@ -95,11 +95,11 @@ not_lazy w n right = by (is_granted w) (is_lazy w) (sym n.writable ∙ right)
     by true true h = cc
     by false l h = cc
 
-touched_names : (access : Access) (w : ℕ) → NamesPage w → (access ≡ Write → is_writable w ≡ true) → NamesPage (touched_word access w)
+pub touched_names : (access : Access) (w : ℕ) → NamesPage w → (access ≡ Write → is_writable w ≡ true) → NamesPage (touched_word access w)
 touched_names Read w n right = flagged_names w 5 n (inl refl)
 touched_names Write w n right = flagged_names (accessed_word w) 6 (flagged_names w 5 n (inl refl)) (inr (refl, is_accessed_now w, set_flag_other w 5 10 (omega arith) ∙ not_lazy w n (right refl)))
 
-entry_from-touched : (access : Access) (w : ℕ) → entry_from (touched_word access w) ≡ touched_entry access (entry_from w)
+pub entry_from-touched : (access : Access) (w : ℕ) → entry_from (touched_word access w) ≡ touched_entry access (entry_from w)
 entry_from-touched Read w =
     rw (set_flag_frame w 5 (omega arith), set_flag_other w 5 11 (omega arith), set_flag_other w 5 9 (omega arith), is_accessed_now w, set_flag_other w 5 6 (omega arith), set_flag_other w 5 10 (omega arith)) refl
 entry_from-touched Write w =

@@ -25,7 +25,7 @@ entry_word-present e = outer e 0 true (omega arith)
     (kept _ 2 0 true true (omega arith) (omega arith) (omega arith)
     (flag-with_flag_same (word_with_frame 0 e.frame) 0 true (omega arith)))))))
 
-with_flag_lt : (w k : ℕ) (b : Bool) → w < 2 ^ 32 → k < 32 → with_flag w k b < 2 ^ 32
+pub with_flag_lt : (w k : ℕ) (b : Bool) → w < 2 ^ 32 → k < 32 → with_flag w k b < 2 ^ 32
 with_flag_lt w k true h i = or_lt 32 w (2 ^ k) h (pow-lt i)
 with_flag_lt w k false h i = omega (arith, and_le_l w (2 ^ 32 - 1 - 2 ^ k))
 

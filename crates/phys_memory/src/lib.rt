@@ -80,6 +80,12 @@ impl Memory {
         self.bytes.as_slice()
     }
 
+    /// The address of the first byte, at which the bytes lie as long as the memory is there. No clause says anything
+    /// of it.
+    pub fn begins(&self) -> *const u8 {
+        self.bytes.as_ptr()
+    }
+
     /// The byte at a place.
     pub fn read_byte(&self, place: usize) -> u8
         requires { place < length self.now }

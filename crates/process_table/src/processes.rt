@@ -18,6 +18,7 @@ ghost use Rattle.address_space.specs.Image as memory;
 ghost use Rattle.address_space.specs.Image.{LeavesRoom, is_lazy_at, takes_stores};
 ghost use Rattle.process_table.specs.WellFormed.{IsWellFormed, total};
 ghost use Rattle.address_space.specs.Walks.{WalksAgree};
+ghost use Rattle.address_space.specs.ByWalk.{finds, value_found, after_walked, with_walked};
 ghost use Rattle.quota_tree.specs.Book.{number_of_children};
 ghost use Rattle.table_walk.specs.declared.Access.TheVariants as access_variant;
 
@@ -267,6 +268,39 @@ fn complete_access(
         Access::Read => spaces.read(pid, address, size),
         Access::Write => {
             spaces.write(pid, address, size, value);
+            0
+        }
+    }
+}
+
+/// An access by the walk.
+fn walk_access(
+    spaces: &mut Spaces,
+    quotas: &Quotas,
+    offers: &Offers,
+    pid: Pid,
+    address: Vaddr,
+    size: Size,
+    access: Access,
+    value: u32,
+) -> u32
+    requires kept { IsProcesses spaces.old quotas.now }
+    requires finds { finds (memory.image_of spaces.old) pid address size access ≡ true }
+    ensures kept { IsProcesses spaces.new quotas.now }
+    ensures mapped { EachTouched address size (λ page. is_some (map.get spaces.old.spaces (at_page pid page)) ≡ true) }
+    ensures takes { access ≡ Access.Write → EachTouched address size (λ page. takes_stores spaces.old.spaces (memory.image_of spaces.old) (at_page pid page) ≡ true) }
+    ensures value { result ≡ access_value (state_of spaces.old quotas.now offers.now) pid address size access }
+    ensures state { state_of spaces.new quotas.now offers.now ≡ after_access (state_of spaces.old quotas.now offers.now) pid address size access value }
+    ensures directories { spaces.new.directories ≡ spaces.old.directories }
+    ensures roles { spaces.new.roles ≡ spaces.old.roles }
+    ensures bytes { (directory : ℕ) → directory_of spaces.old.directories pid ≡ Some directory → spaces.new.bytes ≡ after_walked spaces.old.bytes directory address size access value }
+    ensures found { (directory : ℕ) → directory_of spaces.old.directories pid ≡ Some directory → result ≡ value_found spaces.old.bytes directory address size access }
+    ensures containers { (p : ℕ) → container_of (state_of spaces.new quotas.now offers.now) p ≡ container_of (state_of spaces.old quotas.now offers.now) p }
+{
+    match access {
+        Access::Read => spaces.load_by_walk(pid, address, size),
+        Access::Write => {
+            spaces.store_by_walk(pid, address, size, value);
             0
         }
     }
@@ -592,6 +626,63 @@ impl Processes {
             access,
             value,
         )
+    }
+
+    /// Whether a processor makes an access of a process by itself: the walk of the process's directory finds a
+    /// frame for each page that the access touches, one or two.
+    pub fn finds(&self, pid: Pid, address: Vaddr, size: Size, access: Access) -> bool
+        ensures { result ≡ finds (memory_of self.now) pid address size access }
+    {
+        self.spaces.finds(pid, address, size, access)
+    }
+
+    /// An access as a processor makes it, where the walks find a frame for each page that it touches: the words that
+    /// lead there are marked, and the value is read or its low bytes are written where they lead. It is what `access`
+    /// makes of it.
+    pub fn access_by_walk(
+        &mut self,
+        pid: Pid,
+        address: Vaddr,
+        size: Size,
+        access: Access,
+        value: u32,
+    ) -> u32
+        requires { finds (memory_of self.old) pid address size access ≡ true }
+        ensures live { is_live self.old.state pid ≡ true }
+        ensures user { EachTouched address size IsUserPage }
+        ensures mapped { EachTouched address size (λ page. is_mapped self.old.state (at_page pid page) ≡ true) }
+        ensures takes { access ≡ Access.Write → EachTouched address size (λ page. takes_stores self.old.state.spaces (memory_of self.old) (at_page pid page) ≡ true) }
+        ensures value { result ≡ access_value self.old.state pid address size access }
+        ensures state { self.new.state ≡ after_access self.old.state pid address size access value }
+        ensures directories { self.new.directories ≡ self.old.directories }
+        ensures roles { self.new.roles ≡ self.old.roles }
+        ensures bytes { (directory : ℕ) → directory_of self.old.directories pid ≡ Some directory → self.new.bytes ≡ after_walked self.old.bytes directory address size access value }
+        ensures found { (directory : ℕ) → directory_of self.old.directories pid ≡ Some directory → result ≡ value_found self.old.bytes directory address size access }
+        ensures containers { (p : ℕ) → container_of self.new.state p ≡ container_of self.old.state p }
+    {
+        walk_access(
+            &mut self.spaces,
+            &self.quotas,
+            &self.offers,
+            pid,
+            address,
+            size,
+            access,
+            value,
+        )
+    }
+
+    /// Sets or clears accessed in the directory word that leads to a page of a live process, where it is present.
+    /// Nothing else can be told.
+    pub fn set_walked(&mut self, pid: Pid, page: Page, walked: bool)
+        requires live { is_live self.old.state pid ≡ true }
+        requires user { IsUserPage page }
+        ensures state { self.new.state ≡ self.old.state }
+        ensures directories { self.new.directories ≡ self.old.directories }
+        ensures roles { self.new.roles ≡ self.old.roles }
+        ensures bytes { (directory : ℕ) → directory_of self.old.directories pid ≡ Some directory → self.new.bytes ≡ with_walked self.old.bytes directory page walked }
+    {
+        self.spaces.set_walked(pid, page, walked);
     }
 
     /// Loads, as `access` does, where the bytes lie in one page of the user range and it is mapped. None where it

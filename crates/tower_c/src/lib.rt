@@ -15,11 +15,13 @@ ghost use Rattle.tower_c.specs.Handle.{IsTower};
 mod handle;
 mod hold;
 mod loose;
+mod memory;
 mod words;
 
 pub use handle::{Tower, handle_sends};
 use handle::{put, take};
 use kernel_calls::{BootFault, Core};
+pub use memory::{TowerMemory, tower_memory};
 use page_words::{Frame, Vaddr};
 use std::alloc::Global;
 use table_walk::walk;

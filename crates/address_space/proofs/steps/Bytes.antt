@@ -9,7 +9,7 @@ use Rattle.page_words.specs.FiniteMap as map
 use Rattle.page_words.specs.FiniteMap.{same}
 use Rattle.page_words.specs.FiniteSet as set
 use Rattle.std.proofs.lemmas.Bool.{cases_lt}
-use Rattle.std.proofs.lemmas.List.{append-nil}
+use Rattle.std.proofs.lemmas.List.{append-nil, take-append-drop}
 use Rattle.page_words.proofs.Accesses.{stays, crosses, some_bytes, page_stays, page_next}
 use Rattle.page_words.proofs.MapLemmas.{same_or_not, same_itself, same_map, get-insert, get-map_values}
 use Rattle.address_space.specs.Spaces.{Slot, slot_order, at_page, slot_at, Cell, Spaces, fresh, cell_or_fresh, set_bytes, with_bytes, stored, store_in, write_at, bytes_at, bytes_of, value_of, byte_at, number_of, all_stored}
@@ -100,6 +100,10 @@ write_at-none : (at : ℕ) (new : List ℕ) → write_at [] at new ≡ new
 write_at-none zero new = ap (λ xs. new ++ xs) (no_more (0 + length new)) ∙ append-nil new
 write_at-none (suc at) new = ap (λ xs. new ++ xs) (no_more (suc at + length new)) ∙ append-nil new
 
+-- nothing written is no change
+pub write_at-nothing : (xs : List ℕ) (at : ℕ) → write_at xs at [] ≡ xs
+write_at-nothing xs at = let z : at + 0 ≡ at = omega arith in (λ i. append-nil (take at xs) i ++ drop (z i) xs) ∙ take-append-drop at xs
+
 -- bytes written behind others are written with them
 pub write_at-write_at : (xs : List ℕ) (at b : ℕ) (ys : List ℕ) → write_at (write_at xs at (b ∷ [])) (at + 1) ys ≡ write_at xs at (b ∷ ys)
 write_at-write_at [] at b ys =
@@ -166,6 +170,17 @@ module _ (S : Spaces) (slot : Slot) where
       ap (λ (c : Cell). store_in (first (write_at cell.bytes at (b ∷ []))) slot c (write_at c.bytes (at + 1) ys)) (same_cell (write_at cell.bytes at (b ∷ [])))
       ∙ ap (store_in (first (write_at cell.bytes at (b ∷ []))) slot (record cell { bytes = write_at cell.bytes at (b ∷ []); accessed = true; dirty = true })) (write_at-write_at cell.bytes at b ys)
       ∙ twice (write_at cell.bytes at (b ∷ [])) (write_at cell.bytes at (b ∷ ys))
+
+  -- a store of no byte, and then one of some
+  pub stored-none : (at : ℕ) (ys : List ℕ) → stored (stored S slot at []) slot at ys ≡ stored S slot at ys
+  stored-none at ys =
+      ap (λ (c : Cell). store_in (first (write_at cell.bytes at [])) slot c (write_at c.bytes at ys)) (same_cell (write_at cell.bytes at []))
+      ∙ ap (store_in (first (write_at cell.bytes at [])) slot (record cell { bytes = write_at cell.bytes at []; accessed = true; dirty = true })) (ap (λ xs. write_at xs at ys) (write_at-nothing cell.bytes at))
+      ∙ twice (write_at cell.bytes at []) (write_at cell.bytes at ys)
+
+  -- a store leaves both flags set
+  pub stored-flags : (at : ℕ) (ys : List ℕ) → ((cell_or_fresh (stored S slot at ys) slot).accessed ≡ true) × ((cell_or_fresh (stored S slot at ys) slot).dirty ≡ true)
+  stored-flags at ys = let same = same_cell (write_at cell.bytes at ys) in (ap (λ (c : Cell). c.accessed) same, ap (λ (c : Cell). c.dirty) same)
 
 one_stored : (S : Spaces) (p page a o b : ℕ) (bs : List ℕ) → page_number a ≡ page → offset_number a ≡ o → all_stored S p a (b ∷ bs) ≡ all_stored (stored S (at_page p page) o (b ∷ [])) p (a + 1) bs
 one_stored S p page a o b bs first place i = all_stored (stored S (at_page p (first i)) (place i) (b ∷ [])) p (a + 1) bs

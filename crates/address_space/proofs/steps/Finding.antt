@@ -1,0 +1,175 @@
+-- What walks that find a frame for each page of an access find at each of its bytes.
+use Rattle.std.proofs.Common.{◌≡◌, ℕ, zero, suc, ◌+◌, ◌^◌, ◌<◌, true, false, List, ◌∷◌, map as each, refl, ap, sym, ◌∙◌, subst, arith, Option, Some, None}
+use Rattle.std.specs.Prelude.{is_some, nat_lt, IfSome, IsOk, slice_index}
+use Rattle.std.specs.Option.{option_map, option_and_then, unwrap_or}
+use Rattle.std.specs.List.{range_with_len}
+use Rattle.std.specs.Result.{is_ok}
+use Rattle.std.proofs.lemmas.Bool.{and_parts}
+use Rattle.std.proofs.lemmas.Bool.Decides.{nat_tests}
+use Rattle.page_words.specs.Addresses.{IsUserPage, page_number, start_number, byte_count, covered, second_page, EachTouched}
+use Rattle.page_words.specs.declared.addresses.Size.{Size}
+use Rattle.page_words.proofs.Accesses.{some_bytes}
+use Rattle.page_words.specs.FiniteMap as map
+use Rattle.phys_memory.specs.Bytes.{frame_bytes}
+use Rattle.alloc_table.specs.declared.Role.{Role}
+use Rattle.table_walk.specs.declared.Access.{Access}
+use Rattle.table_walk.specs.declared.Access.TheVariants.{Read, Write}
+use Rattle.table_walk.specs.Walk.{walk_of}
+use Rattle.address_space.specs.ByWalk.{finds_at, finds, byte_place, number_found}
+use Rattle.address_space.specs.Image.{Image, directory_at, takes_stores}
+use Rattle.address_space.specs.Spaces.{Spaces, at_page, byte_at, number_of, value_of, slot_at}
+use Rattle.address_space.specs.View.{directory_of, spaces_in}
+use Rattle.address_space.specs.Sound.{IsSound}
+use Rattle.address_space.specs.Changes.{takes_stores_through}
+use Rattle.address_space.proofs.entries.Readings.{mapped_read}
+use Rattle.address_space.proofs.standing.Standing.{stores_read}
+use Rattle.page_map.specs.Entries.{entry_at}
+use Rattle.address_space.proofs.steps.Steps.{live_small}
+use Rattle.address_space.proofs.steps.Bytes.{each_byte}
+use Rattle.address_space.proofs.steps.WalkSteps.{found_entry, page_found, found_byte}
+
+-- ---- By the test
+
+-- a walk that finds a frame is that of a live process
+pub finds_live : (image : Image) (p address : ℕ) (size : Size) (access : Access) → finds image p address size access ≡ true → is_some (directory_at image p) ≡ true
+finds_live image p address size access h = by (directory_at image p) (and_parts (nat_lt address 0x100000000) _ (and_parts (finds_at image p access address) _ h).0).1
+  where
+    by : (x : Option ℕ) → unwrap_or (option_map (λ directory. is_ok (walk_of image.bytes directory address access)) x) false ≡ true → is_some x ≡ true
+    by None h = cc
+    by (Some d) h = refl
+
+pub found_at : (image : Image) (p d address : ℕ) (access : Access) → directory_at image p ≡ Some d → finds_at image p access address ≡ true → (address < 2 ^ 32) × IsOk (walk_of image.bytes d address access)
+found_at image p d address access live h =
+    let parts = and_parts (nat_lt address 0x100000000) (unwrap_or (option_map (λ directory. is_ok (walk_of image.bytes directory address access)) (directory_at image p)) false) h in
+    let small : address < 0x100000000 = let t = parts.0 in grind (arith, nat_tests) in
+    (omega (arith, small), sym (ap (λ x. unwrap_or (option_map (λ directory. is_ok (walk_of image.bytes directory address access)) x) false) live) ∙ parts.1)
+
+-- ---- At each byte
+
+-- the walk of each byte of an access finds a frame, at a page of the user range
+pub record FoundEach (bytes : List ℕ) (d address : ℕ) (size : Size) (access : Access) : Type 0 where
+  pub found : (i : ℕ) → i < byte_count size → IsOk (walk_of bytes d (address + i) access)
+  pub user : (i : ℕ) → i < byte_count size → IsUserPage (page_number (address + i))
+
+-- each page of the access is mapped, and takes stores where the access is one
+pub record FoundPages (spaces : Spaces) (image : Image) (p address : ℕ) (size : Size) (access : Access) : Type 0 where
+  pub mapped : EachTouched address size (λ page. is_some (map.get spaces (at_page p page)) ≡ true)
+  pub takes : access ≡ Write → EachTouched address size (λ page. takes_stores spaces image (at_page p page) ≡ true)
+
+pub found_each : (directories : List (Option ℕ)) (bytes : List ℕ) (roles : List Role) (p d address : ℕ) (size : Size) (access : Access) → IsSound directories bytes roles → directory_of directories p ≡ Some d
+    → finds (record { directories = directories; bytes = bytes; roles = roles }) p address size access ≡ true → FoundEach bytes d address size access
+found_each directories bytes roles p d address size access sound live h =
+    record {
+      found = λ i l.
+          let u = user_at i l in
+          let high = u.1 in
+          each_byte address size Q all i l (address + i) (omega (arith, high)) refl;
+      user = user_at;
+    }
+  where
+    image : Image
+    image = record { directories = directories; bytes = bytes; roles = roles }
+
+    Q : ℕ → Type 0
+    Q page = (a : ℕ) → a < 2 ^ 32 → page_number a ≡ page → IsOk (walk_of bytes d a access)
+
+    parts : (finds_at image p access address ≡ true) × (unwrap_or (option_map (λ page. finds_at image p access (start_number page)) (second_page address size)) true ≡ true)
+    parts = and_parts (finds_at image p access address) _ h
+
+    one : (a : ℕ) → finds_at image p access a ≡ true → IsUserPage (page_number a) × Q (page_number a)
+    one a is =
+        let f = found_at image p d a access live is in
+        let e = found_entry directories bytes roles p d sound live a access f.0 f.1 in
+        ((e.low, e.high), λ b l same. page_found directories bytes roles p d sound live a b access f.0 l same f.1)
+
+    start : (page : ℕ) → finds_at image p access (start_number page) ≡ true → IsUserPage page × Q page
+    start page is = let e : page_number (start_number page) ≡ page = omega arith in subst (λ n. IsUserPage n × Q n) e (one (start_number page) is)
+
+    second : IfSome (second_page address size) (λ page. IsUserPage page × Q page)
+    second = by (second_page address size) parts.1
+      where
+        by : (x : Option ℕ) → unwrap_or (option_map (λ page. finds_at image p access (start_number page)) x) true ≡ true → IfSome x (λ page. IsUserPage page × Q page)
+        by None is = tt
+        by (Some page) is = start page is
+
+    both : (i : ℕ) → i < byte_count size → IsUserPage (page_number (address + i)) × Q (page_number (address + i))
+    both = each_byte address size (λ page. IsUserPage page × Q page) (one address parts.0, second)
+
+    all : Q (page_number address) × IfSome (second_page address size) Q
+    all = ((one address parts.0).1, by (second_page address size) second)
+      where
+        by : (x : Option ℕ) → IfSome x (λ page. IsUserPage page × Q page) → IfSome x Q
+        by None is = tt
+        by (Some page) is = is.1
+
+    user_at : (i : ℕ) → i < byte_count size → IsUserPage (page_number (address + i))
+    user_at i l = (both i l).0
+
+-- and its addresses have 32 bits
+pub found_fits : (bytes : List ℕ) (d address : ℕ) (size : Size) (access : Access) → FoundEach bytes d address size access → address + byte_count size < 2 ^ 32
+found_fits bytes d address size access each =
+    let n = some_bytes size in
+    let count = n.1 in
+    let few = n.2 in
+    let u = each.user 0 (omega (arith, count)) in
+    let high = u.1 in
+    omega (arith, count, few, high)
+
+-- ---- The number at the bytes
+
+same_each : (f g : ℕ → ℕ) (a n : ℕ) → ((i : ℕ) → i < n → f (a + i) ≡ g (a + i)) → each f (range_with_len a n) ≡ each g (range_with_len a n)
+same_each f g a zero is = refl
+same_each f g a (suc n) is =
+    let z : a ≡ a + 0 = omega arith in
+    let first : f a ≡ g a = ap f z ∙ is 0 (omega arith) ∙ sym (ap g z) in
+    (λ i. first i ∷ same_each f g (a + 1) n (λ i l. let e : a + 1 + i ≡ a + suc i = omega arith in ap f e ∙ is (suc i) (omega (arith, l)) ∙ sym (ap g e)) i)
+
+-- the number where the walks lead is the one that the process has there
+pub number_is : (directories : List (Option ℕ)) (bytes : List ℕ) (roles : List Role) (p d address : ℕ) (size : Size) → IsSound directories bytes roles → directory_of directories p ≡ Some d
+    → address + byte_count size < 2 ^ 32 → ((i : ℕ) → i < byte_count size → IsOk (walk_of bytes d (address + i) Read))
+    → number_found bytes d address size ≡ number_of (spaces_in directories bytes) p (covered address size)
+number_is directories bytes roles p d address size sound live fits found =
+    ap value_of (same_each (λ a. slice_index bytes (byte_place bytes d a)) (byte_at (spaces_in directories bytes) p) address (byte_count size)
+    (λ i l. found_byte directories bytes roles p d sound live (address + i) Read (found_entry directories bytes roles p d sound live (address + i) Read (omega (arith, fits, l)) (found i l))))
+
+-- a page that a walk finds is mapped
+pub found_mapped : (directories : List (Option ℕ)) (bytes : List ℕ) (roles : List Role) (p d address : ℕ) (access : Access) → IsSound directories bytes roles → directory_of directories p ≡ Some d
+    → address < 2 ^ 32 → IsOk (walk_of bytes d address access) → is_some (map.get (spaces_in directories bytes) (slot_at p address)) ≡ true
+found_mapped directories bytes roles p d address access sound live small ok =
+    let f = found_entry directories bytes roles p d sound live address access small ok in
+    mapped_read directories bytes p d (page_number address) live (live_small directories p d sound.pids live) f.low f.high ∙ ap is_some f.here
+
+-- and where it is for a store, the page takes stores
+found_takes : (directories : List (Option ℕ)) (bytes : List ℕ) (roles : List Role) (p d address : ℕ) → IsSound directories bytes roles → directory_of directories p ≡ Some d
+    → address < 2 ^ 32 → IsOk (walk_of bytes d address Write) → takes_stores (spaces_in directories bytes) (record { directories = directories; bytes = bytes; roles = roles }) (slot_at p address) ≡ true
+found_takes directories bytes roles p d address sound live small ok =
+    let f = found_entry directories bytes roles p d sound live address Write small ok in
+    sym (stores_read directories bytes roles p (page_number address) sound f.low f.high)
+    ∙ ap takes_stores_through (ap (option_and_then (λ d. entry_at (frame_bytes bytes) d (page_number address))) live ∙ f.here)
+    ∙ f.right refl
+
+pub found_pages : (directories : List (Option ℕ)) (bytes : List ℕ) (roles : List Role) (p d address : ℕ) (size : Size) (access : Access) → IsSound directories bytes roles → directory_of directories p ≡ Some d
+    → finds (record { directories = directories; bytes = bytes; roles = roles }) p address size access ≡ true
+    → FoundPages (spaces_in directories bytes) (record { directories = directories; bytes = bytes; roles = roles }) p address size access
+found_pages directories bytes roles p d address size access sound live h =
+    record {
+      mapped = each (λ page. is_some (map.get S (at_page p page)) ≡ true) (λ a is. let f = found_at image p d a access live is in found_mapped directories bytes roles p d a access sound live f.0 f.1);
+      takes = λ store. each (λ page. takes_stores S image (at_page p page) ≡ true)
+          (λ a is. let f = found_at image p d a access live is in found_takes directories bytes roles p d a sound live f.0 (subst (λ (x : Access). IsOk (walk_of bytes d a x)) store f.1));
+    }
+  where
+    S : Spaces
+    S = spaces_in directories bytes
+
+    image : Image
+    image = record { directories = directories; bytes = bytes; roles = roles }
+
+    parts : (finds_at image p access address ≡ true) × (unwrap_or (option_map (λ page. finds_at image p access (start_number page)) (second_page address size)) true ≡ true)
+    parts = and_parts (finds_at image p access address) _ h
+
+    each : (P : ℕ → Type 0) → ((a : ℕ) → finds_at image p access a ≡ true → P (page_number a)) → EachTouched address size P
+    each P at = (at address parts.0, by (second_page address size) parts.1)
+      where
+        by : (x : Option ℕ) → unwrap_or (option_map (λ page. finds_at image p access (start_number page)) x) true ≡ true → IfSome x P
+        by None is = tt
+        by (Some page) is = let e : page_number (start_number page) ≡ page = omega arith in subst P e (at (start_number page) is)

@@ -1,0 +1,196 @@
+//! The calls of address spaces for accesses that a processor makes by its walk.
+
+ghost use Rattle.std.specs.Prelude.{◌≡◌, ◌+◌, ◌/◌, ◌%◌, ◌<◌, ◌^◌, ℕ, [], ◌∷◌, Some, is_some, true, IsOk, slice_set};
+ghost use Rattle.std.specs.Option.{option_map, unwrap_or};
+ghost use Rattle.page_words.specs.Addresses.{offset_number, byte_count, covered, second_page, start_number, touched, EachTouched, IsUserPage};
+ghost use Rattle.page_words.specs.FiniteMap as map;
+ghost use Rattle.table_walk.specs.Walk.{walk_of};
+ghost use Rattle.table_walk.specs.Marks.{marked};
+ghost use Rattle.address_space.specs.ByWalk.{finds, finds_at, byte_place, number_found, after_walked_load, after_walked_store, with_walked};
+ghost use Rattle.address_space.specs.Image.{image_of, takes_stores};
+ghost use Rattle.address_space.specs.Spaces.{at_page, accessed, all_accessed, stored, all_stored, bytes_of, number_of, slot_at};
+ghost use Rattle.address_space.specs.View.{directory_of};
+
+use crate::{Spaces, home, space_of, walked};
+use page_words::{Frame, Page, Pid, Size, Vaddr, second_page, start_of};
+use table_walk::{Access, walk};
+
+/// How many pages the 32-bit addresses have.
+const PAGES: u32 = 0x10_0000;
+
+impl Spaces {
+    /// Whether a process has a directory, whose walk of an address finds a frame.
+    fn finds_at(&self, pid: Pid, address: Vaddr, access: Access) -> bool
+        ensures { result ≡ finds_at (image_of self.now) pid access address }
+    {
+        match space_of(&self.directories, pid) {
+            Some(directory) => walk(&self.memory, directory, address, access).is_ok(),
+            None => false,
+        }
+    }
+
+    /// Whether the walk of the second page finds a frame, where an access has a second page.
+    fn finds_second(&self, pid: Pid, address: Vaddr, size: Size, access: Access) -> bool
+        ensures { result ≡ unwrap_or (option_map (λ page. finds_at (image_of self.now) pid access (start_number page)) (second_page address size)) true }
+    {
+        match second_page(address, size) {
+            Some(second) => second.0 < PAGES && self.finds_at(pid, start_of(second), access),
+            None => true,
+        }
+    }
+
+    /// Whether a processor makes an access of a process by itself: the walk of the process's directory finds a
+    /// frame for each page that the access touches, one or two.
+    pub fn finds(&self, pid: Pid, address: Vaddr, size: Size, access: Access) -> bool
+        ensures { result ≡ finds (image_of self.now) pid address size access }
+    {
+        self.finds_at(pid, address, access) && self.finds_second(pid, address, size, access)
+    }
+
+    /// Marks the words that lead to an address, for a load.
+    fn mark_load(&mut self, pid: Pid, directory: Frame, address: Vaddr)
+        requires live { directory_of self.old.directories pid ≡ Some directory }
+        requires found { IsOk (walk_of self.old.bytes directory address Access.Read) }
+        requires fits { address < 2 ^ 32 }
+        ensures spaces { self.new.spaces ≡ accessed self.old.spaces (slot_at pid address) }
+        ensures directories { self.new.directories ≡ self.old.directories }
+        ensures roles { self.new.roles ≡ self.old.roles }
+        ensures bytes { self.new.bytes ≡ marked self.old.bytes directory address Access.Read }
+        ensures walks { (at : ℕ) (kind : Access) → walk_of self.new.bytes directory at kind ≡ walk_of self.old.bytes directory at kind }
+    {
+        walked::mark_load(
+            &mut self.memory,
+            &self.frames,
+            &self.directories,
+            pid,
+            directory,
+            address,
+        );
+    }
+
+    /// Loads by the walks of a directory.
+    fn load_through(&mut self, pid: Pid, directory: Frame, address: Vaddr, size: Size) -> u32
+        requires live { directory_of self.old.directories pid ≡ Some directory }
+        requires found { (i : ℕ) → i < byte_count size → IsOk (walk_of self.old.bytes directory (address + i) Access.Read) }
+        requires fits { address + byte_count size < 2 ^ 32 }
+        ensures found { result ≡ number_found self.old.bytes directory address size }
+        ensures value { result ≡ number_of self.old.spaces pid (covered address size) }
+        ensures spaces { self.new.spaces ≡ all_accessed self.old.spaces pid (touched address size) }
+        ensures directories { self.new.directories ≡ self.old.directories }
+        ensures roles { self.new.roles ≡ self.old.roles }
+        ensures bytes { self.new.bytes ≡ after_walked_load self.old.bytes directory address (second_page address size) }
+    {
+        let value = walked::found_number(&self.memory, directory, address, size);
+        self.mark_load(pid, directory, address);
+        let Some(second) = second_page(address, size) else {
+            return value;
+        };
+        self.mark_load(pid, directory, start_of(second));
+        value
+    }
+
+    /// A load as a processor makes it, where the walks find a frame for each page that it touches: the number that
+    /// stands where they lead, and the words that lead to each page are marked. It is the load that `read` makes.
+    pub fn load_by_walk(&mut self, pid: Pid, address: Vaddr, size: Size) -> u32
+        requires { finds (image_of self.old) pid address size Access.Read ≡ true }
+        ensures found { (directory : ℕ) → directory_of self.old.directories pid ≡ Some directory → result ≡ number_found self.old.bytes directory address size }
+        ensures value { result ≡ number_of self.old.spaces pid (covered address size) }
+        ensures mapped { EachTouched address size (λ page. is_some (map.get self.old.spaces (at_page pid page)) ≡ true) }
+        ensures spaces { self.new.spaces ≡ all_accessed self.old.spaces pid (touched address size) }
+        ensures directories { self.new.directories ≡ self.old.directories }
+        ensures roles { self.new.roles ≡ self.old.roles }
+        ensures bytes { (directory : ℕ) → directory_of self.old.directories pid ≡ Some directory → self.new.bytes ≡ after_walked_load self.old.bytes directory address (second_page address size) }
+    {
+        let directory = home(&self.directories, pid);
+        self.load_through(pid, directory, address, size)
+    }
+
+    /// Stores the lowest byte of a number where the walk leads, and gives the number without it and the address
+    /// behind it.
+    fn store_byte(&mut self, pid: Pid, directory: Frame, address: Vaddr, value: u32) -> (Vaddr, u32)
+        requires live { directory_of self.old.directories pid ≡ Some directory }
+        requires found { IsOk (walk_of self.old.bytes directory address Access.Write) }
+        requires fits { address < 2 ^ 32 }
+        ensures address { result.0 ≡ address + 1 }
+        ensures value { result.1 ≡ value / 256 }
+        ensures spaces { self.new.spaces ≡ stored self.old.spaces (slot_at pid address) (offset_number address) (value % 256 ∷ []) }
+        ensures directories { self.new.directories ≡ self.old.directories }
+        ensures roles { self.new.roles ≡ self.old.roles }
+        ensures bytes { self.new.bytes ≡ slice_set (marked self.old.bytes directory address Access.Write) (byte_place self.old.bytes directory address) (value % 256) }
+        ensures walks { (at : ℕ) (kind : Access) → at < 2 ^ 32 → walk_of self.new.bytes directory at kind ≡ walk_of self.old.bytes directory at kind }
+    {
+        walked::store_byte(
+            &mut self.memory,
+            &self.frames,
+            &self.directories,
+            pid,
+            directory,
+            address,
+            value,
+        );
+        (Vaddr(address.0 + 1), value / 256)
+    }
+
+    /// Stores by the walks of a directory, byte by byte.
+    fn store_through(&mut self, pid: Pid, directory: Frame, address: Vaddr, size: Size, value: u32)
+        requires live { directory_of self.old.directories pid ≡ Some directory }
+        requires found { (i : ℕ) → i < byte_count size → IsOk (walk_of self.old.bytes directory (address + i) Access.Write) }
+        requires fits { address + byte_count size < 2 ^ 32 }
+        ensures spaces { self.new.spaces ≡ all_stored self.old.spaces pid address (bytes_of (byte_count size) value) }
+        ensures directories { self.new.directories ≡ self.old.directories }
+        ensures roles { self.new.roles ≡ self.old.roles }
+        ensures bytes { self.new.bytes ≡ after_walked_store self.old.bytes directory address (bytes_of (byte_count size) value) }
+    {
+        match size {
+            Size::One => {
+                self.store_byte(pid, directory, address, value);
+            }
+            Size::Two => {
+                let (second, rest) = self.store_byte(pid, directory, address, value);
+                self.store_byte(pid, directory, second, rest);
+            }
+            Size::Four => {
+                let (second, rest) = self.store_byte(pid, directory, address, value);
+                let (third, rest) = self.store_byte(pid, directory, second, rest);
+                let (fourth, rest) = self.store_byte(pid, directory, third, rest);
+                self.store_byte(pid, directory, fourth, rest);
+            }
+        }
+    }
+
+    /// A store as a processor makes it, where the walks find a frame for each page that it touches: the words that
+    /// lead to each byte are marked, and it is written where they lead. It is the store that `write` makes.
+    pub fn store_by_walk(&mut self, pid: Pid, address: Vaddr, size: Size, value: u32)
+        requires { finds (image_of self.old) pid address size Access.Write ≡ true }
+        ensures takes { EachTouched address size (λ page. takes_stores self.old.spaces (image_of self.old) (at_page pid page) ≡ true) }
+        ensures spaces { self.new.spaces ≡ all_stored self.old.spaces pid address (bytes_of (byte_count size) value) }
+        ensures directories { self.new.directories ≡ self.old.directories }
+        ensures roles { self.new.roles ≡ self.old.roles }
+        ensures bytes { (directory : ℕ) → directory_of self.old.directories pid ≡ Some directory → self.new.bytes ≡ after_walked_store self.old.bytes directory address (bytes_of (byte_count size) value) }
+    {
+        let directory = home(&self.directories, pid);
+        self.store_through(pid, directory, address, size, value);
+    }
+
+    /// Sets or clears accessed in the directory word that leads to a page, where it is present. Nothing that a space
+    /// has tells of it.
+    pub fn set_walked(&mut self, pid: Pid, page: Page, walked: bool)
+        requires live { is_some (directory_of self.old.directories pid) ≡ true }
+        requires user { IsUserPage page }
+        ensures spaces { self.new.spaces ≡ self.old.spaces }
+        ensures directories { self.new.directories ≡ self.old.directories }
+        ensures roles { self.new.roles ≡ self.old.roles }
+        ensures bytes { (directory : ℕ) → directory_of self.old.directories pid ≡ Some directory → self.new.bytes ≡ with_walked self.old.bytes directory page walked }
+    {
+        let directory = home(&self.directories, pid);
+        walked::set_walked(
+            &mut self.memory,
+            &self.frames,
+            &self.directories,
+            pid,
+            directory,
+            page,
+            walked,
+        );
+    }
+}

@@ -1,0 +1,84 @@
+-- An access whose walks find a frame for each of its pages completes as memory stands.
+use Rattle.std.proofs.Common.{◌≡◌, ℕ, nat_lt, arith, Bool, true, false, not, ◌&&◌, cond, refl, ap, ◌∙◌, Option, Some, None}
+use Rattle.std.specs.Prelude.{if◌then◌else◌, IfSome, find}
+use Rattle.std.specs.Option.{option_map, option_and_then}
+use Rattle.std.proofs.lemmas.Bool.{not-true, le-ltb, and_parts}
+use Rattle.page_words.specs.Addresses.{page_number, start_number, covered, second_page, EachTouched, IsUserPage, is_user_page}
+use Rattle.page_words.specs.declared.addresses.Size.{Size}
+use Rattle.page_words.proofs.Accesses.{first_by_page}
+use Rattle.address_space.specs.Spaces.{Slot, at_page, cell_or_fresh, access_need, cost}
+use Rattle.address_space.specs.Image.{is_lazy_at, takes_stores}
+use Rattle.address_space.proofs.costs.AccessNeeds.{cost-with_touched}
+use Rattle.address_space.proofs.costs.MapFirst.{with_touched-same}
+use Rattle.table_walk.specs.declared.Access.{Access}
+use Rattle.table_walk.specs.declared.Access.TheVariants.{Read, Write}
+use Rattle.process_table.specs.State.{State, is_mapped, room, lacks_room}
+use Rattle.process_table.specs.View.{View}
+use Rattle.process_table.specs.Image.{memory_of}
+use Rattle.process_table.specs.declared.causes.Cause.TheVariants.{Quota}
+use Rattle.fault_handler.specs.declared.plans.PageStep.TheVariants as step
+use Rattle.fault_handler.specs.declared.plans.Plan.TheVariants as plan
+use Rattle.fault_handler.specs.Plans.{outside, is_read_only, forbidden, fault_or, step_at, plan_at, takes_no_frame}
+use Rattle.fault_handler.proofs.Settled.{each_page, page_is_user}
+
+-- where no page passes the test, no byte is found
+none_passes : (test : ℕ → Bool) (address : ℕ) (size : Size) → EachTouched address size (λ page. test page ≡ false) → find (λ a. test (page_number a)) (covered address size) ≡ None
+none_passes test address size h =
+    first_by_page test address size
+    ∙ ap (λ b. cond b (Some address) (option_and_then (λ page. cond (test page) (Some (start_number page)) None) (second_page address size))) h.0
+    ∙ by (second_page address size) h.1
+  where
+    by : (x : Option ℕ) → IfSome x (λ page. test page ≡ false) → option_and_then (λ page. cond (test page) (Some (start_number page)) None) x ≡ None
+    by None k = refl
+    by (Some page) k = ap (λ b. cond b (Some (start_number page)) None) k
+
+module _ (v : View) (p address : ℕ) (size : Size) where
+  abbrev s : State
+  s = v.state
+
+  abbrev Takes : ℕ → Type 0
+  Takes page = takes_stores s.spaces (memory_of v) (at_page p page) ≡ true
+
+  -- what a page that takes stores may
+  parts : (page : ℕ) → Takes page → ((cell_or_fresh s.spaces (at_page p page)).write ≡ true) × (is_lazy_at (memory_of v) (at_page p page) ≡ false)
+  parts page h =
+      let slot : Slot = at_page p page in
+      let both = and_parts (cell_or_fresh s.spaces slot).write (not (is_lazy_at (memory_of v) slot)) (and_parts (is_mapped s slot) _ h).1 in
+      (both.0, not-true (is_lazy_at (memory_of v) slot) both.1)
+
+  all_steps : (access : Access) → EachTouched address size (λ page. is_mapped s (at_page p page) ≡ true) → (access ≡ Write → EachTouched address size Takes)
+      → EachTouched address size (λ page. step_at v p access page ≡ step.Complete)
+  all_steps Read mapped takes = each_page address size (λ page. is_mapped s (at_page p page) ≡ true) (λ page. step_at v p Read page ≡ step.Complete) (λ page m. ap (λ b. if not b then step.MapZero else step.Complete) m) mapped
+  all_steps Write mapped takes = each_page address size Takes (λ page. step_at v p Write page ≡ step.Complete)
+      (λ page h. let m = (and_parts (is_mapped s (at_page p page)) _ h).0 in let l = (parts page h).1 in λ i. if not (m i) then step.MapZero else if l i then step.Fill else step.Complete)
+      (takes refl)
+
+  none_forbidden : (access : Access) → (access ≡ Write → EachTouched address size Takes) → forbidden s p address size access ≡ None
+  none_forbidden Read takes = refl
+  none_forbidden Write takes = none_passes (λ page. is_read_only s (at_page p page)) address size
+      (each_page address size Takes (λ page. is_read_only s (at_page p page) ≡ false)
+      (λ page h. let m = (and_parts (is_mapped s (at_page p page)) _ h).0 in let w = (parts page h).0 in λ i. m i && not (w i)) (takes refl))
+
+  pub walk_completes : (access : Access) → EachTouched address size IsUserPage → EachTouched address size (λ page. is_mapped s (at_page p page) ≡ true) → (access ≡ Write → EachTouched address size Takes)
+      → takes_no_frame (plan_at v p address size access) ≡ true
+  walk_completes access user mapped takes =
+      (λ i. takes_no_frame (fault_or (inside i) access false (fault_or (none_forbidden access takes i) access true (if roomy i then plan.Refused Quota else plan.Ready (steps.0 i) (option_map (step_at v p access) (second_page address size))))))
+      ∙ by (second_page address size) steps.1
+    where
+      steps : EachTouched address size (λ page. step_at v p access page ≡ step.Complete)
+      steps = all_steps access mapped takes
+
+      inside : outside address size ≡ None
+      inside = none_passes (λ page. not (is_user_page page)) address size
+          (each_page address size IsUserPage (λ page. not (is_user_page page) ≡ false) (λ page u. ap not (page_is_user page u)) user)
+
+      roomy : lacks_room s p address size ≡ false
+      roomy =
+          let paid = cost-with_touched s.spaces p address size in
+          let same = ap (λ S. cost S p) (with_touched-same s.spaces p address size mapped) in
+          let n : access_need s.spaces p address size ≡ 0 = omega (arith, paid, same) in
+          ap (nat_lt (room s p)) n ∙ le-ltb (room s p) 0 (omega arith)
+
+      by : (x : Option ℕ) → IfSome x (λ page. step_at v p access page ≡ step.Complete) → takes_no_frame (plan.Ready step.Complete (option_map (step_at v p access) x)) ≡ true
+      by None h = refl
+      by (Some page) h = ap (λ y. takes_no_frame (plan.Ready step.Complete (Some y))) h

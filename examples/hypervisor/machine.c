@@ -1,0 +1,159 @@
+#include <stdarg.h>
+
+#include "machine.h"
+
+void out8(uint16_t port, uint8_t value) {
+    __asm__ volatile("outb %0, %1" : : "a"(value), "Nd"(port));
+}
+
+uint8_t in8(uint16_t port) {
+    uint8_t value;
+    __asm__ volatile("inb %1, %0" : "=a"(value) : "Nd"(port));
+    return value;
+}
+
+static void put(char byte) {
+    while (!(in8(0x3f8 + 5) & 0x20)) {
+    }
+    out8(0x3f8, (uint8_t)byte);
+}
+
+void put_raw(uint8_t byte) {
+    out8(0xe9, byte);
+}
+
+static void put_number(uint32_t value, uint32_t base, int least) {
+    char digits[10];
+    int count = 0;
+    do {
+        digits[count++] = "0123456789abcdef"[value % base];
+        value /= base;
+    } while (value || count < least);
+    while (count) {
+        put(digits[--count]);
+    }
+}
+
+void say(const char *text, ...) {
+    va_list list;
+    va_start(list, text);
+    for (; *text; text++) {
+        if (*text != '%') {
+            put(*text);
+            continue;
+        }
+        switch (*++text) {
+        case 'u': put_number(va_arg(list, uint32_t), 10, 1); break;
+        case 'x': put_number(va_arg(list, uint32_t), 16, 8); break;
+        case 'c': put((char)va_arg(list, int)); break;
+        default:
+            for (const char *more = va_arg(list, const char *); *more; more++) {
+                put(*more);
+            }
+        }
+    }
+    va_end(list);
+}
+
+/* QEMU ends with twice the number and one: 33 where all is well. */
+_Noreturn void leave(uint8_t status) {
+    out8(0xf4, status ? status : 16);
+    for (;;) {
+        __asm__ volatile("cli; hlt");
+    }
+}
+
+_Noreturn void fail(const char *what) {
+    say("FAILED: %s\n", what);
+    leave(1);
+}
+
+void need(bool holds, const char *what) {
+    if (!holds) {
+        fail(what);
+    }
+}
+
+/* The first interrupt controller with the timer's line alone, and one countdown of the timer. */
+void start_slice(void) {
+    static bool is_set;
+    if (!is_set) {
+        is_set = true;
+        out8(0x20, 0x11);
+        out8(0x21, 0x20);
+        out8(0x21, 4);
+        out8(0x21, 1);
+        out8(0x21, 0xfe);
+        out8(0xa1, 0xff);
+    }
+    out8(0x43, 0x30);
+    out8(0x40, 11932 & 255);
+    out8(0x40, 11932 >> 8);
+}
+
+void take_interrupt(void) {
+    out8(0x20, 0x0c); /* poll: the next read acknowledges */
+    (void)in8(0x20);
+    out8(0x20, 0x20); /* end of interrupt */
+}
+
+/* The four symbols that the library asks for. */
+
+struct tried {
+    bool ok;
+    void *block;
+};
+
+static _Alignas(FRAME) uint8_t pool[3 << 20];
+static size_t used, blocks;
+
+/* Blocks lie one behind another, and those of a page or more begin at a page, so that a core's memory does.
+ * Once all are back it starts anew. */
+struct tried rattle_alloc(size_t size, size_t align) {
+    size_t unit = size >= FRAME ? FRAME : align;
+    size_t at = (used + unit - 1) & ~(unit - 1);
+    if (at > sizeof pool || size > sizeof pool - at) {
+        return (struct tried){false, pool};
+    }
+    used = at + size;
+    blocks++;
+    return (struct tried){true, pool + at};
+}
+
+void rattle_dealloc(void *block) {
+    (void)block;
+    if (--blocks == 0) {
+        used = 0;
+    }
+}
+
+uint8_t *memory_of(struct tower *tower) {
+    struct tower_memory memory;
+    need(tower_memory(tower, &memory), "a core has a memory");
+    need(((uintptr_t)memory.begins & (FRAME - 1)) == 0, "a core's memory begins at a page");
+    need(memory.length == (size_t)tower_frames(tower) * FRAME, "a core's memory has its frames");
+    return memory.begins;
+}
+
+void *memset(void *to, int byte, size_t count) {
+    void *at = to;
+    __asm__ volatile("rep stosb" : "+D"(at), "+c"(count) : "a"(byte) : "memory");
+    return to;
+}
+
+void *memmove(void *to, const void *from, size_t count) {
+    uint8_t *out = to;
+    const uint8_t *in = from;
+    if (out <= in || in + count <= out) {
+        __asm__ volatile("rep movsb" : "+D"(out), "+S"(in), "+c"(count) : : "memory");
+    } else {
+        while (count--) {
+            out[count] = in[count];
+        }
+    }
+    return to;
+}
+
+void *memcpy(void *to, const void *from, size_t count) {
+    return memmove(to, from, count);
+}

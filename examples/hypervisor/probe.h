@@ -1,0 +1,21 @@
+/* A guest that makes one access, or one instruction, and calls. */
+#ifndef PROBE_H
+#define PROBE_H
+
+#include "svm.h"
+
+/* Its accesses, each with a VMMCALL behind it, by their places in the code: the address in ECX, the value in EAX. */
+extern const uint8_t stub[], stub_end[];
+enum { LOAD4 = 0, LOAD1 = 8, STORE4 = 16, STORE1 = 24, ADD4 = 32 };
+enum { STUB_PAGE = 0x40000, STUB_AT = STUB_PAGE << 12 };
+
+/* The next number below a limit. */
+uint32_t random(uint32_t limit);
+
+/* A probe over a directory, at an entry of the code. */
+void open_probe(uint32_t directory, uint32_t entry, uint32_t address, uint32_t value);
+/* Runs it until an exit that is no interrupt, and answers its code. */
+uint64_t run_probe(void);
+struct guest_cpu *probe(void);
+
+#endif
