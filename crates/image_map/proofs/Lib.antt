@@ -1,0 +1,2 @@
+pub mod RangeTexts
+pub mod TextParts
