@@ -1,6 +1,6 @@
 //! The squares of a picture, one for each frame: what is drawn of it, and where.
 
-ghost use Rattle.std.specs.Prelude.{◌≡◌, ◌<◌, ◌≤◌};
+ghost use Rattle.std.specs.Prelude.{◌≡◌, ◌≤◌};
 ghost use Rattle.memory_image.specs.Image.{role_at};
 ghost use Rattle.image_check.specs.Told.{frame_told};
 
@@ -9,7 +9,8 @@ use crate::owners::{Mapped, Owners};
 use alloc_table::Role;
 use image_check::{FrameClause, Image, Verdict};
 use page_words::{Frame, Pid};
-use std::fmt;
+use std::io::Write;
+use std::{fmt, io};
 
 /// What is drawn of a frame.
 #[derive(Clone, Copy)]
@@ -37,21 +38,14 @@ pub(crate) fn square_of(image: &Image, verdict: &Verdict, mapped: &Mapped, frame
 }
 
 /// How many hues there are; process numbers that are apart by so many have the same.
-const HUES: usize = 6;
+const HUES: usize = 5;
 
-/// Of a blue, an orange, a green, a purple, a yellow and a grey, which people tell apart who don't see red
-/// and green.
-const DARK: [&str; HUES] = [
-    "#00466e", "#8a5200", "#00573f", "#7a3560", "#6b6300", "#3b4650",
-];
+/// Of a teal, an ochre, a violet, a lime and a pink, which people tell apart who don't see red or green.
+const DARK: [&str; HUES] = ["#214141", "#524118", "#5a297a", "#526a10", "#7a5a7a"];
 
-const MIDDLE: [&str; HUES] = [
-    "#4f9fd0", "#e9a53a", "#3fb894", "#c97fae", "#d6c828", "#8d99a5",
-];
+const MIDDLE: [&str; HUES] = ["#448888", "#aa8833", "#bb55ff", "#aadd22", "#ffbbff"];
 
-const LIGHT: [&str; HUES] = [
-    "#b5d9f0", "#fae0b0", "#b2e5d5", "#efd2e3", "#f7f2ac", "#d6dce2",
-];
+const LIGHT: [&str; HUES] = ["#b0cdcd", "#dbcda9", "#e2b8ff", "#dbf1a2", "#ffe2ff"];
 
 /// The colour of a process in one shade.
 fn color(shade: &[&'static str; HUES], pid: Pid) -> &'static str {
@@ -180,4 +174,21 @@ impl fmt::Display for Title<'_> {
             None => write!(f, "none"),
         }
     }
+}
+
+/// Draws the lower half of a square in another colour.
+pub(crate) fn draw_half<W: Write>(
+    writer: &mut W,
+    corner: (u32, u32),
+    side: u32,
+    color: &'static str,
+) -> io::Result<()>
+    requires { (corner.0 ≤ 4096) × (corner.1 ≤ 262144) × (side ≤ 48) }
+{
+    let (left, top) = corner;
+    let (right, bottom) = (left + side, top + side);
+    write!(
+        writer,
+        "<path d=\"M{left} {bottom}L{right} {bottom}L{right} {top}Z\" fill=\"{color}\"/>"
+    )
 }
