@@ -66,11 +66,16 @@ fn ends_in(alloc: Global, text: &[u8], bytes: &[u8], lines: &[u8]) -> Result<boo
     Ok(text.ends_with(&end))
 }
 
-/// How often a text has a part.
+/// At how many places a text goes on with a part.
 fn times(text: &[u8], part: &[u8]) -> usize {
-    text.windows(part.len())
-        .filter(|piece| *piece == part)
-        .count()
+    let mut count = 0usize;
+    for place in 0..text.len() {
+        match text.get(place..) {
+            Some(rest) if rest.starts_with(part) => count = count.wrapping_add(1),
+            _ => {}
+        }
+    }
+    count
 }
 
 #[test]
