@@ -15,29 +15,29 @@ const NONE: (u32, u32) = (u32::MAX, 0);
 
 /// Frames of the image after the script.
 #[derive(Clone, Copy)]
-struct Frames {
-    own_directory: u32,
-    own_table: u32,
+pub(crate) struct Frames {
+    pub(crate) own_directory: u32,
+    pub(crate) own_table: u32,
     other_directory: u32,
     other_table: u32,
     /// The page of both.
-    shared: u32,
+    pub(crate) shared: u32,
     /// The least free frame.
     free: u32,
 }
 
 /// One word that is changed, and the clauses that then fail.
 #[derive(Clone, Copy)]
-struct Damage {
-    place: usize,
-    word: u32,
+pub(crate) struct Damage {
+    pub(crate) place: usize,
+    pub(crate) word: u32,
     processes: &'static str,
     /// Each frame that fails, and the number of its clause.
     frames: [(u32, u32); 3],
 }
 
 /// The word at a place.
-fn word(bytes: &[u8], place: usize) -> u32 {
+pub(crate) fn word(bytes: &[u8], place: usize) -> u32 {
     match bytes.get(place..) {
         Some([a, b, c, d, ..]) => u32::from_le_bytes([*a, *b, *c, *d]),
         _ => 0,
@@ -45,7 +45,7 @@ fn word(bytes: &[u8], place: usize) -> u32 {
 }
 
 /// Puts a word at a place.
-fn put(bytes: &mut [u8], place: usize, word: u32) {
+pub(crate) fn put(bytes: &mut [u8], place: usize, word: u32) {
     for (i, byte) in word.to_le_bytes().iter().enumerate() {
         if let Some(old) = bytes.get_mut(place.wrapping_add(i)) {
             *old = *byte;
@@ -54,13 +54,13 @@ fn put(bytes: &mut [u8], place: usize, word: u32) {
 }
 
 /// Where the word of an index of a frame stands.
-fn place_of(frame: u32, index: u32) -> usize {
+pub(crate) fn place_of(frame: u32, index: u32) -> usize {
     let within = frame.wrapping_mul(4096).wrapping_add(index.wrapping_mul(4));
     BODY.wrapping_add(within as usize)
 }
 
 /// Where the record of a frame stands.
-fn record_of(frame: u32) -> usize {
+pub(crate) fn record_of(frame: u32) -> usize {
     1548_usize.wrapping_add(frame.wrapping_mul(16) as usize)
 }
 
@@ -75,7 +75,7 @@ fn least_free(bytes: &[u8]) -> u32 {
 }
 
 /// The frames of an image in which process 1 has page 40000 of process 0 at 50000.
-fn frames_of(bytes: &[u8]) -> Frames {
+pub(crate) fn frames_of(bytes: &[u8]) -> Frames {
     let own_directory = word(bytes, 32);
     let other_directory = word(bytes, 56);
     let own_table = word(bytes, place_of(own_directory, 256)) / 4096;
@@ -111,7 +111,7 @@ fn of_frame(place: usize, word: u32, frame: u32, clause: u32) -> Damage {
 }
 
 /// Changes of one word each, and what then fails.
-fn damages(at: &Frames) -> [Damage; 11] {
+pub(crate) fn damages(at: &Frames) -> [Damage; 11] {
     let orphans = [(at.other_directory, 2), (at.other_table, 3), (at.shared, 4)];
     [
         // quota of process 0
@@ -146,7 +146,7 @@ fn damages(at: &Frames) -> [Damage; 11] {
 }
 
 /// The lines of what fails: processes first, then frames in ascending order.
-fn lines_of(alloc: Global, damage: &Damage) -> Result<Vec<u8>, Fail> {
+pub(crate) fn lines_of(alloc: Global, damage: &Damage) -> Result<Vec<u8>, Fail> {
     let mut lines = Vec::new(alloc);
     lines.extend_from_slice(damage.processes.as_bytes())?;
     for number in 0..16u32 {
@@ -161,7 +161,7 @@ fn lines_of(alloc: Global, damage: &Damage) -> Result<Vec<u8>, Fail> {
 }
 
 /// The image after the script.
-fn image_bytes(alloc: Global) -> Result<Vec<u8>, Fail> {
+pub(crate) fn image_bytes(alloc: Global) -> Result<Vec<u8>, Fail> {
     let mut bytes = Vec::new(alloc);
     let mut reader = SHARE_BOTH_WAYS.script.as_bytes();
     write_script_image(alloc, &mut reader, &mut bytes, 16)?;

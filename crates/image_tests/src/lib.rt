@@ -1,4 +1,4 @@
-//! Tests of images, their check, audits and the program's commands, by their public calls. They stand here
+//! Tests of images, their check, maps, audits and the program's commands, by their public calls. They stand here
 //! and not beside what they test, so that each of those crates is proved once.
 #![tactic(auto)]
 
@@ -14,6 +14,10 @@ mod command_memory_tests;
 mod command_tests;
 #[cfg(test)]
 mod damaged_tests;
+#[cfg(test)]
+mod map_status_tests;
+#[cfg(test)]
+mod map_tests;
 #[cfg(test)]
 mod race_tests;
 #[cfg(test)]

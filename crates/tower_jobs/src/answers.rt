@@ -87,7 +87,7 @@ pub fn answer_of_words(fault: WordsFault) -> Answer
 }
 
 /// The answer where words were refused: want of memory is a fault of the program, and `clap` tells all else.
-pub(crate) fn refuse(error: clap::Error) -> Answer
+pub fn refuse(error: clap::Error) -> Answer
     ensures { Refuses error result }
 {
     if error.kind() == ErrorKind::OutOfMemory {

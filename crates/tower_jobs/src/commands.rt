@@ -52,7 +52,9 @@ fn write_image_of<I: Read, O: Write>(
 }
 
 /// The bytes of a file, of which no more are read than one more than the largest image has.
-fn bytes_of<F: Read + Drop>(alloc: Global, file: F) -> Result<Vec<u8>, ToolFault>
+///
+/// NoMemory where there is no memory for them; ReadFailed where a read answers another error.
+pub fn bytes_of<F: Read + Drop>(alloc: Global, file: F) -> Result<Vec<u8>, ToolFault>
     ensures read { IfOk result (λ bytes. IsRead (F.remaining file) bytes.items) }
     ensures fault { IfErr result (λ fault. (fault ≡ ToolFault.NoMemory) ⊎ (fault ≡ ToolFault.ReadFailed)) }
 {

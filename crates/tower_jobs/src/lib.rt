@@ -11,8 +11,8 @@ mod jobs;
 mod races;
 mod tools;
 
-pub use answers::{Answer, answer_of_words, status_of, tell};
-pub use commands::answer;
+pub use answers::{Answer, answer_of_words, refuse, status_of, tell};
+pub use commands::{answer, bytes_of};
 pub use given_words::{WordsFault, words};
 pub use images::{check_bytes, write_script_image};
 pub use jobs::{Job, job_of};

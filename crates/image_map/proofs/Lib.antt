@@ -1,0 +1,4 @@
+pub mod Listing
+pub mod RangeTexts
+pub mod SlotListing
+pub mod TextParts

@@ -1,0 +1,4 @@
+pub mod Drawings
+pub mod Laws
+pub mod Runs
+pub mod Text

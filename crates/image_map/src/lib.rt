@@ -1,0 +1,28 @@
+//! The map of an image of a machine: which frame serves whom, and what each process holds. As text it is a
+//! function of the image (specs/Text.antt); as a picture it is SVG. `memory_map` is the program.
+#![tactic(auto)]
+
+mod commands;
+mod drawing;
+mod frames;
+mod jobs;
+mod laws;
+mod layout;
+mod lines;
+mod owners;
+mod panel;
+mod picture;
+mod runs;
+mod squares;
+mod text;
+mod words;
+
+pub use commands::draw;
+pub use drawing::{Form, draw_bytes};
+pub use image_check::{Image, Verdict, WriteFailed, check, read_image};
+pub use jobs::{Request, request_of};
+pub use laws::maps_list_each_slot;
+pub use picture::write_picture;
+pub use runs::Run;
+pub use text::write_map;
+pub use tower_jobs::{Answer, ToolFault};
