@@ -14,6 +14,7 @@ mod tools;
 pub use answers::{Answer, answer_of_words, refuse, status_of, tell};
 pub use commands::{answer, bytes_of};
 pub use given_words::{WordsFault, words};
+pub use guest_race::{Asks, Referee};
 pub use images::{check_bytes, write_script_image};
 pub use jobs::{Job, job_of};
 pub use races::{race, race_by};
