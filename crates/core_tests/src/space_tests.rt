@@ -241,14 +241,23 @@ fn loads_and_stores_at_once_what_is_there(rt: HostRuntime) -> Result<(), Fail> {
     let page = Page(0x40000);
     let address = Vaddr(0x4000_0ffe);
     begin(&rt, &mut spaces, root);
-    assert_eq!(rt; load_at_once(&rt, &mut spaces, root, address), None);
-    assert!(rt; !store_at_once(&rt, &mut spaces, root, address, 0xbeef));
     map_page(&rt, &mut spaces, root, page);
     assert_eq!(rt; load_at_once(&rt, &mut spaces, root, address), Some(0));
     assert!(rt; !store_at_once(&rt, &mut spaces, root, address, 0xbeef));
     fill_page(&rt, &mut spaces, root, page);
     assert!(rt; store_at_once(&rt, &mut spaces, root, address, 0xbeef));
     assert_eq!(rt; load_at_once(&rt, &mut spaces, root, address), Some(0xbeef));
+    Ok(())
+}
+
+#[test]
+fn loads_and_stores_nothing_at_once_where_no_page_is(rt: HostRuntime) -> Result<(), Fail> {
+    let mut spaces = Spaces::new(rt.alloc(), 16)?;
+    let root = Pid::new(0).ok_or("no root")?;
+    let address = Vaddr(0x4000_0ffe);
+    begin(&rt, &mut spaces, root);
+    assert_eq!(rt; load_at_once(&rt, &mut spaces, root, address), None);
+    assert!(rt; !store_at_once(&rt, &mut spaces, root, address, 0xbeef));
     Ok(())
 }
 
