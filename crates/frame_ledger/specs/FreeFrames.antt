@@ -30,6 +30,6 @@ abbrev pub without_free : FreeFrames → ℕ → FreeFrames
 without_free ledger frame = record { free = set.remove ledger.free frame; frames = ledger.frames }
 
 -- a free frame was taken
-pub record IsTaken (old : FreeFrames) (frame : ℕ) (new : FreeFrames) : Type 0 where
+pub record IsTakenFrom (old : FreeFrames) (frame : ℕ) (new : FreeFrames) : Type 0 where
   pub was_free : IsFree old frame
   pub now : new ≡ without_free old frame

@@ -6,7 +6,7 @@
 
 ghost use Rattle.std.specs.Prelude.{◌≡◌, ℕ, ◌<◌, ◌≤◌, ◌↔◌, false, IfOk, IfErr, IsErrOf, IfSome, IsNone};
 ghost use Rattle.page_words.specs.FiniteSet as set;
-ghost use Rattle.frame_ledger.specs.FreeFrames.{opening, IsFree, IsTaken, with_free};
+ghost use Rattle.frame_ledger.specs.FreeFrames.{opening, IsFree, IsTakenFrom, with_free};
 ghost use Rattle.frame_ledger.specs.FreeList.{all_in_use};
 
 use page_words::{Frame, MAX_FRAMES, MIN_FRAMES};
@@ -91,7 +91,7 @@ impl Ledger {
 
     /// Takes a free frame, whichever it is. None exactly where none is free.
     pub fn take(&mut self) -> Option<Frame>
-        ensures taken { IfSome result (λ frame. IsTaken self.old frame self.new) }
+        ensures taken { IfSome result (λ frame. IsTakenFrom self.old frame self.new) }
         ensures within { IfSome result (λ frame. (1 ≤ frame) × (frame < self.old.frames)) }
         ensures gone { IfSome result (λ frame. set.contains self.new.free frame ≡ false) }
         ensures none { IsNone result ↔ (set.len self.old.free ≡ 0) }

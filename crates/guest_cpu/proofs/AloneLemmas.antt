@@ -15,7 +15,7 @@ use Rattle.guest_cpu.specs.declared.instructions.Instruction.{Instruction}
 use Rattle.guest_cpu.specs.declared.instructions.Instruction.TheVariants.{Set, Add, Load, Store, JumpEq, Jump, Sys, Halt}
 use Rattle.guest_cpu.specs.declared.runs.End.{End}
 use Rattle.guest_cpu.specs.declared.runs.End.TheVariants as end
-use Rattle.guest_cpu.specs.Guests.{View, event_of, value_of, after}
+use Rattle.guest_cpu.specs.Guests.{GuestView, event_asked, value_of, after}
 use Rattle.guest_cpu.specs.Laws.{GuestsAreIsolated, alone, asked}
 use Rattle.guest_cpu.specs.Laws as laws
 use Rattle.guest_cpu.specs.Ports.{Answer}
@@ -27,7 +27,7 @@ use Rattle.guest_cpu.proofs.RunLemmas.{Outcome, in_front, is_last, replied, answ
 
 -- events, the end and the guest afterwards
 abbrev Made : Type 0
-Made = List Event × (End × View)
+Made = List Event × (End × GuestView)
 
 abbrev behind : List Event → Made → Made
 behind events made = (events ++ made.0, made.1)
@@ -36,29 +36,29 @@ abbrev told : List Event → State → List Answer
 told events s = map Ok (answers s events)
 
 -- What a turn makes of a guest over a core in a state, where `go` is what the turns after it make of theirs.
-module _ (go : View → State → Made) where
-  abbrev by_value : Instruction → View → Event → State → Option ℕ → Made
+module _ (go : GuestView → State → Made) where
+  abbrev by_value : Instruction → GuestView → Event → State → Option ℕ → Made
   by_value instruction g event s None = (event ∷ [], (end.Stopped (answer s event), g))
   by_value instruction g event s (Some value) = behind (event ∷ []) (go (after g instruction value) (next s event))
 
-  abbrev by_last : Instruction → View → State → Bool → Made
+  abbrev by_last : Instruction → GuestView → State → Bool → Made
   by_last instruction g s true = ([], (end.Halted, g))
   by_last instruction g s false = go (after g instruction 0) s
 
-  abbrev by_event : Instruction → View → State → Option Event → Made
+  abbrev by_event : Instruction → GuestView → State → Option Event → Made
   by_event instruction g s None = by_last instruction g s (is_last instruction)
   by_event instruction g s (Some event) = by_value instruction g event s (value_of (answer s event))
 
-  abbrev by_place : View → State → Option Instruction → Made
+  abbrev by_place : GuestView → State → Option Instruction → Made
   by_place g s None = ([], (end.Halted, g))
-  by_place g s (Some instruction) = by_event instruction g s (event_of g instruction)
+  by_place g s (Some instruction) = by_event instruction g s (event_asked g instruction)
 
-abbrev at_end : View → Option Instruction → Made
+abbrev at_end : GuestView → Option Instruction → Made
 at_end g None = ([], (end.Halted, g))
 at_end g (Some instruction) = ([], (end.OutOfTurns, g))
 
 -- what so many turns make of a guest over a core
-over_core : List Instruction → ℕ → View → State → Made
+over_core : List Instruction → ℕ → GuestView → State → Made
 over_core program zero g s = at_end g (slice_get program g.counter)
 over_core program (suc turns) g s = by_place (λ h t. over_core program turns h t) g s (slice_get program g.counter)
 
@@ -75,10 +75,10 @@ rest_of (x ∷ xs) = xs
 nothing : {X : Type 0} (x : X) → None ≡ Some x → ⊥
 nothing x is = cc
 
-module _ (rest : View → List Answer → Outcome) (go : View → State → Made)
-    (same : (h : View) (t : State) (es : List Event) (r : End × View) → rest h (told es t) ≡ Some (es, r) → (es, r) ≡ go h t) where
+module _ (rest : GuestView → List Answer → Outcome) (go : GuestView → State → Made)
+    (same : (h : GuestView) (t : State) (es : List Event) (r : End × GuestView) → rest h (told es t) ≡ Some (es, r) → (es, r) ≡ go h t) where
   -- the first event of what is made is the one that was asked
-  first_is : (instruction : Instruction) (g : View) (event x : Event) (es : List Event) (r : End × View) (reply : Reply) (more : List Answer) (value : Option ℕ)
+  first_is : (instruction : Instruction) (g : GuestView) (event x : Event) (es : List Event) (r : End × GuestView) (reply : Reply) (more : List Answer) (value : Option ℕ)
       → replied rest instruction g event reply more value ≡ Some (x ∷ es, r) → event ≡ x
   unfolding first_of
   first_is instruction g event x es r reply more None is = ap (λ (m : Made). first_of event m.0) (same_Some (event ∷ [], (end.Stopped reply, g)) (x ∷ es, r) is)
@@ -88,7 +88,7 @@ module _ (rest : View → List Answer → Outcome) (go : View → State → Made
       by None not = absurd (nothing (x ∷ es, r) not)
       by (Some m) so = ap (λ (k : Made). first_of event k.0) (same_Some (event ∷ m.0, m.1) (x ∷ es, r) so)
 
-  value_is : (instruction : Instruction) (g : View) (event : Event) (s : State) (es : List Event) (r : End × View) (value : Option ℕ)
+  value_is : (instruction : Instruction) (g : GuestView) (event : Event) (s : State) (es : List Event) (r : End × GuestView) (value : Option ℕ)
       → replied rest instruction g event (answer s event) (told es (next s event)) value ≡ Some (event ∷ es, r) → (event ∷ es, r) ≡ by_value go instruction g event s value
   unfolding rest_of
   value_is instruction g event s es r None is = sym (same_Some (event ∷ [], (end.Stopped (answer s event), g)) (event ∷ es, r) is)
@@ -101,7 +101,7 @@ module _ (rest : View → List Answer → Outcome) (go : View → State → Made
           let made : m ≡ (es, r) = ap (λ (k : Made). (rest_of k.0, k.1)) (same_Some (event ∷ m.0, m.1) (event ∷ es, r) so) in
           ap (behind (event ∷ [])) (same (after g instruction value) (next s event) es r (at ∙ ap Some made))
 
-  event_is : (instruction : Instruction) (g : View) (event : Event) (s : State) (events : List Event) (r : End × View)
+  event_is : (instruction : Instruction) (g : GuestView) (event : Event) (s : State) (events : List Event) (r : End × GuestView)
       → answered rest instruction g event (told events s) ≡ Some (events, r) → (events, r) ≡ by_value go instruction g event s (value_of (answer s event))
   event_is instruction g event s [] r is = absurd (nothing ([], r) is)
   event_is instruction g event s (x ∷ es) r is =
@@ -109,26 +109,26 @@ module _ (rest : View → List Answer → Outcome) (go : View → State → Made
       (first_is instruction g event x es r (answer s x) (told es (next s x)) (value_of (answer s x)) is)
       (value_is instruction g event s es r (value_of (answer s event))) is
 
-  last_is : (instruction : Instruction) (g : View) (s : State) (events : List Event) (r : End × View) (b : Bool)
+  last_is : (instruction : Instruction) (g : GuestView) (s : State) (events : List Event) (r : End × GuestView) (b : Bool)
       → quiet rest instruction g (told events s) b ≡ Some (events, r) → (events, r) ≡ by_last go instruction g s b
   last_is instruction g s events r true is = sym (same_Some ([], (end.Halted, g)) (events, r) is)
   last_is instruction g s events r false is = same (after g instruction 0) s events r is
 
-  acted_is : (instruction : Instruction) (g : View) (s : State) (events : List Event) (r : End × View) (event : Option Event)
+  acted_is : (instruction : Instruction) (g : GuestView) (s : State) (events : List Event) (r : End × GuestView) (event : Option Event)
       → acted rest instruction g (told events s) event ≡ Some (events, r) → (events, r) ≡ by_event go instruction g s event
   acted_is instruction g s events r None is = last_is instruction g s events r (is_last instruction) is
   acted_is instruction g s events r (Some event) is = event_is instruction g event s events r is
 
-  place_is : (g : View) (s : State) (events : List Event) (r : End × View) (at : Option Instruction)
+  place_is : (g : GuestView) (s : State) (events : List Event) (r : End × GuestView) (at : Option Instruction)
       → stepped rest g (told events s) at ≡ Some (events, r) → (events, r) ≡ by_place go g s at
   place_is g s events r None is = sym (same_Some ([], (end.Halted, g)) (events, r) is)
-  place_is g s events r (Some instruction) is = acted_is instruction g s events r (event_of g instruction) is
+  place_is g s events r (Some instruction) is = acted_is instruction g s events r (event_asked g instruction) is
 
-stood_is : (g : View) (events : List Event) (r : End × View) (at : Option Instruction) → stood g at ≡ Some (events, r) → (events, r) ≡ at_end g at
+stood_is : (g : GuestView) (events : List Event) (r : End × GuestView) (at : Option Instruction) → stood g at ≡ Some (events, r) → (events, r) ≡ at_end g at
 stood_is g events r None is = sym (same_Some ([], (end.Halted, g)) (events, r) is)
 stood_is g events r (Some instruction) is = sym (same_Some ([], (end.OutOfTurns, g)) (events, r) is)
 
-core_follows : (program : List Instruction) (turns : ℕ) (g : View) (s : State) (events : List Event) (r : End × View)
+core_follows : (program : List Instruction) (turns : ℕ) (g : GuestView) (s : State) (events : List Event) (r : End × GuestView)
     → follow program turns g (told events s) ≡ Some (events, r) → (events, r) ≡ over_core program turns g s
 unfolding follow over_core
 core_follows program zero g s events r is = stood_is g events r (slice_get program g.counter) is
@@ -140,7 +140,7 @@ core_follows program (suc turns) g s events r is =
 abbrev moved : Event → Event
 moved event = record { cpu = 0; pid = 1; call = event.call }
 
-event_alone : (g : View) (instruction : Instruction) → event_of (alone g) instruction ≡ option_map moved (event_of g instruction)
+event_alone : (g : GuestView) (instruction : Instruction) → event_asked (alone g) instruction ≡ option_map moved (event_asked g instruction)
 event_alone g (Set to value) = refl
 event_alone g (Add to a b) = refl
 event_alone g (Load size to address) = refl
@@ -150,7 +150,7 @@ event_alone g (Jump target) = refl
 event_alone g (Sys to call) = refl
 event_alone g Halt = refl
 
-after_alone : (g : View) (instruction : Instruction) (given : ℕ) → after (alone g) instruction given ≡ alone (after g instruction given)
+after_alone : (g : GuestView) (instruction : Instruction) (given : ℕ) → after (alone g) instruction given ≡ alone (after g instruction given)
 after_alone g (Set to value) given = refl
 after_alone g (Add to a b) given = refl
 after_alone g (Load size to address) given = refl
@@ -160,7 +160,7 @@ after_alone g (Jump target) given = refl
 after_alone g (Sys to call) given = refl
 after_alone g Halt given = refl
 
-executes_alone : {instruction : Instruction} {g h : View} {made : List Event} {given : List Answer} {e : Option End} → Executes instruction g made given e h
+executes_alone : {instruction : Instruction} {g h : GuestView} {made : List Event} {given : List Answer} {e : Option End} → Executes instruction g made given e h
     → Executes instruction (alone g) (map moved made) given e (alone h)
 executes_alone (halts is_halt) = halts is_halt
 executes_alone {instruction} {g} (moves other no_event) =
@@ -174,12 +174,12 @@ moved-append : (xs ys : List Event) → map moved (xs ++ ys) ≡ map moved xs ++
 moved-append [] ys = refl
 moved-append (x ∷ xs) ys = ap (λ l. moved x ∷ l) (moved-append xs ys)
 
-turns_alone : {program : List Instruction} {n : ℕ} {g h : View} {events : List Event} {given : List Answer} → Turns program n g events given h → Turns program n (alone g) (map moved events) given (alone h)
+turns_alone : {program : List Instruction} {n : ℕ} {g h : GuestView} {events : List Event} {given : List Answer} → Turns program n g events given h → Turns program n (alone g) (map moved events) given (alone h)
 turns_alone none = none
 turns_alone {program} {g} {h = k} (turn {n = n} {events = events} {made = made} {answers = answers} {given = given} so_far there executes) =
     subst (λ es. Turns program (suc n) (alone g) es (answers ++ given) (alone k)) (sym (moved-append events made)) (turn (turns_alone so_far) there (executes_alone executes))
 
-run_alone : {program : List Instruction} {turns : ℕ} {g h : View} {given : List Answer} {events : List Event} {e : End} → IsRun program turns g given events e h
+run_alone : {program : List Instruction} {turns : ℕ} {g h : GuestView} {given : List Answer} {events : List Event} {e : End} → IsRun program turns g given events e h
     → IsRun program turns (alone g) given (map moved events) e (alone h)
 run_alone (leaves so_far within outside) = leaves (turns_alone so_far) within outside
 run_alone (runs_out so_far there) = runs_out (turns_alone so_far) there

@@ -8,7 +8,7 @@ use Rattle.kernel_calls.specs.declared.calls.Reply.{Reply}
 use Rattle.process_table.specs.State.{State}
 use Rattle.process_table.specs.View as core
 use Rattle.guest_cpu.specs.declared.instructions.Instruction.{Instruction}
-use Rattle.guest_cpu.specs.Guests.{View}
+use Rattle.guest_cpu.specs.Guests.{GuestView}
 use Rattle.guest_cpu.specs.Ports.{Answer, Chain, none, call, IsCoreStep}
 use Rattle.guest_cpu.specs.Runs.{Executes, Turns, turn}
 
@@ -22,7 +22,7 @@ module _ {S : Type 0} (step : S → Event → Answer → S → Type 0) where
       (subst (λ rs'. Chain step s (events ++ es ++ event ∷ []) rs' u) (append_assoc given rs (answer ∷ [])) (call (append first so_far) last))
 
 -- one turn more
-pub one_more : {program : List Instruction} {n : ℕ} {g h k : View} {events made : List Event} {given more : List Answer} {instruction : Instruction}
+pub one_more : {program : List Instruction} {n : ℕ} {g h k : GuestView} {events made : List Event} {given more : List Answer} {instruction : Instruction}
     → Turns program n g events given h → slice_get program h.counter ≡ Some instruction → Executes instruction h made more None k
     → Turns program (n + 1) g (events ++ made) (given ++ more) k
 one_more so_far there executes = rw add-one (turn so_far there executes)

@@ -11,7 +11,7 @@ use Rattle.kernel_calls.specs.declared.calls.Reply.TheVariants as reply
 use Rattle.guest_cpu.specs.declared.instructions.Instruction.{Instruction}
 use Rattle.guest_cpu.specs.declared.instructions.Instruction.TheVariants.{Set, Add, Load, Store, JumpEq, Jump, Sys, Halt}
 
-pub record View : Type 0 where
+pub record GuestView : Type 0 where
   pub cpu : ℕ
   pub pid : ℕ
   -- eight numbers below 2 to the 32
@@ -19,28 +19,28 @@ pub record View : Type 0 where
   -- the place of the next instruction
   pub counter : ℕ
 
-abbrev pub view_code : Coded View
+abbrev pub view_code : Coded GuestView
 view_code =
     code_by (ℕ × (ℕ × (List ℕ × ℕ))) (coded× coded_ℕ (coded× coded_ℕ (coded× (coded_list coded_ℕ) coded_ℕ)))
     (λ g. (g.cpu, (g.pid, (g.registers, g.counter)))) (λ p. record { cpu = p.0; pid = p.1.0; registers = p.1.1.0; counter = p.1.1.1 }) (λ _. refl)
 
 -- a guest that has not begun
-abbrev pub opening_guest : ℕ → ℕ → View
+abbrev pub opening_guest : ℕ → ℕ → GuestView
 opening_guest cpu pid = record { cpu = cpu; pid = pid; registers = replicate 8 0; counter = 0 }
 
-abbrev pub register_of : View → ℕ → ℕ
+abbrev pub register_of : GuestView → ℕ → ℕ
 register_of g r = slice_index g.registers r
 
-abbrev pub with_register : View → ℕ → ℕ → View
+abbrev pub with_register : GuestView → ℕ → ℕ → GuestView
 with_register g r value = record { cpu = g.cpu; pid = g.pid; registers = slice_set g.registers r value; counter = g.counter }
 
-abbrev pub with_counter : View → ℕ → View
+abbrev pub with_counter : GuestView → ℕ → GuestView
 with_counter g place = record { cpu = g.cpu; pid = g.pid; registers = g.registers; counter = place }
 
 -- ---- Calls
 
 -- the call that an instruction makes
-abbrev pub call_of : View → Instruction → Option Call
+abbrev pub call_of : GuestView → Instruction → Option Call
 call_of g (Load size to address) = Some (call.Load (register_of g address) size)
 call_of g (Store size address value) = Some (call.Store (register_of g address) size (register_of g value))
 call_of g (Sys to call) = Some call
@@ -51,8 +51,8 @@ call_of g (Jump target) = None
 call_of g Halt = None
 
 -- and the event that carries it
-abbrev pub event_of : View → Instruction → Option Event
-event_of g instruction = option_map (λ call. record { cpu = g.cpu; pid = g.pid; call = call }) (call_of g instruction)
+abbrev pub event_asked : GuestView → Instruction → Option Event
+event_asked g instruction = option_map (λ call. record { cpu = g.cpu; pid = g.pid; call = call }) (call_of g instruction)
 
 -- the difference of two numbers below 2 to the 32, modulo 2 to the 32
 abbrev pub difference : ℕ → ℕ → ℕ
@@ -71,7 +71,7 @@ value_of (reply.Refused cause) = None
 -- ---- Effects
 
 -- the guest with what an instruction writes to a register, whose call, where it makes one, gave that value
-abbrev pub guest_with_result : View → Instruction → ℕ → View
+abbrev pub guest_with_result : GuestView → Instruction → ℕ → GuestView
 guest_with_result g (Set to value) given = with_register g to value
 guest_with_result g (Add to a b) given = with_register g to ((register_of g a + register_of g b) % 2 ^ 32)
 guest_with_result g (Load size to address) given = with_register g to given
@@ -82,7 +82,7 @@ guest_with_result g (Jump target) given = g
 guest_with_result g Halt given = g
 
 -- where the counter stands after it
-abbrev pub place_after : View → Instruction → ℕ
+abbrev pub place_after : GuestView → Instruction → ℕ
 place_after g (JumpEq a b target) = if register_of g a == register_of g b then target else g.counter + 1
 place_after g (Jump target) = target
 place_after g Halt = g.counter
@@ -92,5 +92,5 @@ place_after g (Load size to address) = g.counter + 1
 place_after g (Store size address value) = g.counter + 1
 place_after g (Sys to call) = g.counter + 1
 
-abbrev pub after : View → Instruction → ℕ → View
+abbrev pub after : GuestView → Instruction → ℕ → GuestView
 after g instruction given = with_counter (guest_with_result g instruction given) (place_after g instruction)

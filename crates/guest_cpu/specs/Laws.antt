@@ -12,7 +12,7 @@ use Rattle.process_table.specs.View as core
 use Rattle.guest_cpu.specs.declared.instructions.Instruction.{Instruction}
 use Rattle.guest_cpu.specs.declared.runs.End.{End}
 use Rattle.guest_cpu.specs.declared.runs.End.TheVariants as end
-use Rattle.guest_cpu.specs.Guests.{View}
+use Rattle.guest_cpu.specs.Guests.{GuestView}
 use Rattle.guest_cpu.specs.Ports.{Answer, Chain, IsCoreStep}
 use Rattle.guest_cpu.specs.Runs.{IsRun, HasRun}
 
@@ -23,16 +23,16 @@ CoresAnswer = (before after : core.View) (events : List Event) (given : List Ans
 
 -- a guest that ran out of turns and is run on, runs as one that had all turns at once
 abbrev pub RunsGoOn : Type 0
-RunsGoOn = (program : List Instruction) (m n : ℕ) (g h k : View) (given more : List Answer) (events made : List Event) (e : End)
+RunsGoOn = (program : List Instruction) (m n : ℕ) (g h k : GuestView) (given more : List Answer) (events made : List Event) (e : End)
     → IsRun program m g given events end.OutOfTurns h → IsRun program n h more made e k → IsRun program (m + n) g (given ++ more) (events ++ made) e k
 
 -- the program, the guest, the turns and the port's answers determine the events, the end and the guest afterwards
 abbrev pub RunsAreDetermined : Type 0
-RunsAreDetermined = (program : List Instruction) (turns : ℕ) (g h k : View) (given : List Answer) (events made : List Event) (e f : End)
+RunsAreDetermined = (program : List Instruction) (turns : ℕ) (g h k : GuestView) (given : List Answer) (events made : List Event) (e f : End)
     → IsRun program turns g given events e h → IsRun program turns g given made f k → (events ≡ made) × (e ≡ f) × (h ≡ k)
 
 -- the guest as one of process 1 on CPU 0
-abbrev pub alone : View → View
+abbrev pub alone : GuestView → GuestView
 alone g = record { cpu = 0; pid = 1; registers = g.registers; counter = g.counter }
 
 -- what a guest asked, and what its port answered
@@ -47,6 +47,6 @@ answered part = map (λ x. Ok x.1) part
 abbrev pub GuestsAreIsolated : Type 0
 GuestsAreIsolated = (s : State) (events : List Event) (k p : ℕ) (e : Event) (mine rest : List Exchange) → IsWellFormed s → slice_get events k ≡ Some e
     → slice_get (answers s events) k ≡ Some (Child p) → own p (drop (k + 1) (exchanges s events)) ≡ mine ++ rest → InvolvesNobody (mine ++ rest)
-    → (program : List Instruction) (turns : ℕ) (g h : View) (ends : End) → IsRun program turns g (answered mine) (asked mine) ends h
-    → (before after : core.View) (last : View) (ends_alone : End) → before.state ≡ alone_with (quota_asked e.call) (pages_given (end_of s (take k events)) e.pid e.call)
+    → (program : List Instruction) (turns : ℕ) (g h : GuestView) (ends : End) → IsRun program turns g (answered mine) (asked mine) ends h
+    → (before after : core.View) (last : GuestView) (ends_alone : End) → before.state ≡ alone_with (quota_asked e.call) (pages_given (end_of s (take k events)) e.pid e.call)
     → HasRun IsCoreStep program turns (alone g) before ends_alone last after → (ends_alone ≡ ends) × (last ≡ alone h)

@@ -1,6 +1,6 @@
 //! A guest: its registers, its program and its counter.
 ghost use Rattle.std.specs.Prelude.{◌≡◌, ◌<◌, ◌^◌};
-ghost use Rattle.guest_cpu.specs.Guests.{opening_guest, register_of, with_register, event_of, value_of, place_after, after};
+ghost use Rattle.guest_cpu.specs.Guests.{opening_guest, register_of, with_register, event_asked, value_of, place_after, after};
 
 use crate::instructions::{Instruction, Reg};
 use kernel_calls::{Call, Event, Reply};
@@ -17,9 +17,9 @@ pub struct Guest {
 }
 
 impl Model for Guest {
-    ghost use Rattle.guest_cpu.specs.Guests.{View, view_code};
+    ghost use Rattle.guest_cpu.specs.Guests.{GuestView, view_code};
 
-    ghost Value = { View };
+    ghost Value = { GuestView };
 
     ghost coded = { view_code };
 
@@ -70,8 +70,8 @@ impl Guest {
     }
 
     /// The event that an instruction makes, where it makes a call.
-    pub(crate) fn event_of(&self, instruction: &Instruction) -> Option<Event>
-        ensures { result ≡ event_of self.now instruction.now }
+    pub(crate) fn event_asked(&self, instruction: &Instruction) -> Option<Event>
+        ensures { result ≡ event_asked self.now instruction.now }
     {
         let call = match *instruction {
             Instruction::Load(size, _, address) => Call::Load {

@@ -37,7 +37,7 @@ fn execute<P: Port>(guest: &mut Guest, instruction: &Instruction, port: &mut P) 
     if instruction.is_halt() {
         return Some(End::Halted);
     }
-    let Some(event) = guest.event_of(instruction) else {
+    let Some(event) = guest.event_asked(instruction) else {
         guest.complete(instruction, 0);
         return None;
     };

@@ -2,7 +2,7 @@
 use Rattle.std.proofs.Common.{◌≡◌, ◌∙◌, ℕ, ◌==◌, Bool, true, false, cond, List, [], Option, Some, None, refl, sym, ap, subst}
 use Rattle.std.specs.Prelude.{option_map}
 use Rattle.std.specs.Option.{IfNone}
-use Rattle.guest_cpu.specs.Guests.{View, after, call_of, opening_guest}
+use Rattle.guest_cpu.specs.Guests.{GuestView, after, call_of, opening_guest}
 use Rattle.guest_cpu.specs.Ports.{Answer}
 use Rattle.guest_cpu.specs.Runs.{Executes, moves, asks, halts, Turns, none, turn, IsRun, leaves, ends, HasRun}
 use Rattle.guest_cpu.specs.declared.instructions.Instruction.{Instruction}
@@ -21,7 +21,7 @@ use Rattle.guest_race.specs.declared.faults.RoundFault.{RoundFault}
 use Rattle.guest_race.specs.declared.faults.RoundFault.TheVariants.{NoMemory, Failed}
 use Rattle.guest_race.proofs.GrowthLemmas.{AllBy, AllReplies, by_both, replies_both, grown}
 
-after_cpu : (g : View) (instruction : Instruction) (given : ℕ) → (after g instruction given).cpu ≡ g.cpu
+after_cpu : (g : GuestView) (instruction : Instruction) (given : ℕ) → (after g instruction given).cpu ≡ g.cpu
 after_cpu g (Set to value) given = refl
 after_cpu g (Add to a b) given = refl
 after_cpu g (Load size to address) given = refl
@@ -32,27 +32,27 @@ after_cpu g (Sys to c) given = refl
 after_cpu g Halt given = refl
 
 -- the event of an instruction is of the guest's CPU
-event_cpu : (g : View) (asked : Option Call) (event : Event) → option_map (λ c. record { cpu = g.cpu; pid = g.pid; call = c }) asked ≡ Some event → event.cpu ≡ g.cpu
+event_cpu : (g : GuestView) (asked : Option Call) (event : Event) → option_map (λ c. record { cpu = g.cpu; pid = g.pid; call = c }) asked ≡ Some event → event.cpu ≡ g.cpu
 event_cpu g None event is = cc
 event_cpu g (Some c) event is =
     let same : record { cpu = g.cpu; pid = g.pid; call = c } ≡ event = cc in
     sym (ap (λ (e : Event). e.cpu) same)
 
-abbrev Moved : View → View → List Event → List Answer → Type 0
+abbrev Moved : GuestView → View → List Event → List Answer → Type 0
 Moved g h events answers = (h.cpu ≡ g.cpu) × AllBy g.cpu events × AllReplies answers
 
-executed : {instruction : Instruction} {g h : View} {events : List Event} {answers : List Answer} → Executes instruction g events answers None h → Moved g h events answers
+executed : {instruction : Instruction} {g h : GuestView} {events : List Event} {answers : List Answer} → Executes instruction g events answers None h → Moved g h events answers
 executed {instruction} {g} (moves not asks_nothing) = (after_cpu g instruction 0, tt, tt)
 executed {instruction} {g} (asks {event = event} {value = value} is gives) = (after_cpu g instruction value, (event_cpu g (call_of g instruction) event is, tt), (tt, tt))
 
-turned : {program : List Instruction} {n : ℕ} {g h : View} {events : List Event} {answers : List Answer} → Turns program n g events answers h → Moved g h events answers
+turned : {program : List Instruction} {n : ℕ} {g h : GuestView} {events : List Event} {answers : List Answer} → Turns program n g events answers h → Moved g h events answers
 turned none = (refl, tt, tt)
 turned (turn {g = g} {h = h} {k = k} {events = events} {made = made} {answers = answers} {given = given} before at step) =
     let first = turned before in
     let last = executed step in
     (last.0 ∙ first.0, by_both g.cpu events made first.1 (subst (λ n. AllBy n made) first.0 last.1), replies_both answers given first.2 last.2)
 
-halted : {program : List Instruction} {n : ℕ} {g h : View} {events : List Event} {answers : List Answer} → IsRun program n g answers events end.Halted h → AllBy g.cpu events × AllReplies answers
+halted : {program : List Instruction} {n : ℕ} {g h : GuestView} {events : List Event} {answers : List Answer} → IsRun program n g answers events end.Halted h → AllBy g.cpu events × AllReplies answers
 halted (leaves before within outside) = ((turned before).1, (turned before).2)
 halted {g = g} (ends {events = events} {answers = answers} before within at (halts is)) =
     (by_both g.cpu events [] (turned before).1 tt, replies_both answers [] (turned before).2 tt)
@@ -61,7 +61,7 @@ halted {g = g} (ends {events = events} {answers = answers} before within at (hal
 abbrev pub Left : ℕ → Maker → Maker → Type 0
 Left n start last = (last.number ≡ n) × Halts n (entries_of n start.seen) (entries_of n last.seen)
 
-guest_halts : (frames n : ℕ) (start last : Maker) (guest : View) → start.number ≡ n → HasRun (IsCpuStep frames) (race_program n) turns (opening_guest start.number n) start end.Halted guest last → Left n start last
+guest_halts : (frames n : ℕ) (start last : Maker) (guest : GuestView) → start.number ≡ n → HasRun (IsCpuStep frames) (race_program n) turns (opening_guest start.number n) start end.Halted guest last → Left n start last
 guest_halts frames n start last guest number ran =
     let run : IsRun (race_program n) turns (opening_guest n n) ran.answers ran.events end.Halted guest = subst (λ k. IsRun (race_program n) turns (opening_guest k n) ran.answers ran.events end.Halted guest) number ran.run in
     let facts = halted run in
@@ -75,7 +75,7 @@ guest_halts frames n start last guest number ran =
       },
     )
 
-pub halts_or_not : (frames n : ℕ) (start last : Maker) (guest : View) (e : End) (cause : Option RoundFault) → cause ≡ cause_of e → start.number ≡ n
+pub halts_or_not : (frames n : ℕ) (start last : Maker) (guest : GuestView) (e : End) (cause : Option RoundFault) → cause ≡ cause_of e → start.number ≡ n
     → HasRun (IsCpuStep frames) (race_program n) turns (opening_guest start.number n) start e guest last → IfNone cause (Left n start last)
 halts_or_not frames n start last guest e cause is number ran = rw is (go e ran)
   where

@@ -3,13 +3,13 @@
 --     Halts      that a guest's calls on a CPU are those of a run that halts
 --     IsRound      what a round's history is, the rows of its report, and what an audit found
 use Rattle.std.specs.Prelude.{◌≡◌, ℕ, ◌<◌, true, List, [], ◌++◌, length, map, take, All, Any, Option, Ok}
-use Rattle.guest_cpu.specs.Guests.{View, opening_guest}
+use Rattle.guest_cpu.specs.Guests.{GuestView, opening_guest}
 use Rattle.guest_cpu.specs.Runs.{IsRun}
 use Rattle.guest_cpu.specs.declared.runs.End.TheVariants as end
 use Rattle.guest_race.specs.Programs.{opening_events, race_program, turns}
 use Rattle.image_check.specs.Told.{fails_nothing, verdict_on}
 use Rattle.kernel_calls.specs.declared.calls.Event.{Event}
-use Rattle.locked_core.specs.Makers.{Maker, maker, IsTaken}
+use Rattle.locked_core.specs.Makers.{Maker, maker, IsSnapshot}
 use Rattle.memory_image.specs.Image.{Image}
 use Rattle.memory_report.specs.Histories.{Legal, StartsWith, calls_of, entries_of, events_of, replies_of, state_after}
 use Rattle.memory_report.specs.Reports.{report_of}
@@ -57,7 +57,7 @@ Closes frames cpus rows = (log : List LogEntry) × IsClosed frames cpus rows log
 
 -- An image that was taken for a CPU, in which an audit found nothing that fails.
 abbrev pub Audited : ℕ → Maker → Type 0
-Audited frames cpu = (image : Image) × (history : List LogEntry) × IsTaken frames cpu image history × (fails_nothing (verdict_on image) ≡ true)
+Audited frames cpu = (image : Image) × (history : List LogEntry) × IsSnapshot frames cpu image history × (fails_nothing (verdict_on image) ≡ true)
 
 -- A round by its history: it is legal, its entries are those of the two guests, its report is also what a monitor
 -- reported who was told all that both CPUs had seen, all their own calls among it, and an audit of an image that was

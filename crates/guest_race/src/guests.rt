@@ -1,7 +1,7 @@
 //! The two guests of a round, each on a CPU and in a thread of its own.
 
 ghost use Rattle.std.specs.Prelude.{◌≡◌, ◌++◌, ◌∷◌, ◌≤◌, [], IfNone, OnOk};
-ghost use Rattle.guest_cpu.specs.Guests.{View, opening_guest};
+ghost use Rattle.guest_cpu.specs.Guests.{GuestView, opening_guest};
 ghost use Rattle.guest_cpu.specs.Runs.{HasRun};
 ghost use Rattle.locked_core.specs.Makers.{maker};
 ghost use Rattle.locked_core.specs.Ports.{IsCpuStep};
@@ -62,7 +62,7 @@ fn run_guest<N: Name, R: Wait>(
     pid: Pid,
     program: &[Instruction],
 ) -> End
-    ensures { (guest : View) × HasRun (IsCpuStep N.frames) program.now turns (opening_guest cpu.old.number pid) cpu.old result guest cpu.new }
+    ensures { (guest : GuestView) × HasRun (IsCpuStep N.frames) program.now turns (opening_guest cpu.old.number pid) cpu.old result guest cpu.new }
 {
     let mut guest = Guest::new(cpu.number(), pid);
     let mut port = CpuPort::new(rt, cpu, kernel);

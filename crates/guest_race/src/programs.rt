@@ -43,15 +43,15 @@ pub fn opening() -> [Event; 4]
         page: PAGE,
     };
     [
-        event_of(root, store),
-        event_of(root, Call::Spawn { quota: 5 }),
-        event_of(root, offer),
-        event_of(child, accept),
+        event_by(root, store),
+        event_by(root, Call::Spawn { quota: 5 }),
+        event_by(root, offer),
+        event_by(child, accept),
     ]
 }
 
 /// An event of CPU 0.
-fn event_of(pid: Pid, call: Call) -> Event
+fn event_by(pid: Pid, call: Call) -> Event
     ensures { result ≡ record { cpu = 0; pid = pid; call = call } }
 {
     Event { cpu: 0, pid, call }

@@ -7,7 +7,7 @@ ghost use Rattle.memory_image.specs.Words.{own_frame};
 ghost use Rattle.image_check.specs.Counts.{is_this};
 ghost use Rattle.image_check.specs.Adds.{Adds, HaveRoom, MayGrow};
 
-use crate::words::own_frame;
+use crate::kernel_words::own_frame;
 use memory_image::Image;
 use page_words::{Frame, Pid, TableWord};
 

@@ -11,8 +11,8 @@ ghost use Rattle.image_check.specs.Adds.{Adds, HaveRoom};
 ghost use Rattle.image_check.specs.Verdict.{is_directory_of, is_table_of, is_page, has_parent, has_directory, links_table, maps_page, table_is_right, quotas_from, keeps_its_quota, live_clause, process_clause};
 
 use crate::clauses::ProcessClause;
+use crate::kernel_words::{is_lazy_word, names_page, names_table};
 use crate::walking::{Walked, walk};
-use crate::words::{is_lazy_word, names_page, names_table};
 use alloc_table::Role;
 use memory_image::{Image, Process};
 use page_words::{DirWord, Frame, Pid, TableWord};

@@ -5,13 +5,13 @@
 mod clauses;
 mod counting;
 mod judging;
+mod kernel_words;
 mod laws;
 mod naming;
 mod serving;
 mod text;
 mod verdicts;
 mod walking;
-mod words;
 
 pub use clauses::{FrameClause, ProcessClause};
 pub use counting::pid_of;

@@ -17,8 +17,8 @@ use Rattle.tower_jobs.specs.Faults.{tool_of_image}
 use Rattle.tower_jobs.specs.Jobs.{file_argument, file_in}
 use Rattle.tower_jobs.specs.declared.answers.Answer.{Answer}
 use Rattle.tower_jobs.specs.declared.answers.Answer.TheVariants.{Done, NotSound, Failed, NotText, Refused}
-use Rattle.tower_jobs.specs.declared.tools.ToolFault.{ToolFault}
-use Rattle.tower_jobs.specs.declared.tools.ToolFault.TheVariants as tool
+use Rattle.tower_jobs.specs.declared.faults.ToolFault.{ToolFault}
+use Rattle.tower_jobs.specs.declared.faults.ToolFault.TheVariants as tool
 use Rattle.image_map.specs.declared.drawing.Form.{Form}
 use Rattle.image_map.specs.declared.drawing.Form.TheVariants as form
 use Rattle.image_map.specs.declared.jobs.Request.{Request}
@@ -72,8 +72,8 @@ form_in rows = form_of (is_svg rows)
 abbrev pub Asked : Type 0
 Asked = Form × Text
 
-abbrev pub told : Request → Asked
-told request = (request.form, request.file.now)
+abbrev pub as_asked : Request → Asked
+as_asked request = (request.form, request.file.now)
 
 abbrev pub request_in : List Row → Asked
 request_in rows = (form_in rows, file_in rows)

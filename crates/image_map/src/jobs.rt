@@ -5,7 +5,7 @@ ghost use Rattle.std.specs.Str.{bytes_eq};
 ghost use Rattle.clap.specs.Words.{app_of, fault_of, found_of, kind_of, rows_of, rule_of, FailsBy};
 ghost use Rattle.clap.specs.declared.builder.command.Command.TheViews.{out-Command as fields_of};
 ghost use Rattle.tower_jobs.specs.Jobs.{file_argument, file_in};
-ghost use Rattle.image_map.specs.Drawings.{svg_flag, map_app, form_of, form_in, request_asked, told};
+ghost use Rattle.image_map.specs.Drawings.{svg_flag, map_app, form_of, form_in, request_asked, as_asked};
 
 use crate::drawing::Form;
 use clap::{Arg, ArgAction, ArgMatches, Command, Error};
@@ -91,7 +91,7 @@ pub fn request_of<'a, S: AsStr>(alloc: Global, words: &'a [S]) -> Result<Request
     // An Ok comes only where `clap` finds no fault in the words, and an error is want of memory or of
     // a kind that `clap` finds.
     ensures fails { FailsBy (fault_of map_app (map S.text words.now)) result }
-    ensures request { IfOk result (λ request. told request ≡ request_asked (map S.text words.now)) }
+    ensures request { IfOk result (λ request. as_asked request ≡ request_asked (map S.text words.now)) }
 {
     let matches = map_command(alloc)?.try_get_matches_from(words)?;
     Ok(Request {

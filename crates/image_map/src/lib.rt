@@ -10,12 +10,12 @@ mod laws;
 mod layout;
 mod lines;
 mod owners;
+mod page_flags;
 mod panel;
 mod picture;
 mod runs;
 mod squares;
 mod text;
-mod words;
 
 pub use commands::draw;
 pub use drawing::{Form, draw_bytes};

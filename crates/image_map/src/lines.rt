@@ -7,8 +7,8 @@ ghost use Rattle.memory_image.specs.Image.{role_at};
 ghost use Rattle.image_map.specs.Text.{letter_if, flags, five_digits, holders, holders_text, place, run_line, more_line, marks, used_marks, given_marks, bar, bar_line, process_line, image_line};
 
 use crate::frames::frames_with;
+use crate::page_flags::{is_lazy_word, lets_write};
 use crate::runs::Run;
-use crate::words::{is_lazy_word, lets_write};
 use alloc_table::Role;
 use arrayvec::ArrayVec;
 use image_check::{Image, Process};

@@ -3,8 +3,8 @@
 ghost use Rattle.std.specs.Prelude.{◌≡◌, ◌<◌, Some};
 ghost use Rattle.memory_image.specs.Image.{process_at};
 
+use crate::page_flags::is_lazy_word;
 use crate::runs::{Run, runs_at};
-use crate::words::is_lazy_word;
 use image_check::{Image, Process, pid_of};
 use page_words::{Frame, MAX_FRAMES, Pid, TableWord};
 

@@ -6,7 +6,7 @@ use Rattle.page_words.specs.FiniteMap as map
 use Rattle.address_space.specs.Spaces.{cost, at_page}
 use Rattle.quota_tree.specs.declared.Container.{Container}
 use Rattle.quota_tree.specs.Book.{Member}
-use Rattle.process_table.specs.State.{State, is_live, child_of, container_of, shown}
+use Rattle.process_table.specs.State.{State, is_live, child_of, container_of, as_container}
 use Rattle.process_table.specs.Calls.{map_refusal, protect_refusal, offer_refusal, spawn_refusal, fork_refusal, after_map, after_protect, after_fork}
 use Rattle.address_space.proofs.costs.Totals.{cost-protected_of}
 use Rattle.process_table.proofs.Refusals.{may_protect}
@@ -182,6 +182,6 @@ decided-fork v e quota used is live used_is =
 pub used-container : (s : State) (p : ℕ) (c : Container) → container_of s p ≡ Some c → c.used ≡ cost s.spaces p
 used-container s p c is = by (map.get s.book p) is
   where
-    by : (x : Option Member) → option_map (λ member. shown s p member) x ≡ Some c → c.used ≡ cost s.spaces p
+    by : (x : Option Member) → option_map (λ member. as_container s p member) x ≡ Some c → c.used ≡ cost s.spaces p
     by None h = cc
     by (Some m) h = sym (ap (λ o. (unwrap_or o c).used) h)

@@ -49,10 +49,10 @@ went-on (plan.Fault f) r h = h
 went-on (plan.Ready first second) r h = refl
 
 -- a well formed state, whose root has the entry that it has in another
-abbrev pub IsKept : State → State → Type 0
-IsKept s t = IsWellFormed t × (map.get t.book 0 ≡ map.get s.book 0)
+abbrev pub KeepsRoot : State → State → Type 0
+KeepsRoot s t = IsWellFormed t × (map.get t.book 0 ≡ map.get s.book 0)
 
-kept-call : (s : State) (p : ℕ) (c : Call) → IsWellFormed s → is_live s p ≡ true → completes (answer_of s p c) ≡ true → IsKept s (after s p c)
+kept-call : (s : State) (p : ℕ) (c : Call) → IsWellFormed s → is_live s p ≡ true → completes (answer_of s p c) ≡ true → KeepsRoot s (after s p c)
 kept-call s p (call.Load address size) w live h =
     let g = ready (step_of s p) s p address size Read (went-on (plan_of s p address size Read) _ h) in
     (well_formed-load s p address size w live (all_user address size g.outside) g.room, refl)
@@ -77,18 +77,18 @@ kept-call s p call.Exit w live h =
     (well_formed-exit s p w live a, root-exit s p w live a)
 kept-call s p call.Quota w live h = (w, refl)
 
-pub kept-next : (s : State) (e : Event) → IsWellFormed s → IsKept s (next s e)
+pub kept-next : (s : State) (e : Event) → IsWellFormed s → KeepsRoot s (next s e)
 kept-next s e w = by (completes (answer s e)) refl
   where
     live : (b : Bool) → completes (if b then answer_of s e.pid e.call else reply.Refused cause.NoProcess) ≡ true → (b ≡ true) × (completes (answer_of s e.pid e.call) ≡ true)
     live true h = (refl, h)
     live false h = cc
 
-    by : (b : Bool) → completes (answer s e) ≡ b → IsKept s (next s e)
-    by true h = let l = live (is_live s e.pid) h in subst (IsKept s) (sym (next-goes s e h)) (kept-call s e.pid e.call w l.0 l.1)
-    by false h = subst (IsKept s) (sym (next-stays s e h)) (w, refl)
+    by : (b : Bool) → completes (answer s e) ≡ b → KeepsRoot s (next s e)
+    by true h = let l = live (is_live s e.pid) h in subst (KeepsRoot s) (sym (next-goes s e h)) (kept-call s e.pid e.call w l.0 l.1)
+    by false h = subst (KeepsRoot s) (sym (next-stays s e h)) (w, refl)
 
-pub kept-run : (s : State) (events : List Event) → IsWellFormed s → IsKept s (end_of s events)
+pub kept-run : (s : State) (events : List Event) → IsWellFormed s → KeepsRoot s (end_of s events)
 kept-run s [] w = (w, refl)
 kept-run s (e ∷ events) w =
     let a = kept-next s e w in

@@ -83,5 +83,5 @@ planned e (plan.Fault fault) r charge used = record { event = e; plan = plan.Fau
 planned e (plan.Ready first second) r charge used = record { event = e; plan = plan.Ready first second; reply = r; used_after = charge }
 
 -- the reply to a process that asks for its quota
-abbrev pub told : Container → Reply
-told c = reply.Quota c.quota c.used c.given
+abbrev pub quota_told : Container → Reply
+quota_told c = reply.Quota c.quota c.used c.given

@@ -10,7 +10,7 @@ ghost use Rattle.kernel_calls.specs.declared.calls.Call.TheVariants as call;
 ghost use Rattle.kernel_calls.specs.declared.calls.Reply.TheVariants as reply;
 ghost use Rattle.page_words.specs.Addresses.{IsUserPage};
 ghost use Rattle.kernel_calls.specs.Machine.{info_of};
-ghost use Rattle.kernel_calls.specs.Decisions.{decision_of, refusal_of, reply_of, tested, spawned, planned, told};
+ghost use Rattle.kernel_calls.specs.Decisions.{decision_of, refusal_of, reply_of, tested, spawned, planned, quota_told};
 
 use crate::calls::{Call, Decision, Event, Reply};
 use fault_handler::{PageStep, Plan};
@@ -197,7 +197,7 @@ fn decide_info(processes: &Processes, event: &Event, page: Page, used: u32) -> D
 
 /// The reply to a process that asks for its quota.
 fn quota_told(container: &Container) -> Reply
-    ensures { result ≡ told container.now }
+    ensures { result ≡ quota_told container.now }
 {
     Reply::Quota {
         quota: container.quota,

@@ -6,16 +6,16 @@
 #![tactic(auto)]
 
 mod calls;
+mod cores;
 mod decisions;
-mod kernel;
 mod laws;
 mod walked;
 mod worked;
 
 pub use alloc_table::Role;
 pub use calls::{Call, Decision, Event, Reply};
+pub use cores::{BootFault, Core};
 pub use fault_handler::{PageStep, Plan};
-pub use kernel::{BootFault, Core};
 pub use laws::{processes_are_isolated, runs_stay_well_formed};
 pub use page_words::{Frame, Page, Pid, Size, Vaddr};
 pub use phys_memory::Memory;

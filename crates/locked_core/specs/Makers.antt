@@ -57,7 +57,7 @@ Prevents (Stale front) = ⊥
 Prevents Disagree = ⊥
 
 -- Where an image was taken for a CPU: it stands for the state after a legal history, which begins with what the CPU has seen and has the calls that it made.
-pub record IsTaken (frames : ℕ) (cpu : Maker) (image : Image) (history : List LogEntry) : Type 0 where
+pub record IsSnapshot (frames : ℕ) (cpu : Maker) (image : Image) (history : List LogEntry) : Type 0 where
   pub legal : Legal frames history
   pub begins : StartsWith history cpu.seen
   pub own : calls_of cpu.number history ≡ calls_of cpu.number cpu.seen

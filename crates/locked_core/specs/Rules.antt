@@ -4,7 +4,7 @@ use Rattle.logbook.specs.Pages.{Cell, Step, View, Book, Named}
 use Rattle.memory_report.specs.declared.entries.LogEntry.{LogEntry}
 
 -- the first word is the length of the history. A book has two words, of which the second stays at 0
-pub record IsKept (cells : List Cell) (log : List LogEntry) : Type 0 where
+pub record CellsHold (cells : List Cell) (log : List LogEntry) : Type 0 where
   pub words : cells ≡ (length log, true) ∷ (0, true) ∷ []
 
 -- the book's first word

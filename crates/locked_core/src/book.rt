@@ -15,9 +15,9 @@ pub struct Law;
 impl Rule<LogEntry, u64> for Law {
     ghost use Rattle.std.specs.Prelude.{[]};
     ghost use base.Fml.{ftrue};
-    ghost use Rattle.locked_core.specs.Rules.{IsKept};
+    ghost use Rattle.locked_core.specs.Rules.{CellsHold};
 
-    ghost holds = { λ cells log. IsKept cells log };
+    ghost holds = { λ cells log. CellsHold cells log };
 
     ghost first = { [] };
 

@@ -2,7 +2,7 @@
 
 ghost use Rattle.std.specs.Prelude.{◌≡◌, ◌≤◌, ◌↔◌, [], IfErr, IfOk, IsErrOf, All, Any, length, take, replicate, List};
 ghost use Rattle.left_right.specs.Sides.{view};
-ghost use Rattle.locked_core.specs.Makers.{Closes, IsRefused, IsTaken, new_makers};
+ghost use Rattle.locked_core.specs.Makers.{Closes, IsRefused, IsSnapshot, new_makers};
 ghost use Rattle.locked_core.specs.Pages.{page};
 ghost use Rattle.locked_core.specs.Published.{view_of};
 ghost use Rattle.memory_report.specs.Histories.{AreIsolated, Legal, state_after, calls_of};
@@ -127,7 +127,7 @@ impl<N: Name, G: Gate + Drop> Kernel<N, G> {
     /// shorter than what this CPU has seen, or has another number of its entries; NoMemory where there is
     /// no memory for the image.
     pub fn snapshot<R: Wait>(&self, rt: &R, cpu: &mut Cpu<N>) -> Result<Image, Fault>
-        ensures taken { IfOk result (λ image. (history : List LogEntry) × IsTaken N.frames cpu.old image history) }
+        ensures taken { IfOk result (λ image. (history : List LogEntry) × IsSnapshot N.frames cpu.old image history) }
         ensures kept { cpu.new ≡ cpu.old }
         ensures refused { IfErr result (λ f. (log : List LogEntry) × IsRefused N.frames log cpu.old f) }
     {

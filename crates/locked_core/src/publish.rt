@@ -8,7 +8,7 @@ ghost use Rattle.locked_core.specs.Pages.{page};
 ghost use Rattle.locked_core.specs.Published.{view_of, IsOf, Keeps};
 
 use crate::book::Beginning;
-use crate::rule::{Later, LogReader, LogWriter, Look, Notes, Opening, View};
+use crate::rule::{Later, LogReader, LogWriter, Look, Notes, Opening, WhichKernel};
 use crate::shown::Shown;
 use core::mem::replace_with;
 use crossbeam_utils::rule::Outcome;
@@ -41,7 +41,7 @@ pub fn reader_of(writer: &mut LogWriter) -> Result<LogReader, AllocError>
 }
 
 /// Readers take this page from now on. It takes no memory: the copy that no reader has any more becomes the page.
-fn show_as<M: Outcome<Shown, View>, R: Wait>(rt: &R, writer: &mut LogWriter, page: Shown)
+fn show_as<M: Outcome<Shown, WhichKernel>, R: Wait>(rt: &R, writer: &mut LogWriter, page: Shown)
     requires { TurnsAt Keeps writer.old.desk.place.id (view writer.old.desk.place) writer.old.desk.shown.value page M.then }
     ensures shown { writer.new.desk.shown.value ≡ page }
     ensures rule { M.then (view writer.old.desk.place) writer.old.desk.shown.value page (view writer.new.desk.place) }

@@ -6,7 +6,7 @@ use left_right::reader::Reader;
 use left_right::writer::Writer;
 
 /// Which kernel one reader reads. No value of it is made.
-pub struct View {
+pub struct WhichKernel {
     pub knows: bool,
     pub frames: u32,
     pub number: u64,
@@ -16,7 +16,7 @@ pub struct View {
 
 pub struct Published;
 
-impl Protocol<Shown, View> for Published {
+impl Protocol<Shown, WhichKernel> for Published {
     ghost use Rattle.locked_core.specs.Published.{Keeps, stranger};
 
     ghost holds = { Keeps };
@@ -26,7 +26,7 @@ impl Protocol<Shown, View> for Published {
 
 pub struct Look;
 
-impl Outcome<Shown, View> for Look {
+impl Outcome<Shown, WhichKernel> for Look {
     ghost use Rattle.locked_core.specs.Published.{Looks};
 
     ghost then = { Looks };
@@ -34,7 +34,7 @@ impl Outcome<Shown, View> for Look {
 
 pub struct Opening;
 
-impl Outcome<Shown, View> for Opening {
+impl Outcome<Shown, WhichKernel> for Opening {
     ghost use Rattle.locked_core.specs.Published.{Opens};
 
     ghost then = { Opens };
@@ -42,7 +42,7 @@ impl Outcome<Shown, View> for Opening {
 
 pub struct Later;
 
-impl Outcome<Shown, View> for Later {
+impl Outcome<Shown, WhichKernel> for Later {
     ghost use Rattle.locked_core.specs.Published.{Stays};
 
     ghost then = { Stays };
@@ -51,13 +51,13 @@ impl Outcome<Shown, View> for Later {
 /// A note has all that the writer knows, and the reader that learns it knows that.
 pub struct Notes;
 
-impl Split<View> for Notes {
+impl Split<WhichKernel> for Notes {
     ghost left = { λ v. v };
 
     ghost right = { λ v. v };
 }
 
-impl Join<View> for Notes {
+impl Join<WhichKernel> for Notes {
     ghost use Rattle.locked_core.specs.Published.{stranger};
 
     ghost both = { λ v w. w };
@@ -65,6 +65,6 @@ impl Join<View> for Notes {
     ghost spent = { stranger };
 }
 
-pub type LogReader = Reader<Shown, View, Published>;
+pub type LogReader = Reader<Shown, WhichKernel, Published>;
 
-pub type LogWriter = Writer<Shown, (), View, Published>;
+pub type LogWriter = Writer<Shown, (), WhichKernel, Published>;

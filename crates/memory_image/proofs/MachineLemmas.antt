@@ -16,7 +16,7 @@ use Rattle.address_space.specs.Image as memory
 use Rattle.address_space.specs.Image.{directory_at, word_of, is_user_slot, named_by, table_at, present_word, page_word, page_frame}
 use Rattle.quota_tree.specs.declared.Container.{Container}
 use Rattle.quota_tree.specs.Book.{Member, given}
-use Rattle.process_table.specs.State.{State, shown as shown_member, container_of}
+use Rattle.process_table.specs.State.{State, as_container, container_of}
 use Rattle.process_table.specs.View.{View}
 use Rattle.process_table.specs.WellFormed.{IsWellFormed}
 use Rattle.process_table.specs.Image as machine
@@ -24,7 +24,7 @@ use Rattle.process_table.proofs.Ranges.{sum-same}
 use Rattle.memory_image.specs.declared.processes.Process.{Process}
 use Rattle.memory_image.specs.Image.{Image, frames, process_at, directory_from, memory_of, IsProcess, IsRole, IsImage}
 use Rattle.memory_image.specs.Sound.{frame_at, quota_from, IsSoundMemory, IsOneGroup, SlotStands, StandsFor, member_of}
-use Rattle.memory_image.specs.Machine.{process_from, told, IsWide, IsToldWide, HaveWords, ImagesStand}
+use Rattle.memory_image.specs.Machine.{process_from, process_told, IsWide, IsToldWide, HaveWords, ImagesStand}
 use Rattle.memory_image.proofs.References.{same_some, from_map, then_some, chosen_some, user_range, directory-is, directory-of, live-of, pid-small}
 
 -- ---- Memory whose directories answer alike
@@ -151,15 +151,15 @@ quota-kept p q None d h = refl
 quota-kept p q (Some c) None h = cc
 quota-kept p q (Some c) (Some d) h = refl
 
-member-kept : (s : State) (p : ℕ) (x : Option Member) (d : Option ℕ) → is_some (option_map (λ m. shown_member s p m) x) ≡ is_some d
-    → x ≡ option_map member_of (process_from (option_map (λ m. shown_member s p m) x) d)
+member-kept : (s : State) (p : ℕ) (x : Option Member) (d : Option ℕ) → is_some (option_map (λ m. as_container s p m) x) ≡ is_some d
+    → x ≡ option_map member_of (process_from (option_map (λ m. as_container s p m) x) d)
 member-kept s p None d h = refl
 member-kept s p (Some m) None h = cc
 member-kept s p (Some m) (Some d) h = refl
 
-cost-kept : (s : State) (p : ℕ) (x : Option Member) (c : Container) → option_map (λ m. shown_member s p m) x ≡ Some c → (c.used ≡ cost s.spaces p) × (c.given ≡ given s.book p)
+cost-kept : (s : State) (p : ℕ) (x : Option Member) (c : Container) → option_map (λ m. as_container s p m) x ≡ Some c → (c.used ≡ cost s.spaces p) × (c.given ≡ given s.book p)
 cost-kept s p None c h = cc
-cost-kept s p (Some m) c h = let e = same_some (shown_member s p m) c h in (sym (ap (λ (c : Container). c.used) e), sym (ap (λ (c : Container). c.given) e))
+cost-kept s p (Some m) c h = let e = same_some (as_container s p m) c h in (sym (ap (λ (c : Container). c.used) e), sym (ap (λ (c : Container). c.given) e))
 
 module _ (v : View) (processes : List (Option Process))
     (is : (p : ℕ) → unwrap_or (slice_get processes p) None ≡ process_from (container_of v.state p) (directory_of v.directories p))
@@ -227,17 +227,17 @@ not-live true h = absurd (h refl)
 not-live false h = refl
 
 module _ (v : View) (W : IsWellFormed v.state) where
-  member-there : (p : ℕ) (c : Container) → container_of v.state p ≡ Some c → (m : Member) × (map.get v.state.book p ≡ Some m) × (shown_member v.state p m ≡ c)
-  member-there p c h = from_map (λ m. shown_member v.state p m) (map.get v.state.book p) c h
+  member-there : (p : ℕ) (c : Container) → container_of v.state p ≡ Some c → (m : Member) × (map.get v.state.book p ≡ Some m) × (as_container v.state p m ≡ c)
+  member-there p c h = from_map (λ m. as_container v.state p m) (map.get v.state.book p) c h
 
-  told-past : (p : ℕ) → 64 ≤ p → told v p ≡ None
+  told-past : (p : ℕ) → 64 ≤ p → process_told v p ≡ None
   told-past p past = by (container_of v.state p) refl
     where
       by : (x : Option Container) → container_of v.state p ≡ x → process_from x (directory_of v.directories p) ≡ None
       by None e = refl
       by (Some c) e = absurd (let m = member-there p c e in let k = (W.processes p m.0 m.1).0 in omega arith)
 
-  pub told_all : (ps : List (Option Process)) → length ps ≡ 64 → ((p : ℕ) → p < 64 → slice_get ps p ≡ Some (told v p)) → (p : ℕ) → unwrap_or (slice_get ps p) None ≡ told v p
+  pub told_all : (ps : List (Option Process)) → length ps ≡ 64 → ((p : ℕ) → p < 64 → slice_get ps p ≡ Some (process_told v p)) → (p : ℕ) → unwrap_or (slice_get ps p) None ≡ process_told v p
   told_all ps long each p = elim (cases_lt p 64) [
     | inl low ↦ ap (λ o. unwrap_or o None) (each p low)
     | inr past ↦ ap (λ o. unwrap_or o None) (slice_get_past ps p (omega arith)) ∙ sym (told-past p past)
@@ -250,7 +250,7 @@ module _ (v : View) (W : IsWellFormed v.state) where
   root_parent : (c : Container) → container_of v.state 0 ≡ Some c → c.parent ≡ 0
   root_parent c h = let m = member-there 0 c h in ap (λ (c : Container). c.parent) (sym m.2) ∙ W.root_parent m.0 m.1
 
-  pub machine_fits : (ps : List (Option Process)) (n : ℕ) → length ps ≡ 64 → ((p : ℕ) → p < 64 → slice_get ps p ≡ Some (told v p)) → ((p : ℕ) → p < 64 → IsToldWide v p)
+  pub machine_fits : (ps : List (Option Process)) (n : ℕ) → length ps ≡ 64 → ((p : ℕ) → p < 64 → slice_get ps p ≡ Some (process_told v p)) → ((p : ℕ) → p < 64 → IsToldWide v p)
       → HaveWords v.roles (length v.roles) → length v.bytes ≡ 4096 * n → length v.roles ≡ n → 16 ≤ n → n ≤ 4096 → ((i : ℕ) → slice_index v.bytes i < 256)
       → machine.StandsFor (machine.image_of v) v.state → IsImage (record { version = 2; processes = ps; roles = v.roles; bytes = v.bytes })
   machine_fits ps n long each wide words size few low high small S =
@@ -270,9 +270,9 @@ module _ (v : View) (W : IsWellFormed v.state) where
       shows : Image
       shows = record { version = 2; processes = ps; roles = v.roles; bytes = v.bytes }
 
-      process-fits : ((p : ℕ) → unwrap_or (slice_get ps p) None ≡ told v p) → StandsFor shows v.state → (p : ℕ) (r : Process) → process_at shows p ≡ Some r → IsProcess (length v.roles) p r
+      process-fits : ((p : ℕ) → unwrap_or (slice_get ps p) None ≡ process_told v p) → StandsFor shows v.state → (p : ℕ) (r : Process) → process_at shows p ≡ Some r → IsProcess (length v.roles) p r
       process-fits all stands p r h =
-          let k = wide_of (told v p) r (sym (all p) ∙ h) (wide p (pid-small shows long p r h)) in
+          let k = wide_of (process_told v p) r (sym (all p) ∙ h) (wide p (pid-small shows long p r h)) in
           let parts = parts_of (container_of v.state p) (directory_of v.directories p) r (sym (all p) ∙ h) in
           record {
             parent = k.parent;

@@ -11,13 +11,13 @@ use Rattle.address_space.specs.Image as memory
 use Rattle.address_space.specs.Image.{directory_at, page_word}
 use Rattle.quota_tree.specs.declared.Container.{Container}
 use Rattle.quota_tree.specs.Book.{Member, given, number_of_children}
-use Rattle.process_table.specs.State.{State, shown as shown_member}
+use Rattle.process_table.specs.State.{State, as_container}
 use Rattle.process_table.specs.Image as machine
 use Rattle.process_table.proofs.Ranges.{sum-same}
 use Rattle.memory_image.specs.declared.processes.Process.{Process}
 use Rattle.memory_image.specs.Image.{Image, process_at, memory_of, IsImage}
 use Rattle.memory_image.specs.Sound.{quota_from, IsSoundMemory, IsSound, SlotStands, StandsFor, member_of}
-use Rattle.memory_image.specs.Machine.{container_from, shown, SoundAsMachines, StandsAsMachines}
+use Rattle.memory_image.specs.Machine.{container_from, as_machine, SoundAsMachines, StandsAsMachines}
 use Rattle.memory_image.proofs.References.{same_some, from_map, directory-is}
 
 some-mapped : {A B : Type 0} (f : A → B) (x : Option A) → is_some (option_map f x) ≡ is_some x
@@ -75,7 +75,7 @@ module _ (processes : List (Option Process)) (roles : List Role) (bytes : List �
     | inr differ ↦ S.parents p r differ h
   ]
 
-  pub sound-to : IsImage image → IsSound image → machine.IsSoundImage (shown image children)
+  pub sound-to : IsImage image → IsSound image → machine.IsSoundImage (as_machine image children)
   sound-to I S = record {
     memory = memory-to I S.memory;
     root = (container_from (children 0) S.root.0, ap (option_map (container_from (children 0))) S.root.1, S.root.2);
@@ -91,7 +91,7 @@ module _ (processes : List (Option Process)) (roles : List Role) (bytes : List �
   at-container : (p : ℕ) (r : Process) → process_at image p ≡ Some r → option_map (container_from (children p)) (process_at image p) ≡ Some (container_from (children p) r)
   at-container p r h = ap (option_map (container_from (children p))) h
 
-  pub sound-from : machine.IsSoundImage (shown image children) → IsSound image
+  pub sound-from : machine.IsSoundImage (as_machine image children) → IsSound image
   sound-from S =
       let root = of-container 0 S.root.0 S.root.1 in
       record {
@@ -125,7 +125,7 @@ module _ (processes : List (Option Process)) (roles : List Role) (bytes : List �
   count p = number_of_children s.book p
 
   container-is : (p : ℕ) (x : Option Process) (y : Option Member) → y ≡ option_map member_of x → ((r : Process) → x ≡ Some r → r.used ≡ cost s.spaces p) → ((r : Process) → x ≡ Some r → r.given ≡ given s.book p)
-      → option_map (container_from (count p)) x ≡ option_map (λ m. shown_member s p m) y
+      → option_map (container_from (count p)) x ≡ option_map (λ m. as_container s p m) y
   container-is p None None e u g = refl
   container-is p None (Some m) e u g = cc
   container-is p (Some r) None e u g = cc
@@ -135,23 +135,23 @@ module _ (processes : List (Option Process)) (roles : List Role) (bytes : List �
       let b = g r refl in
       λ i. Some (record { parent = (sym k i).parent; quota = (sym k i).quota; used = a i; given = b i; children = count p })
 
-  member-is : (p : ℕ) (x : Option Process) (y : Option Member) → option_map (container_from (count p)) x ≡ option_map (λ m. shown_member s p m) y → y ≡ option_map member_of x
+  member-is : (p : ℕ) (x : Option Process) (y : Option Member) → option_map (container_from (count p)) x ≡ option_map (λ m. as_container s p m) y → y ≡ option_map member_of x
   member-is p None None e = refl
   member-is p None (Some m) e = cc
   member-is p (Some r) None e = cc
   member-is p (Some r) (Some m) e =
-      let k = same_some (container_from (count p) r) (shown_member s p m) e in
+      let k = same_some (container_from (count p) r) (as_container s p m) e in
       λ i. Some (record { parent = (sym k i).parent; quota = (sym k i).quota })
 
-  numbers-are : (p : ℕ) (x : Option Process) (y : Option Member) (r : Process) → x ≡ Some r → option_map (container_from (count p)) x ≡ option_map (λ m. shown_member s p m) y → (r.used ≡ cost s.spaces p) × (r.given ≡ given s.book p)
+  numbers-are : (p : ℕ) (x : Option Process) (y : Option Member) (r : Process) → x ≡ Some r → option_map (container_from (count p)) x ≡ option_map (λ m. as_container s p m) y → (r.used ≡ cost s.spaces p) × (r.given ≡ given s.book p)
   numbers-are p None y r is e = cc
   numbers-are p (Some q) None r is e = cc
   numbers-are p (Some q) (Some m) r is e =
-      let k = same_some (container_from (count p) q) (shown_member s p m) e in
+      let k = same_some (container_from (count p) q) (as_container s p m) e in
       let same = same_some q r is in
       (ap (λ (r : Process). r.used) (sym same) ∙ ap (λ (c : Container). c.used) k, ap (λ (r : Process). r.given) (sym same) ∙ ap (λ (c : Container). c.given) k)
 
-  pub stands-to : IsImage own → StandsFor own s → machine.StandsFor (shown own count) s
+  pub stands-to : IsImage own → StandsFor own s → machine.StandsFor (as_machine own count) s
   stands-to I S = record {
     sound = sound-to processes roles bytes count I S.sound;
     memory = record {
@@ -161,7 +161,7 @@ module _ (processes : List (Option Process)) (roles : List Role) (bytes : List �
     containers = λ p. container-is p (process_at own p) (map.get s.book p) (S.book p) (S.used p) (S.given p);
   }
 
-  pub stands-from : machine.StandsFor (shown own count) s → StandsFor own s
+  pub stands-from : machine.StandsFor (as_machine own count) s → StandsFor own s
   stands-from S = record {
     sound = sound-from processes roles bytes count S.sound;
     book = λ p. member-is p (process_at own p) (map.get s.book p) (S.containers p);
@@ -175,10 +175,10 @@ as_version_2 image e = sym (λ i. record { version = e i; processes = image.proc
 
 pub sound_as_machines : SoundAsMachines
 sound_as_machines image children I e =
-    subst (λ (i : Image). IsImage i → IsSound i ↔ machine.IsSoundImage (shown i children)) (as_version_2 image e)
+    subst (λ (i : Image). IsImage i → IsSound i ↔ machine.IsSoundImage (as_machine i children)) (as_version_2 image e)
     (λ J. (sound-to image.processes image.roles image.bytes children J, sound-from image.processes image.roles image.bytes children)) I
 
 pub stands_as_machines : StandsAsMachines
 stands_as_machines image s I e =
-    subst (λ (i : Image). IsImage i → StandsFor i s ↔ machine.StandsFor (shown i (number_of_children s.book)) s) (as_version_2 image e)
+    subst (λ (i : Image). IsImage i → StandsFor i s ↔ machine.StandsFor (as_machine i (number_of_children s.book)) s) (as_version_2 image e)
     (λ J. (stands-to image.processes image.roles image.bytes s J, stands-from image.processes image.roles image.bytes s)) I

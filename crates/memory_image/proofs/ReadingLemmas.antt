@@ -175,7 +175,7 @@ some-unwrapped None r h = cc
 some-unwrapped (Some y) r h = ap Some h
 
 -- what no reason against bytes says of them
-pub record IsKept (xs : List ℕ) (n : ℕ) : Type 0 where
+pub record HeadStands (xs : List ℕ) (n : ℕ) : Type 0 where
   pub magic : begins xs ≡ true
   pub version : (word_at xs 4 ≡ 1) ⊎ (word_at xs 4 ≡ 2)
   pub fewest : 16 ≤ n
@@ -206,7 +206,7 @@ unmapped : {A B : Type 0} (f : A → B) (x : Option A) → option_map f x ≡ No
 unmapped f None h = refl
 unmapped f (Some a) h = cc
 
-pub kept_of : (xs : List ℕ) → fault_of xs ≡ None → IsKept xs (word_at xs 8)
+pub kept_of : (xs : List ℕ) → fault_of xs ≡ None → HeadStands xs (word_at xs 8)
 unfolding fault_of fields
 kept_of xs h =
     let n : ℕ = word_at xs 8 in
@@ -238,7 +238,7 @@ begins_so (a ∷ b ∷ c ∷ d ∷ rest) h =
     let m = and_parts (a == 0x6d) (b == 0x43) l.0 in
     λ i. eqb-true a 0x6d m.0 i ∷ eqb-true b 0x43 m.1 i ∷ eqb-true c 0x32 l.1 i ∷ eqb-true d 0x49 k.1 i ∷ []
 
-module _ (xs : List ℕ) (small : (i : ℕ) → slice_index xs i < 256) (K : IsKept xs (word_at xs 8)) where
+module _ (xs : List ℕ) (small : (i : ℕ) → slice_index xs i < 256) (K : HeadStands xs (word_at xs 8)) where
   n : ℕ
   n = word_at xs 8
 

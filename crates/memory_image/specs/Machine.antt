@@ -36,16 +36,16 @@ ImagesStand = (v : View) (image : Image) → IsImageOf v image → machine.Stand
 abbrev pub container_from : ℕ → Process → Container
 container_from children r = record { parent = r.parent; quota = r.quota; used = r.used; given = r.given; children = children }
 
-abbrev pub shown : Image → (ℕ → ℕ) → machine.Image
-shown image children = record { memory = memory_of image; containers = λ p. option_map (container_from (children p)) (process_at image p) }
+abbrev pub as_machine : Image → (ℕ → ℕ) → machine.Image
+as_machine image children = record { memory = memory_of image; containers = λ p. option_map (container_from (children p)) (process_at image p) }
 
 -- an image of version 2 is sound exactly where what a machine shows is
 abbrev pub SoundAsMachines : Type 0
-SoundAsMachines = (image : Image) (children : ℕ → ℕ) → IsImage image → image.version ≡ 2 → IsSound image ↔ machine.IsSoundImage (shown image children)
+SoundAsMachines = (image : Image) (children : ℕ → ℕ) → IsImage image → image.version ≡ 2 → IsSound image ↔ machine.IsSoundImage (as_machine image children)
 
 -- and stands for a state exactly where that does
 abbrev pub StandsAsMachines : Type 0
-StandsAsMachines = (image : Image) (s : State) → IsImage image → image.version ≡ 2 → StandsFor image s ↔ machine.StandsFor (shown image (number_of_children s.book)) s
+StandsAsMachines = (image : Image) (s : State) → IsImage image → image.version ≡ 2 → StandsFor image s ↔ machine.StandsFor (as_machine image (number_of_children s.book)) s
 
 -- ---- What the types of the numbers say of them
 
@@ -56,11 +56,11 @@ pub record IsWide (r : Process) : Type 0 where
   pub given : IsWord r.given
 
 -- what the machine tells of process p
-abbrev pub told : View → ℕ → Option Process
-told v p = process_from (container_of v.state p) (directory_of v.directories p)
+abbrev pub process_told : View → ℕ → Option Process
+process_told v p = process_from (container_of v.state p) (directory_of v.directories p)
 
 abbrev pub IsToldWide : View → ℕ → Type 0
-IsToldWide v p = IfSome (told v p) IsWide
+IsToldWide v p = IfSome (process_told v p) IsWide
 
 -- a page's count is a number of 32 bits
 abbrev pub HasWord : Role → Type 0

@@ -1,7 +1,7 @@
 //! Making the image of a core.
 
 ghost use Rattle.std.specs.Prelude.{◌≡◌, ℕ, ◌*◌, ◌<◌, Some, IfSome, IfOk, length, slice_get, slice_index};
-ghost use Rattle.memory_image.specs.Machine.{told, IsImageOf, IsToldWide, HasWord, HaveWords};
+ghost use Rattle.memory_image.specs.Machine.{process_told, IsImageOf, IsToldWide, HasWord, HaveWords};
 ghost use Rattle.memory_image.specs.Sound.{StandsFor};
 
 use crate::faults::NoMemory;
@@ -17,7 +17,7 @@ const VERSION: u32 = 2;
 
 /// What a core tells of a process.
 fn process_of(core: &Core, pid: Pid) -> Option<Process>
-    ensures told { result ≡ told core.now pid }
+    ensures told { result ≡ process_told core.now pid }
     ensures wide { IsToldWide core.now pid }
 {
     let container = core.container(pid)?;
@@ -42,7 +42,7 @@ fn pid_of(number: u8) -> Pid
 /// What a core tells of all 64 processes.
 fn processes_of(core: &Core) -> [Option<Process>; 64]
     ensures length { length result ≡ 64 }
-    ensures told { (p : ℕ) → p < 64 → slice_get result p ≡ Some (told core.now p) }
+    ensures told { (p : ℕ) → p < 64 → slice_get result p ≡ Some (process_told core.now p) }
     ensures wide { (p : ℕ) → p < 64 → IsToldWide core.now p }
 {
     let mut processes = [None; 64];

@@ -37,7 +37,7 @@ use Rattle.address_space.specs.Spaces.{at_page}
 use Rattle.process_table.specs.Calls.{spawn_refusal, fork_refusal, exit_refusal, after_spawn as spawned_state, after_fork as forked_state}
 use Rattle.process_table.proofs.Forks.{may_fork, fork-cost}
 use Rattle.address_space.proofs.costs.Copied.{cost-copied, cost-copied_other}
-use Rattle.process_table.specs.State.{State, is_live, room, child_of, shown}
+use Rattle.process_table.specs.State.{State, is_live, room, child_of, as_container}
 use Rattle.process_table.specs.WellFormed.{IsWellFormed}
 use Rattle.process_table.specs.declared.causes.Cause.{Cause}
 use Rattle.process_table.specs.declared.causes.Cause.TheVariants as cause
@@ -226,7 +226,7 @@ sum-map : {A B : Type 0} (g : B → ℕ) (f : A → B) (xs : List A) → sum_by 
 sum-map g f [] = refl
 sum-map g f (x ∷ xs) = sum_by-cons g (f x) (map f xs) ∙ ap (λ n. g (f x) + n) (sum-map g f xs) ∙ sym (sum_by-cons (λ x. g (f x)) x xs)
 
-used_of : (s : State) (p : ℕ) (x : Option Member) → used_in (option_map row_from (option_map (λ member. shown s p member) x)) ≡ found (λ _. cost s.spaces p) x
+used_of : (s : State) (p : ℕ) (x : Option Member) → used_in (option_map row_from (option_map (λ member. as_container s p member) x)) ≡ found (λ _. cost s.spaces p) x
 used_of s p None = refl
 used_of s p (Some m) = refl
 

@@ -19,7 +19,7 @@ use Rattle.page_words.specs.FiniteMap.{nat_order}
 use Rattle.process_table.proofs.BookLaws.{next_free, parents_in}
 use Rattle.process_table.proofs.Sizes.{cost-no_pages}
 use Rattle.process_table.specs.Calls.{after_exit}
-use Rattle.process_table.specs.State.{State, open_with, is_live, room, shown}
+use Rattle.process_table.specs.State.{State, open_with, is_live, room, as_container}
 use Rattle.process_table.specs.WellFormed.{IsWellFormed}
 use Rattle.quota_tree.proofs.BookFacts.{child_yes, child_no, get-insert_other}
 use Rattle.quota_tree.proofs.Sums.{given-insert, given-none, given-remove}
@@ -31,7 +31,7 @@ use Rattle.page_words.proofs.SetLemmas.{get-remove_other}
 
 -- the row of a process whose entry in the book this is, if there is one
 abbrev row_by : State → ℕ → Option Member → Option Row
-row_by s p x = option_map row_from (option_map (λ member. shown s p member) x)
+row_by s p x = option_map row_from (option_map (λ member. as_container s p member) x)
 
 -- ---- Rows by number
 
@@ -44,9 +44,9 @@ unfolding report_of
 length_report s = length-map-range_with_len (λ p. row_of s p) 0 64
 
 -- rows that say of each process what the state says are the report
-pub told : (s : State) (rows : List (Option Row)) → length rows ≡ 64 → ((q : ℕ) → q < 64 → at rows q ≡ row_of s q) → rows ≡ report_of s
+pub report_is : (s : State) (rows : List (Option Row)) → length rows ≡ 64 → ((q : ℕ) → q < 64 → at rows q ≡ row_of s q) → rows ≡ report_of s
 unfolding report_of
-told s rows long each = fill_by_all (λ p. row_of s p) rows 64 None long each
+report_is s rows long each = fill_by_all (λ p. row_of s p) rows 64 None long each
 
 -- ---- A process is charged anew
 
@@ -66,7 +66,7 @@ module _ (s : State) (T : Spaces) (O : Offers) (p used : ℕ) (small : p < 64) (
   row_now = option_map (λ (row : Row). record row { used = used }) (at (report_of s) p)
 
   pub charged : with_used (report_of s) p used ≡ report_of changed
-  charged = told changed (with_used (report_of s) p used) (length-set (report_of s) p row_now ∙ length_report s) (λ q lt. elim (cases_eq q p) [
+  charged = report_is changed (with_used (report_of s) p used) (length-set (report_of s) p row_now ∙ length_report s) (λ q lt. elim (cases_eq q p) [
     | inl is ↦ subst (λ k. at (with_used (report_of s) p used) k ≡ row_of changed k) (sym is)
         (let long = length_report s in
         get_or-set_same (report_of s) p row_now None (omega arith) ∙ ap (option_map (λ (row : Row). record row { used = used })) (at_report s p small) ∙ own_row (map.get s.book p))
@@ -155,7 +155,7 @@ module _ (s : State) (p quota k : ℕ) (w : IsWellFormed s) (live : is_live s p 
   pub opened-is : opened (report_of s) p quota k used ≡ report_of grown
   opened-is =
       ap (opened_by (report_of s) p quota k used) row_was_is
-      ∙ told grown both (length-set first k (Some (child_row p quota used)) ∙ length_first) (λ q lt. elim (cases_eq q k) [
+      ∙ report_is grown both (length-set first k (Some (child_row p quota used)) ∙ length_first) (λ q lt. elim (cases_eq q k) [
         | inl is ↦ subst (λ j. at both j ≡ row_of grown j) (sym is) child_is
         | inr other ↦ elim (cases_eq q p) [
           | inl is ↦ subst (λ j. at both j ≡ row_of grown j) (sym is) parent_is
@@ -266,7 +266,7 @@ module _ (s : State) (p : ℕ) (w : IsWellFormed s) (live : is_live s p ≡ true
   pub closed-is : closed (report_of s) p ≡ report_of left
   closed-is =
       ap (closed_by (report_of s) p) row_left_is
-      ∙ told left (slice_set back p None) (length-set back p None ∙ length_back) (λ q lt. elim (cases_eq q p) [
+      ∙ report_is left (slice_set back p None) (length-set back p None ∙ length_back) (λ q lt. elim (cases_eq q p) [
         | inl is ↦ subst (λ j. at (slice_set back p None) j ≡ row_of left j) (sym is)
             (let long = length_back in let small = leaver_small in get_or-set_same back p None None (omega arith) ∙ ap (row_by left p) (sym get-gone))
         | inr n ↦ elim (cases_eq q parent) [
@@ -289,7 +289,7 @@ length_blank : length blank ≡ 64
 length_blank = let none : Option Row = None in length-replicate 64 none
 
 pub opening-is : (n : ℕ) → slice_set blank 0 (Some (root_row n)) ≡ report_of (open_with n)
-opening-is n = told (open_with n) (slice_set blank 0 (Some (root_row n))) (length-set blank 0 (Some (root_row n)) ∙ length_blank) (λ q lt. elim (cases_eq q 0) [
+opening-is n = report_is (open_with n) (slice_set blank 0 (Some (root_row n))) (length-set blank 0 (Some (root_row n)) ∙ length_blank) (λ q lt. elim (cases_eq q 0) [
   | inl is ↦ subst (λ j. at (slice_set blank 0 (Some (root_row n))) j ≡ row_of (open_with n) j) (sym is) (get_or-set_same blank 0 (Some (root_row n)) None (omega (arith, length_blank)))
   | inr other ↦
       get_or-set_other blank 0 q (Some (root_row n)) None other ∙ get_or-replicate 64 q None None lt

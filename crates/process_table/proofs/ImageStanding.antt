@@ -22,7 +22,7 @@ use Rattle.address_space.proofs.costs.CostSteps.{region_member, region_there}
 use Rattle.address_space.proofs.standing.Standing.{stands_for_one}
 use Rattle.quota_tree.specs.declared.Container.{Container}
 use Rattle.quota_tree.specs.Book.{Member, is_child, given, quota_of}
-use Rattle.process_table.specs.State.{State, is_live, shown, container_of}
+use Rattle.process_table.specs.State.{State, is_live, as_container, container_of}
 use Rattle.process_table.specs.View.{View}
 use Rattle.process_table.specs.Image.{image_of, IsCharge, quota_from, IsSoundImage, StandsFor, StandsForOne}
 use Rattle.process_table.proofs.Ranges.{found, sum-same, sum-range}
@@ -104,7 +104,7 @@ given-range s p small =
     ∙ sum-range s.book (λ k m. cond (is_child p (k, m)) m.quota 0) 64 small
     ∙ sum-same (λ k. found (λ m. cond (is_child p (k, m)) m.quota 0) (map.get s.book k)) (λ q. quota_from p q (container_of s q)) (range_with_len 0 64) (λ q. each q (map.get s.book q))
   where
-    each : (q : ℕ) (x : Option Member) → found (λ m. cond (is_child p (q, m)) m.quota 0) x ≡ quota_from p q (option_map (λ m. shown s q m) x)
+    each : (q : ℕ) (x : Option Member) → found (λ m. cond (is_child p (q, m)) m.quota 0) x ≡ quota_from p q (option_map (λ m. as_container s q m) x)
     each q None = refl
     each q (Some m) = refl
 
@@ -127,13 +127,13 @@ module _ (v : View) (stands : memory.StandsFor (memory_of v) v.state.spaces) (li
   root_there : (m : Member) × (map.get v.state.book 0 ≡ Some m)
   root_there = some_value (map.get v.state.book 0) root
 
-  member_of : (p : ℕ) (c : Container) → container_of v.state p ≡ Some c → (m : Member) × (map.get v.state.book p ≡ Some m) × (shown v.state p m ≡ c)
-  member_of p c h = from_some (λ m. shown v.state p m) (map.get v.state.book p) c h
+  member_of : (p : ℕ) (c : Container) → container_of v.state p ≡ Some c → (m : Member) × (map.get v.state.book p ≡ Some m) × (as_container v.state p m ≡ c)
+  member_of p c h = from_some (λ m. as_container v.state p m) (map.get v.state.book p) c h
 
   parent_there : (p : ℕ) (c : Container) → container_of v.state p ≡ Some c → is_some (container_of v.state c.parent) ≡ true
   parent_there p c h =
       let m = member_of p c h in
-      is_some-map (λ m. shown v.state c.parent m) (map.get v.state.book c.parent) ∙ ap (λ (c : Container). is_live v.state c.parent) (sym m.2) ∙ (members p m.0 m.1).1
+      is_some-map (λ m. as_container v.state c.parent m) (map.get v.state.book c.parent) ∙ ap (λ (c : Container). is_live v.state c.parent) (sym m.2) ∙ (members p m.0 m.1).1
 
   within_quota : (p : ℕ) (c : Container) → container_of v.state p ≡ Some c → c.used + c.given ≤ c.quota
   within_quota p c h =
@@ -145,8 +145,8 @@ module _ (v : View) (stands : memory.StandsFor (memory_of v) v.state.spaces) (li
   sound_image : IsSoundImage (image_of v)
   sound_image = record {
     memory = stands.sound;
-    root = (shown v.state 0 root_there.0, ap (option_map (λ m. shown v.state 0 m)) root_there.1, ap suc_of (sym (quota_is 0 root_there.0 root_there.1)) ∙ root_quota);
-    live = λ p. is_some-map (λ m. shown v.state p m) (map.get v.state.book p) ∙ sym (live p);
+    root = (as_container v.state 0 root_there.0, ap (option_map (λ m. as_container v.state 0 m)) root_there.1, ap suc_of (sym (quota_is 0 root_there.0 root_there.1)) ∙ root_quota);
+    live = λ p. is_some-map (λ m. as_container v.state p m) (map.get v.state.book p) ∙ sym (live p);
     parents = parent_there;
     given = λ p c h. ap (λ (c : Container). c.given) (sym (member_of p c h).2) ∙ given-range v.state p (λ k m is. (members k m is).0);
     within = within_quota;
@@ -162,12 +162,12 @@ module _ (v : View) (stands : memory.StandsFor (memory_of v) v.state.spaces) (li
 
 -- ---- One state at most
 
-same_member : (s t : State) (p : ℕ) (x y : Option Member) → option_map (λ m. shown s p m) x ≡ option_map (λ m. shown t p m) y → x ≡ y
+same_member : (s t : State) (p : ℕ) (x y : Option Member) → option_map (λ m. as_container s p m) x ≡ option_map (λ m. as_container t p m) y → x ≡ y
 same_member s t p None None h = refl
 same_member s t p None (Some n) h = cc
 same_member s t p (Some m) None h = cc
 same_member s t p (Some m) (Some n) h =
-    let c = ap (λ o. unwrap_or o (shown s p m)) h in
+    let c = ap (λ o. unwrap_or o (as_container s p m)) h in
     λ i. Some (record { parent = (c i).parent; quota = (c i).quota })
 
 -- an image stands for at most one pair of spaces and book

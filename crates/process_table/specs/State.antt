@@ -40,8 +40,8 @@ abbrev pub child_of : State → ℕ
 child_of s = unwrap_or (next_number s.book) 0
 
 -- what is known of a live process whose entry in the book this is
-abbrev pub shown : State → ℕ → Member → Container
-shown s p member = record {
+abbrev pub as_container : State → ℕ → Member → Container
+as_container s p member = record {
   parent = member.parent;
   quota = member.quota;
   used = cost s.spaces p;
@@ -51,4 +51,4 @@ shown s p member = record {
 
 -- what is known of a process, where it is live
 abbrev pub container_of : State → ℕ → Option Container
-container_of s p = option_map (λ member. shown s p member) (map.get s.book p)
+container_of s p = option_map (λ member. as_container s p member) (map.get s.book p)

@@ -9,7 +9,7 @@ use Rattle.quota_tree.specs.declared.Container.{Container}
 use Rattle.quota_tree.specs.Book.{Member, Book, is_child, given, number_of_children}
 use Rattle.quota_tree.specs.Collected.{collected}
 use Rattle.quota_tree.specs.Containers.{after_close, giver_after_close}
-use Rattle.quota_tree.specs.Kept.{member_of, seen_as, IsKept, IsQuotas}
+use Rattle.quota_tree.specs.Kept.{member_of, seen_as, IsBooked, IsQuotas}
 use Rattle.quota_tree.proofs.CollectedLemmas.{get-collected, collected-set, collected-unset}
 use Rattle.quota_tree.proofs.Sums.{given-remove, number-remove}
 use Rattle.quota_tree.proofs.Views.{get-member}
@@ -75,7 +75,7 @@ module _ (cs : List (Option Container)) (kept : IsQuotas cs) (k : ℕ) (k_in : k
     stays_live : (x : ℕ) → x ≢ k → map.contains_key (collected member_of cs) x ≡ true → map.contains_key closed_book x ≡ true
     stays_live x n h = ap is_some (get-remove_other (collected member_of cs) k x n) ∙ h
 
-    giver_stays : IsKept closed_book d.parent (giver_after_close g d.quota)
+    giver_stays : IsBooked closed_book d.parent (giver_after_close g d.quota)
     giver_stays =
         let old = kept.each d.parent g hg in
         let a = closing in
@@ -91,7 +91,7 @@ module _ (cs : List (Option Container)) (kept : IsQuotas cs) (k : ℕ) (k_in : k
           within = omega (arith, w);
         }
 
-    other_stays : (x : ℕ) (c : Container) → x ≢ d.parent → get_or cs x None ≡ Some c → IsKept closed_book x c
+    other_stays : (x : ℕ) (c : Container) → x ≢ d.parent → get_or cs x None ≡ Some c → IsBooked closed_book x c
     other_stays x c n h =
         let old = kept.each x c h in
         let no = child_no d.parent x k d.quota (λ e. n (sym e)) in
@@ -116,13 +116,13 @@ module _ (cs : List (Option Container)) (kept : IsQuotas cs) (k : ℕ) (k_in : k
         quota = kept.root.quota;
         is = ap (λ b. map.get b 0) book_after_close ∙ get-remove_other (collected member_of cs) k 0 (λ e. not_0 (sym e)) ∙ kept.root.is;
       };
-      each = λ x c at. subst (λ (b : Book). IsKept b x c) (sym book_after_close) (new x c (after_set (slice_set cs d.parent (Some (giver_after_close g d.quota))) k None x c (omega (arith, length_giver, k_in)) at));
+      each = λ x c at. subst (λ (b : Book). IsBooked b x c) (sym book_after_close) (new x c (after_set (slice_set cs d.parent (Some (giver_after_close g d.quota))) k None x c (omega (arith, length_giver, k_in)) at));
     }
       where
-        kept_at : (x y : ℕ) (c e : Container) → x ≡ y → Some e ≡ Some c → IsKept closed_book y e → IsKept closed_book x c
-        kept_at x y c e i f h = subst (λ (n : ℕ). IsKept closed_book n c) (sym i) (subst (λ (z : Container). IsKept closed_book y z) (same_Some e c f) h)
+        kept_at : (x y : ℕ) (c e : Container) → x ≡ y → Some e ≡ Some c → IsBooked closed_book y e → IsBooked closed_book x c
+        kept_at x y c e i f h = subst (λ (n : ℕ). IsBooked closed_book n c) (sym i) (subst (λ (z : Container). IsBooked closed_book y z) (same_Some e c f) h)
 
-        new : (x : ℕ) (c : Container) → ((x ≡ k) × (None ≡ Some c)) ⊎ ((x ≢ k) × (get_or (slice_set cs d.parent (Some (giver_after_close g d.quota))) x None ≡ Some c)) → IsKept closed_book x c
+        new : (x : ℕ) (c : Container) → ((x ≡ k) × (None ≡ Some c)) ⊎ ((x ≢ k) × (get_or (slice_set cs d.parent (Some (giver_after_close g d.quota))) x None ≡ Some c)) → IsBooked closed_book x c
         new x c (inl is) = absurd (let f : false ≡ true = ap is_some is.1 in cc)
         new x c (inr other) = elim (after_set cs d.parent (Some (giver_after_close g d.quota)) x c p_in other.1) [
           | inl is ↦ kept_at x d.parent c (giver_after_close g d.quota) is.0 is.1 giver_stays

@@ -10,7 +10,7 @@ use Rattle.quota_tree.specs.declared.QuotaFault.TheVariants.{BadQuota, TableFull
 use Rattle.quota_tree.specs.Book.{Book, is_child, given, number_of_children, next_number}
 use Rattle.quota_tree.specs.Collected.{collected}
 use Rattle.quota_tree.specs.Containers.{Containers, giver_after_split, room_of, opened_container, split_answer, fitting, after_split}
-use Rattle.quota_tree.specs.Kept.{member_of, seen_as, IsKept, IsQuotas}
+use Rattle.quota_tree.specs.Kept.{member_of, seen_as, IsBooked, IsQuotas}
 use Rattle.quota_tree.proofs.CollectedLemmas.{get-collected, collected-set}
 use Rattle.quota_tree.proofs.Sums.{given-insert, number-insert, given-none, number-none, number-given}
 use Rattle.quota_tree.proofs.Views.{live-container, parents_live, each_quota, room_of-container, within_places, absent_at}
@@ -98,7 +98,7 @@ module _ (cs : List (Option Container)) (kept : IsQuotas cs) (p k q : ℕ) (p_in
   number2 : (x : ℕ) → number_of_children book2 x ≡ only_if (is_child x (k, record { parent = p; quota = q })) 1 + number_of_children (collected member_of cs) x
   number2 x = number-insert (collected member_of cs) k (record { parent = p; quota = q }) absent x
 
-  child_kept : IsKept book2 k (opened_container p q)
+  child_kept : IsBooked book2 k (opened_container p q)
   child_kept =
       let no = child_no p k k q p_not_k in
       let a = given2 k in
@@ -115,7 +115,7 @@ module _ (cs : List (Option Container)) (kept : IsQuotas cs) (p k q : ℕ) (p_in
         within = some;
       }
 
-  giver_kept : IsKept book2 p (giver_after_split g q)
+  giver_kept : IsBooked book2 p (giver_after_split g q)
   giver_kept =
       let old = kept.each p g hg in
       let yes = child_yes p k q k_not_0 in
@@ -134,7 +134,7 @@ module _ (cs : List (Option Container)) (kept : IsQuotas cs) (p k q : ℕ) (p_in
         within = omega (arith, w, room);
       }
 
-  other_kept : (x : ℕ) (c : Container) → x ≢ p → get_or cs x None ≡ Some c → IsKept book2 x c
+  other_kept : (x : ℕ) (c : Container) → x ≢ p → get_or cs x None ≡ Some c → IsBooked book2 x c
   other_kept x c n h =
       let old = kept.each x c h in
       let no = child_no p x k q (λ e. n (sym e)) in
@@ -159,13 +159,13 @@ module _ (cs : List (Option Container)) (kept : IsQuotas cs) (p k q : ℕ) (p_in
       quota = kept.root.quota;
       is = ap (λ b. map.get b 0) book_after_split ∙ get-insert_other (collected member_of cs) k (record { parent = p; quota = q }) 0 (λ e. k_not_0 (sym e)) ∙ kept.root.is;
     };
-    each = λ x c at. subst (λ (b : Book). IsKept b x c) (sym book_after_split) (new x c (after_set (slice_set cs p (Some (giver_after_split g q))) k (Some (opened_container p q)) x c (omega (arith, length_first, k_in)) at));
+    each = λ x c at. subst (λ (b : Book). IsBooked b x c) (sym book_after_split) (new x c (after_set (slice_set cs p (Some (giver_after_split g q))) k (Some (opened_container p q)) x c (omega (arith, length_first, k_in)) at));
   }
     where
-      kept_at : (x y : ℕ) (c d : Container) → x ≡ y → Some d ≡ Some c → IsKept book2 y d → IsKept book2 x c
-      kept_at x y c d e f h = subst (λ (n : ℕ). IsKept book2 n c) (sym e) (subst (λ (z : Container). IsKept book2 y z) (same_Some d c f) h)
+      kept_at : (x y : ℕ) (c d : Container) → x ≡ y → Some d ≡ Some c → IsBooked book2 y d → IsBooked book2 x c
+      kept_at x y c d e f h = subst (λ (n : ℕ). IsBooked book2 n c) (sym e) (subst (λ (z : Container). IsBooked book2 y z) (same_Some d c f) h)
 
-      new : (x : ℕ) (c : Container) → ((x ≡ k) × (Some (opened_container p q) ≡ Some c)) ⊎ ((x ≢ k) × (get_or (slice_set cs p (Some (giver_after_split g q))) x None ≡ Some c)) → IsKept book2 x c
+      new : (x : ℕ) (c : Container) → ((x ≡ k) × (Some (opened_container p q) ≡ Some c)) ⊎ ((x ≢ k) × (get_or (slice_set cs p (Some (giver_after_split g q))) x None ≡ Some c)) → IsBooked book2 x c
       new x c (inl is) = kept_at x k c (opened_container p q) is.0 is.1 child_kept
       new x c (inr other) = elim (after_set cs p (Some (giver_after_split g q)) x c p_in other.1) [
         | inl is ↦ kept_at x p c (giver_after_split g q) is.0 is.1 giver_kept

@@ -11,8 +11,8 @@ use Rattle.page_words.specs.FiniteMap.{Map, nat_order, same}
 use Rattle.quota_tree.specs.declared.Container.{Container}
 use Rattle.quota_tree.specs.Book.{Member, Book, given, quota_of, next_number}
 use Rattle.quota_tree.specs.Collected.{collected}
-use Rattle.quota_tree.specs.Containers.{IsLive, used_of, room_of, total_used, opened_container, container_of, shown, opening}
-use Rattle.quota_tree.specs.Kept.{member_of, seen_as, IsKept, IsQuotas}
+use Rattle.quota_tree.specs.Containers.{IsLive, used_of, room_of, total_used, opened_container, container_of, as_container, opening}
+use Rattle.quota_tree.specs.Kept.{member_of, seen_as, IsBooked, IsQuotas}
 use Rattle.quota_tree.proofs.CollectedLemmas.{get-collected, collected_from-replicate, find-position}
 use Rattle.quota_tree.proofs.Sums.{Parents, costs_within}
 use Rattle.std.proofs.lemmas.Option.{same_Some}
@@ -91,10 +91,10 @@ module _ (cs : List (Option Container)) where
         by : (o : Option Container) → get_or cs p None ≡ o → container_of (seen_as cs) p ≡ o
         by None is =
             let none : map.get (collected member_of cs) p ≡ None = get-collected member_of cs p ∙ ap (option_map member_of) is in
-            ap (option_map (λ m. shown (seen_as cs) p m)) none
+            ap (option_map (λ m. as_container (seen_as cs) p m)) none
         by (Some c) is =
             let k = kept.each p c is in
-            ap (option_map (λ m. shown (seen_as cs) p m)) (get-member p c is)
+            ap (option_map (λ m. as_container (seen_as cs) p m)) (get-member p c is)
             ∙ (λ i. Some (record {
               parent = c.parent;
               quota = c.quota;
@@ -206,9 +206,9 @@ module _ (n quota : ℕ) (some : 1 ≤ quota) where
     each = each;
   }
     where
-      root_kept : IsKept (map.insert map.empty 0 (member_of (opened_container 0 quota))) 0 (opened_container 0 quota)
+      root_kept : IsBooked (map.insert map.empty 0 (member_of (opened_container 0 quota))) 0 (opened_container 0 quota)
       root_kept = record { parent = refl; given = refl; children = refl; used = omega arith; within = some }
 
-      each : (p : ℕ) (c : Container) → get_or (Some (opened_container 0 quota) ∷ replicate n None) p None ≡ Some c → IsKept (collected member_of (Some (opened_container 0 quota) ∷ replicate n None)) p c
-      each zero c h = subst (λ (b : Book). IsKept b 0 c) (sym (collected-opening member_of)) (subst (λ (x : Container). IsKept (map.insert map.empty 0 (member_of (opened_container 0 quota))) 0 x) (same_Some (opened_container 0 quota) c h) root_kept)
+      each : (p : ℕ) (c : Container) → get_or (Some (opened_container 0 quota) ∷ replicate n None) p None ≡ Some c → IsBooked (collected member_of (Some (opened_container 0 quota) ∷ replicate n None)) p c
+      each zero c h = subst (λ (b : Book). IsBooked b 0 c) (sym (collected-opening member_of)) (subst (λ (x : Container). IsBooked (map.insert map.empty 0 (member_of (opened_container 0 quota))) 0 x) (same_Some (opened_container 0 quota) c h) root_kept)
       each (suc p) c h = absurd (none_later n p c h)

@@ -10,7 +10,7 @@ use Rattle.quota_tree.specs.declared.Container.{Container}
 use Rattle.quota_tree.specs.Book.{Book}
 use Rattle.quota_tree.specs.Collected.{collected}
 use Rattle.quota_tree.specs.Containers.{with_used}
-use Rattle.quota_tree.specs.Kept.{member_of, seen_as, IsKept, IsQuotas}
+use Rattle.quota_tree.specs.Kept.{member_of, seen_as, IsBooked, IsQuotas}
 use Rattle.quota_tree.proofs.CollectedLemmas.{collected-set}
 use Rattle.quota_tree.proofs.Views.{get-member}
 use Rattle.std.proofs.lemmas.Option.{same_Some}
@@ -38,12 +38,12 @@ module _ (cs : List (Option Container)) (kept : IsQuotas cs) (p : ℕ) (within :
   pub book-set : collected member_of (slice_set cs p (Some d)) ≡ collected member_of cs
   book-set = collected-set member_of cs p d within ∙ insert_same (collected member_of cs) p (member_of d) (get-member cs p c h ∙ ap Some (sym same_member))
 
-  pub quotas-charged : IsKept (collected member_of cs) p d → IsQuotas (slice_set cs p (Some d))
+  pub quotas-charged : IsBooked (collected member_of cs) p d → IsQuotas (slice_set cs p (Some d))
   quotas-charged new = record {
     places = length-set cs p (Some d) ∙ kept.places;
     root = record { quota = kept.root.quota; is = ap (λ b. map.get b 0) book-set ∙ kept.root.is };
-    each = λ q x at. subst (λ (b : Book). IsKept b q x) (sym book-set) (elim (after_set cs p (Some d) q x within at) [
-      | inl is ↦ (let e : d ≡ x = same_Some d x is.1 in subst (λ (n : ℕ). IsKept (collected member_of cs) n x) (sym is.0) (subst (λ (y : Container). IsKept (collected member_of cs) p y) e new))
+    each = λ q x at. subst (λ (b : Book). IsBooked b q x) (sym book-set) (elim (after_set cs p (Some d) q x within at) [
+      | inl is ↦ (let e : d ≡ x = same_Some d x is.1 in subst (λ (n : ℕ). IsBooked (collected member_of cs) n x) (sym is.0) (subst (λ (y : Container). IsBooked (collected member_of cs) p y) e new))
       | inr other ↦ kept.each q x other.1
     ]);
   }

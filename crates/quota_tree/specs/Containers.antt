@@ -79,8 +79,8 @@ with_used c p used = record { book = c.book; used = map.insert c.used p used }
 abbrev pub after_close : Containers → ℕ → Containers
 after_close c p = record { book = map.remove c.book p; used = map.remove c.used p }
 
-abbrev pub shown : Containers → ℕ → Member → Container
-shown c p member = record {
+abbrev pub as_container : Containers → ℕ → Member → Container
+as_container c p member = record {
   parent = member.parent;
   quota = member.quota;
   used = used_of c p;
@@ -90,4 +90,4 @@ shown c p member = record {
 
 -- all that is known of a process, where it is live
 abbrev pub container_of : Containers → ℕ → Option Container
-container_of c p = option_map (λ member. shown c p member) (map.get c.book p)
+container_of c p = option_map (λ member. as_container c p member) (map.get c.book p)

@@ -13,7 +13,7 @@ abbrev pub seen_as : List (Option Container) → Containers
 seen_as containers = record { book = collected member_of containers; used = collected (λ c. c.used) containers }
 
 -- what a container says of its children is what the book says, and it doesn't use and give too much
-pub record IsKept (book : Book) (p : ℕ) (c : Container) : Type 0 where
+pub record IsBooked (book : Book) (p : ℕ) (c : Container) : Type 0 where
   pub parent : map.contains_key book c.parent ≡ true
   pub given : c.given ≡ given book p
   pub children : c.children ≡ number_of_children book p
@@ -28,4 +28,4 @@ pub record HasRoot (book : Book) : Type 0 where
 pub record IsQuotas (containers : List (Option Container)) : Type 0 where
   pub places : length containers ≡ 64
   pub root : HasRoot (collected member_of containers)
-  pub each : (p : ℕ) (c : Container) → slice_index_or containers p None ≡ Some c → IsKept (collected member_of containers) p c
+  pub each : (p : ℕ) (c : Container) → slice_index_or containers p None ≡ Some c → IsBooked (collected member_of containers) p c

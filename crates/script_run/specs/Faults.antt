@@ -1,7 +1,7 @@
 -- The texts of a script's faults.
 use Rattle.std.specs.Prelude.{◌≡◌, ℕ, List, ◌++◌, codes, decimal}
-use Rattle.kernel_calls.specs.declared.kernel.BootFault.{BootFault}
-use Rattle.kernel_calls.specs.declared.kernel.BootFault.TheVariants as boot
+use Rattle.kernel_calls.specs.declared.cores.BootFault.{BootFault}
+use Rattle.kernel_calls.specs.declared.cores.BootFault.TheVariants as boot
 use Rattle.script_run.specs.declared.faults.ScriptFault.{ScriptFault}
 use Rattle.script_run.specs.declared.faults.ScriptFault.TheVariants.{BadSize, NoMemory, Malformed, TooLong, ReadFailed, WriteFailed}
 

@@ -1,5 +1,5 @@
 -- What a line of a script says: nothing, an event, or nothing that a script may say.
---     event_of tokens      the event that the tokens of a line spell
+--     event_of_words tokens      the event that the tokens of a line spell
 --     call_of op operands      the table of calls, each by its name and its operands
 --     line_of bytes      what a line says, of at most 100 bytes
 use Rattle.std.specs.Prelude.{ℕ, Bool, true, false, ◌||◌, List, [], ◌∷◌, length, nat_lt, ◌==◌, Option, None, Some, if◌then◌else◌, codes}
@@ -176,13 +176,13 @@ call_of op operands =
 -- ---- Lines
 
 -- cpu pid op, and the operands
-unfoldable pub event_of : List (List ℕ) → Option Event
-event_of (cpu ∷ pid ∷ op ∷ operands) = do
+unfoldable pub event_of_words : List (List ℕ) → Option Event
+event_of_words (cpu ∷ pid ∷ op ∷ operands) = do
   c ← cpu_of cpu
   p ← process_of pid
   call ← call_of op operands
   Some (record { cpu = c; pid = p; call = call })
-event_of _ = None
+event_of_words _ = None
 
 -- the line's first byte is a number sign
 abbrev pub is_comment : List ℕ → Bool
@@ -205,4 +205,4 @@ unfoldable pub line_of : List ℕ → Line
 line_of bytes =
     if is_too_long bytes then line.Malformed else
     if is_comment bytes || is_blank (tokens_of bytes) then line.Skipped else
-    event_or_malformed (event_of (tokens_of bytes))
+    event_or_malformed (event_of_words (tokens_of bytes))

@@ -23,7 +23,7 @@ pub enum Line {
 }
 
 // The clauses' words on lines name `Line`, and so stand below it.
-ghost use Rattle.script_run.specs.Lines.{one, two, three, cpu_of, process_of, size_of, right_of, quota_of, load_of, store_of, map_of, unmap_of, protect_of, info_of, offer_of, withdraw_of, accept_of, spawn_of, fork_of, alone, process_call_of, sharing_call_of, call_of, event_of, line_of};
+ghost use Rattle.script_run.specs.Lines.{one, two, three, cpu_of, process_of, size_of, right_of, quota_of, load_of, store_of, map_of, unmap_of, protect_of, info_of, offer_of, withdraw_of, accept_of, spawn_of, fork_of, alone, process_call_of, sharing_call_of, call_of, event_of_words, line_of};
 
 /// A CPU's number, 0 to 7 in decimal.
 fn cpu_of(token: &[u8]) -> Option<u8>
@@ -370,9 +370,9 @@ fn call_of(op: &[u8], operands: &[u8]) -> Option<Call>
 
 /// The event that a line's first token, its CPU, and the bytes after it spell: process, name of the call,
 /// operands.
-#[tactic(auto, unfolding(crate::specs::Lines::event_of))]
-fn event_of(cpu: &[u8], rest: &[u8]) -> Option<Event>
-    ensures { result ≡ event_of (cpu.now ∷ tokens_of rest.now) }
+#[tactic(auto, unfolding(crate::specs::Lines::event_of_words))]
+fn event_of_words(cpu: &[u8], rest: &[u8]) -> Option<Event>
+    ensures { result ≡ event_of_words (cpu.now ∷ tokens_of rest.now) }
 {
     let (pid, rest) = first_token(rest)?;
     let (op, operands) = first_token(rest)?;
@@ -397,7 +397,7 @@ pub fn line_of(bytes: &[u8]) -> Line
     let Some((cpu, rest)) = first_token(bytes) else {
         return Line::Skipped;
     };
-    match event_of(cpu, rest) {
+    match event_of_words(cpu, rest) {
         Some(event) => Line::Event(event),
         None => Line::Malformed,
     }

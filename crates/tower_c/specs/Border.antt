@@ -23,11 +23,11 @@ use Rattle.kernel_calls.specs.declared.calls.Reply.TheVariants as reply
 use Rattle.alloc_table.specs.declared.Role.{Role}
 use Rattle.alloc_table.specs.declared.Role.TheVariants as role
 use Rattle.quota_tree.specs.declared.Container.{Container}
-use Rattle.tower_c.specs.declared.words.TowerContainer.{TowerContainer}
-use Rattle.tower_c.specs.declared.words.TowerRole.{TowerRole}
-use Rattle.tower_c.specs.declared.words.TowerEvent.{TowerEvent}
-use Rattle.tower_c.specs.declared.words.TowerReply.{TowerReply}
-use Rattle.tower_c.specs.declared.words.TowerWalk.{TowerWalk}
+use Rattle.tower_c.specs.declared.numbers.TowerContainer.{TowerContainer}
+use Rattle.tower_c.specs.declared.numbers.TowerRole.{TowerRole}
+use Rattle.tower_c.specs.declared.numbers.TowerEvent.{TowerEvent}
+use Rattle.tower_c.specs.declared.numbers.TowerReply.{TowerReply}
+use Rattle.tower_c.specs.declared.numbers.TowerWalk.{TowerWalk}
 
 -- ---- Events
 
@@ -92,8 +92,8 @@ event_by e (Some pid) None = None
 event_by e None call = None
 
 -- the event of these numbers, where they are one
-abbrev pub event_of : TowerEvent → Option Event
-event_of e = event_by e (pid_of e.pid) (call_of e)
+abbrev pub event_in : TowerEvent → Option Event
+event_in e = event_by e (pid_of e.pid) (call_of e)
 
 -- ---- Replies
 
@@ -119,14 +119,14 @@ abbrev pub numbers : ℕ → ℕ → ℕ → ℕ → TowerReply
 numbers kind first second third = record { kind = kind; first = first; second = second; third = third; write = false; may = false; accessed = false; dirty = false }
 
 -- a reply's numbers
-abbrev pub told : Reply → TowerReply
-told reply.Done = numbers 0 0 0 0
-told (reply.Value value) = numbers 1 value 0 0
-told (reply.Child pid) = numbers 2 pid 0 0
-told (reply.Info write may accessed dirty holders) = record { kind = 3; first = holders; second = 0; third = 0; write = write; may = may; accessed = accessed; dirty = dirty }
-told (reply.Quota quota used given) = numbers 4 quota used given
-told (reply.Fault addr code) = numbers 5 addr code 0
-told (reply.Refused cause) = numbers 6 (cause_number cause) 0 0
+abbrev pub reply_numbers : Reply → TowerReply
+reply_numbers reply.Done = numbers 0 0 0 0
+reply_numbers (reply.Value value) = numbers 1 value 0 0
+reply_numbers (reply.Child pid) = numbers 2 pid 0 0
+reply_numbers (reply.Info write may accessed dirty holders) = record { kind = 3; first = holders; second = 0; third = 0; write = write; may = may; accessed = accessed; dirty = dirty }
+reply_numbers (reply.Quota quota used given) = numbers 4 quota used given
+reply_numbers (reply.Fault addr code) = numbers 5 addr code 0
+reply_numbers (reply.Refused cause) = numbers 6 (cause_number cause) 0 0
 
 -- numbers that are no event
 abbrev pub no_event : TowerReply
@@ -134,7 +134,7 @@ no_event = numbers 7 0 0 0
 
 -- the reply to these numbers in a state
 abbrev pub reply_in : State → Option Event → TowerReply
-reply_in s (Some event) = told (answer s event)
+reply_in s (Some event) = reply_numbers (answer s event)
 reply_in s None = no_event
 
 -- the state after them
@@ -150,12 +150,12 @@ is_carried_out s None = false
 -- the replies to a list of numbers, in order
 abbrev pub replies_in : State → List TowerEvent → List TowerReply
 replies_in s [] = []
-replies_in s (e ∷ events) = reply_in s (event_of e) ∷ replies_in (state_after s (event_of e)) events
+replies_in s (e ∷ events) = reply_in s (event_in e) ∷ replies_in (state_after s (event_in e)) events
 
 -- the state after all of them
 abbrev pub end_after : State → List TowerEvent → State
 end_after s [] = s
-end_after s (e ∷ events) = end_after (state_after s (event_of e)) events
+end_after s (e ∷ events) = end_after (state_after s (event_in e)) events
 
 -- ---- Queries
 

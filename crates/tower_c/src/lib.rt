@@ -9,26 +9,26 @@ ghost use Rattle.std.specs.Prelude.{◌≡◌, ◌≢◌, ◌↔◌, ◌≤◌, 
 ghost use Rattle.process_table.specs.State.{open_with};
 ghost use Rattle.process_table.specs.Image.{StandsFor, image_of};
 ghost use Rattle.phys_memory.specs.Bytes.{frame_bytes};
-ghost use Rattle.tower_c.specs.Border.{event_of, reply_in, state_after, is_carried_out, replies_in, end_after, given, frames_in, directory_in, container_in, role_in, copy_in, walk_in, version};
+ghost use Rattle.tower_c.specs.Border.{event_in, reply_in, state_after, is_carried_out, replies_in, end_after, given, frames_in, directory_in, container_in, role_in, copy_in, walk_in, version};
 ghost use Rattle.tower_c.specs.Handle.{IsTower};
 
 mod handle;
 mod hold;
 mod loose;
 mod memory;
-mod words;
+mod numbers;
 
 pub use handle::{Tower, handle_sends};
 use handle::{put, take};
 use kernel_calls::{BootFault, Core};
 pub use memory::{TowerMemory, tower_memory};
+use numbers::{
+    access_from, container_from, event_from, no_event, pid_from, role_from, told_from, walk_from,
+};
+pub use numbers::{TowerContainer, TowerEvent, TowerReply, TowerRole, TowerWalk};
 use page_words::{Frame, Vaddr};
 use std::alloc::Global;
 use table_walk::walk;
-use words::{
-    access_from, container_from, event_from, no_event, pid_from, role_from, told_from, walk_from,
-};
-pub use words::{TowerContainer, TowerEvent, TowerReply, TowerRole, TowerWalk};
 
 /// The library's version, 0.1.0.
 const VERSION: u32 = 100;
@@ -73,10 +73,10 @@ pub extern "C" fn tower_boot(alloc: Global, frames: u32, tower: &mut Tower) -> u
 
 /// What an event comes to on a core.
 fn step(core: &mut Core, event: &TowerEvent) -> TowerReply
-    ensures reply { result ≡ reply_in core.old.state (event_of event.now) }
-    ensures state { core.new.state ≡ state_after core.old.state (event_of event.now) }
+    ensures reply { result ≡ reply_in core.old.state (event_in event.now) }
+    ensures state { core.new.state ≡ state_after core.old.state (event_in event.now) }
     ensures stands { StandsFor (image_of core.new) core.new.state }
-    ensures refused { is_carried_out core.old.state (event_of event.now) ≡ false → core.new ≡ core.old }
+    ensures refused { is_carried_out core.old.state (event_in event.now) ≡ false → core.new ≡ core.old }
 {
     match event_from(event) {
         Some(event) => told_from(&core.step(&event)),
@@ -99,10 +99,10 @@ pub extern "C" fn tower_step(
     requires { IsTower tower.old }
     ensures kept { IsTower tower.new }
     ensures live { (result ≡ tower.old.live) × (tower.new.live ≡ tower.old.live) }
-    ensures reply { IfSome tower.old.hold.core (λ core. reply.new ≡ reply_in core.state (event_of event.now)) }
-    ensures state { IfSome tower.old.hold.core (λ core. IfSome tower.new.hold.core (λ next. next.state ≡ state_after core.state (event_of event.now))) }
+    ensures reply { IfSome tower.old.hold.core (λ core. reply.new ≡ reply_in core.state (event_in event.now)) }
+    ensures state { IfSome tower.old.hold.core (λ core. IfSome tower.new.hold.core (λ next. next.state ≡ state_after core.state (event_in event.now))) }
     ensures stands { IfSome tower.new.hold.core (λ core. StandsFor (image_of core) core.state) }
-    ensures refused { IfSome tower.old.hold.core (λ core. is_carried_out core.state (event_of event.now) ≡ false → tower.new.hold.core ≡ Some core) }
+    ensures refused { IfSome tower.old.hold.core (λ core. is_carried_out core.state (event_in event.now) ≡ false → tower.new.hold.core ≡ Some core) }
     ensures none { result ≡ false → reply.new ≡ reply.old }
 {
     match take(alloc, tower) {

@@ -66,8 +66,8 @@ accepted_is_named low high fits v passes =
 
 -- ---- Rows
 
-abbrev IsKept : Text → ValueParser → Row → Type 0
-IsKept id p row = bytes_eq row.id id ≡ true → (row.reading ≡ reading.WithoutMinus) × (are_accepted p row.values ≡ true)
+abbrev RowStands : Text → ValueParser → Row → Type 0
+RowStands id p row = bytes_eq row.id id ≡ true → (row.reading ≡ reading.WithoutMinus) × (are_accepted p row.values ≡ true)
 
 abbrev pub of_frames : ValueParser
 of_frames = within 0 4294967295
@@ -76,7 +76,7 @@ abbrev pub of_rounds : ValueParser
 of_rounds = within 1 1000
 
 abbrev GoodRow : Row → Type 0
-GoodRow row = IsKept (codes "frames") of_frames row × IsKept (codes "rounds") of_rounds row
+GoodRow row = RowStands (codes "frames") of_frames row × RowStands (codes "rounds") of_rounds row
 
 abbrev Good : List Row → Type 0
 Good [] = ⊤

@@ -17,7 +17,7 @@ use Rattle.tower_jobs.specs.Jobs.{Asked, a_run, an_image, a_check, a_race, job_a
 use Rattle.tower_jobs.specs.Races.{EndsRace, Writes}
 use Rattle.tower_jobs.specs.declared.answers.Answer.{Answer}
 use Rattle.tower_jobs.specs.declared.answers.Answer.TheVariants.{Done, NotSound, Failed, NotText, Refused}
-use Rattle.tower_jobs.specs.declared.tools.ToolFault.TheVariants as tool
+use Rattle.tower_jobs.specs.declared.faults.ToolFault.TheVariants as tool
 use Rattle.tower_jobs.specs.declared.given_words.WordsFault.{WordsFault}
 use Rattle.tower_jobs.specs.declared.given_words.WordsFault.TheVariants as words
 

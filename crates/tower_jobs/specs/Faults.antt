@@ -5,8 +5,8 @@ use Rattle.guest_race.specs.declared.faults.RoundFault.TheVariants as round
 use Rattle.memory_image.specs.declared.faults.ImageFault.{ImageFault}
 use Rattle.memory_image.specs.declared.faults.ImageFault.TheVariants as image
 use Rattle.script_run.specs.declared.faults.ScriptFault.{ScriptFault}
-use Rattle.tower_jobs.specs.declared.tools.ToolFault.{ToolFault}
-use Rattle.tower_jobs.specs.declared.tools.ToolFault.TheVariants as tool
+use Rattle.tower_jobs.specs.declared.faults.ToolFault.{ToolFault}
+use Rattle.tower_jobs.specs.declared.faults.ToolFault.TheVariants as tool
 use Rattle.tower_jobs.specs.declared.given_words.WordsFault.{WordsFault}
 use Rattle.tower_jobs.specs.declared.given_words.WordsFault.TheVariants as words
 use Rattle.script_run.specs.declared.faults.ScriptFault.TheVariants as script

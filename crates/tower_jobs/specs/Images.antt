@@ -15,8 +15,8 @@ use Rattle.script_run.specs.Progress.{EndsReading}
 use Rattle.script_run.specs.Script.{events_of, fault_of, replies_text}
 use Rattle.script_run.specs.declared.faults.ScriptFault.{ScriptFault}
 use Rattle.script_run.specs.declared.faults.ScriptFault.TheVariants as script
-use Rattle.tower_jobs.specs.declared.tools.ToolFault.{ToolFault}
-use Rattle.tower_jobs.specs.declared.tools.ToolFault.TheVariants as tool
+use Rattle.tower_jobs.specs.declared.faults.ToolFault.{ToolFault}
+use Rattle.tower_jobs.specs.declared.faults.ToolFault.TheVariants as tool
 
 -- ---- The image of a script
 

@@ -77,11 +77,11 @@ pub data Asked : Type 0 where
   a_check : Text → Asked
   a_race : ℕ → ℕ → Asked
 
-abbrev pub told : Job → Asked
-told (Run frames) = a_run frames
-told (Image frames) = an_image frames
-told (Check file) = a_check file.now
-told (Race frames rounds) = a_race frames rounds
+abbrev pub as_asked : Job → Asked
+as_asked (Run frames) = a_run frames
+as_asked (Image frames) = an_image frames
+as_asked (Check file) = a_check file.now
+as_asked (Race frames rounds) = a_race frames rounds
 
 -- a race of so many frames, where the rounds can be played
 abbrev pub race_in : List Row → Option Asked

@@ -8,8 +8,8 @@ use Rattle.guest_race.specs.Rounds.{IsReported}
 use Rattle.memory_report.specs.declared.rows.Row.{Row}
 use Rattle.memory_report.specs.Text.{report_text}
 use Rattle.text_output.specs.Output.{AppendsFront}
-use Rattle.tower_jobs.specs.declared.tools.ToolFault.{ToolFault}
-use Rattle.tower_jobs.specs.declared.tools.ToolFault.TheVariants as tool
+use Rattle.tower_jobs.specs.declared.faults.ToolFault.{ToolFault}
+use Rattle.tower_jobs.specs.declared.faults.ToolFault.TheVariants as tool
 
 -- So many rounds were played, each on a kernel of its own, and the report is that of the last one.
 pub record Raced (frames rounds : ℕ) (rows : List (Option Row)) : Type 0 where

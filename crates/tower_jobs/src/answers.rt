@@ -4,8 +4,8 @@ ghost use Rattle.std.specs.Prelude.{◌≡◌, OnOk};
 ghost use Rattle.tower_jobs.specs.Answers.{Refuses, Tells, answer_of_words, status_of};
 ghost use Rattle.tower_jobs.specs.Faults.{status_of_tool};
 
+use crate::faults::ToolFault;
 use crate::given_words::WordsFault;
-use crate::tools::ToolFault;
 use clap::error::ErrorKind;
 use std::io;
 use std::io::Write;

@@ -2,13 +2,13 @@
 
 ghost use Rattle.std.specs.Prelude.{◌≡◌, ◌≤◌, ◌⊎◌, None, map, IfOk, IfErr};
 ghost use Rattle.tower_jobs.specs.Answers.{AnswersWords, ChecksFile, DoesJob, ImagesScript, IsRead, PlaysRace, RunsScript};
-ghost use Rattle.tower_jobs.specs.Jobs.{HasRounds, told};
+ghost use Rattle.tower_jobs.specs.Jobs.{HasRounds, as_asked};
 
 use crate::answers::{Answer, refuse};
+use crate::faults::ToolFault;
 use crate::images::{check_bytes, write_script_image};
 use crate::jobs::{Job, job_of};
 use crate::races::race;
-use crate::tools::ToolFault;
 use script_run::run_script;
 use std::alloc::Global;
 use std::convert::AsStr;
@@ -117,7 +117,7 @@ fn answer_job<R: AllocGlobal + Files + Threads + Wait + Sync, I: Read, O: Write>
     output: &mut O,
 ) -> Answer
     requires { HasRounds job }
-    ensures { DoesJob (told job.entry) result (I.remaining input.old) (I.remaining input.new) (O.contents output.old) (O.contents output.new) }
+    ensures { DoesJob (as_asked job.entry) result (I.remaining input.old) (I.remaining input.new) (O.contents output.old) (O.contents output.new) }
 {
     match job {
         Job::Run { frames } => run_replies(rt.alloc(), input, output, frames),

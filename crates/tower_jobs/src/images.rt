@@ -3,7 +3,7 @@
 ghost use Rattle.std.specs.Prelude.{◌≡◌, ◌≤◌, ◌↔◌, IfOk, IfErr, IsErrOf, OnOk};
 ghost use Rattle.tower_jobs.specs.Images.{Checks, EndsCheck, EndsImage, EndsScript, ShowsEnd, WritesImage};
 
-use crate::tools::ToolFault;
+use crate::faults::ToolFault;
 use image_check::check;
 use memory_image::{Image, read_image, write_image};
 use script_run::{ScriptFault, run_script};

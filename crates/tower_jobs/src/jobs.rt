@@ -3,7 +3,7 @@
 ghost use Rattle.std.specs.Prelude.{◌≡◌, ◌≤◌, true, false, map, option_map, codes, Some, IfOk, IfErr, IfSome};
 ghost use Rattle.clap.specs.Words.{app_of, fault_of, found_of, kind_of, rows_of, rule_of, subcommand_of, takes, with_subcommand, FailsBy};
 ghost use Rattle.clap.specs.declared.builder.command.Command.TheViews.{out-Command as fields_of};
-ghost use Rattle.tower_jobs.specs.Jobs.{tower_app, run_app, race_app, image_app, check_app, file_argument, file_in, frames_option, rounds_option, number_in, playable, rounds_in, race_in, job_named, job_asked, told, HasRounds};
+ghost use Rattle.tower_jobs.specs.Jobs.{tower_app, run_app, race_app, image_app, check_app, file_argument, file_in, frames_option, rounds_option, number_in, playable, rounds_in, race_in, job_named, job_asked, as_asked, HasRounds};
 
 use clap::error::ErrorKind;
 use clap::{Arg, ArgMatches, Command, Error};
@@ -159,7 +159,7 @@ fn playable(rounds: u32) -> Option<u32>
 
 /// The race that was asked for.
 fn race_in<'a>(matches: &ArgMatches<'a>) -> Option<Job<'a>>
-    ensures job { option_map told result ≡ race_in (rows_of (found_of matches.now)) }
+    ensures job { option_map as_asked result ≡ race_in (rows_of (found_of matches.now)) }
     ensures rounds { IfSome result HasRounds }
 {
     let frames = number_in(matches, "frames", FRAMES)?;
@@ -179,7 +179,7 @@ fn file_in<'a>(matches: &ArgMatches<'a>) -> &'a str
 
 /// The job of the subcommand of that name, by what was found behind it.
 fn job_named<'a>(name: &str, matches: &ArgMatches<'a>) -> Option<Job<'a>>
-    ensures job { option_map told result ≡ job_named name.now (rows_of (found_of matches.now)) }
+    ensures job { option_map as_asked result ≡ job_named name.now (rows_of (found_of matches.now)) }
     ensures rounds { IfSome result HasRounds }
 {
     match name {
@@ -206,7 +206,7 @@ pub fn job_of<'a, S: AsStr>(alloc: Global, words: &'a [S]) -> Result<Job<'a>, Er
     // An Ok comes only where `clap` finds no fault in the words, and an error is want of memory or of
     // a kind that `clap` finds.
     ensures fails { FailsBy (fault_of tower_app (map S.text words.now)) result }
-    ensures job { IfOk result (λ job. job_asked (subcommand_of tower_app (map S.text words.now)) ≡ Some (told job)) }
+    ensures job { IfOk result (λ job. job_asked (subcommand_of tower_app (map S.text words.now)) ≡ Some (as_asked job)) }
     ensures rounds { IfOk result HasRounds }
     // Where `clap` takes the words, want of memory alone refuses them.
     ensures taken { IfErr result (λ error. takes tower_app (map S.text words.now) ≡ true → kind_of error ≡ ErrorKind.OutOfMemory) }

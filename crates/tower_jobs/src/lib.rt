@@ -5,18 +5,18 @@
 
 mod answers;
 mod commands;
+mod faults;
 mod given_words;
 mod images;
 mod jobs;
 mod races;
-mod tools;
 
 pub use answers::{Answer, answer_of_words, refuse, status_of, tell};
 pub use commands::{answer, bytes_of};
+pub use faults::ToolFault;
 pub use given_words::{WordsFault, words};
 pub use guest_race::{Asks, Referee};
 pub use images::{check_bytes, write_script_image};
 pub use jobs::{Job, job_of};
 pub use races::{race, race_by};
 pub use script_run::{ScriptFault, run_script};
-pub use tools::ToolFault;

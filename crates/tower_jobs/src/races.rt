@@ -6,7 +6,7 @@ ghost use Rattle.guest_race.specs.Asked.{IsAsked, Times};
 ghost use Rattle.tower_jobs.specs.Races.{Raced, Writes, EndsRace, race_heading, race_text};
 ghost use Rattle.text_output.specs.Output.{AppendsFront};
 
-use crate::tools::ToolFault;
+use crate::faults::ToolFault;
 use arrayvec::ArrayVec;
 use guest_race::{Asks, Referee, RoundFault, round_by};
 use memory_report::Report;

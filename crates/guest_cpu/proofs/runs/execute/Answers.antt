@@ -14,7 +14,7 @@ returns-in-Err g c = record {
   events = c.in-Some.event ∷ [];
   answers = Err c.in-Err.fault ∷ [];
   chain = call none c.in-Err.ensures;
-  executes = fails (sym c.event_of.ensures ∙ c.in-Some.is);
+  executes = fails (sym c.event_asked.ensures ∙ c.in-Some.is);
 }
 
 pub returns-in-None : goal.returns-in-None
@@ -22,7 +22,7 @@ returns-in-None g c = record {
   events = c.in-Some.event ∷ [];
   answers = Ok c.in-Ok.reply ∷ [];
   chain = call none c.in-Ok.ensures;
-  executes = stops (sym c.event_of.ensures ∙ c.in-Some.is) (sym c.value_of.ensures ∙ c.in-None.is);
+  executes = stops (sym c.event_asked.ensures ∙ c.in-Some.is) (sym c.value_of.ensures ∙ c.in-None.is);
 }
 
 pub returns-in-Some-value_of : goal.returns-in-Some-value_of
@@ -31,5 +31,5 @@ returns-in-Some-value_of g c = record {
   answers = Ok c.in-Ok.reply ∷ [];
   chain = call none c.in-Ok.ensures;
   executes = subst (Executes c.args.instruction.now c.args.guest.now (c.in-Some.event ∷ []) (Ok c.in-Ok.reply ∷ []) None) (sym c.complete-in-Some-value_of.ensures)
-      (asks (sym c.event_of.ensures ∙ c.in-Some.is) (sym c.value_of.ensures ∙ c.in-Some-value_of.is));
+      (asks (sym c.event_asked.ensures ∙ c.in-Some.is) (sym c.value_of.ensures ∙ c.in-Some-value_of.is));
 }

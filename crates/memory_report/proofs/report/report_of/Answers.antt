@@ -1,5 +1,5 @@
 use Rattle.std.proofs.Common.{rules, ◌≡◌, arith}
-use Rattle.memory_report.proofs.RowLemmas.{told, told_more}
+use Rattle.memory_report.proofs.RowLemmas.{report_is, told_more}
 use Rattle.memory_report.proofs.report.report_of.Goals as goal
 
 pub loop-number-preserved : goal.loop-number-preserved
@@ -10,4 +10,4 @@ loop-number-preserved c =
     record { long = more.0; told = more.1 }
 
 pub returns : goal.returns
-returns c = told c.args.core.now.state c.loop-number.rows c.loop-number.invariant.long (λ p lt. c.loop-number.invariant.told p (omega arith))
+returns c = report_is c.args.core.now.state c.loop-number.rows c.loop-number.invariant.long (λ p lt. c.loop-number.invariant.told p (omega arith))

@@ -4,7 +4,7 @@ use Rattle.clap.specs.Words.{App, fault_of, found_of, is_simple, is_simple_and_f
 use Rattle.tower_jobs.proofs.CommandLemmas.{found_is, never_none}
 use Rattle.tower_jobs.proofs.JobLemmas.{tower_is_simple, tower_is_free}
 use Rattle.std.specs.Option.{option_map}
-use Rattle.tower_jobs.specs.Jobs.{told}
+use Rattle.tower_jobs.specs.Jobs.{as_asked}
 use Rattle.tower_jobs.proofs.jobs.job_of.Goals as goal
 
 pub returns-in_err-matches-clause-taken : goal.returns-in_err-matches-clause-taken
@@ -26,4 +26,4 @@ unreachable-requires-in_default-job_named g c =
     let none = sym (ap (λ (a : App). fault_of a words) app) ∙ c.in_ok-matches.ensures.kinds (ap is_simple_and_free app ∙ tower_is_free) in
     let met = (c.in_ok-matches.ensures.matches (ap is_simple app ∙ tower_is_simple)).1 ∙ ap (λ (a : App). subcommand_of a words) app in
     let is = found_is c.in_ok-matches.matches words c.in-Some.name.now (rows_of (found_of c.in-Some.found.now)) met c.in-Some.ensures.name c.in-Some.ensures.rows in
-    never_none words c.in-Some.name.now (rows_of (found_of c.in-Some.found.now)) none is (sym c.job_named.ensures.job ∙ ap (option_map told) c.in_default-job_named.is)
+    never_none words c.in-Some.name.now (rows_of (found_of c.in-Some.found.now)) none is (sym c.job_named.ensures.job ∙ ap (option_map as_asked) c.in_default-job_named.is)

@@ -13,8 +13,8 @@ use denote.Struct.Struct.{exits_of}
 use Rattle.std.proofs.Crossing.{frees}
 use Rattle.std.specs.contracts.alloc.Global as heap
 use Rattle.process_table.specs.View.{View}
-use Rattle.kernel_calls.specs.contracts.kernel.Core as core
-use Rattle.kernel_calls.proofs.kernel.Core.TheSendSync.{the_send as core_sends}
+use Rattle.kernel_calls.specs.contracts.cores.Core as core
+use Rattle.kernel_calls.proofs.cores.Core.TheSendSync.{the_send as core_sends}
 use Rattle.tower_c.specs.Held.{core_at}
 use Rattle.tower_c.specs.contracts.hold.Hold.{the_row, the_type}
 

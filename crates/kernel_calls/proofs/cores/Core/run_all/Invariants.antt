@@ -1,6 +1,6 @@
 use Rattle.std.proofs.Common.{◌≡◌, ◌++◌, take, drop}
 use Rattle.kernel_calls.specs.Machine.{answers, end_of}
-use Rattle.kernel_calls.proofs.kernel.Core.run_all.Given as goal
+use Rattle.kernel_calls.proofs.cores.Core.run_all.Given as goal
 
 -- the replies so far and those to what is left are those to all
 abbrev pub invariant-loop-i : goal.invariant-loop-i

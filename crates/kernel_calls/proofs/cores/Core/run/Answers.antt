@@ -2,7 +2,7 @@ use Rattle.std.proofs.Common.{subst, sym, List}
 use Rattle.kernel_calls.specs.Isolation.{IsIsolated}
 use Rattle.kernel_calls.specs.declared.calls.Reply.{Reply}
 use Rattle.kernel_calls.proofs.Isolated.{runs_isolated}
-use Rattle.kernel_calls.proofs.kernel.Core.run.Goals as goal
+use Rattle.kernel_calls.proofs.cores.Core.run.Goals as goal
 
 pub returns-clause-isolated : goal.returns-clause-isolated
 returns-clause-isolated c =

@@ -71,7 +71,7 @@ impl Error for ToolFault {}
 
 impl From<WriteFailed> for ToolFault {
     ghost use Rattle.std.specs.Prelude.{◌≡◌};
-    ghost use Rattle.tower_jobs.specs.declared.tools.ToolFault.TheVariants as fault;
+    ghost use Rattle.tower_jobs.specs.declared.faults.ToolFault.TheVariants as fault;
 
     ghost from_gives = { λ _ e. e ≡ fault.WriteFailed };
 

@@ -3,7 +3,7 @@ use Rattle.fault_handler.specs.Plans.{goes_on}
 use Rattle.kernel_calls.specs.Machine.{answer, completes}
 use Rattle.kernel_calls.specs.declared.calls.Decision.{Decision}
 use Rattle.kernel_calls.proofs.Decided.{goes-decided, next-stays, next-goes}
-use Rattle.kernel_calls.proofs.kernel.carry_out.Goals as goal
+use Rattle.kernel_calls.proofs.cores.carry_out.Goals as goal
 
 pub returns-in-Refused-clause-state : goal.returns-in-Refused-clause-state
 returns-in-Refused-clause-state c =

@@ -2,7 +2,7 @@ use Rattle.std.proofs.Common.{ap, sym, ◌∙◌}
 use Rattle.fault_handler.specs.Plans.{goes_on}
 use Rattle.kernel_calls.specs.declared.calls.Decision.{Decision}
 use Rattle.kernel_calls.proofs.Decided.{spawn-ok, fork-goes}
-use Rattle.kernel_calls.proofs.kernel.complete.Goals as goal
+use Rattle.kernel_calls.proofs.cores.complete.Goals as goal
 
 pub spawn-requires : goal.spawn-requires
 spawn-requires c =

@@ -1,7 +1,7 @@
 //! Events and replies as the numbers that cross to C.
 
 ghost use Rattle.std.specs.Prelude.{◌≡◌};
-ghost use Rattle.tower_c.specs.Border.{size_of, right_of, pid_of, call_of, event_of, cause_number, numbers, no_event, told, role_numbers, container_numbers, access_of, walk_numbers};
+ghost use Rattle.tower_c.specs.Border.{size_of, right_of, pid_of, call_of, event_in, cause_number, numbers, no_event, reply_numbers, role_numbers, container_numbers, access_of, walk_numbers};
 
 use alloc_table::Role;
 use kernel_calls::{Call, Cause, Event, Reply};
@@ -128,7 +128,7 @@ fn call_from(e: &TowerEvent) -> Option<Call>
 
 /// The event that the numbers say; None where they say none.
 pub fn event_from(e: &TowerEvent) -> Option<Event>
-    ensures { result ≡ event_of e.now }
+    ensures { result ≡ event_in e.now }
 {
     let pid = pid_from(u32::from(e.pid))?;
     let call = call_from(e)?;
@@ -188,7 +188,7 @@ pub fn no_event() -> TowerReply
 
 /// A reply as numbers.
 pub fn told_from(reply: &Reply) -> TowerReply
-    ensures { result ≡ told reply.now }
+    ensures { result ≡ reply_numbers reply.now }
 {
     match *reply {
         Reply::Done => numbers_from(0, 0, 0, 0),
