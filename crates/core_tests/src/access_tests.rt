@@ -492,6 +492,24 @@ fn accesses_agree_with_a_plain_map(rt: HostRuntime) -> Result<(), Fail> {
     Ok(())
 }
 
+/// The access of byte `k` of another, with what is left of its value.
+fn byte_of(access: &Access, k: u32, rest: u32) -> Access {
+    Access {
+        addr: Vaddr(access.byte(k)),
+        size: Size::One,
+        value: rest,
+        ..*access
+    }
+}
+
+/// The value of a reply, 0 where it has none.
+fn value_in(reply: &Reply) -> u32 {
+    match *reply {
+        Reply::Value(value) => value,
+        _ => 0,
+    }
+}
+
 /// Makes an access byte by byte. What it gives in all: the bytes' number, or the reply to the last store.
 fn byte_by_byte(core: &mut Core, access: &Access) -> Reply {
     let mut value = 0_u32;
@@ -499,21 +517,15 @@ fn byte_by_byte(core: &mut Core, access: &Access) -> Reply {
     let mut rest = access.value;
     let mut reply = Reply::Done;
     for k in 0..access.size.bytes() {
-        let byte = Access {
-            addr: Vaddr(access.byte(k)),
-            size: Size::One,
-            value: rest,
-            ..*access
-        };
-        reply = told(core, access.pid, byte.call());
-        if let Reply::Value(part) = reply {
-            value = value.wrapping_add(part.wrapping_mul(weight));
-            reply = Reply::Value(value);
-        }
+        reply = told(core, access.pid, byte_of(access, k, rest).call());
+        value = value.wrapping_add(value_in(&reply).wrapping_mul(weight));
         weight = weight.wrapping_mul(256);
         rest /= 256;
     }
-    reply
+    match reply {
+        Reply::Value(_) => Reply::Value(value),
+        _ => reply,
+    }
 }
 
 /// That two machines tell all processes the same of all pages in play and of their quotas.
