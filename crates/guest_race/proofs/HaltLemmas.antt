@@ -38,7 +38,7 @@ event_cpu g (Some c) event is =
     let same : record { cpu = g.cpu; pid = g.pid; call = c } ≡ event = cc in
     sym (ap (λ (e : Event). e.cpu) same)
 
-abbrev Moved : GuestView → View → List Event → List Answer → Type 0
+abbrev Moved : GuestView → GuestView → List Event → List Answer → Type 0
 Moved g h events answers = (h.cpu ≡ g.cpu) × AllBy g.cpu events × AllReplies answers
 
 executed : {instruction : Instruction} {g h : GuestView} {events : List Event} {answers : List Answer} → Executes instruction g events answers None h → Moved g h events answers

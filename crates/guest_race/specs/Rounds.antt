@@ -24,7 +24,7 @@ made_by cpu = events_of (entries_of cpu.number cpu.seen)
 -- replies that stand in the new entries, made their events, and halted within its turns.
 pub record Halts (number : ℕ) (had has : List LogEntry) : Type 0 where
   pub made : List LogEntry
-  pub guest : View
+  pub guest : GuestView
   pub own : has ≡ had ++ made
   pub run : IsRun (race_program number) turns (opening_guest number number) (map Ok (replies_of made)) (events_of made) end.Halted guest
 
