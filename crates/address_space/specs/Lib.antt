@@ -3,6 +3,7 @@ pub mod Cells
 pub mod Changes
 pub mod Codes
 pub mod Counts
+pub mod Finds
 pub mod Image
 pub mod Shown
 pub mod Slots

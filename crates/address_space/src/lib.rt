@@ -26,6 +26,7 @@ mod copies;
 mod drops;
 mod fills;
 mod links;
+mod paged;
 mod region_counts;
 mod walked;
 
@@ -36,6 +37,7 @@ use page_words::{
     Frame, MAX_FRAMES, MIN_FRAMES, Page, Pid, Size, Vaddr, offset_of, page_of, second_page,
     slot_of, start_of,
 };
+use paged::Paged;
 use phys_memory::Memory;
 use std::alloc::Global;
 use std::marker::Model;
@@ -46,24 +48,20 @@ type Directories = [Option<Frame>; 64];
 /// The address spaces, by directories, memory and roles.
 #[derive(Drop)]
 pub struct Spaces {
-    memory: Memory,
-    frames: FrameTable,
-    directories: Directories,
-    /// For each frame how many pages it maps, as a table.
-    counts: Vec<u32>,
+    paged: Paged,
 }
 
 impl Model for Spaces {
-    ghost use Rattle.address_space.specs.View.{View, view_code, spaces_in};
-    ghost use Rattle.address_space.specs.Counts.{IsKept};
+    ghost use Rattle.address_space.specs.View.{View, view_code};
+    ghost use Rattle.address_space.specs.Finds.{IsKeptPaged, spaces_at};
 
     ghost Value = { View };
 
     ghost coded = { view_code };
 
-    ghost view = { λ s. record { spaces = spaces_in s.directories s.memory; directories = s.directories; bytes = s.memory; roles = s.frames } };
+    ghost view = { λ s. record { spaces = spaces_at s.paged; directories = s.paged.directories; bytes = s.paged.memory; roles = s.paged.frames } };
 
-    ghost invariant = { λ s. IsKept s.directories s.memory s.frames s.counts.items };
+    ghost invariant = { λ s. IsKeptPaged s.paged };
 }
 
 /// A frame for a role, where one is free.
@@ -104,10 +102,12 @@ fn opened(memory: Memory, table: FrameTable, counts: Vec<u32>, frames: u32) -> S
     ensures costs { total_cost result.directories result.spaces ≡ 0 }
 {
     Spaces {
-        memory,
-        frames: table,
-        directories: [None; 64],
-        counts,
+        paged: Paged {
+            memory,
+            frames: table,
+            directories: [None; 64],
+            counts,
+        },
     }
 }
 
@@ -171,9 +171,9 @@ impl Spaces {
         ensures frames { length self.new.roles ≡ length self.old.roles }
     {
         add_directory(
-            &mut self.memory,
-            &mut self.frames,
-            &mut self.directories,
+            &mut self.paged.memory,
+            &mut self.paged.frames,
+            &mut self.paged.directories,
             pid,
         );
     }
@@ -189,29 +189,29 @@ impl Spaces {
         ensures directories { self.new.directories ≡ self.old.directories }
         ensures frames { length self.new.roles ≡ length self.old.roles }
     {
-        let directory = home(&self.directories, pid);
+        let directory = home(&self.paged.directories, pid);
         let slot = slot_of(page);
         give_table(
-            &mut self.memory,
-            &mut self.frames,
-            &self.directories,
+            &mut self.paged.memory,
+            &mut self.paged.frames,
+            &self.paged.directories,
             pid,
             directory,
             slot,
         );
         region_counts::count_page(
-            &self.memory,
-            &self.frames,
-            &self.directories,
-            &mut self.counts,
+            &self.paged.memory,
+            &self.paged.frames,
+            &self.paged.directories,
+            &mut self.paged.counts,
             pid,
             directory,
             page,
         );
         add_page(
-            &mut self.memory,
-            &self.frames,
-            &self.directories,
+            &mut self.paged.memory,
+            &self.paged.frames,
+            &self.paged.directories,
             pid,
             directory,
             page,
@@ -232,31 +232,31 @@ impl Spaces {
         ensures directories { self.new.directories ≡ self.old.directories }
         ensures frames { length self.new.roles ≡ length self.old.roles }
     {
-        let from = home(&self.directories, giver);
-        let entry = page_map::entry(&self.memory, from, giver_page).unwrap();
-        let directory = home(&self.directories, pid);
+        let from = home(&self.paged.directories, giver);
+        let entry = page_map::entry(&self.paged.memory, from, giver_page).unwrap();
+        let directory = home(&self.paged.directories, pid);
         let slot = slot_of(page);
         give_table(
-            &mut self.memory,
-            &mut self.frames,
-            &self.directories,
+            &mut self.paged.memory,
+            &mut self.paged.frames,
+            &self.paged.directories,
             pid,
             directory,
             slot,
         );
         region_counts::count_page(
-            &self.memory,
-            &self.frames,
-            &self.directories,
-            &mut self.counts,
+            &self.paged.memory,
+            &self.paged.frames,
+            &self.paged.directories,
+            &mut self.paged.counts,
             pid,
             directory,
             page,
         );
         add_holder(
-            &mut self.memory,
-            &mut self.frames,
-            &self.directories,
+            &mut self.paged.memory,
+            &mut self.paged.frames,
+            &self.paged.directories,
             giver,
             giver_page,
             pid,
@@ -279,13 +279,13 @@ impl Spaces {
         ensures directories { self.new.directories ≡ self.old.directories }
         ensures frames { length self.new.roles ≡ length self.old.roles }
     {
-        let source = home(&self.directories, from);
-        let target = home(&self.directories, to);
+        let source = home(&self.paged.directories, from);
+        let target = home(&self.paged.directories, to);
         copies::copy_pages(
-            &mut self.memory,
-            &mut self.frames,
-            &self.directories,
-            &mut self.counts,
+            &mut self.paged.memory,
+            &mut self.paged.frames,
+            &self.paged.directories,
+            &mut self.paged.counts,
             from,
             source,
             to,
@@ -298,7 +298,13 @@ impl Spaces {
         requires user { IsUserPage page }
         ensures { result ≡ is_lazy_at (image_of self.now) (at_page pid page) }
     {
-        fills::is_lazy_in(&self.memory, &self.frames, &self.directories, pid, page)
+        fills::is_lazy_in(
+            &self.paged.memory,
+            &self.paged.frames,
+            &self.paged.directories,
+            pid,
+            page,
+        )
     }
 
     /// Gives a lazy page a frame of its own; any other stays as it is, and none becomes lazy. What is mapped stays
@@ -312,12 +318,18 @@ impl Spaces {
         ensures others { (slot : Slot) → is_lazy_at (image_of self.old) slot ≡ false → is_lazy_at (image_of self.new) slot ≡ false }
         ensures frames { length self.new.roles ≡ length self.old.roles }
     {
-        if fills::is_lazy_in(&self.memory, &self.frames, &self.directories, pid, page) {
-            let directory = home(&self.directories, pid);
+        if fills::is_lazy_in(
+            &self.paged.memory,
+            &self.paged.frames,
+            &self.paged.directories,
+            pid,
+            page,
+        ) {
+            let directory = home(&self.paged.directories, pid);
             fills::fill_page(
-                &mut self.memory,
-                &mut self.frames,
-                &self.directories,
+                &mut self.paged.memory,
+                &mut self.paged.frames,
+                &self.paged.directories,
                 pid,
                 directory,
                 page,
@@ -336,13 +348,13 @@ impl Spaces {
         ensures roles { self.new.roles ≡ self.old.roles }
         ensures lazy { (slot : Slot) → is_lazy_at (image_of self.new) slot ≡ is_lazy_at (image_of self.old) slot }
     {
-        let directory = home(&self.directories, pid);
+        let directory = home(&self.paged.directories, pid);
         let page = page_of(address);
         let at = offset_of(address);
         accesses::store(
-            &mut self.memory,
-            &self.frames,
-            &self.directories,
+            &mut self.paged.memory,
+            &self.paged.frames,
+            &self.paged.directories,
             pid,
             directory,
             page,
@@ -423,9 +435,9 @@ impl Spaces {
         ensures none { result ≡ false → self.new ≡ self.old }
     {
         accesses::try_store(
-            &mut self.memory,
-            &self.frames,
-            &self.directories,
+            &mut self.paged.memory,
+            &self.paged.frames,
+            &self.paged.directories,
             pid,
             page_of(address),
             offset_of(address),
@@ -439,7 +451,13 @@ impl Spaces {
         requires user { IsUserPage page }
         ensures { result ≡ option_map shown (map.get self.now.spaces (at_page pid page)) }
     {
-        cell_in(&self.memory, &self.frames, &self.directories, pid, page)
+        cell_in(
+            &self.paged.memory,
+            &self.paged.frames,
+            &self.paged.directories,
+            pid,
+            page,
+        )
     }
 
     /// What one more page costs a process: 1 where it has a page in that region of 1,024 pages, else 2.
@@ -449,7 +467,13 @@ impl Spaces {
         ensures value { result ≡ need self.now.spaces pid page }
         ensures most { result ≤ 2 }
     {
-        need_in(&self.memory, &self.frames, &self.directories, pid, page)
+        need_in(
+            &self.paged.memory,
+            &self.paged.frames,
+            &self.paged.directories,
+            pid,
+            page,
+        )
     }
 
     /// What a process needs for a page: nothing where it is mapped.
@@ -512,7 +536,12 @@ impl Spaces {
         requires live { is_some (directory_of self.now.directories pid) ≡ true }
         ensures { result ≡ cost self.now.spaces pid }
     {
-        charges::cost_in(&self.memory, &self.frames, &self.directories, pid)
+        charges::cost_in(
+            &self.paged.memory,
+            &self.paged.frames,
+            &self.paged.directories,
+            pid,
+        )
     }
 
     /// What a process's cost falls by when a mapped page goes: 2 where it is the last of its region of
@@ -523,10 +552,10 @@ impl Spaces {
         ensures { cost (without self.now.spaces (is_slot pid page)) pid + result ≡ cost self.now.spaces pid }
     {
         charges::relief_in(
-            &self.memory,
-            &self.frames,
-            &self.directories,
-            &self.counts,
+            &self.paged.memory,
+            &self.paged.frames,
+            &self.paged.directories,
+            &self.paged.counts,
             pid,
             page,
         )
@@ -538,9 +567,9 @@ impl Spaces {
         ensures { result ≡ byte_at self.now.spaces pid address }
     {
         accesses::byte_in(
-            &self.memory,
-            &self.frames,
-            &self.directories,
+            &self.paged.memory,
+            &self.paged.frames,
+            &self.paged.directories,
             pid,
             page_of(address),
             offset_of(address),
@@ -556,9 +585,9 @@ impl Spaces {
             return None;
         }
         accesses::look(
-            &self.memory,
-            &self.frames,
-            &self.directories,
+            &self.paged.memory,
+            &self.paged.frames,
+            &self.paged.directories,
             pid,
             page_of(address),
             offset_of(address),
@@ -641,9 +670,9 @@ impl Spaces {
         ensures none { IsNone result → self.new ≡ self.old }
     {
         accesses::load(
-            &mut self.memory,
-            &self.frames,
-            &self.directories,
+            &mut self.paged.memory,
+            &self.paged.frames,
+            &self.paged.directories,
             pid,
             page_of(address),
             offset_of(address),
@@ -660,11 +689,11 @@ impl Spaces {
         ensures directories { self.new.directories ≡ self.old.directories }
         ensures roles { self.new.roles ≡ self.old.roles }
     {
-        let directory = home(&self.directories, pid);
+        let directory = home(&self.paged.directories, pid);
         accesses::set_right(
-            &mut self.memory,
-            &self.frames,
-            &self.directories,
+            &mut self.paged.memory,
+            &self.paged.frames,
+            &self.paged.directories,
             pid,
             directory,
             page,
@@ -680,12 +709,12 @@ impl Spaces {
         ensures directories { self.new.directories ≡ self.old.directories }
         ensures frames { length self.new.roles ≡ length self.old.roles }
     {
-        let directory = home(&self.directories, pid);
+        let directory = home(&self.paged.directories, pid);
         remove_entry(
-            &mut self.memory,
-            &mut self.frames,
-            &self.directories,
-            &mut self.counts,
+            &mut self.paged.memory,
+            &mut self.paged.frames,
+            &self.paged.directories,
+            &mut self.paged.counts,
             pid,
             directory,
             page,
@@ -702,10 +731,10 @@ impl Spaces {
         ensures frames { length self.new.roles ≡ length self.old.roles }
     {
         drops::drop_space(
-            &mut self.memory,
-            &mut self.frames,
-            &mut self.directories,
-            &mut self.counts,
+            &mut self.paged.memory,
+            &mut self.paged.frames,
+            &mut self.paged.directories,
+            &mut self.paged.counts,
             pid,
         );
     }
@@ -714,7 +743,7 @@ impl Spaces {
     pub fn memory(&self) -> &Memory
         ensures { result.now ≡ self.now.bytes }
     {
-        &self.memory
+        &self.paged.memory
     }
 
     /// How many frames the memory has.
@@ -724,14 +753,14 @@ impl Spaces {
         ensures least { 16 ≤ result }
         ensures most { result ≤ 4096 }
     {
-        self.memory.frames()
+        self.paged.memory.frames()
     }
 
     /// The frame of a process's directory; None where it has no space.
     pub fn directory(&self, pid: Pid) -> Option<Frame>
         ensures { result ≡ directory_of self.now.directories pid }
     {
-        space_of(&self.directories, pid)
+        space_of(&self.paged.directories, pid)
     }
 
     /// What a frame serves.
@@ -739,7 +768,7 @@ impl Spaces {
         requires { frame < length self.now.roles }
         ensures { slice_get self.now.roles frame ≡ Some result }
     {
-        self.frames.role(frame)
+        self.paged.frames.role(frame)
     }
 
     /// What memory's own words say of these spaces, that their costs leave frame 0 alone, and that the
@@ -752,7 +781,7 @@ impl Spaces {
         ensures few { length self.now.roles ≤ 4096 }
         ensures used { LeavesRoom (image_of self.now) (total_cost self.now.directories self.now.spaces) }
     {
-        let _ = &self.memory;
+        let _ = &self.paged.memory;
     }
 }
 

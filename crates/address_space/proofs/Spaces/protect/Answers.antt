@@ -11,15 +11,15 @@ use Rattle.address_space.proofs.Spaces.protect.Goals as goal
 pub home-directory-requires : goal.home-directory-requires
 home-directory-requires c =
     let U : View → Type 0 = λ v. is_some (map.get v.spaces (at_page c.args.pid c.args.page)) ≡ true in
-    mapped_live c.self.inside.directories c.self.inside.memory c.args.pid c.args.page (mapped_slot c.self.inside.directories c.self.inside.memory c.args.pid c.args.page (subst U (sym c.self.view_is) c.requires.mapped))
+    mapped_live c.self.inside.paged.directories c.self.inside.paged.memory c.args.pid c.args.page (mapped_slot c.self.inside.paged.directories c.self.inside.paged.memory c.args.pid c.args.page (subst U (sym c.self.view_is) c.requires.mapped))
 
 pub set_right-requires-clause-mapped : goal.set_right-requires-clause-mapped
 set_right-requires-clause-mapped c =
     let U : View → Type 0 = λ v. is_some (map.get v.spaces (at_page c.args.pid c.args.page)) ≡ true in
-    ap is_some (mapped_entry c.self.inside.directories c.self.inside.memory c.args.pid c.home-directory.result c.args.page (mapped_slot c.self.inside.directories c.self.inside.memory c.args.pid c.args.page (subst U (sym c.self.view_is) c.requires.mapped)) c.home-directory.ensures)
+    ap is_some (mapped_entry c.self.inside.paged.directories c.self.inside.paged.memory c.args.pid c.home-directory.result c.args.page (mapped_slot c.self.inside.paged.directories c.self.inside.paged.memory c.args.pid c.args.page (subst U (sym c.self.view_is) c.requires.mapped)) c.home-directory.ensures)
 
 pub invariant_of-self : goal.invariant_of-self
 invariant_of-self c =
     let U : View → Type 0 = λ v. is_some (map.get v.spaces (at_page c.args.pid c.args.page)) ≡ true in
-    kept_touched c.self.inside.directories c.self.inside.memory c.set_right.new.memory c.self.inside.frames c.self.inside.counts.items _ c.self.invariant c.set_right.ensures
-    (kept (spaces_in c.self.inside.directories c.self.inside.memory) (at_page c.args.pid c.args.page) _ (subst U (sym c.self.view_is) c.requires.mapped))
+    kept_touched c.self.inside.paged.directories c.self.inside.paged.memory c.set_right.new.memory c.self.inside.paged.frames c.self.inside.paged.counts.items _ c.self.invariant c.set_right.ensures
+    (kept (spaces_in c.self.inside.paged.directories c.self.inside.paged.memory) (at_page c.args.pid c.args.page) _ (subst U (sym c.self.view_is) c.requires.mapped))
