@@ -5,6 +5,7 @@ pub mod CountSteps
 pub mod Departures
 pub mod DirWords
 pub mod Finding
+pub mod FoundPages
 pub mod Joins
 pub mod LazyFilling
 pub mod Leaves

@@ -26,6 +26,7 @@ mod copies;
 mod drops;
 mod fills;
 mod links;
+mod lookup;
 mod paged;
 mod region_counts;
 mod walked;
@@ -348,20 +349,8 @@ impl Spaces {
         ensures roles { self.new.roles ≡ self.old.roles }
         ensures lazy { (slot : Slot) → is_lazy_at (image_of self.new) slot ≡ is_lazy_at (image_of self.old) slot }
     {
-        let directory = home(&self.paged.directories, pid);
-        let page = page_of(address);
-        let at = offset_of(address);
-        accesses::store(
-            &mut self.paged.memory,
-            &self.paged.frames,
-            &self.paged.directories,
-            pid,
-            directory,
-            page,
-            at,
-            size,
-            value,
-        );
+        self.paged
+            .store(pid, page_of(address), offset_of(address), size, value);
     }
 
     /// Stores the lowest byte of a number, and gives the number without it and the address behind it.
@@ -434,16 +423,8 @@ impl Spaces {
         ensures roles { self.new.roles ≡ self.old.roles }
         ensures none { result ≡ false → self.new ≡ self.old }
     {
-        accesses::try_store(
-            &mut self.paged.memory,
-            &self.paged.frames,
-            &self.paged.directories,
-            pid,
-            page_of(address),
-            offset_of(address),
-            size,
-            value,
-        )
+        self.paged
+            .try_store(pid, page_of(address), offset_of(address), size, value)
     }
 
     /// The flags of a slot and the size of its group; None where the page is not mapped.
@@ -566,14 +547,7 @@ impl Spaces {
         requires { IsUserPage (page_number address) }
         ensures { result ≡ byte_at self.now.spaces pid address }
     {
-        accesses::byte_in(
-            &self.paged.memory,
-            &self.paged.frames,
-            &self.paged.directories,
-            pid,
-            page_of(address),
-            offset_of(address),
-        )
+        self.paged.byte(pid, page_of(address), offset_of(address))
     }
 
     /// The number at an address, where its bytes lie in one page and it is mapped.
@@ -584,15 +558,8 @@ impl Spaces {
         if second_page(address, size).is_some() {
             return None;
         }
-        accesses::look(
-            &self.paged.memory,
-            &self.paged.frames,
-            &self.paged.directories,
-            pid,
-            page_of(address),
-            offset_of(address),
-            size,
-        )
+        self.paged
+            .look(pid, page_of(address), offset_of(address), size)
     }
 
     /// The number at an address, byte by byte.
@@ -669,15 +636,8 @@ impl Spaces {
         ensures roles { self.new.roles ≡ self.old.roles }
         ensures none { IsNone result → self.new ≡ self.old }
     {
-        accesses::load(
-            &mut self.paged.memory,
-            &self.paged.frames,
-            &self.paged.directories,
-            pid,
-            page_of(address),
-            offset_of(address),
-            size,
-        )
+        self.paged
+            .load(pid, page_of(address), offset_of(address), size)
     }
 
     /// Sets whether a process may write to a mapped page; to set it, the process must be allowed to.
@@ -689,16 +649,7 @@ impl Spaces {
         ensures directories { self.new.directories ≡ self.old.directories }
         ensures roles { self.new.roles ≡ self.old.roles }
     {
-        let directory = home(&self.paged.directories, pid);
-        accesses::set_right(
-            &mut self.paged.memory,
-            &self.paged.frames,
-            &self.paged.directories,
-            pid,
-            directory,
-            page,
-            write,
-        );
+        self.paged.set_right(pid, page, write);
     }
 
     /// Takes a slot out of its group.

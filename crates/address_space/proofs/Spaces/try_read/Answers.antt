@@ -1,23 +1,10 @@
-use Rattle.std.proofs.Common.{◌≡◌, ◌∙◌, ap, sym, subst, refl, ℕ, List, Option, Some, None}
-use Rattle.std.specs.Prelude.{is_some, IfSome}
+use Rattle.std.proofs.Common.{◌≡◌, ◌∙◌, ap, sym, ℕ, Option, Some, None}
+use Rattle.std.specs.Prelude.{IfSome}
 use Rattle.page_words.specs.Addresses.{byte_count, covered}
 use Rattle.address_space.specs.Spaces.{at_page, cell_or_fresh, bytes_at, value_of, number_of}
 use Rattle.address_space.specs.View.{View, spaces_in}
-use Rattle.address_space.specs.Counts.{IsKept}
-use Rattle.address_space.proofs.costs.AccessCosts.{kept}
 use Rattle.address_space.proofs.steps.Bytes.{number_in_page}
-use Rattle.address_space.proofs.steps.Touches.{kept_touched}
 use Rattle.address_space.proofs.Spaces.try_read.Goals as goal
-
-pub invariant_of-self : goal.invariant_of-self
-invariant_of-self c = by c.load.result refl
-  where
-    by : (x : Option ℕ) → c.load.result ≡ x → IsKept c.self.inside.paged.directories c.load.new.memory c.self.inside.paged.frames c.self.inside.paged.counts.items
-    by None is =
-        subst (λ (bytes : List ℕ). IsKept c.self.inside.paged.directories bytes c.self.inside.paged.frames c.self.inside.paged.counts.items) (sym (c.load.ensures.none (ap is_some is))) c.self.invariant
-    by (Some value) is =
-        kept_touched c.self.inside.paged.directories c.self.inside.paged.memory c.load.new.memory c.self.inside.paged.frames c.self.inside.paged.counts.items _ c.self.invariant (c.load.ensures.touched (ap is_some is))
-        (kept (spaces_in c.self.inside.paged.directories c.self.inside.paged.memory) (at_page c.args.pid c.page_of.result) _ (sym c.load.ensures.mapped ∙ ap is_some is))
 
 pub returns-clause-value : goal.returns-clause-value
 returns-clause-value c = by c.load.result c.load.ensures.value
