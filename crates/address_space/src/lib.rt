@@ -15,24 +15,25 @@ ghost use Rattle.address_space.specs.Spaces.{Slot, need, page_need, access_need,
 ghost use Rattle.address_space.specs.Image.{StandsFor, StandsForOne, LeavesRoom, image_of, is_lazy_at, takes_stores};
 ghost use Rattle.address_space.specs.Walks.{WalksAgree};
 ghost use Rattle.address_space.specs.Shown.{shown};
+ghost use Rattle.address_space.specs.Seen.{cell_seen, lazy_seen, need_seen};
 ghost use Rattle.std.specs.Option.{option_map};
 ghost use Rattle.address_space.specs.View.{directory_of, spaces_in, total_cost};
 
 mod accesses;
 mod by_walk;
-mod cells;
 mod charges;
 mod copies;
 mod drops;
 mod fills;
+mod group_sizes;
 mod links;
 mod lookup;
 mod paged;
 mod region_counts;
+mod seen_pages;
 mod walked;
 
 use alloc_table::{FrameTable, Role};
-use cells::{cell_in, need_in};
 use links::{add_directory, add_holder, add_page, give_table, remove_entry};
 use page_words::{
     Frame, MAX_FRAMES, MIN_FRAMES, Page, Pid, Size, Vaddr, offset_of, page_of, second_page,
@@ -40,6 +41,8 @@ use page_words::{
 };
 use paged::Paged;
 use phys_memory::Memory;
+pub use seen_pages::Seen;
+use seen_pages::need_behind;
 use std::alloc::Global;
 use std::marker::Model;
 
@@ -299,13 +302,7 @@ impl Spaces {
         requires user { IsUserPage page }
         ensures { result ≡ is_lazy_at (image_of self.now) (at_page pid page) }
     {
-        fills::is_lazy_in(
-            &self.paged.memory,
-            &self.paged.frames,
-            &self.paged.directories,
-            pid,
-            page,
-        )
+        self.seen(pid, page).is_lazy()
     }
 
     /// Gives a lazy page a frame of its own; any other stays as it is, and none becomes lazy. What is mapped stays
@@ -319,23 +316,7 @@ impl Spaces {
         ensures others { (slot : Slot) → is_lazy_at (image_of self.old) slot ≡ false → is_lazy_at (image_of self.new) slot ≡ false }
         ensures frames { length self.new.roles ≡ length self.old.roles }
     {
-        if fills::is_lazy_in(
-            &self.paged.memory,
-            &self.paged.frames,
-            &self.paged.directories,
-            pid,
-            page,
-        ) {
-            let directory = home(&self.paged.directories, pid);
-            fills::fill_page(
-                &mut self.paged.memory,
-                &mut self.paged.frames,
-                &self.paged.directories,
-                pid,
-                directory,
-                page,
-            );
-        }
+        self.paged.fill(pid, page);
     }
 
     /// Stores bytes that lie in one page, which is mapped and isn't lazy, and sets accessed and dirty in its slot.
@@ -427,18 +408,23 @@ impl Spaces {
             .try_store(pid, page_of(address), offset_of(address), size, value)
     }
 
+    /// What a process has at a page, by one look: its cell, whether it is lazy, and what one more page costs there.
+    pub fn seen(&self, pid: Pid, page: Page) -> Seen
+        requires user { IsUserPage page }
+        ensures cell { cell_seen result ≡ option_map shown (map.get self.now.spaces (at_page pid page)) }
+        ensures lazy { lazy_seen result ≡ is_lazy_at (image_of self.now) (at_page pid page) }
+        ensures need { need_seen result ≡ need self.now.spaces pid page }
+        ensures most { need_seen result ≤ 2 }
+    {
+        self.paged.seen(pid, page)
+    }
+
     /// The flags of a slot and the size of its group; None where the page is not mapped.
     pub fn cell(&self, pid: Pid, page: Page) -> Option<Cell>
         requires user { IsUserPage page }
         ensures { result ≡ option_map shown (map.get self.now.spaces (at_page pid page)) }
     {
-        cell_in(
-            &self.paged.memory,
-            &self.paged.frames,
-            &self.paged.directories,
-            pid,
-            page,
-        )
+        self.seen(pid, page).cell()
     }
 
     /// What one more page costs a process: 1 where it has a page in that region of 1,024 pages, else 2.
@@ -448,51 +434,7 @@ impl Spaces {
         ensures value { result ≡ need self.now.spaces pid page }
         ensures most { result ≤ 2 }
     {
-        need_in(
-            &self.paged.memory,
-            &self.paged.frames,
-            &self.paged.directories,
-            pid,
-            page,
-        )
-    }
-
-    /// What a process needs for a page: nothing where it is mapped.
-    fn page_need(&self, pid: Pid, page: Page) -> u32
-        requires live { is_some (directory_of self.now.directories pid) ≡ true }
-        requires user { IsUserPage page }
-        ensures value { result ≡ page_need self.now.spaces pid page }
-        ensures most { result ≤ 2 }
-    {
-        match self.cell(pid, page) {
-            Some(_) => 0,
-            None => self.need(pid, page),
-        }
-    }
-
-    /// What a process needs for a page once it has mapped another, which lies in the same region of 1,024 pages or
-    /// in the next.
-    fn need_behind(&self, pid: Pid, page: Page, second: Page) -> u32
-        requires live { is_some (directory_of self.now.directories pid) ≡ true }
-        requires user { IsUserPage page }
-        requires second { IsUserPage second }
-        requires apart { second ≢ page }
-        ensures value { result ≡ page_need (with_page self.now.spaces pid page) pid second }
-        ensures most { result ≤ 2 }
-    {
-        match self.cell(pid, second) {
-            Some(_) => 0,
-            None if self.opens_region_of(pid, page, second) => 1,
-            None => self.need(pid, second),
-        }
-    }
-
-    /// Whether a page is not mapped, and lies in the same region of 1,024 pages as another.
-    fn opens_region_of(&self, pid: Pid, page: Page, second: Page) -> bool
-        requires { IsUserPage page }
-        ensures { result ≡ (not (map.contains_key self.now.spaces (at_page pid page)) && (slot_number page == slot_number second)) }
-    {
-        self.cell(pid, page).is_none() && slot_of(page) == slot_of(second)
+        self.seen(pid, page).need()
     }
 
     /// What a process needs for an access: 1 for each page that it touches and that is not mapped, and 1 for each of
@@ -504,11 +446,12 @@ impl Spaces {
         ensures most { result ≤ 4 }
     {
         let page = page_of(address);
-        let first = self.page_need(pid, page);
-        match second_page(address, size) {
-            None => first,
-            Some(second) => first + self.need_behind(pid, page, second),
-        }
+        let first = self.seen(pid, page);
+        let Some(second) = second_page(address, size) else {
+            return first.page_need();
+        };
+        let other = self.seen(pid, second);
+        first.page_need() + need_behind(&first, page, &other, second)
     }
 
     /// What a process is charged for: 1 for its directory, 1 for each region of 1,024 pages with a

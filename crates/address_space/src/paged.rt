@@ -1,15 +1,22 @@
 //! What address spaces are kept as, and what goes through their pages.
 
-ghost use Rattle.std.specs.Prelude.{◌≡◌, ◌+◌, ◌*◌, ◌<◌, ◌≤◌, length, slice_index, Some, IfSome, IsSome, IsNone, is_some, true, false};
+ghost use Rattle.std.specs.Prelude.{◌≡◌, ◌+◌, ◌*◌, ◌<◌, ◌≤◌, length, slice_get, slice_index, Some, IfSome, IsSome, IsNone, is_some, true, false};
 ghost use Rattle.page_words.specs.Addresses.{byte_count, IsUserPage};
 ghost use Rattle.page_words.specs.FiniteMap as map;
-ghost use Rattle.address_space.specs.Spaces.{Slot, stored, bytes_of, value_of, bytes_at, cell_or_fresh, accessed, protected, at_page};
+ghost use Rattle.std.specs.Option.{option_map};
+ghost use Rattle.alloc_table.specs.Roles.{IsPageBelow};
+ghost use Rattle.address_space.specs.Shown.{shown};
+ghost use Rattle.address_space.specs.Seen.{cell_seen, lazy_seen, need_seen};
+ghost use Rattle.address_space.specs.Spaces.{Slot, need, stored, bytes_of, value_of, bytes_at, cell_or_fresh, accessed, protected, at_page};
 ghost use Rattle.address_space.specs.Image.{is_lazy_at, takes_stores};
 ghost use Rattle.address_space.specs.Finds.{IsKeptPaged, spaces_at, image_at, table_at, found_at, MemoryAlone};
 
+use crate::group_sizes::group_size;
 use crate::lookup::Found;
-use crate::{Directories, accesses, space_of};
-use alloc_table::FrameTable;
+use crate::seen_pages::{Seen, mapped};
+use crate::{Cell, Directories, accesses, fills, space_of};
+use alloc_table::{FrameTable, Role};
+use page_map::PageEntry;
 use page_words::{Frame, Page, Pid, Size, slot_of};
 use phys_memory::Memory;
 
@@ -44,6 +51,42 @@ impl Paged {
         let table = self.table(pid, page)?;
         let entry = page_map::entry_in(&self.memory, table, page)?;
         Some(Found { page, table, entry })
+    }
+
+    /// The cell of a mapped page, by its entry.
+    fn cell(&self, entry: &PageEntry) -> Cell
+        requires real { entry.now.lazy ≡ false → IsPageBelow self.now.frames entry.now.frame 4294967295 }
+        ensures flags { result ≡ record { write = entry.now.write; may = entry.now.may; accessed = entry.now.accessed; dirty = entry.now.dirty; holders = result.holders } }
+        ensures lazy { entry.now.lazy ≡ true → result.holders ≡ 1 }
+        ensures page { entry.now.lazy ≡ false → slice_get self.now.frames entry.now.frame ≡ Some (Role.Page result.holders) }
+    {
+        Cell {
+            write: entry.write,
+            may: entry.may,
+            accessed: entry.accessed,
+            dirty: entry.dirty,
+            holders: group_size(&self.frames, entry.lazy, entry.frame),
+        }
+    }
+
+    /// What stands at a page, looked up once.
+    pub fn seen(&self, pid: Pid, page: Page) -> Seen
+        requires kept { IsKeptPaged self.now }
+        requires user { IsUserPage page }
+        ensures cell { cell_seen result ≡ option_map shown (map.get (spaces_at self.now) (at_page pid page)) }
+        ensures lazy { lazy_seen result ≡ is_lazy_at (image_at self.now) (at_page pid page) }
+        ensures need { need_seen result ≡ need (spaces_at self.now) pid page }
+        ensures most { need_seen result ≤ 2 }
+    {
+        let Some(table) = self.table(pid, page) else {
+            return Seen::Absent { need: 2 };
+        };
+        let Some(entry) = page_map::entry_in(&self.memory, table, page) else {
+            return Seen::Absent { need: 1 };
+        };
+        let lazy = entry.lazy;
+        let cell = self.cell(&entry);
+        mapped(cell, lazy)
     }
 
     /// Where a process's mapped page is.
@@ -134,6 +177,26 @@ impl Paged {
         } else {
             false
         }
+    }
+
+    /// Gives a lazy page a frame of its own; any other stays as it is, and none becomes lazy. What is mapped stays
+    /// the same.
+    pub fn fill(&mut self, pid: Pid, page: Page)
+        requires kept { IsKeptPaged self.old }
+        requires user { IsUserPage page }
+        requires mapped { is_some (map.get (spaces_at self.old) (at_page pid page)) ≡ true }
+        ensures spaces { spaces_at self.new ≡ spaces_at self.old }
+        ensures kept { IsKeptPaged self.new }
+        ensures directories { self.new.directories ≡ self.old.directories }
+        ensures real { is_lazy_at (image_at self.new) (at_page pid page) ≡ false }
+        ensures others { (slot : Slot) → is_lazy_at (image_at self.old) slot ≡ false → is_lazy_at (image_at self.new) slot ≡ false }
+        ensures frames { length self.new.frames ≡ length self.old.frames }
+    {
+        let found = self.place(pid, page);
+        if !found.entry.lazy {
+            return;
+        }
+        fills::give_frame(&mut self.memory, &mut self.frames, &found);
     }
 
     /// Sets whether a process may write to a mapped page now.

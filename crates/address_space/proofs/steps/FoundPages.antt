@@ -17,8 +17,9 @@ use Rattle.address_space.specs.View.{Directories, directory_of, table_in, entry_
 use Rattle.address_space.specs.Changes.{PageFilled, EntryPut, Touched, takes_stores_through}
 use Rattle.address_space.specs.Image.{is_lazy_at, takes_stores}
 use Rattle.address_space.specs.Counts.{IsKept}
+use Rattle.address_space.specs.Sound.{IsSound}
 use Rattle.address_space.proofs.costs.AccessCosts.{kept, key-stored}
-use Rattle.address_space.proofs.standing.Standing.{stores_read, lazy_read, same_lazy, lazy_kept}
+use Rattle.address_space.proofs.standing.Standing.{stores_read, lazy_read, same_lazy, lazy_kept, real_kept}
 use Rattle.address_space.proofs.steps.Touches.{kept_touched}
 use Rattle.address_space.specs.Finds.{IsKeptPaged, spaces_at, image_at, table_at, found_at, found_by, found_in, LiesIn, EntryIs, BytesStored, FrameGiven}
 use Rattle.address_space.proofs.entries.Readings.{mapped_read, get-spaces_in, group_counted}
@@ -126,10 +127,11 @@ pub record Left (paged : Paged) (S : Spaces) (bytes' : List ℕ) : Type 0 where
 
 -- ---- What stands at a page
 
--- whether it is lazy
-pub found_lazy : (paged : Paged) (p page : ℕ) → IsKeptPaged paged → is_lazy_entry (option_map (λ (f : Found). f.entry) (found_at paged p page)) ≡ is_lazy_at (image_at paged) (at_page p page)
-found_lazy paged p page before =
-    ap is_lazy_entry (found_entry (directory_of paged.directories) (frame_bytes paged.memory) p page) ∙ sym (same_lazy paged.directories paged.memory paged.frames before.spaces.sound (at_page p page))
+-- nothing is lazy where nothing is found
+pub absent_lazy : (paged : Paged) (p page : ℕ) → IsKeptPaged paged → found_at paged p page ≡ None → is_lazy_at (image_at paged) (at_page p page) ≡ false
+absent_lazy paged p page before is =
+    same_lazy paged.directories paged.memory paged.frames before.spaces.sound (at_page p page)
+    ∙ ap is_lazy_entry (sym (found_entry (directory_of paged.directories) (frame_bytes paged.memory) p page) ∙ ap (option_map (λ (f : Found). f.entry)) is)
 
 -- its cell
 pub found_cells : (paged : Paged) (p page : ℕ) → p < 64 → IsUserPage page
@@ -301,3 +303,8 @@ module _ (paged : Paged) (p page : ℕ) (f : Found) (before : IsKeptPaged paged)
 -- a page that was filled isn't lazy
 pub filled_real : (directories : List (Option ℕ)) (bytes bytes' : List ℕ) (roles roles' : List Role) (p page : ℕ) → PageFilled directories p page bytes roles bytes' roles' → is_lazy_at (record { directories = directories; bytes = bytes'; roles = roles' }) (at_page p page) ≡ false
 filled_real directories bytes bytes' roles roles' p page filled = same_lazy directories bytes' roles' filled.after.sound (at_page p page) ∙ ap is_lazy_entry filled.real.1 ∙ filled.real.2
+
+-- and no other page became lazy
+pub filled_others : (directories : List (Option ℕ)) (bytes bytes' : List ℕ) (roles roles' : List Role) (p page : ℕ) → IsSound directories bytes roles → PageFilled directories p page bytes roles bytes' roles'
+    → (q : Slot) → is_lazy_at (record { directories = directories; bytes = bytes; roles = roles }) q ≡ false → is_lazy_at (record { directories = directories; bytes = bytes'; roles = roles' }) q ≡ false
+filled_others directories bytes bytes' roles roles' p page sound filled = real_kept directories bytes bytes' roles roles' sound filled.after.sound filled.fewer
