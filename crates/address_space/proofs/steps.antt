@@ -10,6 +10,7 @@ pub mod Joins
 pub mod LazyFilling
 pub mod Leaves
 pub mod Looks
+pub mod NewPages
 pub mod Openings
 pub mod Steps
 pub mod Stores

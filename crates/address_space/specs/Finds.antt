@@ -1,12 +1,12 @@
 -- Where a page is, as directories and memory say, and what is written there.
-use Rattle.std.specs.Prelude.{◌≡◌, ◌⊎◌, ℕ, ◌+◌, ◌*◌, ◌≤◌, true, false, List, length, replicate, Option}
+use Rattle.std.specs.Prelude.{◌≡◌, ◌⊎◌, ℕ, ◌+◌, ◌*◌, ◌≤◌, true, false, List, length, replicate, Option, Some, None, slice_get, slice_set}
 use Rattle.std.specs.Option.{option_and_then, option_map}
 use Rattle.page_words.specs.Addresses.{slot_number, index_number}
 use Rattle.phys_memory.specs.Bytes.{frame_bytes, word_in, with_frame, with_frame_bytes}
 use Rattle.alloc_table.specs.declared.Role.{Role}
-use Rattle.alloc_table.specs.declared.Role.TheVariants.{Page}
+use Rattle.alloc_table.specs.declared.Role.TheVariants.{Page, Table}
 use Rattle.alloc_table.specs.Roles.{IsTaken}
-use Rattle.page_map.specs.Entries.{Frames, table_of, word_entry, with_entry}
+use Rattle.page_map.specs.Entries.{Frames, table_of, word_entry, with_entry, with_table}
 use Rattle.page_map.specs.declared.PageEntry.{PageEntry}
 use Rattle.address_space.specs.declared.lookup.Found.{Found}
 use Rattle.address_space.specs.declared.paged.Paged.{Paged}
@@ -79,3 +79,25 @@ pub record FrameGiven (bytes : List ℕ) (roles : List Role) (found : Found) (by
   pub between_long : length between ≡ length bytes
   pub entry : frame_bytes bytes' ≡ with_entry (frame_bytes between) found.table found.page (record found.entry { frame = frame; lazy = false })
   pub long : length bytes' ≡ length between
+
+-- ---- What is linked, counted and mapped
+
+-- a slot of a directory has this table: the one that it had
+pub record TableStays (bytes : List ℕ) (roles : List Role) (d s t : ℕ) (bytes' : List ℕ) (roles' : List Role) : Type 0 where
+  pub there : table_of (frame_bytes bytes) d s ≡ Some t
+  pub same_bytes : bytes' ≡ bytes
+  pub same_roles : roles' ≡ roles
+
+-- or a blank one, which was linked
+pub record TableIsNew (bytes : List ℕ) (roles : List Role) (p d s t : ℕ) (bytes' : List ℕ) (roles' : List Role) : Type 0 where
+  pub none : table_of (frame_bytes bytes) d s ≡ None
+  pub taken : IsTaken roles t (Table p s) roles'
+  pub linked : frame_bytes bytes' ≡ with_table (frame_bytes bytes) d s t
+  pub long : length bytes' ≡ length bytes
+
+abbrev pub TableReady : List ℕ → List Role → ℕ → ℕ → ℕ → ℕ → List ℕ → List Role → Type 0
+TableReady bytes roles p d s t bytes' roles' = TableStays bytes roles d s t bytes' roles' ⊎ TableIsNew bytes roles p d s t bytes' roles'
+
+-- a table maps one page more
+abbrev pub CountedUp : List ℕ → ℕ → List ℕ → Type 0
+CountedUp counts t counts' = (n : ℕ) → slice_get counts t ≡ Some n → counts' ≡ slice_set counts t (n + 1)

@@ -28,13 +28,15 @@ mod fills;
 mod group_sizes;
 mod links;
 mod lookup;
+mod mappings;
+mod new_pages;
 mod paged;
 mod region_counts;
 mod seen_pages;
 mod walked;
 
 use alloc_table::{FrameTable, Role};
-use links::{add_directory, add_holder, add_page, give_table, remove_entry};
+use links::{add_directory, remove_entry};
 use page_words::{
     Frame, MAX_FRAMES, MIN_FRAMES, Page, Pid, Size, Vaddr, offset_of, page_of, second_page,
     slot_of, start_of,
@@ -193,34 +195,7 @@ impl Spaces {
         ensures directories { self.new.directories ≡ self.old.directories }
         ensures frames { length self.new.roles ≡ length self.old.roles }
     {
-        let directory = home(&self.paged.directories, pid);
-        let slot = slot_of(page);
-        give_table(
-            &mut self.paged.memory,
-            &mut self.paged.frames,
-            &self.paged.directories,
-            pid,
-            directory,
-            slot,
-        );
-        region_counts::count_page(
-            &self.paged.memory,
-            &self.paged.frames,
-            &self.paged.directories,
-            &mut self.paged.counts,
-            pid,
-            directory,
-            page,
-        );
-        add_page(
-            &mut self.paged.memory,
-            &self.paged.frames,
-            &self.paged.directories,
-            pid,
-            directory,
-            page,
-            write,
-        );
+        self.paged.map_zero(pid, page, write);
     }
 
     /// Lets a slot join the group of another.
@@ -236,39 +211,7 @@ impl Spaces {
         ensures directories { self.new.directories ≡ self.old.directories }
         ensures frames { length self.new.roles ≡ length self.old.roles }
     {
-        let from = home(&self.paged.directories, giver);
-        let entry = page_map::entry(&self.paged.memory, from, giver_page).unwrap();
-        let directory = home(&self.paged.directories, pid);
-        let slot = slot_of(page);
-        give_table(
-            &mut self.paged.memory,
-            &mut self.paged.frames,
-            &self.paged.directories,
-            pid,
-            directory,
-            slot,
-        );
-        region_counts::count_page(
-            &self.paged.memory,
-            &self.paged.frames,
-            &self.paged.directories,
-            &mut self.paged.counts,
-            pid,
-            directory,
-            page,
-        );
-        add_holder(
-            &mut self.paged.memory,
-            &mut self.paged.frames,
-            &self.paged.directories,
-            giver,
-            giver_page,
-            pid,
-            directory,
-            page,
-            entry.frame,
-            right,
-        );
+        self.paged.join(giver, giver_page, pid, page, right);
     }
 
     /// Copies each page of a process to the same page of another, whose space is as `fresh` leaves it: equal bytes and

@@ -90,7 +90,7 @@ impl Paged {
     }
 
     /// Where a process's mapped page is.
-    fn place(&self, pid: Pid, page: Page) -> Found
+    pub fn place(&self, pid: Pid, page: Page) -> Found
         requires kept { IsKeptPaged self.now }
         requires user { IsUserPage page }
         requires mapped { is_some (map.get (spaces_at self.now) (at_page pid page)) ≡ true }

@@ -17,7 +17,7 @@ use Rattle.address_space.specs.View.{Directories, directory_of, table_in, entry_
 use Rattle.address_space.specs.Changes.{PageFilled, EntryPut, Touched, takes_stores_through}
 use Rattle.address_space.specs.Image.{is_lazy_at, takes_stores}
 use Rattle.address_space.specs.Counts.{IsKept}
-use Rattle.address_space.specs.Sound.{IsSound}
+use Rattle.address_space.specs.Sound.{IsSound, Names}
 use Rattle.address_space.proofs.costs.AccessCosts.{kept, key-stored}
 use Rattle.address_space.proofs.standing.Standing.{stores_read, lazy_read, same_lazy, lazy_kept, real_kept}
 use Rattle.address_space.proofs.steps.Touches.{kept_touched}
@@ -206,6 +206,13 @@ module _ (paged : Paged) (p page : ℕ) (f : Found) (before : IsKeptPaged paged)
       let n = named_entry paged.directories paged.memory paged.frames p there.directory page f.entry before.spaces.sound there.live user.0 user.1 there.here in
       let r = page_of_name paged.directories paged.memory paged.frames (at_page p page) f.entry.frame before.spaces.sound n (rules.frame real) in
       record { count = r.count; page = r.page; below = count_few (directory_of paged.directories) (frame_bytes paged.memory) (slice_get paged.frames) f.entry.frame r.count before.spaces.sound.pages r.page }
+
+  -- its slot names its frame, which is not frame 0 unless it is lazy
+  pub found_named : Names (entries_in (directory_of paged.directories) (frame_bytes paged.memory)) (at_page p page) f.entry.frame
+  found_named = named_entry paged.directories paged.memory paged.frames p there.directory page f.entry before.spaces.sound there.live user.0 user.1 there.here
+
+  pub found_least : f.entry.lazy ≡ false → 1 ≤ f.entry.frame
+  found_least = rules.frame
 
   -- its cell, as it is shown
   pub found_shown : (c : Shown) → c ≡ record { write = f.entry.write; may = f.entry.may; accessed = f.entry.accessed; dirty = f.entry.dirty; holders = c.holders }
