@@ -101,3 +101,22 @@ TableReady bytes roles p d s t bytes' roles' = TableStays bytes roles d s t byte
 -- a table maps one page more
 abbrev pub CountedUp : List ℕ → ℕ → List ℕ → Type 0
 CountedUp counts t counts' = (n : ℕ) → slice_get counts t ≡ Some n → counts' ≡ slice_set counts t (n + 1)
+
+-- the entry of the copy of a page: of a lazy page it is lazy, on no frame of its own
+pub record CopiedLazy (bytes : List ℕ) (roles : List Role) (e e' : PageEntry) (bytes' : List ℕ) (roles' : List Role) : Type 0 where
+  pub lazy : e.lazy ≡ true
+  pub entry : e' ≡ record e { frame = e.frame; accessed = false; dirty = false }
+  pub same_bytes : bytes' ≡ bytes
+  pub same_roles : roles' ≡ roles
+
+-- and of any other page it is on a frame of its own, with equal bytes
+pub record CopiedReal (bytes : List ℕ) (roles : List Role) (e e' : PageEntry) (bytes' : List ℕ) (roles' : List Role) : Type 0 where
+  pub real : e.lazy ≡ false
+  pub frame : ℕ
+  pub taken : IsTaken roles frame (Page 1) roles'
+  pub entry : e' ≡ record e { frame = frame; accessed = false; dirty = false }
+  pub copy : bytes' ≡ with_frame_bytes bytes frame (frame_bytes bytes e.frame)
+  pub long : length bytes' ≡ length bytes
+
+abbrev pub EntryCopied : List ℕ → List Role → PageEntry → PageEntry → List ℕ → List Role → Type 0
+EntryCopied bytes roles e e' bytes' roles' = CopiedLazy bytes roles e e' bytes' roles' ⊎ CopiedReal bytes roles e e' bytes' roles'

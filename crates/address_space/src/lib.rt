@@ -226,18 +226,7 @@ impl Spaces {
         ensures directories { self.new.directories ≡ self.old.directories }
         ensures frames { length self.new.roles ≡ length self.old.roles }
     {
-        let source = home(&self.paged.directories, from);
-        let target = home(&self.paged.directories, to);
-        copies::copy_pages(
-            &mut self.paged.memory,
-            &mut self.paged.frames,
-            &self.paged.directories,
-            &mut self.paged.counts,
-            from,
-            source,
-            to,
-            target,
-        );
+        self.paged.copy_space(from, to);
     }
 
     /// Whether a slot has a lazy page, which has no frame of its own yet.

@@ -18,29 +18,6 @@ use page_map::PageEntry;
 use page_words::{Frame, Page, Pid};
 use phys_memory::Memory;
 
-/// Links a blank table, where the slot has none.
-pub fn give_table(
-    memory: &mut Memory,
-    frames: &mut FrameTable,
-    directories: &Directories,
-    pid: Pid,
-    directory: Frame,
-    slot: u32,
-)
-    requires sound { IsSound directories.now memory.old frames.old }
-    requires live { directory_of directories.now pid ≡ Some directory }
-    requires low { 256 ≤ slot }
-    requires high { slot < 960 }
-    requires room { table_need (table_in (directory_of directories.now) (frame_bytes memory.old) pid slot) ≤ free_frames frames.old }
-    ensures given { TableGiven directories.now pid slot memory.old frames.old memory.new frames.new }
-    ensures counted { KeepsCounts (spaces_in directories.now memory.old) frames.old (spaces_in directories.now memory.new) frames.new }
-{
-    if !page_map::has_table(memory, directory, slot) {
-        let table = take(frames, Role::Table { pid, slot });
-        page_map::link_table(memory, directory, slot, table);
-    }
-}
-
 /// Frees a table that was unlinked.
 pub fn free_table(frames: &mut FrameTable, freed: Option<Frame>)
     requires { (t : ℕ) → freed ≡ Some t → IsInUse frames.old t }

@@ -33,6 +33,8 @@ use Rattle.address_space.proofs.entries.EntrySteps.{tables_kept, entry_other}
 use Rattle.page_map.proofs.WordLaws.{entry_word-lt}
 use Rattle.address_space.proofs.steps.Openings.{no_cell}
 use Rattle.address_space.proofs.steps.Steps.{page_map_of, live_small, table_by_word, map_kept, zeroed, inside, free_loose}
+use Rattle.page_map.specs.Pages.{is_mapped}
+use Rattle.address_space.proofs.steps.Departures.{entry_mapped}
 use Rattle.address_space.proofs.steps.LazyFilling.{page_filled, room_to_fill}
 use Rattle.address_space.proofs.steps.CountSteps.{counts_kept, alike_taken}
 use Rattle.alloc_table.specs.declared.Role.{Role}
@@ -207,6 +209,9 @@ module _ (paged : Paged) (p page : ℕ) (f : Found) (before : IsKeptPaged paged)
       let r = page_of_name paged.directories paged.memory paged.frames (at_page p page) f.entry.frame before.spaces.sound n (rules.frame real) in
       record { count = r.count; page = r.page; below = count_few (directory_of paged.directories) (frame_bytes paged.memory) (slice_get paged.frames) f.entry.frame r.count before.spaces.sound.pages r.page }
 
+  pub found_known : Known paged.directories paged.memory p page f
+  found_known = there
+
   -- its slot names its frame, which is not frame 0 unless it is lazy
   pub found_named : Names (entries_in (directory_of paged.directories) (frame_bytes paged.memory)) (at_page p page) f.entry.frame
   found_named = named_entry paged.directories paged.memory paged.frames p there.directory page f.entry before.spaces.sound there.live user.0 user.1 there.here
@@ -315,3 +320,9 @@ filled_real directories bytes bytes' roles roles' p page filled = same_lazy dire
 pub filled_others : (directories : List (Option ℕ)) (bytes bytes' : List ℕ) (roles roles' : List Role) (p page : ℕ) → IsSound directories bytes roles → PageFilled directories p page bytes roles bytes' roles'
     → (q : Slot) → is_lazy_at (record { directories = directories; bytes = bytes; roles = roles }) q ≡ false → is_lazy_at (record { directories = directories; bytes = bytes'; roles = roles' }) q ≡ false
 filled_others directories bytes bytes' roles roles' p page sound filled = real_kept directories bytes bytes' roles roles' sound filled.after.sound filled.fewer
+
+-- a page that a directory maps is one of its process
+pub page_there : (directories : List (Option ℕ)) (bytes : List ℕ) (p d page : ℕ) → length directories ≡ 64 → directory_of directories p ≡ Some d → IsUserPage page → is_mapped (frame_bytes bytes) d page ≡ true
+    → is_some (map.get (spaces_in directories bytes) (at_page p page)) ≡ true
+page_there directories bytes p d page long live user mapped =
+    mapped_read directories bytes p d page live (live_small directories p d long live) user.0 user.1 ∙ entry_mapped (frame_bytes bytes) d page user mapped

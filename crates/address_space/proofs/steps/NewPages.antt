@@ -10,21 +10,22 @@ use Rattle.alloc_table.specs.declared.Role.{Role}
 use Rattle.alloc_table.specs.declared.Role.TheVariants.{Directory, Free, Table, Page}
 use Rattle.alloc_table.specs.Roles.{free_frames, IsTaken, IsPageBelow}
 use Rattle.page_map.specs.declared.PageEntry.{PageEntry}
-use Rattle.page_map.specs.Entries.{Frames, dir_word, table_of, with_entry, with_table}
-use Rattle.address_space.specs.Spaces.{Slot, Spaces, at_page, fresh, cell_or_fresh}
+use Rattle.page_map.specs.Entries.{Frames, dir_word, table_of, entry_at, with_entry, with_table}
+use Rattle.address_space.specs.Spaces.{Slot, Spaces, at_page, fresh, cell_or_fresh, copy_of}
 use Rattle.address_space.specs.View.{directory_of, table_in, entries_in, spaces_in}
-use Rattle.address_space.specs.Sound.{IsSound, IsSpaces, Names}
+use Rattle.address_space.specs.Sound.{IsSound, IsSpaces, Names, Inside}
 use Rattle.address_space.specs.Counts.{IsCounted, IsKept, KeepsCounts, AlwaysMapsAlike, MapsOneMore}
-use Rattle.address_space.specs.Changes.{table_need, TableGiven, SlotAdded, PageAdded, SlotJoined}
-use Rattle.address_space.specs.Finds.{TableReady, TableStays, TableIsNew, CountedUp}
-use Rattle.address_space.proofs.costs.Costed.{Room, room_for_table, mapped}
-use Rattle.address_space.proofs.steps.CountSteps.{counted_roles, table_counted, table_count, count_there, count_fits, page_counted, one_inserted}
+use Rattle.address_space.specs.Changes.{table_need, TableGiven, SlotAdded, PageAdded, SlotJoined, SlotCopied, PageCopied}
+use Rattle.address_space.specs.Finds.{TableReady, TableStays, TableIsNew, CountedUp, EntryCopied}
+use Rattle.address_space.proofs.costs.Costed.{Room, room_for_table, room_for_page, mapped}
+use Rattle.address_space.proofs.steps.CountSteps.{counted_roles, table_counted, table_count, count_there, count_fits, page_counted, one_inserted, alike_taken}
 use Rattle.address_space.proofs.steps.Steps.{page_map_of, inside, table_by_word, table_given, table_given_there, lazy_entry, page_added}
 use Rattle.address_space.proofs.steps.Stores.{HasPage, page_of_name}
 use Rattle.address_space.proofs.steps.Joins.{slot_joined}
 use Rattle.address_space.proofs.frames.FewHolders.{count_few}
 use Rattle.address_space.proofs.costs.Totals.{key-joined}
-use Rattle.address_space.specs.Counts.{region_pages}
+use Rattle.address_space.specs.Counts.{region_pages, pages_under}
+use Rattle.address_space.proofs.steps.Copies.{copied_entry, lazy_copied, real_copied, frame_copied, entry_stays, page_copied}
 
 -- an entry that was written into a table, by the directory's word that leads to it
 pub entry_by_word : (m two : Frames) (d page t : ℕ) (e : PageEntry) → table_of m d (slot_number page) ≡ Some t → two ≡ with_entry m t page e → two ≡ with_entry m (frame_number (dir_word m d (slot_number page))) page e
@@ -130,6 +131,55 @@ module _ (directories : List (Option ℕ)) (bytes : List ℕ) (roles : List Role
         let S = spaces_in directories one in
         let slot = at_page p page in
         one_inserted S (spaces_in directories two) slot (cell_or_fresh S slot) (ready_unmapped none) (λ q. ap (λ x. map.contains_key x q) joined.spaces ∙ key-joined S (at_page giver giver_page) slot right (cell_or_fresh S slot) q)
+
+    -- the copy of another process's page
+    pub ready_long : length one ≡ length bytes
+    ready_long = by linked
+      where
+        by : TableReady bytes roles p d (slot_number page) t one roles1 → length one ≡ length bytes
+        by (inl s) = ap length s.same_bytes
+        by (inr n) = n.long
+
+    pub ready_lies : (f : ℕ) → Inside bytes f → Inside one f
+    ready_lies f lies = record { fits = subst (λ n. 4096 * f + 4096 ≤ n) (sym ready_long) lies.fits; small = lies.small }
+
+    pub ready_free : Room directories (spaces_in directories bytes) roles p page → 0 < free_frames roles1
+    ready_free room = room_for_page directories bytes one roles roles1 p page before room ready_given
+
+    module _ (from source : ℕ) (e e' : PageEntry) (one2 two : List ℕ) (roles2 : List Role) (home : directory_of directories from ≡ Some source) (here : entry_at (frame_bytes bytes) source page ≡ Some e)
+        (none : map.get (spaces_in directories bytes) (at_page p page) ≡ None) (made : EntryCopied one roles1 e e' one2 roles2) where
+      here1 : entry_at (frame_bytes one) source page ≡ Some e
+      here1 = entry_stays directories bytes one from source page before.sound.pids home user.0 user.1 ready_given.entries ∙ here
+
+      pub copy_added : frame_bytes two ≡ with_entry (frame_bytes one2) t page e' → length two ≡ length one2 → SlotCopied directories from p page one roles1 two roles2
+      copy_added is long = by made
+        where
+          by : EntryCopied one roles1 e e' one2 roles2 → SlotCopied directories from p page one roles1 two roles2
+          by (inl s) =
+              subst (λ r. SlotCopied directories from p page one roles1 two r) (sym s.same_roles)
+              (lazy_copied directories one two roles1 from source p d page t e ready_given.sound home live user.0 user.1 (ready_unmapped none) ready_table here1 s.lazy
+              (entry_by_word (frame_bytes one) (frame_bytes two) d page t (copied_entry e e.frame) ready_table (is ∙ (λ i. with_entry (frame_bytes (s.same_bytes i)) t page (s.entry i))))
+              (long ∙ ap length s.same_bytes))
+          by (inr c) =
+              let copied = frame_copied directories one one2 roles1 from source p d page c.frame e ready_given.sound home live user.0 user.1 here1 c.taken.was_free c.copy c.long in
+              real_copied directories one one2 two roles1 roles2 from source p d page t c.frame e ready_given.sound home live user.0 user.1 (ready_unmapped none) ready_table here1 c.real c.taken copied.whole copied.is c.long
+              (entry_by_word (frame_bytes one2) (frame_bytes two) d page t (copied_entry e c.frame) (copied.kept.tables (slot_number page) ∙ ready_table) (is ∙ ap (with_entry (frame_bytes one2) t page) c.entry)) long
+
+      pub copy_alike : AlwaysMapsAlike roles1 roles2
+      copy_alike = by made
+        where
+          by : EntryCopied one roles1 e e' one2 roles2 → AlwaysMapsAlike roles1 roles2
+          by (inl s) = λ S f. ap (λ r. pages_under S r f) s.same_roles
+          by (inr c) = λ S. alike_taken S roles1 roles2 c.frame (Page 1) c.taken refl
+
+      pub copy_more : SlotCopied directories from p page one roles1 two roles2 → MapsOneMore (spaces_in directories one) (at_page p page) (spaces_in directories two)
+      copy_more added =
+          let S = spaces_in directories one in
+          let slot = at_page p page in
+          one_inserted S (spaces_in directories two) slot (copy_of slot (cell_or_fresh S (at_page from page))) (ready_unmapped none) (λ q. ap (λ x. map.contains_key x q) added.spaces)
+
+      pub copy_whole : Room directories (spaces_in directories bytes) roles p page → SlotCopied directories from p page one roles1 two roles2 → PageCopied directories from p page bytes roles two roles2
+      copy_whole room added = page_copied directories bytes one two roles roles1 roles2 from source p page before home user.0 user.1 room ready_given added
 
     module _ (counts : List ℕ) (C : IsCounted (spaces_in directories bytes) roles counts) where
       counted1 : IsCounted (spaces_in directories one) roles1 counts
