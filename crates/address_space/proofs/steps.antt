@@ -5,10 +5,12 @@ pub mod CountSteps
 pub mod Departures
 pub mod DirWords
 pub mod Finding
+pub mod FoundPages
 pub mod Joins
 pub mod LazyFilling
 pub mod Leaves
 pub mod Looks
+pub mod NewPages
 pub mod Openings
 pub mod Steps
 pub mod Stores

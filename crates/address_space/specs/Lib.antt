@@ -3,7 +3,9 @@ pub mod Cells
 pub mod Changes
 pub mod Codes
 pub mod Counts
+pub mod Finds
 pub mod Image
+pub mod Seen
 pub mod Shown
 pub mod Slots
 pub mod Sound

@@ -23,8 +23,8 @@ impl Spaces {
     fn finds_at(&self, pid: Pid, address: Vaddr, access: Access) -> bool
         ensures { result ≡ finds_at (image_of self.now) pid access address }
     {
-        match space_of(&self.directories, pid) {
-            Some(directory) => walk(&self.memory, directory, address, access).is_ok(),
+        match space_of(&self.paged.directories, pid) {
+            Some(directory) => walk(&self.paged.memory, directory, address, access).is_ok(),
             None => false,
         }
     }
@@ -59,9 +59,9 @@ impl Spaces {
         ensures walks { (at : ℕ) (kind : Access) → walk_of self.new.bytes directory at kind ≡ walk_of self.old.bytes directory at kind }
     {
         walked::mark_load(
-            &mut self.memory,
-            &self.frames,
-            &self.directories,
+            &mut self.paged.memory,
+            &self.paged.frames,
+            &self.paged.directories,
             pid,
             directory,
             address,
@@ -80,7 +80,7 @@ impl Spaces {
         ensures roles { self.new.roles ≡ self.old.roles }
         ensures bytes { self.new.bytes ≡ after_walked_load self.old.bytes directory address (second_page address size) }
     {
-        let value = walked::found_number(&self.memory, directory, address, size);
+        let value = walked::found_number(&self.paged.memory, directory, address, size);
         self.mark_load(pid, directory, address);
         let Some(second) = second_page(address, size) else {
             return value;
@@ -101,7 +101,7 @@ impl Spaces {
         ensures roles { self.new.roles ≡ self.old.roles }
         ensures bytes { (directory : ℕ) → directory_of self.old.directories pid ≡ Some directory → self.new.bytes ≡ after_walked_load self.old.bytes directory address (second_page address size) }
     {
-        let directory = home(&self.directories, pid);
+        let directory = home(&self.paged.directories, pid);
         self.load_through(pid, directory, address, size)
     }
 
@@ -120,9 +120,9 @@ impl Spaces {
         ensures walks { (at : ℕ) (kind : Access) → at < 2 ^ 32 → walk_of self.new.bytes directory at kind ≡ walk_of self.old.bytes directory at kind }
     {
         walked::store_byte(
-            &mut self.memory,
-            &self.frames,
-            &self.directories,
+            &mut self.paged.memory,
+            &self.paged.frames,
+            &self.paged.directories,
             pid,
             directory,
             address,
@@ -168,7 +168,7 @@ impl Spaces {
         ensures roles { self.new.roles ≡ self.old.roles }
         ensures bytes { (directory : ℕ) → directory_of self.old.directories pid ≡ Some directory → self.new.bytes ≡ after_walked_store self.old.bytes directory address (bytes_of (byte_count size) value) }
     {
-        let directory = home(&self.directories, pid);
+        let directory = home(&self.paged.directories, pid);
         self.store_through(pid, directory, address, size, value);
     }
 
@@ -182,11 +182,11 @@ impl Spaces {
         ensures roles { self.new.roles ≡ self.old.roles }
         ensures bytes { (directory : ℕ) → directory_of self.old.directories pid ≡ Some directory → self.new.bytes ≡ with_walked self.old.bytes directory page walked }
     {
-        let directory = home(&self.directories, pid);
+        let directory = home(&self.paged.directories, pid);
         walked::set_walked(
-            &mut self.memory,
-            &self.frames,
-            &self.directories,
+            &mut self.paged.memory,
+            &self.paged.frames,
+            &self.paged.directories,
             pid,
             directory,
             page,

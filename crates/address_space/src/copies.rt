@@ -1,22 +1,22 @@
 //! All pages of a process are copied to another process.
 
-ghost use Rattle.std.specs.Prelude.{◌≡◌, ◌+◌, ◌<◌, ◌≤◌, true, false, Some, None, is_some, length};
-ghost use Rattle.page_words.specs.Addresses.{slot_number, IsUserPage};
+ghost use Rattle.std.specs.Prelude.{◌≡◌, ◌+◌, ◌*◌, ◌<◌, ◌≤◌, ◌^◌, ℕ, true, false, None, is_some, length};
+ghost use Rattle.page_words.specs.Addresses.{IsUserPage};
 ghost use Rattle.page_words.specs.FiniteMap as map;
-ghost use Rattle.phys_memory.specs.Bytes.{frame_bytes};
 ghost use Rattle.alloc_table.specs.Roles.{free_frames};
-ghost use Rattle.page_map.specs.Entries.{table_of, entry_at};
-ghost use Rattle.address_space.specs.Spaces.{need, cost, at_page};
-ghost use Rattle.address_space.specs.View.{directory_of, spaces_in, total_cost};
-ghost use Rattle.address_space.specs.Sound.{IsSound, IsSpaces};
-ghost use Rattle.address_space.specs.Counts.{IsCounted, AlwaysMapsAlike};
-ghost use Rattle.address_space.specs.Changes.{IsEmptySpace, SlotCopied, PageCopied, PagesCopied};
+ghost use Rattle.address_space.specs.Spaces.{need, cost, at_page, copied};
+ghost use Rattle.address_space.specs.View.{directory_of, total_cost};
+ghost use Rattle.address_space.specs.Sound.{Inside};
+ghost use Rattle.address_space.specs.Changes.{IsEmptySpace, PageCopied};
+ghost use Rattle.address_space.specs.Image.{is_lazy_at};
+ghost use Rattle.address_space.specs.Finds.{IsKeptPaged, spaces_at, image_at, EntryCopied};
 
-use crate::links::give_table;
-use crate::{Directories, region_counts, take};
+use crate::new_pages::{count_page, give_table};
+use crate::paged::Paged;
+use crate::{home, take};
 use alloc_table::{FrameTable, Role};
-use page_map::PageEntry;
-use page_words::{Frame, Page, Pid, slot_of};
+use page_map::{FIRST_SLOT, PageEntry};
+use page_words::{Frame, Page, Pid};
 use phys_memory::Memory;
 
 /// The entry of a copy on this frame: the same rights, untouched.
@@ -31,183 +31,63 @@ fn copied_entry(entry: PageEntry, frame: Frame) -> PageEntry
     }
 }
 
-/// Maps a copy of a lazy page, which is lazy too.
-fn copy_lazy(
-    memory: &mut Memory,
-    frames: &FrameTable,
-    directories: &Directories,
-    from: Pid,
-    source: Frame,
-    to: Pid,
-    target: Frame,
-    page: Page,
-    entry: PageEntry,
-)
-    requires sound { IsSound directories.now memory.old frames.now }
-    requires from { directory_of directories.now from ≡ Some source }
-    requires live { directory_of directories.now to ≡ Some target }
-    requires user { IsUserPage page }
-    requires unmapped { map.get (spaces_in directories.now memory.old) (at_page to page) ≡ None }
-    requires table { is_some (table_of (frame_bytes memory.old) target (slot_number page)) ≡ true }
-    requires here { entry_at (frame_bytes memory.old) source page ≡ Some entry }
-    requires lazy { entry.lazy ≡ true }
-    ensures { SlotCopied directories.now from to page memory.old frames.now memory.new frames.now }
-{
-    page_map::set_entry(memory, target, page, copied_entry(entry, entry.frame));
-}
-
-/// Maps a copy of a page that isn't lazy, on a frame of its own.
-fn copy_real(
-    memory: &mut Memory,
-    frames: &mut FrameTable,
-    directories: &Directories,
-    from: Pid,
-    source: Frame,
-    to: Pid,
-    target: Frame,
-    page: Page,
-    entry: PageEntry,
-)
-    requires sound { IsSound directories.now memory.old frames.old }
-    requires from { directory_of directories.now from ≡ Some source }
-    requires live { directory_of directories.now to ≡ Some target }
-    requires user { IsUserPage page }
-    requires unmapped { map.get (spaces_in directories.now memory.old) (at_page to page) ≡ None }
-    requires table { is_some (table_of (frame_bytes memory.old) target (slot_number page)) ≡ true }
-    requires here { entry_at (frame_bytes memory.old) source page ≡ Some entry }
-    requires real { entry.lazy ≡ false }
-    requires room { 0 < free_frames frames.old }
-    ensures copied { SlotCopied directories.now from to page memory.old frames.old memory.new frames.new }
-    ensures alike { AlwaysMapsAlike frames.old frames.new }
-{
-    let frame = take(frames, Role::Page { count: 1 });
-    memory.copy_frame(entry.frame, frame);
-    page_map::set_entry(memory, target, page, copied_entry(entry, frame));
-}
-
-/// Maps a copy of a page, whose region has a table.
-fn copy_entry(
-    memory: &mut Memory,
-    frames: &mut FrameTable,
-    directories: &Directories,
-    from: Pid,
-    source: Frame,
-    to: Pid,
-    target: Frame,
-    page: Page,
-    entry: PageEntry,
-)
-    requires sound { IsSound directories.now memory.old frames.old }
-    requires from { directory_of directories.now from ≡ Some source }
-    requires live { directory_of directories.now to ≡ Some target }
-    requires user { IsUserPage page }
-    requires unmapped { map.get (spaces_in directories.now memory.old) (at_page to page) ≡ None }
-    requires table { is_some (table_of (frame_bytes memory.old) target (slot_number page)) ≡ true }
-    requires here { entry_at (frame_bytes memory.old) source page ≡ Some entry }
-    requires room { 0 < free_frames frames.old }
-    ensures copied { SlotCopied directories.now from to page memory.old frames.old memory.new frames.new }
-    ensures alike { AlwaysMapsAlike frames.old frames.new }
+/// The entry of the copy of a page: of a lazy page a lazy one, of any other one on a new frame with equal bytes.
+fn copy_of(memory: &mut Memory, frames: &mut FrameTable, entry: PageEntry) -> PageEntry
+    requires frame { Inside memory.old entry.frame }
+    requires size { length memory.old ≡ 4096 * length frames.old }
+    requires few { length frames.old ≤ 4096 }
+    requires free { 0 < free_frames frames.old }
+    ensures copied { EntryCopied memory.old frames.old entry result memory.new frames.new }
+    ensures length { length memory.new ≡ length memory.old }
+    ensures small { result.frame < 2 ^ 20 }
 {
     if entry.lazy {
-        copy_lazy(
-            memory,
-            frames,
-            directories,
-            from,
-            source,
-            to,
-            target,
-            page,
-            entry,
-        );
-    } else {
-        copy_real(
-            memory,
-            frames,
-            directories,
-            from,
-            source,
-            to,
-            target,
-            page,
-            entry,
-        );
+        return copied_entry(entry, entry.frame);
     }
+    let frame = take(frames, Role::Page { count: 1 });
+    memory.copy_frame(entry.frame, frame);
+    copied_entry(entry, frame)
 }
 
-/// Copies a page to the same page of another process, which has none there.
-fn copy_page(
-    memory: &mut Memory,
-    frames: &mut FrameTable,
-    directories: &Directories,
-    counts: &mut Vec<u32>,
-    from: Pid,
-    source: Frame,
-    to: Pid,
-    target: Frame,
-    page: Page,
-)
-    requires spaces { IsSpaces directories.now memory.old frames.old }
-    requires from { directory_of directories.now from ≡ Some source }
-    requires live { directory_of directories.now to ≡ Some target }
-    requires user { IsUserPage page }
-    requires mapped { is_some (entry_at (frame_bytes memory.old) source page) ≡ true }
-    requires unmapped { map.get (spaces_in directories.now memory.old) (at_page to page) ≡ None }
-    requires room { 1 + total_cost directories.now (spaces_in directories.now memory.old) + need (spaces_in directories.now memory.old) to page ≤ length frames.old }
-    requires counted { IsCounted (spaces_in directories.now memory.old) frames.old counts.old.items }
-    ensures copied { PageCopied directories.now from to page memory.old frames.old memory.new frames.new }
-    ensures counted { IsCounted (spaces_in directories.now memory.new) frames.new counts.new.items }
-{
-    let entry = page_map::entry(memory, source, page).unwrap();
-    let slot = slot_of(page);
-    give_table(memory, frames, directories, to, target, slot);
-    region_counts::count_page(memory, frames, directories, counts, to, target, page);
-    copy_entry(
-        memory,
-        frames,
-        directories,
-        from,
-        source,
-        to,
-        target,
-        page,
-        entry,
-    );
-}
+impl Paged {
+    /// Copies a page to the same page of another process, which has none there.
+    fn copy_page(&mut self, from: Pid, to: Pid, page: Page)
+        requires kept { IsKeptPaged self.old }
+        requires mapped { is_some (map.get (spaces_at self.old) (at_page from page)) ≡ true }
+        requires live { is_some (directory_of self.old.directories to) ≡ true }
+        requires user { IsUserPage page }
+        requires unmapped { map.get (spaces_at self.old) (at_page to page) ≡ None }
+        requires room { 1 + total_cost self.old.directories (spaces_at self.old) + need (spaces_at self.old) to page ≤ length self.old.frames }
+        ensures copied { PageCopied self.old.directories from to page self.old.memory self.old.frames self.new.memory self.new.frames }
+        ensures kept { IsKeptPaged self.new }
+        ensures directories { self.new.directories ≡ self.old.directories }
+    {
+        let found = self.place(from, page);
+        let directory = home(&self.directories, to);
+        let table = give_table(&mut self.memory, &mut self.frames, directory, to, page);
+        count_page(&mut self.counts, table);
+        let entry = copy_of(&mut self.memory, &mut self.frames, found.entry);
+        page_map::put_entry(&mut self.memory, table, page, entry);
+    }
 
-/// Copies each page of a process to another process, which has none.
-pub fn copy_pages(
-    memory: &mut Memory,
-    frames: &mut FrameTable,
-    directories: &Directories,
-    counts: &mut Vec<u32>,
-    from: Pid,
-    source: Frame,
-    to: Pid,
-    target: Frame,
-)
-    requires spaces { IsSpaces directories.now memory.old frames.old }
-    requires from { directory_of directories.now from ≡ Some source }
-    requires live { directory_of directories.now to ≡ Some target }
-    requires empty { IsEmptySpace (spaces_in directories.now memory.old) to }
-    requires room { cost (spaces_in directories.now memory.old) from + total_cost directories.now (spaces_in directories.now memory.old) ≤ length frames.old }
-    requires counted { IsCounted (spaces_in directories.now memory.old) frames.old counts.old.items }
-    ensures copied { PagesCopied directories.now from to memory.old frames.old memory.new frames.new }
-    ensures counted { IsCounted (spaces_in directories.now memory.new) frames.new counts.new.items }
-{
-    let mut next = 0x40000;
-    while let Some(page) = page_map::next_page(memory, source, Page(next)) {
-        copy_page(
-            memory,
-            frames,
-            directories,
-            counts,
-            from,
-            source,
-            to,
-            target,
-            page,
-        );
-        next = page.0 + 1;
+    /// Copies each page of a process to another process, which has none.
+    pub fn copy_space(&mut self, from: Pid, to: Pid)
+        requires kept { IsKeptPaged self.old }
+        requires from { is_some (directory_of self.old.directories from) ≡ true }
+        requires live { is_some (directory_of self.old.directories to) ≡ true }
+        requires empty { IsEmptySpace (spaces_at self.old) to }
+        requires room { cost (spaces_at self.old) from + total_cost self.old.directories (spaces_at self.old) ≤ length self.old.frames }
+        ensures spaces { spaces_at self.new ≡ copied (spaces_at self.old) from to }
+        ensures lazy { (page : ℕ) → is_lazy_at (image_at self.new) (at_page to page) ≡ is_lazy_at (image_at self.old) (at_page from page) }
+        ensures kept { IsKeptPaged self.new }
+        ensures directories { self.new.directories ≡ self.old.directories }
+        ensures frames { length self.new.frames ≡ length self.old.frames }
+    {
+        let source = home(&self.directories, from);
+        let mut next = FIRST_SLOT * 1024;
+        while let Some(page) = page_map::next_page(&self.memory, source, Page(next)) {
+            self.copy_page(from, to, page);
+            next = page.0 + 1;
+        }
     }
 }

@@ -15,28 +15,36 @@ ghost use Rattle.address_space.specs.Spaces.{Slot, need, page_need, access_need,
 ghost use Rattle.address_space.specs.Image.{StandsFor, StandsForOne, LeavesRoom, image_of, is_lazy_at, takes_stores};
 ghost use Rattle.address_space.specs.Walks.{WalksAgree};
 ghost use Rattle.address_space.specs.Shown.{shown};
+ghost use Rattle.address_space.specs.Seen.{cell_seen, lazy_seen, need_seen};
 ghost use Rattle.std.specs.Option.{option_map};
 ghost use Rattle.address_space.specs.View.{directory_of, spaces_in, total_cost};
 
 mod accesses;
 mod by_walk;
-mod cells;
 mod charges;
 mod copies;
 mod drops;
 mod fills;
+mod group_sizes;
 mod links;
+mod lookup;
+mod mappings;
+mod new_pages;
+mod paged;
 mod region_counts;
+mod seen_pages;
 mod walked;
 
 use alloc_table::{FrameTable, Role};
-use cells::{cell_in, need_in};
-use links::{add_directory, add_holder, add_page, give_table, remove_entry};
+use links::{add_directory, remove_entry};
 use page_words::{
     Frame, MAX_FRAMES, MIN_FRAMES, Page, Pid, Size, Vaddr, offset_of, page_of, second_page,
     slot_of, start_of,
 };
+use paged::Paged;
 use phys_memory::Memory;
+pub use seen_pages::Seen;
+use seen_pages::need_behind;
 use std::alloc::Global;
 use std::marker::Model;
 
@@ -46,24 +54,20 @@ type Directories = [Option<Frame>; 64];
 /// The address spaces, by directories, memory and roles.
 #[derive(Drop)]
 pub struct Spaces {
-    memory: Memory,
-    frames: FrameTable,
-    directories: Directories,
-    /// For each frame how many pages it maps, as a table.
-    counts: Vec<u32>,
+    paged: Paged,
 }
 
 impl Model for Spaces {
-    ghost use Rattle.address_space.specs.View.{View, view_code, spaces_in};
-    ghost use Rattle.address_space.specs.Counts.{IsKept};
+    ghost use Rattle.address_space.specs.View.{View, view_code};
+    ghost use Rattle.address_space.specs.Finds.{IsKeptPaged, spaces_at};
 
     ghost Value = { View };
 
     ghost coded = { view_code };
 
-    ghost view = { λ s. record { spaces = spaces_in s.directories s.memory; directories = s.directories; bytes = s.memory; roles = s.frames } };
+    ghost view = { λ s. record { spaces = spaces_at s.paged; directories = s.paged.directories; bytes = s.paged.memory; roles = s.paged.frames } };
 
-    ghost invariant = { λ s. IsKept s.directories s.memory s.frames s.counts.items };
+    ghost invariant = { λ s. IsKeptPaged s.paged };
 }
 
 /// A frame for a role, where one is free.
@@ -104,10 +108,12 @@ fn opened(memory: Memory, table: FrameTable, counts: Vec<u32>, frames: u32) -> S
     ensures costs { total_cost result.directories result.spaces ≡ 0 }
 {
     Spaces {
-        memory,
-        frames: table,
-        directories: [None; 64],
-        counts,
+        paged: Paged {
+            memory,
+            frames: table,
+            directories: [None; 64],
+            counts,
+        },
     }
 }
 
@@ -171,9 +177,9 @@ impl Spaces {
         ensures frames { length self.new.roles ≡ length self.old.roles }
     {
         add_directory(
-            &mut self.memory,
-            &mut self.frames,
-            &mut self.directories,
+            &mut self.paged.memory,
+            &mut self.paged.frames,
+            &mut self.paged.directories,
             pid,
         );
     }
@@ -189,34 +195,7 @@ impl Spaces {
         ensures directories { self.new.directories ≡ self.old.directories }
         ensures frames { length self.new.roles ≡ length self.old.roles }
     {
-        let directory = home(&self.directories, pid);
-        let slot = slot_of(page);
-        give_table(
-            &mut self.memory,
-            &mut self.frames,
-            &self.directories,
-            pid,
-            directory,
-            slot,
-        );
-        region_counts::count_page(
-            &self.memory,
-            &self.frames,
-            &self.directories,
-            &mut self.counts,
-            pid,
-            directory,
-            page,
-        );
-        add_page(
-            &mut self.memory,
-            &self.frames,
-            &self.directories,
-            pid,
-            directory,
-            page,
-            write,
-        );
+        self.paged.map_zero(pid, page, write);
     }
 
     /// Lets a slot join the group of another.
@@ -232,39 +211,7 @@ impl Spaces {
         ensures directories { self.new.directories ≡ self.old.directories }
         ensures frames { length self.new.roles ≡ length self.old.roles }
     {
-        let from = home(&self.directories, giver);
-        let entry = page_map::entry(&self.memory, from, giver_page).unwrap();
-        let directory = home(&self.directories, pid);
-        let slot = slot_of(page);
-        give_table(
-            &mut self.memory,
-            &mut self.frames,
-            &self.directories,
-            pid,
-            directory,
-            slot,
-        );
-        region_counts::count_page(
-            &self.memory,
-            &self.frames,
-            &self.directories,
-            &mut self.counts,
-            pid,
-            directory,
-            page,
-        );
-        add_holder(
-            &mut self.memory,
-            &mut self.frames,
-            &self.directories,
-            giver,
-            giver_page,
-            pid,
-            directory,
-            page,
-            entry.frame,
-            right,
-        );
+        self.paged.join(giver, giver_page, pid, page, right);
     }
 
     /// Copies each page of a process to the same page of another, whose space is as `fresh` leaves it: equal bytes and
@@ -279,18 +226,7 @@ impl Spaces {
         ensures directories { self.new.directories ≡ self.old.directories }
         ensures frames { length self.new.roles ≡ length self.old.roles }
     {
-        let source = home(&self.directories, from);
-        let target = home(&self.directories, to);
-        copies::copy_pages(
-            &mut self.memory,
-            &mut self.frames,
-            &self.directories,
-            &mut self.counts,
-            from,
-            source,
-            to,
-            target,
-        );
+        self.paged.copy_space(from, to);
     }
 
     /// Whether a slot has a lazy page, which has no frame of its own yet.
@@ -298,7 +234,7 @@ impl Spaces {
         requires user { IsUserPage page }
         ensures { result ≡ is_lazy_at (image_of self.now) (at_page pid page) }
     {
-        fills::is_lazy_in(&self.memory, &self.frames, &self.directories, pid, page)
+        self.seen(pid, page).is_lazy()
     }
 
     /// Gives a lazy page a frame of its own; any other stays as it is, and none becomes lazy. What is mapped stays
@@ -312,17 +248,7 @@ impl Spaces {
         ensures others { (slot : Slot) → is_lazy_at (image_of self.old) slot ≡ false → is_lazy_at (image_of self.new) slot ≡ false }
         ensures frames { length self.new.roles ≡ length self.old.roles }
     {
-        if fills::is_lazy_in(&self.memory, &self.frames, &self.directories, pid, page) {
-            let directory = home(&self.directories, pid);
-            fills::fill_page(
-                &mut self.memory,
-                &mut self.frames,
-                &self.directories,
-                pid,
-                directory,
-                page,
-            );
-        }
+        self.paged.fill(pid, page);
     }
 
     /// Stores bytes that lie in one page, which is mapped and isn't lazy, and sets accessed and dirty in its slot.
@@ -336,20 +262,8 @@ impl Spaces {
         ensures roles { self.new.roles ≡ self.old.roles }
         ensures lazy { (slot : Slot) → is_lazy_at (image_of self.new) slot ≡ is_lazy_at (image_of self.old) slot }
     {
-        let directory = home(&self.directories, pid);
-        let page = page_of(address);
-        let at = offset_of(address);
-        accesses::store(
-            &mut self.memory,
-            &self.frames,
-            &self.directories,
-            pid,
-            directory,
-            page,
-            at,
-            size,
-            value,
-        );
+        self.paged
+            .store(pid, page_of(address), offset_of(address), size, value);
     }
 
     /// Stores the lowest byte of a number, and gives the number without it and the address behind it.
@@ -422,16 +336,19 @@ impl Spaces {
         ensures roles { self.new.roles ≡ self.old.roles }
         ensures none { result ≡ false → self.new ≡ self.old }
     {
-        accesses::try_store(
-            &mut self.memory,
-            &self.frames,
-            &self.directories,
-            pid,
-            page_of(address),
-            offset_of(address),
-            size,
-            value,
-        )
+        self.paged
+            .try_store(pid, page_of(address), offset_of(address), size, value)
+    }
+
+    /// What a process has at a page, by one look: its cell, whether it is lazy, and what one more page costs there.
+    pub fn seen(&self, pid: Pid, page: Page) -> Seen
+        requires user { IsUserPage page }
+        ensures cell { cell_seen result ≡ option_map shown (map.get self.now.spaces (at_page pid page)) }
+        ensures lazy { lazy_seen result ≡ is_lazy_at (image_of self.now) (at_page pid page) }
+        ensures need { need_seen result ≡ need self.now.spaces pid page }
+        ensures most { need_seen result ≤ 2 }
+    {
+        self.paged.seen(pid, page)
     }
 
     /// The flags of a slot and the size of its group; None where the page is not mapped.
@@ -439,7 +356,7 @@ impl Spaces {
         requires user { IsUserPage page }
         ensures { result ≡ option_map shown (map.get self.now.spaces (at_page pid page)) }
     {
-        cell_in(&self.memory, &self.frames, &self.directories, pid, page)
+        self.seen(pid, page).cell()
     }
 
     /// What one more page costs a process: 1 where it has a page in that region of 1,024 pages, else 2.
@@ -449,45 +366,7 @@ impl Spaces {
         ensures value { result ≡ need self.now.spaces pid page }
         ensures most { result ≤ 2 }
     {
-        need_in(&self.memory, &self.frames, &self.directories, pid, page)
-    }
-
-    /// What a process needs for a page: nothing where it is mapped.
-    fn page_need(&self, pid: Pid, page: Page) -> u32
-        requires live { is_some (directory_of self.now.directories pid) ≡ true }
-        requires user { IsUserPage page }
-        ensures value { result ≡ page_need self.now.spaces pid page }
-        ensures most { result ≤ 2 }
-    {
-        match self.cell(pid, page) {
-            Some(_) => 0,
-            None => self.need(pid, page),
-        }
-    }
-
-    /// What a process needs for a page once it has mapped another, which lies in the same region of 1,024 pages or
-    /// in the next.
-    fn need_behind(&self, pid: Pid, page: Page, second: Page) -> u32
-        requires live { is_some (directory_of self.now.directories pid) ≡ true }
-        requires user { IsUserPage page }
-        requires second { IsUserPage second }
-        requires apart { second ≢ page }
-        ensures value { result ≡ page_need (with_page self.now.spaces pid page) pid second }
-        ensures most { result ≤ 2 }
-    {
-        match self.cell(pid, second) {
-            Some(_) => 0,
-            None if self.opens_region_of(pid, page, second) => 1,
-            None => self.need(pid, second),
-        }
-    }
-
-    /// Whether a page is not mapped, and lies in the same region of 1,024 pages as another.
-    fn opens_region_of(&self, pid: Pid, page: Page, second: Page) -> bool
-        requires { IsUserPage page }
-        ensures { result ≡ (not (map.contains_key self.now.spaces (at_page pid page)) && (slot_number page == slot_number second)) }
-    {
-        self.cell(pid, page).is_none() && slot_of(page) == slot_of(second)
+        self.seen(pid, page).need()
     }
 
     /// What a process needs for an access: 1 for each page that it touches and that is not mapped, and 1 for each of
@@ -499,11 +378,12 @@ impl Spaces {
         ensures most { result ≤ 4 }
     {
         let page = page_of(address);
-        let first = self.page_need(pid, page);
-        match second_page(address, size) {
-            None => first,
-            Some(second) => first + self.need_behind(pid, page, second),
-        }
+        let first = self.seen(pid, page);
+        let Some(second) = second_page(address, size) else {
+            return first.page_need();
+        };
+        let other = self.seen(pid, second);
+        first.page_need() + need_behind(&first, page, &other, second)
     }
 
     /// What a process is charged for: 1 for its directory, 1 for each region of 1,024 pages with a
@@ -512,7 +392,12 @@ impl Spaces {
         requires live { is_some (directory_of self.now.directories pid) ≡ true }
         ensures { result ≡ cost self.now.spaces pid }
     {
-        charges::cost_in(&self.memory, &self.frames, &self.directories, pid)
+        charges::cost_in(
+            &self.paged.memory,
+            &self.paged.frames,
+            &self.paged.directories,
+            pid,
+        )
     }
 
     /// What a process's cost falls by when a mapped page goes: 2 where it is the last of its region of
@@ -523,10 +408,10 @@ impl Spaces {
         ensures { cost (without self.now.spaces (is_slot pid page)) pid + result ≡ cost self.now.spaces pid }
     {
         charges::relief_in(
-            &self.memory,
-            &self.frames,
-            &self.directories,
-            &self.counts,
+            &self.paged.memory,
+            &self.paged.frames,
+            &self.paged.directories,
+            &self.paged.counts,
             pid,
             page,
         )
@@ -537,14 +422,7 @@ impl Spaces {
         requires { IsUserPage (page_number address) }
         ensures { result ≡ byte_at self.now.spaces pid address }
     {
-        accesses::byte_in(
-            &self.memory,
-            &self.frames,
-            &self.directories,
-            pid,
-            page_of(address),
-            offset_of(address),
-        )
+        self.paged.byte(pid, page_of(address), offset_of(address))
     }
 
     /// The number at an address, where its bytes lie in one page and it is mapped.
@@ -555,15 +433,8 @@ impl Spaces {
         if second_page(address, size).is_some() {
             return None;
         }
-        accesses::look(
-            &self.memory,
-            &self.frames,
-            &self.directories,
-            pid,
-            page_of(address),
-            offset_of(address),
-            size,
-        )
+        self.paged
+            .look(pid, page_of(address), offset_of(address), size)
     }
 
     /// The number at an address, byte by byte.
@@ -640,15 +511,8 @@ impl Spaces {
         ensures roles { self.new.roles ≡ self.old.roles }
         ensures none { IsNone result → self.new ≡ self.old }
     {
-        accesses::load(
-            &mut self.memory,
-            &self.frames,
-            &self.directories,
-            pid,
-            page_of(address),
-            offset_of(address),
-            size,
-        )
+        self.paged
+            .load(pid, page_of(address), offset_of(address), size)
     }
 
     /// Sets whether a process may write to a mapped page; to set it, the process must be allowed to.
@@ -660,16 +524,7 @@ impl Spaces {
         ensures directories { self.new.directories ≡ self.old.directories }
         ensures roles { self.new.roles ≡ self.old.roles }
     {
-        let directory = home(&self.directories, pid);
-        accesses::set_right(
-            &mut self.memory,
-            &self.frames,
-            &self.directories,
-            pid,
-            directory,
-            page,
-            write,
-        );
+        self.paged.set_right(pid, page, write);
     }
 
     /// Takes a slot out of its group.
@@ -680,12 +535,12 @@ impl Spaces {
         ensures directories { self.new.directories ≡ self.old.directories }
         ensures frames { length self.new.roles ≡ length self.old.roles }
     {
-        let directory = home(&self.directories, pid);
+        let directory = home(&self.paged.directories, pid);
         remove_entry(
-            &mut self.memory,
-            &mut self.frames,
-            &self.directories,
-            &mut self.counts,
+            &mut self.paged.memory,
+            &mut self.paged.frames,
+            &self.paged.directories,
+            &mut self.paged.counts,
             pid,
             directory,
             page,
@@ -702,10 +557,10 @@ impl Spaces {
         ensures frames { length self.new.roles ≡ length self.old.roles }
     {
         drops::drop_space(
-            &mut self.memory,
-            &mut self.frames,
-            &mut self.directories,
-            &mut self.counts,
+            &mut self.paged.memory,
+            &mut self.paged.frames,
+            &mut self.paged.directories,
+            &mut self.paged.counts,
             pid,
         );
     }
@@ -714,7 +569,7 @@ impl Spaces {
     pub fn memory(&self) -> &Memory
         ensures { result.now ≡ self.now.bytes }
     {
-        &self.memory
+        &self.paged.memory
     }
 
     /// How many frames the memory has.
@@ -724,14 +579,14 @@ impl Spaces {
         ensures least { 16 ≤ result }
         ensures most { result ≤ 4096 }
     {
-        self.memory.frames()
+        self.paged.memory.frames()
     }
 
     /// The frame of a process's directory; None where it has no space.
     pub fn directory(&self, pid: Pid) -> Option<Frame>
         ensures { result ≡ directory_of self.now.directories pid }
     {
-        space_of(&self.directories, pid)
+        space_of(&self.paged.directories, pid)
     }
 
     /// What a frame serves.
@@ -739,7 +594,7 @@ impl Spaces {
         requires { frame < length self.now.roles }
         ensures { slice_get self.now.roles frame ≡ Some result }
     {
-        self.frames.role(frame)
+        self.paged.frames.role(frame)
     }
 
     /// What memory's own words say of these spaces, that their costs leave frame 0 alone, and that the
@@ -752,7 +607,7 @@ impl Spaces {
         ensures few { length self.now.roles ≤ 4096 }
         ensures used { LeavesRoom (image_of self.now) (total_cost self.now.directories self.now.spaces) }
     {
-        let _ = &self.memory;
+        let _ = &self.paged.memory;
     }
 }
 

@@ -53,28 +53,6 @@ pub fn pages_beside(
     count_at(counts, table)
 }
 
-/// Counts a page that is going to be mapped.
-pub fn count_page(
-    memory: &Memory,
-    frames: &FrameTable,
-    directories: &Directories,
-    counts: &mut Vec<u32>,
-    pid: Pid,
-    directory: Frame,
-    page: Page,
-)
-    requires sound { IsSound directories.now memory.now frames.now }
-    requires live { directory_of directories.now pid ≡ Some directory }
-    requires user { IsUserPage page }
-    requires table { is_some (table_of (frame_bytes memory.now) directory (slot_number page)) ≡ true }
-    requires counted { IsCounted (spaces_in directories.now memory.now) frames.now counts.old.items }
-    ensures { (spaces : Spaces) → MapsOneMore (spaces_in directories.now memory.now) (at_page pid page) spaces → IsCounted spaces frames.now counts.new.items }
-{
-    let table = page_map::table(memory, directory, slot_of(page)).unwrap();
-    let count = count_at(counts, table);
-    set_count(counts, table, count + 1);
-}
-
 /// Takes a mapped page that is going to be unmapped off its table's count, and says how many pages of
 /// its region are mapped, this one among them.
 pub fn uncount_page(

@@ -3,14 +3,14 @@ use Rattle.std.proofs.Common.{◌≡◌, ◌≢◌, ℕ, ◌+◌, ◌*◌, ◌<�
 use Rattle.phys_memory.specs.Bytes.{word_at, with_word, frame_bytes, word_in, with_word_in, with_frame}
 use Rattle.phys_memory.proofs.Frames.{word_in-frame, frames-with_word, with_frame-other}
 
-place : (frame index : ℕ) → frame * 4096 + index * 4 ≡ 4096 * frame + 4 * index
+place : (frame index : ℕ) → 4096 * frame + index * 4 ≡ 4096 * frame + 4 * index
 place frame index = omega arith
 
-pub word_read : (bytes : List ℕ) (frame index : ℕ) → index < 1024 → 4096 * frame + 4096 ≤ length bytes → word_at bytes (frame * 4096 + index * 4) ≡ word_in (frame_bytes bytes frame) index
+pub word_read : (bytes : List ℕ) (frame index : ℕ) → index < 1024 → 4096 * frame + 4096 ≤ length bytes → word_at bytes (4096 * frame + index * 4) ≡ word_in (frame_bytes bytes frame) index
 word_read bytes frame index i l = ap (word_at bytes) (place frame index) ∙ word_in-frame bytes frame index i
 
 pub word_written : (bytes : List ℕ) (frame index word : ℕ) → index < 1024 → 4096 * frame + 4096 ≤ length bytes
-    → frame_bytes (with_word bytes (frame * 4096 + index * 4) word) ≡ with_frame (frame_bytes bytes) frame (with_word_in (frame_bytes bytes frame) index word)
+    → frame_bytes (with_word bytes (4096 * frame + index * 4) word) ≡ with_frame (frame_bytes bytes) frame (with_word_in (frame_bytes bytes frame) index word)
 word_written bytes frame index word i l = ap (λ p. frame_bytes (with_word bytes p word)) (place frame index) ∙ frames-with_word bytes frame index word i l
 
 -- a blank frame that is then linked

@@ -8,7 +8,7 @@
 
 ghost use Rattle.std.specs.Prelude.{◌≡◌, ◌≢◌, ℕ, ◌+◌, ◌*◌, ◌<◌, ◌≤◌, ◌^◌, true, false, is_some, Some, None, IfSome, IfNone, length};
 ghost use Rattle.page_words.specs.Words.{is_present, frame_number};
-ghost use Rattle.page_words.specs.Addresses.{slot_number, IsUserPage};
+ghost use Rattle.page_words.specs.Addresses.{slot_number, index_number, IsUserPage};
 ghost use Rattle.page_words.specs.FiniteMap as map;
 ghost use Rattle.phys_memory.specs.Bytes.{frame_bytes, word_in, with_word_in, with_frame};
 ghost use Rattle.page_map.specs.Entries.{IsPageMap, IsForeign, IsFreshTable, IsKernelEntry, IsLastEntry, HasOtherEntry, IsCleared, dir_word, table_of, entry_at, word_entry, entry_word, with_entry, with_table, link_word};
@@ -19,10 +19,10 @@ use page_words::{DirWord, Frame, Page, TableWord, index_of, slot_of};
 use phys_memory::{FRAME_BYTES, Memory};
 
 /// The first slot of the user range.
-const FIRST_SLOT: u32 = 256;
+pub const FIRST_SLOT: u32 = 256;
 
 /// The slot behind the last one of the user range.
-const SLOT_END: u32 = 960;
+pub const SLOT_END: u32 = 960;
 
 /// What a page map says of a page.
 #[derive(Clone, Copy, Debug, PartialEq, Eq)]
@@ -71,8 +71,16 @@ fn linking(table: Frame) -> u32
     word.word()
 }
 
+/// The place in memory of a byte of a frame.
+pub fn place_of(frame: Frame, at: u32) -> usize
+    requires frame { frame < 2 ^ 20 }
+    requires inside { at < 4096 }
+    ensures { result ≡ 4096 * frame + at }
+{
+    frame.0 as usize * FRAME_BYTES + at as usize
+}
+
 /// The word of an index of a frame.
-#[tactic(auto, using(crate::proofs::Steps::word_read))]
 fn word(memory: &Memory, frame: Frame, index: u32) -> u32
     requires inside { 4096 * frame + 4096 ≤ length memory.now }
     requires index { index < 1024 }
@@ -80,7 +88,7 @@ fn word(memory: &Memory, frame: Frame, index: u32) -> u32
 {
     let frames = memory.frames();
     prove!(frame.0 < frames);
-    memory.read_word(frame.0 as usize * FRAME_BYTES + index as usize * 4)
+    memory.read_word(place_of(frame, index * 4))
 }
 
 /// Writes the word of an index of a frame.
@@ -92,7 +100,7 @@ fn set_word(memory: &mut Memory, frame: Frame, index: u32, word: u32)
 {
     let frames = memory.frames();
     prove!(frame.0 < frames);
-    memory.write_word(frame.0 as usize * FRAME_BYTES + index as usize * 4, word);
+    memory.write_word(place_of(frame, index * 4), word);
 }
 
 /// The table of a slot of the directory, which may be empty, or None where the slot has none.
@@ -130,6 +138,14 @@ fn word_entry(memory: &Memory, table: Frame, index: u32) -> Option<PageEntry>
     }
 }
 
+/// The entry that a table has for a page, or None where it has none.
+pub fn entry_in(memory: &Memory, table: Frame, page: Page) -> Option<PageEntry>
+    requires { 4096 * table + 4096 ≤ length memory.now }
+    ensures { result ≡ word_entry (word_in (frame_bytes memory.now table) (index_number page)) }
+{
+    word_entry(memory, table, index_of(page))
+}
+
 /// The entry of a page, or None where it is not mapped.
 #[tactic(auto, using(crate::proofs::PageLemmas::entry_of_map))]
 pub fn entry(memory: &Memory, directory: Frame, page: Page) -> Option<PageEntry>
@@ -139,7 +155,7 @@ pub fn entry(memory: &Memory, directory: Frame, page: Page) -> Option<PageEntry>
     ensures entry { result ≡ map.get (entries_of (frame_bytes memory.now) directory) page }
 {
     let table = table(memory, directory, slot_of(page))?;
-    word_entry(memory, table, index_of(page))
+    entry_in(memory, table, page)
 }
 
 /// Whether a slot of the directory has a table, which may be empty.
@@ -184,6 +200,16 @@ pub fn link_table(memory: &mut Memory, directory: Frame, slot: u32, table: Frame
     store_table(memory, directory, slot, table);
 }
 
+/// Writes the entry that a table has for a page.
+pub fn put_entry(memory: &mut Memory, table: Frame, page: Page, entry: PageEntry)
+    requires inside { 4096 * table + 4096 ≤ length memory.old }
+    requires frame { entry.frame < 2 ^ 20 }
+    ensures frames { frame_bytes memory.new ≡ with_entry (frame_bytes memory.old) table page entry }
+    ensures length { length memory.new ≡ length memory.old }
+{
+    set_word(memory, table, index_of(page), word_of(entry));
+}
+
 fn store_entry(memory: &mut Memory, directory: Frame, page: Page, entry: PageEntry)
     requires user { IsUserPage page }
     requires frame { entry.frame < 2 ^ 20 }
@@ -193,7 +219,7 @@ fn store_entry(memory: &mut Memory, directory: Frame, page: Page, entry: PageEnt
     ensures length { length memory.new ≡ length memory.old }
 {
     if let Some(table) = table(memory, directory, slot_of(page)) {
-        set_word(memory, table, index_of(page), word_of(entry));
+        put_entry(memory, table, page, entry);
     }
 }
 

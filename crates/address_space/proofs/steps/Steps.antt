@@ -103,6 +103,16 @@ table_given directories bytes bytes' roles roles' p d s t sound live low high no
           (u.0, u.1, ap (λ l. is_present (word_in l u.0)) ((λ i. is i f) ∙ kept_table D m R T p d s t live none free small low high q r f old) ∙ u.2);
     }
 
+-- and it is the slot's table then
+pub table_given_there : (directories : List (Option ℕ)) (bytes bytes' : List ℕ) (roles roles' : List Role) (p d s t : ℕ) → IsSound directories bytes roles → directory_of directories p ≡ Some d
+    → 256 ≤ s → s < 960 → table_of (frame_bytes bytes) d s ≡ None → IsTaken roles t (Table p s) roles' → frame_bytes bytes' ≡ with_table (frame_bytes bytes) d s t
+    → table_in (directory_of directories) (frame_bytes bytes') p s ≡ Some t
+table_given_there directories bytes bytes' roles roles' p d s t sound live low high none taken is =
+    let D : Directories = directory_of directories in
+    let free : slice_get roles t ≡ Some Free = taken.was_free in
+    let small = (inside directories bytes roles t Free sound free).small in
+    ap (λ x. table_in D x p s) is ∙ linked-own D (frame_bytes bytes) (slice_get roles) sound.tables p d s t live none free small low high
+
 -- a process with a directory is one of the 64
 pub live_small : (directories : List (Option ℕ)) (p d : ℕ) → length directories ≡ 64 → directory_of directories p ≡ Some d → p < 64
 live_small directories p d l live = by (slice_get directories p) refl live

@@ -1,4 +1,4 @@
-use Rattle.std.proofs.Common.{◌+◌, ◌*◌, ap, ◌∙◌}
+use Rattle.std.proofs.Common.{ap, ◌∙◌}
 use Rattle.phys_memory.specs.Bytes.{with_word, frame_bytes}
 use Rattle.page_map.proofs.Steps.{word_written}
 use Rattle.page_map.proofs.set_word.Goals as goal
@@ -6,5 +6,5 @@ use Rattle.page_map.proofs.set_word.Goals as goal
 pub returns-clause-frames : goal.returns-clause-frames
 returns-clause-frames c =
     ap frame_bytes c.write_word.ensures.bytes
-    ∙ ap (λ f. frame_bytes (with_word c.args.memory.now (f * 4096 + c.args.index * 4) c.args.word)) c.frame.view_is
+    ∙ ap (λ p. frame_bytes (with_word c.args.memory.now p c.args.word)) c.place_of.ensures
     ∙ word_written c.args.memory.now c.args.frame c.args.index c.args.word c.requires.index c.requires.inside

@@ -13,7 +13,7 @@ returns-in_default-clause-value c =
     let live = subst (λ (v : View). directory_of v.directories c.args.pid ≡ Some c.args.directory) (sym c.self.view_is) c.requires.live in
     let found = subst (λ (v : View). (i : ℕ) → i < byte_count c.args.size → IsOk (walk_of v.bytes c.args.directory (c.args.address + i) Read)) (sym c.self.view_is) c.requires.found in
     c.found_number-value.ensures
-    ∙ number_is c.self.inside.directories c.self.inside.memory c.self.inside.frames c.args.pid c.args.directory c.args.address c.args.size c.self.invariant.spaces.sound live c.requires.fits found
+    ∙ number_is c.self.inside.paged.directories c.self.inside.paged.memory c.self.inside.paged.frames c.args.pid c.args.directory c.args.address c.args.size c.self.invariant.spaces.sound live c.requires.fits found
     ∙ ap (λ (v : View). number_of v.spaces c.args.pid (covered c.args.address c.args.size)) c.self.view_is
 
 pub returns-clause-value : goal.returns-clause-value
@@ -21,5 +21,5 @@ returns-clause-value c =
     let live = subst (λ (v : View). directory_of v.directories c.args.pid ≡ Some c.args.directory) (sym c.self.view_is) c.requires.live in
     let found = subst (λ (v : View). (i : ℕ) → i < byte_count c.args.size → IsOk (walk_of v.bytes c.args.directory (c.args.address + i) Read)) (sym c.self.view_is) c.requires.found in
     c.found_number-value.ensures
-    ∙ number_is c.self.inside.directories c.self.inside.memory c.self.inside.frames c.args.pid c.args.directory c.args.address c.args.size c.self.invariant.spaces.sound live c.requires.fits found
+    ∙ number_is c.self.inside.paged.directories c.self.inside.paged.memory c.self.inside.paged.frames c.args.pid c.args.directory c.args.address c.args.size c.self.invariant.spaces.sound live c.requires.fits found
     ∙ ap (λ (v : View). number_of v.spaces c.args.pid (covered c.args.address c.args.size)) c.self.view_is

@@ -11,14 +11,14 @@ pub returns : goal.returns
 returns c = by c.look.result c.look.ensures
   where
     S : ℕ → ℕ → ℕ
-    S page at = value_of (bytes_at (cell_or_fresh (spaces_in c.self.inside.directories c.self.inside.memory) (at_page c.args.pid page)).bytes at (byte_count c.args.size))
+    S page at = value_of (bytes_at (cell_or_fresh (spaces_in c.self.inside.paged.directories c.self.inside.paged.memory) (at_page c.args.pid page)).bytes at (byte_count c.args.size))
 
     within : second_page c.args.address c.args.size ≡ None
     within = no_value _ (ap is_some (sym c.second_page.ensures) ∙ sym c.is_some.ensures ∙ c.if-is_some.false)
 
     same : S c.page_of.result c.offset_of.result ≡ number_of c.args.self.now.spaces c.args.pid (covered c.args.address c.args.size)
     same = (λ i. S (c.page_of.ensures.value i) (c.offset_of.ensures.value i))
-        ∙ sym (number_in_page (spaces_in c.self.inside.directories c.self.inside.memory) c.args.pid c.args.address c.args.size within)
+        ∙ sym (number_in_page (spaces_in c.self.inside.paged.directories c.self.inside.paged.memory) c.args.pid c.args.address c.args.size within)
         ∙ ap (λ (v : View). number_of v.spaces c.args.pid (covered c.args.address c.args.size)) c.self.view_is
 
     by : (x : Option ℕ) → IfSome x (λ value. value ≡ S c.page_of.result c.offset_of.result) → IfSome x (λ value. value ≡ number_of c.args.self.now.spaces c.args.pid (covered c.args.address c.args.size))

@@ -13,6 +13,6 @@ pub invariant_of-self : goal.invariant_of-self
 invariant_of-self c =
     let live = subst (λ (v : View). directory_of v.directories c.args.pid ≡ Some c.args.directory) (sym c.self.view_is) c.requires.live in
     let found = subst (λ (v : View). IsOk (walk_of v.bytes c.args.directory c.args.address Read)) (sym c.self.view_is) c.requires.found in
-    kept_touched c.self.inside.directories c.self.inside.memory c.mark_load.new.memory c.self.inside.frames c.self.inside.counts.items _ c.self.invariant c.mark_load.ensures.touched
-    (kept (spaces_in c.self.inside.directories c.self.inside.memory) (slot_at c.args.pid c.args.address) _
-    (found_mapped c.self.inside.directories c.self.inside.memory c.self.inside.frames c.args.pid c.args.directory c.args.address Read c.self.invariant.spaces.sound live c.requires.fits found))
+    kept_touched c.self.inside.paged.directories c.self.inside.paged.memory c.mark_load.new.memory c.self.inside.paged.frames c.self.inside.paged.counts.items _ c.self.invariant c.mark_load.ensures.touched
+    (kept (spaces_in c.self.inside.paged.directories c.self.inside.paged.memory) (slot_at c.args.pid c.args.address) _
+    (found_mapped c.self.inside.paged.directories c.self.inside.paged.memory c.self.inside.paged.frames c.args.pid c.args.directory c.args.address Read c.self.invariant.spaces.sound live c.requires.fits found))

@@ -9,4 +9,4 @@ use Rattle.address_space.proofs.Spaces.relief.Goals as goal
 pub relief_in-requires-clause-live : goal.relief_in-requires-clause-live
 relief_in-requires-clause-live c =
     let U : View → Type 0 = λ v. is_some (map.get v.spaces (at_page c.args.pid c.args.page)) ≡ true in
-    mapped_live c.self.inside.directories c.self.inside.memory c.args.pid c.args.page (mapped_slot c.self.inside.directories c.self.inside.memory c.args.pid c.args.page (subst U (sym c.self.view_is) c.requires.mapped))
+    mapped_live c.self.inside.paged.directories c.self.inside.paged.memory c.args.pid c.args.page (mapped_slot c.self.inside.paged.directories c.self.inside.paged.memory c.args.pid c.args.page (subst U (sym c.self.view_is) c.requires.mapped))

@@ -14,16 +14,16 @@ pub store_through-requires-clause-found : goal.store_through-requires-clause-fou
 store_through-requires-clause-found c =
     let test = subst (λ (v : View). finds (image_of v) c.args.pid c.args.address c.args.size Write ≡ true) (sym c.self.view_is) c.requires in
     subst (λ (v : View). (i : ℕ) → i < byte_count c.args.size → IsOk (walk_of v.bytes c.home-directory.result (c.args.address + i) Write)) c.self.view_is
-    (found_each c.self.inside.directories c.self.inside.memory c.self.inside.frames c.args.pid c.home-directory.result c.args.address c.args.size Write c.self.invariant.spaces.sound c.home-directory.ensures test).found
+    (found_each c.self.inside.paged.directories c.self.inside.paged.memory c.self.inside.paged.frames c.args.pid c.home-directory.result c.args.address c.args.size Write c.self.invariant.spaces.sound c.home-directory.ensures test).found
 
 pub store_through-requires-clause-fits : goal.store_through-requires-clause-fits
 store_through-requires-clause-fits c =
     let test = subst (λ (v : View). finds (image_of v) c.args.pid c.args.address c.args.size Write ≡ true) (sym c.self.view_is) c.requires in
-    found_fits c.self.inside.memory c.home-directory.result c.args.address c.args.size Write
-    (found_each c.self.inside.directories c.self.inside.memory c.self.inside.frames c.args.pid c.home-directory.result c.args.address c.args.size Write c.self.invariant.spaces.sound c.home-directory.ensures test)
+    found_fits c.self.inside.paged.memory c.home-directory.result c.args.address c.args.size Write
+    (found_each c.self.inside.paged.directories c.self.inside.paged.memory c.self.inside.paged.frames c.args.pid c.home-directory.result c.args.address c.args.size Write c.self.invariant.spaces.sound c.home-directory.ensures test)
 
 pub returns-clause-takes : goal.returns-clause-takes
 returns-clause-takes c =
     let test = subst (λ (v : View). finds (image_of v) c.args.pid c.args.address c.args.size Write ≡ true) (sym c.self.view_is) c.requires in
     subst (λ (v : View). EachTouched c.args.address c.args.size (λ page. takes_stores v.spaces (image_of v) (at_page c.args.pid page) ≡ true)) c.self.view_is
-    ((found_pages c.self.inside.directories c.self.inside.memory c.self.inside.frames c.args.pid c.home-directory.result c.args.address c.args.size Write c.self.invariant.spaces.sound c.home-directory.ensures test).takes refl)
+    ((found_pages c.self.inside.paged.directories c.self.inside.paged.memory c.self.inside.paged.frames c.args.pid c.home-directory.result c.args.address c.args.size Write c.self.invariant.spaces.sound c.home-directory.ensures test).takes refl)

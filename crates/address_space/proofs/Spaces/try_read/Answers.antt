@@ -1,33 +1,20 @@
-use Rattle.std.proofs.Common.{◌≡◌, ◌∙◌, ap, sym, subst, refl, ℕ, List, Option, Some, None}
-use Rattle.std.specs.Prelude.{is_some, IfSome}
+use Rattle.std.proofs.Common.{◌≡◌, ◌∙◌, ap, sym, ℕ, Option, Some, None}
+use Rattle.std.specs.Prelude.{IfSome}
 use Rattle.page_words.specs.Addresses.{byte_count, covered}
 use Rattle.address_space.specs.Spaces.{at_page, cell_or_fresh, bytes_at, value_of, number_of}
 use Rattle.address_space.specs.View.{View, spaces_in}
-use Rattle.address_space.specs.Counts.{IsKept}
-use Rattle.address_space.proofs.costs.AccessCosts.{kept}
 use Rattle.address_space.proofs.steps.Bytes.{number_in_page}
-use Rattle.address_space.proofs.steps.Touches.{kept_touched}
 use Rattle.address_space.proofs.Spaces.try_read.Goals as goal
-
-pub invariant_of-self : goal.invariant_of-self
-invariant_of-self c = by c.load.result refl
-  where
-    by : (x : Option ℕ) → c.load.result ≡ x → IsKept c.self.inside.directories c.load.new.memory c.self.inside.frames c.self.inside.counts.items
-    by None is =
-        subst (λ (bytes : List ℕ). IsKept c.self.inside.directories bytes c.self.inside.frames c.self.inside.counts.items) (sym (c.load.ensures.none (ap is_some is))) c.self.invariant
-    by (Some value) is =
-        kept_touched c.self.inside.directories c.self.inside.memory c.load.new.memory c.self.inside.frames c.self.inside.counts.items _ c.self.invariant (c.load.ensures.touched (ap is_some is))
-        (kept (spaces_in c.self.inside.directories c.self.inside.memory) (at_page c.args.pid c.page_of.result) _ (sym c.load.ensures.mapped ∙ ap is_some is))
 
 pub returns-clause-value : goal.returns-clause-value
 returns-clause-value c = by c.load.result c.load.ensures.value
   where
     S : ℕ → ℕ → ℕ
-    S page at = value_of (bytes_at (cell_or_fresh (spaces_in c.self.inside.directories c.self.inside.memory) (at_page c.args.pid page)).bytes at (byte_count c.args.size))
+    S page at = value_of (bytes_at (cell_or_fresh (spaces_in c.self.inside.paged.directories c.self.inside.paged.memory) (at_page c.args.pid page)).bytes at (byte_count c.args.size))
 
     same : S c.page_of.result c.offset_of.result ≡ number_of c.args.self.now.spaces c.args.pid (covered c.args.address c.args.size)
     same = (λ i. S (c.page_of.ensures.value i) (c.offset_of.ensures.value i))
-        ∙ sym (number_in_page (spaces_in c.self.inside.directories c.self.inside.memory) c.args.pid c.args.address c.args.size c.requires.within)
+        ∙ sym (number_in_page (spaces_in c.self.inside.paged.directories c.self.inside.paged.memory) c.args.pid c.args.address c.args.size c.requires.within)
         ∙ ap (λ (v : View). number_of v.spaces c.args.pid (covered c.args.address c.args.size)) c.self.view_is
 
     by : (x : Option ℕ) → IfSome x (λ value. value ≡ S c.page_of.result c.offset_of.result) → IfSome x (λ value. value ≡ number_of c.args.self.now.spaces c.args.pid (covered c.args.address c.args.size))

@@ -9,9 +9,9 @@ use Rattle.address_space.proofs.Spaces.unmap.Goals as goal
 pub home-directory-requires : goal.home-directory-requires
 home-directory-requires c =
     let U : View → Type 0 = λ v. is_some (map.get v.spaces (at_page c.args.pid c.args.page)) ≡ true in
-    mapped_live c.self.inside.directories c.self.inside.memory c.args.pid c.args.page (mapped_slot c.self.inside.directories c.self.inside.memory c.args.pid c.args.page (subst U (sym c.self.view_is) c.requires.mapped))
+    mapped_live c.self.inside.paged.directories c.self.inside.paged.memory c.args.pid c.args.page (mapped_slot c.self.inside.paged.directories c.self.inside.paged.memory c.args.pid c.args.page (subst U (sym c.self.view_is) c.requires.mapped))
 
 pub remove_entry-requires-clause-mapped : goal.remove_entry-requires-clause-mapped
 remove_entry-requires-clause-mapped c =
     let U : View → Type 0 = λ v. is_some (map.get v.spaces (at_page c.args.pid c.args.page)) ≡ true in
-    ap is_some (mapped_entry c.self.inside.directories c.self.inside.memory c.args.pid c.home-directory.result c.args.page (mapped_slot c.self.inside.directories c.self.inside.memory c.args.pid c.args.page (subst U (sym c.self.view_is) c.requires.mapped)) c.home-directory.ensures)
+    ap is_some (mapped_entry c.self.inside.paged.directories c.self.inside.paged.memory c.args.pid c.home-directory.result c.args.page (mapped_slot c.self.inside.paged.directories c.self.inside.paged.memory c.args.pid c.args.page (subst U (sym c.self.view_is) c.requires.mapped)) c.home-directory.ensures)

@@ -1,0 +1,56 @@
+use Rattle.std.proofs.Common.{◌≡◌, ap, sym, ◌∙◌, Option, Some}
+use Rattle.std.specs.Option.{option_and_then, option_map}
+use Rattle.phys_memory.specs.Bytes.{frame_bytes}
+use Rattle.address_space.specs.Shown.{shown}
+use Rattle.address_space.specs.declared.lookup.Found.{Found}
+use Rattle.address_space.specs.Finds.{found_by, found_at}
+use Rattle.address_space.proofs.steps.FoundPages.{absent_cell, absent_lazy, need_without, need_with, found_below, found_real, found_shown}
+use Rattle.address_space.proofs.paged.Paged.seen.Goals as goal
+
+pub returns-in_default-clause-cell : goal.returns-in_default-clause-cell
+returns-in_default-clause-cell c =
+    sym (ap (option_map shown) (absent_cell c.args.self.now c.args.pid c.args.page c.requires.kept c.requires.user (ap (option_and_then (found_by (frame_bytes c.args.self.now.memory) c.args.page)) (sym c.table.ensures.table ∙ c.in_default.is))))
+
+pub returns-in_default-clause-lazy : goal.returns-in_default-clause-lazy
+returns-in_default-clause-lazy c =
+    sym (absent_lazy c.args.self.now c.args.pid c.args.page c.requires.kept (ap (option_and_then (found_by (frame_bytes c.args.self.now.memory) c.args.page)) (sym c.table.ensures.table ∙ c.in_default.is)))
+
+pub returns-in_default-clause-need : goal.returns-in_default-clause-need
+returns-in_default-clause-need c = sym (need_without c.args.self.now c.args.pid c.args.page (sym c.table.ensures.table ∙ c.in_default.is))
+
+pub returns-in_default-entry_in-clause-cell : goal.returns-in_default-entry_in-clause-cell
+returns-in_default-entry_in-clause-cell c =
+    sym (ap (option_map shown) (absent_cell c.args.self.now c.args.pid c.args.page c.requires.kept c.requires.user
+    (ap (option_and_then (found_by (frame_bytes c.args.self.now.memory) c.args.page)) (sym c.table.ensures.table ∙ c.in-Some.is)
+    ∙ ap (option_map (λ e. record { page = c.args.page; table = c.in-Some.table; entry = e })) (sym c.entry_in.ensures ∙ c.in_default-entry_in.is))))
+
+pub returns-in_default-entry_in-clause-lazy : goal.returns-in_default-entry_in-clause-lazy
+returns-in_default-entry_in-clause-lazy c =
+    sym (absent_lazy c.args.self.now c.args.pid c.args.page c.requires.kept
+    (ap (option_and_then (found_by (frame_bytes c.args.self.now.memory) c.args.page)) (sym c.table.ensures.table ∙ c.in-Some.is)
+    ∙ ap (option_map (λ e. record { page = c.args.page; table = c.in-Some.table; entry = e })) (sym c.entry_in.ensures ∙ c.in_default-entry_in.is)))
+
+pub returns-in_default-entry_in-clause-need : goal.returns-in_default-entry_in-clause-need
+returns-in_default-entry_in-clause-need c = sym (need_with c.args.self.now c.args.pid c.args.page c.in-Some.table c.requires.kept c.requires.user (sym c.table.ensures.table ∙ c.in-Some.is))
+
+pub cell-cell-requires : goal.cell-cell-requires
+cell-cell-requires c = record {
+  real = found_below c.args.self.now c.args.pid c.args.page (record { page = c.args.page; table = c.in-Some.table; entry = c.in-Some-entry_in.entry }) c.requires.kept c.requires.user
+      (ap (option_and_then (found_by (frame_bytes c.args.self.now.memory) c.args.page)) (sym c.table.ensures.table ∙ c.in-Some.is) ∙ ap (option_map (λ e. record { page = c.args.page; table = c.in-Some.table; entry = e })) (sym c.entry_in.ensures ∙ c.in-Some-entry_in.is));
+}
+
+pub returns-clause-cell : goal.returns-clause-cell
+returns-clause-cell c =
+    c.mapped.ensures.cell
+    ∙ found_shown c.args.self.now c.args.pid c.args.page (record { page = c.args.page; table = c.in-Some.table; entry = c.in-Some-entry_in.entry }) c.requires.kept c.requires.user
+    (ap (option_and_then (found_by (frame_bytes c.args.self.now.memory) c.args.page)) (sym c.table.ensures.table ∙ c.in-Some.is) ∙ ap (option_map (λ e. record { page = c.args.page; table = c.in-Some.table; entry = e })) (sym c.entry_in.ensures ∙ c.in-Some-entry_in.is))
+    c.cell-cell.result c.cell-cell.ensures.flags c.cell-cell.ensures.lazy c.cell-cell.ensures.page
+
+pub returns-clause-lazy : goal.returns-clause-lazy
+returns-clause-lazy c =
+    c.mapped.ensures.lazy
+    ∙ sym (found_real c.args.self.now c.args.pid c.args.page (record { page = c.args.page; table = c.in-Some.table; entry = c.in-Some-entry_in.entry }) c.requires.kept c.requires.user
+    (ap (option_and_then (found_by (frame_bytes c.args.self.now.memory) c.args.page)) (sym c.table.ensures.table ∙ c.in-Some.is) ∙ ap (option_map (λ e. record { page = c.args.page; table = c.in-Some.table; entry = e })) (sym c.entry_in.ensures ∙ c.in-Some-entry_in.is)))
+
+pub returns-clause-need : goal.returns-clause-need
+returns-clause-need c = c.mapped.ensures.need ∙ sym (need_with c.args.self.now c.args.pid c.args.page c.in-Some.table c.requires.kept c.requires.user (sym c.table.ensures.table ∙ c.in-Some.is))

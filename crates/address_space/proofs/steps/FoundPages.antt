@@ -1,0 +1,328 @@
+-- A page that was found: what is known of it, and what an access through it leaves.
+use Rattle.std.proofs.Common.{◌≡◌, ◌≢◌, ◌^◌, ℕ, ◌+◌, ◌<◌, ◌≤◌, Bool, true, false, not, List, length, refl, ap, sym, ◌∙◌, subst, arith, inl, inr, Option, Some, None}
+use Rattle.std.specs.Prelude.{is_some, slice_get, replicate}
+use Rattle.std.specs.Option.{option_and_then, option_map}
+use Rattle.page_words.specs.Addresses.{slot_number, index_number, byte_count, IsUserPage}
+use Rattle.page_words.specs.declared.addresses.Size.{Size}
+use Rattle.page_words.specs.FiniteMap as map
+use Rattle.std.proofs.lemmas.Bool.{and_parts}
+use Rattle.phys_memory.specs.Bytes.{frame_bytes, word_in}
+use Rattle.page_map.specs.declared.PageEntry.{PageEntry}
+use Rattle.page_map.specs.Entries.{Frames, dir_word, table_of, word_entry, entry_at, with_entry, is_lazy_entry, entry_word, IsKernelEntry}
+use Rattle.address_space.specs.declared.lookup.Found.{Found}
+use Rattle.address_space.specs.declared.paged.Paged.{Paged}
+use Rattle.address_space.specs.Spaces.{need, Slot, Spaces, Cell, cell_or_fresh, bytes_of, stored, accessed, protected, at_page}
+use Rattle.address_space.specs.Cells.{cell_of}
+use Rattle.address_space.specs.View.{Directories, directory_of, table_in, entry_in, entries_in, spaces_in}
+use Rattle.address_space.specs.Changes.{PageFilled, EntryPut, Touched, takes_stores_through}
+use Rattle.address_space.specs.Image.{is_lazy_at, takes_stores}
+use Rattle.address_space.specs.Counts.{IsKept}
+use Rattle.address_space.specs.Sound.{IsSound, Names}
+use Rattle.address_space.proofs.costs.AccessCosts.{kept, key-stored}
+use Rattle.address_space.proofs.standing.Standing.{stores_read, lazy_read, same_lazy, lazy_kept, real_kept}
+use Rattle.address_space.proofs.steps.Touches.{kept_touched}
+use Rattle.address_space.specs.Finds.{IsKeptPaged, spaces_at, image_at, table_at, found_at, found_by, found_in, LiesIn, EntryIs, BytesStored, FrameGiven}
+use Rattle.address_space.proofs.entries.Readings.{mapped_read, get-spaces_in, group_counted}
+use Rattle.address_space.proofs.frames.FewHolders.{count_few}
+use Rattle.address_space.proofs.costs.CostSteps.{need-one, need-two}
+use Rattle.alloc_table.specs.Roles.{IsPageBelow, free_frames}
+use Rattle.alloc_table.specs.declared.Role.TheVariants.{Free, Page}
+use Rattle.address_space.specs.Shown.{shown}
+use Rattle.address_space.specs.declared.Cell.{Cell as Shown}
+use Rattle.address_space.proofs.entries.EntrySteps.{tables_kept, entry_other}
+use Rattle.page_map.proofs.WordLaws.{entry_word-lt}
+use Rattle.address_space.proofs.steps.Openings.{no_cell}
+use Rattle.address_space.proofs.steps.Steps.{page_map_of, live_small, table_by_word, map_kept, zeroed, inside, free_loose}
+use Rattle.page_map.specs.Pages.{is_mapped}
+use Rattle.address_space.proofs.steps.Departures.{entry_mapped}
+use Rattle.address_space.proofs.steps.LazyFilling.{page_filled, room_to_fill}
+use Rattle.address_space.proofs.steps.CountSteps.{counts_kept, alike_taken}
+use Rattle.alloc_table.specs.declared.Role.{Role}
+use Rattle.std.proofs.lemmas.List.{length-replicate}
+use Rattle.address_space.proofs.steps.Stores.{named_entry, page_of_name, named_inside, entry_rules, cell_read, flags_set, flagged_load, flagged_right, stored_place, page_stored, written_long}
+
+-- what was found is the entry of the page's slot
+pub found_entry : (D : Directories) (m : Frames) (p page : ℕ) → option_map (λ (f : Found). f.entry) (found_in D m p page) ≡ entry_in D m (at_page p page)
+found_entry D m p page = by_directory (D p)
+  where
+    by_entry : (t : ℕ) (x : Option PageEntry) → option_map (λ (f : Found). f.entry) (option_map (λ e. record { page = page; table = t; entry = e }) x) ≡ x
+    by_entry t None = refl
+    by_entry t (Some e) = refl
+
+    by_table : (x : Option ℕ) → option_map (λ (f : Found). f.entry) (option_and_then (found_by m page) x) ≡ option_and_then (λ t. word_entry (word_in (m t) (index_number page))) x
+    by_table None = refl
+    by_table (Some t) = by_entry t (word_entry (word_in (m t) (index_number page)))
+
+    by_directory : (x : Option ℕ) → option_map (λ (f : Found). f.entry) (option_and_then (found_by m page) (option_and_then (λ d. table_of m d (slot_number page)) x)) ≡ option_and_then (λ d. entry_at m d page) x
+    by_directory None = refl
+    by_directory (Some d) = by_table (table_of m d (slot_number page))
+
+-- what is known of a page that was found
+pub record Known (directories : List (Option ℕ)) (bytes : List ℕ) (p page : ℕ) (f : Found) : Type 0 where
+  pub directory : ℕ
+  pub live : directory_of directories p ≡ Some directory
+  pub same_page : f.page ≡ page
+  pub table : table_of (frame_bytes bytes) directory (slot_number page) ≡ Some f.table
+  pub here : entry_at (frame_bytes bytes) directory page ≡ Some f.entry
+
+pub known : (directories : List (Option ℕ)) (bytes : List ℕ) (p page : ℕ) (f : Found) → found_in (directory_of directories) (frame_bytes bytes) p page ≡ Some f → Known directories bytes p page f
+known directories bytes p page f is = by_directory (directory_of directories p) refl is
+  where
+    m : Frames
+    m = frame_bytes bytes
+
+    by_entry : (d t : ℕ) → directory_of directories p ≡ Some d → table_of m d (slot_number page) ≡ Some t → (x : Option PageEntry) → word_entry (word_in (m t) (index_number page)) ≡ x
+        → option_map (λ e. record { page = page; table = t; entry = e }) x ≡ Some f → Known directories bytes p page f
+    by_entry d t live there None word h = cc
+    by_entry d t live there (Some e) word h =
+        let same : Some (record { page = page; table = t; entry = e }) ≡ Some f = h in
+        let one : record { page = page; table = t; entry = e } ≡ f = cc in
+        subst (Known directories bytes p page) one
+        (record {
+          directory = d;
+          live = live;
+          same_page = refl;
+          table = there;
+          here = ap (option_and_then (λ t. word_entry (word_in (m t) (index_number page)))) there ∙ word;
+        })
+
+    by_table : (d : ℕ) → directory_of directories p ≡ Some d → (x : Option ℕ) → table_of m d (slot_number page) ≡ x → option_and_then (found_by m page) x ≡ Some f → Known directories bytes p page f
+    by_table d live None there h = cc
+    by_table d live (Some t) there h = by_entry d t live there (word_entry (word_in (m t) (index_number page))) refl h
+
+    by_directory : (x : Option ℕ) → directory_of directories p ≡ x → option_and_then (found_by m page) (option_and_then (λ d. table_of m d (slot_number page)) x) ≡ Some f → Known directories bytes p page f
+    by_directory None live h = cc
+    by_directory (Some d) live h = by_table d live (table_of m d (slot_number page)) refl h
+
+is_some-option_map : (x : Option Found) → is_some (option_map (λ (f : Found). f.entry) x) ≡ is_some x
+is_some-option_map None = refl
+is_some-option_map (Some f) = refl
+
+-- a page is found just where it is mapped
+pub found_mapped : (paged : Paged) (p page : ℕ) → IsKeptPaged paged → IsUserPage page
+    → is_some (found_at paged p page) ≡ is_some (map.get (spaces_at paged) (at_page p page))
+found_mapped paged p page before user =
+    sym (is_some-option_map (found_at paged p page)) ∙ ap is_some (found_entry (directory_of paged.directories) (frame_bytes paged.memory) p page) ∙ by (directory_of paged.directories p) refl
+  where
+    by : (x : Option ℕ) → directory_of paged.directories p ≡ x → is_some (entry_in (directory_of paged.directories) (frame_bytes paged.memory) (at_page p page)) ≡ is_some (map.get (spaces_at paged) (at_page p page))
+    by None is = ap (λ x. is_some (option_and_then (λ d. entry_at (frame_bytes paged.memory) d page) x)) is ∙ sym (ap is_some (no_cell paged.directories paged.memory p page is))
+    by (Some d) is = ap (λ x. is_some (option_and_then (λ d. entry_at (frame_bytes paged.memory) d page) x)) is ∙ sym (mapped_read paged.directories paged.memory p d page is (live_small paged.directories p d before.spaces.sound.pids is) user.0 user.1)
+
+-- whether what was found takes stores
+pub found_takes : (paged : Paged) (p page : ℕ) → IsKeptPaged paged → IsUserPage page
+    → takes_stores_through (option_map (λ (f : Found). f.entry) (found_at paged p page)) ≡ takes_stores (spaces_at paged) (image_at paged) (at_page p page)
+found_takes paged p page before user = ap takes_stores_through (found_entry (directory_of paged.directories) (frame_bytes paged.memory) p page) ∙ stores_read paged.directories paged.memory paged.frames p page before.spaces.sound user.0 user.1
+
+pub takes_real : (e : PageEntry) → takes_stores_through (Some e) ≡ true → e.lazy ≡ false
+takes_real e h = by e.lazy (and_parts e.write (not e.lazy) h).1
+  where
+    by : (b : Bool) → not b ≡ true → b ≡ false
+    by false h = refl
+    by true h = cc
+
+-- what an access left
+pub record Left (paged : Paged) (S : Spaces) (bytes' : List ℕ) : Type 0 where
+  pub spaces : spaces_in paged.directories bytes' ≡ S
+  pub kept : IsKept paged.directories bytes' paged.frames paged.counts.items
+  -- the same slots are lazy
+  pub lazy : (q : Slot) → is_lazy_at (record { directories = paged.directories; bytes = bytes'; roles = paged.frames }) q ≡ is_lazy_at (image_at paged) q
+
+-- ---- What stands at a page
+
+-- nothing is lazy where nothing is found
+pub absent_lazy : (paged : Paged) (p page : ℕ) → IsKeptPaged paged → found_at paged p page ≡ None → is_lazy_at (image_at paged) (at_page p page) ≡ false
+absent_lazy paged p page before is =
+    same_lazy paged.directories paged.memory paged.frames before.spaces.sound (at_page p page)
+    ∙ ap is_lazy_entry (sym (found_entry (directory_of paged.directories) (frame_bytes paged.memory) p page) ∙ ap (option_map (λ (f : Found). f.entry)) is)
+
+-- its cell
+pub found_cells : (paged : Paged) (p page : ℕ) → p < 64 → IsUserPage page
+    → map.get (spaces_at paged) (at_page p page) ≡ option_map (cell_of (entries_in (directory_of paged.directories) (frame_bytes paged.memory)) (frame_bytes paged.memory) (at_page p page)) (option_map (λ (f : Found). f.entry) (found_at paged p page))
+found_cells paged p page few user =
+    get-spaces_in paged.directories paged.memory p page few user.0 user.1
+    ∙ ap (option_map (cell_of (entries_in (directory_of paged.directories) (frame_bytes paged.memory)) (frame_bytes paged.memory) (at_page p page))) (sym (found_entry (directory_of paged.directories) (frame_bytes paged.memory) p page))
+
+none_of : (x : Option Cell) → is_some x ≡ false → x ≡ None
+none_of None h = refl
+none_of (Some c) h = cc
+
+-- nothing is mapped where nothing is found
+pub absent_cell : (paged : Paged) (p page : ℕ) → IsKeptPaged paged → IsUserPage page → found_at paged p page ≡ None → map.get (spaces_at paged) (at_page p page) ≡ None
+absent_cell paged p page before user is = none_of (map.get (spaces_at paged) (at_page p page)) (sym (found_mapped paged p page before user) ∙ ap is_some is)
+
+-- what one more page costs without a table of its region, and beside one
+pub need_without : (paged : Paged) (p page : ℕ) → table_at paged p page ≡ None → need (spaces_at paged) p page ≡ 2
+unfolding spaces_in
+need_without paged p page is = need-two (directory_of paged.directories) (frame_bytes paged.memory) p page is
+
+pub need_with : (paged : Paged) (p page t : ℕ) → IsKeptPaged paged → IsUserPage page → table_at paged p page ≡ Some t → need (spaces_at paged) p page ≡ 1
+unfolding spaces_in
+need_with paged p page t before user is = need-one (directory_of paged.directories) (frame_bytes paged.memory) p page t (by (directory_of paged.directories p) refl is) user.0 user.1 is (before.spaces.in_use p (slot_number page))
+  where
+    by : (x : Option ℕ) → directory_of paged.directories p ≡ x → option_and_then (λ d. table_of (frame_bytes paged.memory) d (slot_number page)) x ≡ Some t → p < 64
+    by None live h = cc
+    by (Some d) live h = live_small paged.directories p d before.spaces.sound.pids live
+
+-- the entry of a slot is that of its table
+entry_by_table : (D : Directories) (m : Frames) (p page : ℕ) → entry_in D m (at_page p page) ≡ option_and_then (λ t. word_entry (word_in (m t) (index_number page))) (table_in D m p (slot_number page))
+entry_by_table D m p page = by (D p)
+  where
+    by : (x : Option ℕ) → option_and_then (λ d. entry_at m d page) x ≡ option_and_then (λ t. word_entry (word_in (m t) (index_number page))) (option_and_then (λ d. table_of m d (slot_number page)) x)
+    by None = refl
+    by (Some d) = refl
+
+-- a table and an entry make what is found
+found_made : (D : Directories) (m : Frames) (p page t : ℕ) (e : PageEntry) → table_in D m p (slot_number page) ≡ Some t → entry_in D m (at_page p page) ≡ Some e → found_in D m p page ≡ Some (record { page = page; table = t; entry = e })
+found_made D m p page t e table entry =
+    let word : word_entry (word_in (m t) (index_number page)) ≡ Some e = sym (entry_by_table D m p page ∙ ap (option_and_then (λ t. word_entry (word_in (m t) (index_number page)))) table) ∙ entry in
+    ap (option_and_then (found_by m page)) table ∙ ap (option_map (λ e. record { page = page; table = t; entry = e })) word
+
+-- ---- A page that was found, whose invariant holds
+
+module _ (paged : Paged) (p page : ℕ) (f : Found) (before : IsKeptPaged paged) (user : IsUserPage page) (is : found_at paged p page ≡ Some f) where
+  there : Known paged.directories paged.memory p page f
+  there = known paged.directories paged.memory p page f is
+
+  few : p < 64
+  few = live_small paged.directories p there.directory before.spaces.sound.pids there.live
+
+  pub found_lies : LiesIn paged.memory f
+  found_lies = record {
+    table = (page_map_of paged.directories paged.memory paged.frames p there.directory before.spaces.sound there.live).tables_inside (slot_number page) f.table (let h = user.1 in omega (arith, h)) there.table;
+    frame = named_inside paged.directories paged.memory paged.frames p there.directory page f.entry before.spaces.sound there.live user.0 user.1 there.here;
+  }
+
+  pub found_cell : cell_or_fresh (spaces_at paged) (at_page p page) ≡ cell_of (entries_in (directory_of paged.directories) (frame_bytes paged.memory)) (frame_bytes paged.memory) (at_page p page) f.entry
+  found_cell = cell_read paged.directories paged.memory p there.directory page f.entry there.live few user.0 user.1 there.here
+
+  -- it is lazy as the image says
+  pub found_real : is_lazy_at (image_at paged) (at_page p page) ≡ f.entry.lazy
+  found_real = sym (lazy_read paged.directories paged.memory paged.frames p there.directory page before.spaces.sound there.live) ∙ ap is_lazy_entry there.here
+
+  rules : IsKernelEntry f.entry
+  rules = entry_rules paged.directories paged.memory paged.frames p there.directory page f.entry before.spaces.sound there.live there.here
+
+  -- the frame of a page that isn't lazy has a count
+  pub found_below : f.entry.lazy ≡ false → IsPageBelow paged.frames f.entry.frame 4294967295
+  found_below real =
+      let n = named_entry paged.directories paged.memory paged.frames p there.directory page f.entry before.spaces.sound there.live user.0 user.1 there.here in
+      let r = page_of_name paged.directories paged.memory paged.frames (at_page p page) f.entry.frame before.spaces.sound n (rules.frame real) in
+      record { count = r.count; page = r.page; below = count_few (directory_of paged.directories) (frame_bytes paged.memory) (slice_get paged.frames) f.entry.frame r.count before.spaces.sound.pages r.page }
+
+  pub found_known : Known paged.directories paged.memory p page f
+  found_known = there
+
+  -- its slot names its frame, which is not frame 0 unless it is lazy
+  pub found_named : Names (entries_in (directory_of paged.directories) (frame_bytes paged.memory)) (at_page p page) f.entry.frame
+  found_named = named_entry paged.directories paged.memory paged.frames p there.directory page f.entry before.spaces.sound there.live user.0 user.1 there.here
+
+  pub found_least : f.entry.lazy ≡ false → 1 ≤ f.entry.frame
+  found_least = rules.frame
+
+  -- its cell, as it is shown
+  pub found_shown : (c : Shown) → c ≡ record { write = f.entry.write; may = f.entry.may; accessed = f.entry.accessed; dirty = f.entry.dirty; holders = c.holders }
+      → (f.entry.lazy ≡ true → c.holders ≡ 1) → (f.entry.lazy ≡ false → slice_get paged.frames f.entry.frame ≡ Some (Page c.holders)) → Some c ≡ option_map shown (map.get (spaces_at paged) (at_page p page))
+  found_shown c flags lazy real =
+      let count = group_counted paged.directories paged.memory paged.frames (at_page p page) f.entry c.holders before.spaces.sound rules lazy real in
+      ap Some (flags ∙ (λ i. record { write = f.entry.write; may = f.entry.may; accessed = f.entry.accessed; dirty = f.entry.dirty; holders = count i }))
+      ∙ sym (ap (option_map shown) (found_cells paged p page few user ∙ ap (λ x. option_map (cell_of (entries_in (directory_of paged.directories) (frame_bytes paged.memory)) (frame_bytes paged.memory) (at_page p page)) (option_map (λ (f : Found). f.entry) x)) is))
+
+  entry_put_at : (one two : List ℕ) (e' : PageEntry) → table_of (frame_bytes one) there.directory (slot_number page) ≡ Some f.table → EntryIs one f e' two → EntryPut one there.directory page f.entry e' two
+  entry_put_at one two e' table (inl stays) = inl stays
+  entry_put_at one two e' table (inr written) =
+      inr (written ∙ ap (λ g. with_entry (frame_bytes one) f.table g e') there.same_page ∙ sym (ap (λ t. with_entry (frame_bytes one) t page e') (table_by_word (dir_word (frame_bytes one) there.directory (slot_number page)) f.table table)))
+
+  -- the slot is mapped
+  pub found_there : is_some (map.get (spaces_at paged) (at_page p page)) ≡ true
+  found_there = sym (found_mapped paged p page before user) ∙ ap is_some is
+
+  left : (two : List ℕ) (S : Spaces) → Touched paged.directories S paged.memory paged.frames two → ((q : Slot) → map.contains_key S q ≡ map.contains_key (spaces_at paged) q) → Left paged S two
+  left two S touched keys = record {
+    spaces = touched.spaces;
+    kept = kept_touched paged.directories paged.memory two paged.frames paged.counts.items S before touched keys;
+    lazy = lazy_kept paged.directories paged.memory two paged.frames before.spaces.sound touched.sound touched.lazy;
+  }
+
+  -- another page that was found is found still, where this one's entry was set
+  pub found_apart : (two : List ℕ) (e' : PageEntry) (other : ℕ) (g : Found) → e'.frame < 2 ^ 20 → other ≢ page → EntryIs paged.memory f e' two → found_at paged p other ≡ Some g
+      → found_in (directory_of paged.directories) (frame_bytes two) p other ≡ Some g
+  found_apart two e' other g small apart (inl stays) was = ap (λ x. found_in (directory_of paged.directories) (frame_bytes x) p other) stays.1 ∙ was
+  found_apart two e' other g small apart (inr written) was =
+      let D : Directories = directory_of paged.directories in
+      let m : Frames = frame_bytes paged.memory in
+      let T = before.spaces.sound.tables in
+      let s = known paged.directories paged.memory p other g was in
+      let up : frame_bytes two ≡ with_entry m f.table page e' = written ∙ ap (λ n. with_entry m f.table n e') there.same_page in
+      let table = ap (λ x. table_in D x p (slot_number other)) up ∙ tables_kept D m (slice_get paged.frames) T p there.directory page f.table (entry_word e') there.live there.table (entry_word-lt e' small) p (slot_number other)
+      ∙ ap (option_and_then (λ d. table_of m d (slot_number other))) s.live ∙ s.table in
+      let entry = ap (λ x. entry_in D x (at_page p other)) up ∙ entry_other D m (slice_get paged.frames) T p there.directory page f.table (entry_word e') there.live there.table (entry_word-lt e' small) (at_page p other) (λ same. apart (ap (λ (q : Slot). q.page) same))
+      ∙ ap (option_and_then (λ d. entry_at m d other)) s.live ∙ s.here in
+      found_made D (frame_bytes two) p other g.table g.entry table entry ∙ ap Some (λ i. record { page = sym s.same_page i; table = g.table; entry = g.entry })
+
+  -- a load
+  pub found_loaded : (two : List ℕ) → EntryIs paged.memory f (record f.entry { accessed = true }) two → length two ≡ length paged.memory → Left paged (accessed (spaces_at paged) (at_page p page)) two
+  found_loaded two put long =
+      left two (accessed (spaces_at paged) (at_page p page))
+      (subst (λ (s : Spaces). Touched paged.directories s paged.memory paged.frames two) (flagged_load paged.directories paged.memory p there.directory page f.entry there.live few user.0 user.1 there.here)
+      (flags_set paged.directories paged.memory two paged.frames p there.directory page f.entry f.entry.write true before.spaces.sound there.live user.0 user.1 there.here
+      (entry_rules paged.directories paged.memory paged.frames p there.directory page f.entry before.spaces.sound there.live there.here).right (λ _. refl) (entry_put_at paged.memory two (record f.entry { accessed = true }) there.table put) long))
+      (kept (spaces_at paged) (at_page p page) _ found_there)
+
+  -- a change of the right
+  pub found_protected : (two : List ℕ) (write : Bool) → (write ≡ true → (cell_or_fresh (spaces_at paged) (at_page p page)).may ≡ true) → EntryIs paged.memory f (record f.entry { write = write }) two → length two ≡ length paged.memory
+      → Left paged (protected (spaces_at paged) (at_page p page) write) two
+  found_protected two write may put long =
+      left two (protected (spaces_at paged) (at_page p page) write)
+      (subst (λ (s : Spaces). Touched paged.directories s paged.memory paged.frames two) (flagged_right paged.directories paged.memory p there.directory page f.entry write there.live few user.0 user.1 there.here)
+      (flags_set paged.directories paged.memory two paged.frames p there.directory page f.entry write f.entry.accessed before.spaces.sound there.live user.0 user.1 there.here
+      (λ w. sym (ap (λ (c : Cell). c.may) found_cell) ∙ may w) (entry_rules paged.directories paged.memory paged.frames p there.directory page f.entry before.spaces.sound there.live there.here).touched (entry_put_at paged.memory two (record f.entry { write = write }) there.table put) long))
+      (kept (spaces_at paged) (at_page p page) _ found_there)
+
+  -- a store
+  pub found_stored : (two : List ℕ) (at : ℕ) (size : Size) (value : ℕ) → f.entry.lazy ≡ false → at + byte_count size ≤ 4096 → BytesStored paged.memory f at (bytes_of (byte_count size) value) two
+      → Left paged (stored (spaces_at paged) (at_page p page) at (bytes_of (byte_count size) value)) two
+  found_stored two at size value real inside s =
+      left two (stored (spaces_at paged) (at_page p page) at (bytes_of (byte_count size) value))
+      (let d = there.directory in
+      let place = stored_place paged.directories paged.memory paged.frames p d page f.entry before.spaces.sound there.live user.0 user.1 there.here real in
+      let long = written_long (frame_bytes paged.memory f.entry.frame) at size value place.long inside in
+      let kept = map_kept paged.directories paged.memory s.between paged.frames p d f.entry.frame _ before.spaces.sound there.live place.loose long s.written s.between_long in
+      page_stored paged.directories paged.memory s.between two paged.frames p d page at (bytes_of (byte_count size) value) f.entry before.spaces.sound there.live user.0 user.1 there.here real long s.written s.between_long
+      (entry_put_at s.between two (record f.entry { accessed = true; dirty = true }) (kept.tables (slot_number page) ∙ there.table) s.entry) s.long)
+      (λ q. key-stored (spaces_at paged) (at_page p page) at (bytes_of (byte_count size) value) (cell_or_fresh (spaces_at paged) (at_page p page)) q ∙ kept (spaces_at paged) (at_page p page) (cell_or_fresh (spaces_at paged) (at_page p page)) found_there q)
+
+  -- a frame of its own
+  pub found_filled : (two : List ℕ) (roles' : List Role) → f.entry.lazy ≡ true → FrameGiven paged.memory paged.frames f two roles' → PageFilled paged.directories p page paged.memory paged.frames two roles'
+  found_filled two roles' lazy g =
+      let R = slice_get paged.frames in
+      let free = g.taken.was_free in
+      let is = zeroed paged.memory g.between g.frame (inside paged.directories paged.memory paged.frames g.frame Free before.spaces.sound free) g.zeros in
+      let kept = map_kept paged.directories paged.memory g.between paged.frames p there.directory g.frame (replicate 4096 0) before.spaces.sound there.live (free_loose R g.frame free) (length-replicate {A = ℕ} 4096 0) is g.between_long in
+      let table = kept.tables (slot_number page) ∙ there.table in
+      let written = g.entry ∙ ap (λ n. with_entry (frame_bytes g.between) f.table n (record f.entry { frame = g.frame; lazy = false })) there.same_page
+      ∙ sym (ap (λ t. with_entry (frame_bytes g.between) t page (record f.entry { frame = g.frame; lazy = false })) (table_by_word (dir_word (frame_bytes g.between) there.directory (slot_number page)) f.table table)) in
+      page_filled paged.directories paged.memory g.between two paged.frames roles' p there.directory page g.frame f.entry before.spaces there.live user.0 user.1 there.here lazy g.taken is g.between_long written g.long
+
+  pub filled_kept : (two : List ℕ) (roles' : List Role) → FrameGiven paged.memory paged.frames f two roles' → PageFilled paged.directories p page paged.memory paged.frames two roles' → IsKept paged.directories two roles' paged.counts.items
+  filled_kept two roles' g filled = record {
+    spaces = filled.after;
+    counted = counts_kept (spaces_at paged) (spaces_in paged.directories two) paged.frames roles' filled.spaces (alike_taken (spaces_at paged) paged.frames roles' g.frame (Page 1) g.taken refl) paged.counts.items before.counted;
+  }
+
+  pub room_found : f.entry.lazy ≡ true → 0 < free_frames paged.frames
+  room_found lazy = room_to_fill paged.directories paged.memory paged.frames p there.directory page f.entry before.spaces there.live user.0 user.1 there.here lazy
+
+-- a page that was filled isn't lazy
+pub filled_real : (directories : List (Option ℕ)) (bytes bytes' : List ℕ) (roles roles' : List Role) (p page : ℕ) → PageFilled directories p page bytes roles bytes' roles' → is_lazy_at (record { directories = directories; bytes = bytes'; roles = roles' }) (at_page p page) ≡ false
+filled_real directories bytes bytes' roles roles' p page filled = same_lazy directories bytes' roles' filled.after.sound (at_page p page) ∙ ap is_lazy_entry filled.real.1 ∙ filled.real.2
+
+-- and no other page became lazy
+pub filled_others : (directories : List (Option ℕ)) (bytes bytes' : List ℕ) (roles roles' : List Role) (p page : ℕ) → IsSound directories bytes roles → PageFilled directories p page bytes roles bytes' roles'
+    → (q : Slot) → is_lazy_at (record { directories = directories; bytes = bytes; roles = roles }) q ≡ false → is_lazy_at (record { directories = directories; bytes = bytes'; roles = roles' }) q ≡ false
+filled_others directories bytes bytes' roles roles' p page sound filled = real_kept directories bytes bytes' roles roles' sound filled.after.sound filled.fewer
+
+-- a page that a directory maps is one of its process
+pub page_there : (directories : List (Option ℕ)) (bytes : List ℕ) (p d page : ℕ) → length directories ≡ 64 → directory_of directories p ≡ Some d → IsUserPage page → is_mapped (frame_bytes bytes) d page ≡ true
+    → is_some (map.get (spaces_in directories bytes) (at_page p page)) ≡ true
+page_there directories bytes p d page long live user mapped =
+    mapped_read directories bytes p d page live (live_small directories p d long live) user.0 user.1 ∙ entry_mapped (frame_bytes bytes) d page user mapped

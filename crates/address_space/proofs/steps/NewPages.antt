@@ -1,0 +1,206 @@
+-- A page that gets an entry: its table, which may be linked for it, the count of the table, and the entry.
+use Rattle.std.proofs.Common.{◌≡◌, ℕ, ◌+◌, ◌*◌, ◌^◌, ◌<◌, ◌≤◌, Bool, true, false, List, length, refl, ap, sym, ◌∙◌, subst, arith, inl, inr, Option, Some, None}
+use Rattle.std.specs.Prelude.{is_some, slice_get, slice_set, ◌⊎◌}
+use Rattle.std.specs.Option.{option_and_then}
+use Rattle.page_words.specs.Addresses.{slot_number, IsUserPage}
+use Rattle.page_words.specs.Words.{frame_number}
+use Rattle.page_words.specs.FiniteMap as map
+use Rattle.phys_memory.specs.Bytes.{frame_bytes}
+use Rattle.alloc_table.specs.declared.Role.{Role}
+use Rattle.alloc_table.specs.declared.Role.TheVariants.{Directory, Free, Table, Page}
+use Rattle.alloc_table.specs.Roles.{free_frames, IsTaken, IsPageBelow}
+use Rattle.page_map.specs.declared.PageEntry.{PageEntry}
+use Rattle.page_map.specs.Entries.{Frames, dir_word, table_of, entry_at, with_entry, with_table}
+use Rattle.address_space.specs.Spaces.{Slot, Spaces, at_page, fresh, cell_or_fresh, copy_of}
+use Rattle.address_space.specs.View.{directory_of, table_in, entries_in, spaces_in}
+use Rattle.address_space.specs.Sound.{IsSound, IsSpaces, Names, Inside}
+use Rattle.address_space.specs.Counts.{IsCounted, IsKept, KeepsCounts, AlwaysMapsAlike, MapsOneMore}
+use Rattle.address_space.specs.Changes.{table_need, TableGiven, SlotAdded, PageAdded, SlotJoined, SlotCopied, PageCopied}
+use Rattle.address_space.specs.Finds.{TableReady, TableStays, TableIsNew, CountedUp, EntryCopied}
+use Rattle.address_space.proofs.costs.Costed.{Room, room_for_table, room_for_page, mapped}
+use Rattle.address_space.proofs.steps.CountSteps.{counted_roles, table_counted, table_count, count_there, count_fits, page_counted, one_inserted, alike_taken}
+use Rattle.address_space.proofs.steps.Steps.{page_map_of, inside, table_by_word, table_given, table_given_there, lazy_entry, page_added}
+use Rattle.address_space.proofs.steps.Stores.{HasPage, page_of_name}
+use Rattle.address_space.proofs.steps.Joins.{slot_joined}
+use Rattle.address_space.proofs.frames.FewHolders.{count_few}
+use Rattle.address_space.proofs.costs.Totals.{key-joined}
+use Rattle.address_space.specs.Counts.{region_pages, pages_under}
+use Rattle.address_space.proofs.steps.Copies.{copied_entry, lazy_copied, real_copied, frame_copied, entry_stays, page_copied}
+
+-- an entry that was written into a table, by the directory's word that leads to it
+pub entry_by_word : (m two : Frames) (d page t : ℕ) (e : PageEntry) → table_of m d (slot_number page) ≡ Some t → two ≡ with_entry m t page e → two ≡ with_entry m (frame_number (dir_word m d (slot_number page))) page e
+entry_by_word m two d page t e there is = is ∙ sym (ap (λ x. with_entry m x page e) (table_by_word (dir_word m d (slot_number page)) t there))
+
+-- nothing has to be linked where a table is there
+table_stays : (directories : List (Option ℕ)) (bytes : List ℕ) (roles : List Role) (p d s t : ℕ) → IsSound directories bytes roles → directory_of directories p ≡ Some d → table_of (frame_bytes bytes) d s ≡ Some t
+    → TableGiven directories p s bytes roles bytes roles
+table_stays directories bytes roles p d s t sound live there =
+    let named : table_in (directory_of directories) (frame_bytes bytes) p s ≡ Some t = ap (option_and_then (λ x. table_of (frame_bytes bytes) x s)) live ∙ there in
+    let n : table_need (table_in (directory_of directories) (frame_bytes bytes) p s) ≡ 0 = ap table_need named in
+    record {
+      sound = sound;
+      entries = refl;
+      spaces = refl;
+      table = (t, named);
+      weight = omega (arith, n);
+      length = refl;
+      others = λ q r apart used. used;
+    }
+
+-- what is known once a page's table is there
+record Ready (directories : List (Option ℕ)) (bytes : List ℕ) (roles : List Role) (p d page t : ℕ) (one : List ℕ) (roles1 : List Role) : Type 0 where
+  given : TableGiven directories p (slot_number page) bytes roles one roles1
+  there : table_of (frame_bytes one) d (slot_number page) ≡ Some t
+  counted : KeepsCounts (spaces_in directories bytes) roles (spaces_in directories one) roles1
+
+module _ (directories : List (Option ℕ)) (bytes : List ℕ) (roles : List Role) (p d page t : ℕ) (one : List ℕ) (roles1 : List Role) (before : IsSpaces directories bytes roles) (user : IsUserPage page) (live : directory_of directories p ≡ Some d) where
+  low : 256 ≤ slot_number page
+  low = let h = user.0 in omega (arith, h)
+
+  high : slot_number page < 960
+  high = let h = user.1 in omega (arith, h)
+
+  ready : TableReady bytes roles p d (slot_number page) t one roles1 → Ready directories bytes roles p d page t one roles1
+  ready (inl s) =
+      subst (λ b. Ready directories bytes roles p d page t b roles1) (sym s.same_bytes)
+      (subst (λ r. Ready directories bytes roles p d page t bytes r) (sym s.same_roles)
+      (record { given = table_stays directories bytes roles p d (slot_number page) t before.sound live s.there; there = s.there; counted = λ counts is. is }))
+  ready (inr n) =
+      let given = table_given directories bytes one roles roles1 p d (slot_number page) t before.sound live low high n.none n.taken n.linked n.long in
+      record {
+        given = given;
+        there = ap (λ x. option_and_then (λ y. table_of (frame_bytes one) y (slot_number page)) x) (sym live) ∙ table_given_there directories bytes one roles roles1 p d (slot_number page) t before.sound live low high n.none n.taken n.linked;
+        counted = table_counted directories bytes one roles roles1 p d (slot_number page) t before.sound live low high n.none n.taken given.spaces;
+      }
+
+  pub table_room : Room directories (spaces_in directories bytes) roles p page → table_need (table_of (frame_bytes bytes) d (slot_number page)) ≤ free_frames roles
+  table_room room = subst (λ x. table_need x ≤ free_frames roles) (ap (option_and_then (λ y. table_of (frame_bytes bytes) y (slot_number page))) live) (room_for_table directories bytes roles p page before room)
+
+  module _ (linked : TableReady bytes roles p d (slot_number page) t one roles1) where
+    pub ready_given : TableGiven directories p (slot_number page) bytes roles one roles1
+    ready_given = (ready linked).given
+
+    pub ready_table : table_of (frame_bytes one) d (slot_number page) ≡ Some t
+    ready_table = (ready linked).there
+
+    -- the table lies in memory
+    pub ready_inside : 4096 * t + 4096 ≤ length one
+    ready_inside = (page_map_of directories one roles1 p d ready_given.sound live).tables_inside (slot_number page) t (let h = high in omega (arith, h)) ready_table
+
+    ready_unmapped : map.get (spaces_in directories bytes) (at_page p page) ≡ None → map.get (spaces_in directories one) (at_page p page) ≡ None
+    ready_unmapped none = ap (λ x. map.get x (at_page p page)) ready_given.spaces ∙ none
+
+    -- a page of zeros
+    pub zero_added : (write : Bool) (two : List ℕ) → map.get (spaces_in directories bytes) (at_page p page) ≡ None → frame_bytes two ≡ with_entry (frame_bytes one) t page (lazy_entry write) → length two ≡ length one
+        → PageAdded directories p page write one roles1 two roles1
+    zero_added write two none is long =
+        page_added directories one two roles1 p d page t write ready_given.sound live user.0 user.1 (ready_unmapped none) ready_table
+        (entry_by_word (frame_bytes one) (frame_bytes two) d page t (lazy_entry write) ready_table is) long
+
+    pub zero_more : (write : Bool) (two : List ℕ) → map.get (spaces_in directories bytes) (at_page p page) ≡ None → PageAdded directories p page write one roles1 two roles1
+        → MapsOneMore (spaces_in directories one) (at_page p page) (spaces_in directories two)
+    zero_more write two none added =
+        one_inserted (spaces_in directories one) (spaces_in directories two) (at_page p page) (fresh (at_page p page) write) (ready_unmapped none) (λ q. ap (λ x. map.contains_key x q) added.spaces)
+
+    -- a page on the frame of another
+    pub ready_names : (slot : Slot) (f : ℕ) → Names (entries_in (directory_of directories) (frame_bytes bytes)) slot f → Names (entries_in (directory_of directories) (frame_bytes one)) slot f
+    ready_names slot f = subst (λ E. Names E slot f) (sym ready_given.entries)
+
+    pub ready_page : (slot : Slot) (f : ℕ) → Names (entries_in (directory_of directories) (frame_bytes bytes)) slot f → 1 ≤ f → HasPage roles1 f
+    ready_page slot f named up = page_of_name directories one roles1 slot f ready_given.sound (ready_names slot f named) up
+
+    pub ready_below : (slot : Slot) (f : ℕ) → Names (entries_in (directory_of directories) (frame_bytes bytes)) slot f → 1 ≤ f → IsPageBelow roles1 f 4294967295
+    ready_below slot f named up =
+        let r = ready_page slot f named up in
+        record { count = r.count; page = r.page; below = count_few (directory_of directories) (frame_bytes one) (slice_get roles1) f r.count ready_given.sound.pages r.page }
+
+    pub ready_small : (slot : Slot) (f : ℕ) → Names (entries_in (directory_of directories) (frame_bytes bytes)) slot f → 1 ≤ f → f < 2 ^ 20
+    ready_small slot f named up = let r = ready_page slot f named up in (inside directories one roles1 f (Page r.count) ready_given.sound r.page).small
+
+    pub holder_added : (giver giver_page f c : ℕ) (right : Bool) (two : List ℕ) (roles2 : List Role) → map.get (spaces_in directories bytes) (at_page p page) ≡ None
+        → Names (entries_in (directory_of directories) (frame_bytes bytes)) (at_page giver giver_page) f → slice_get roles1 f ≡ Some (Page c) → roles2 ≡ slice_set roles1 f (Page (c + 1))
+        → frame_bytes two ≡ with_entry (frame_bytes one) t page (record { frame = f; write = right; may = right; accessed = false; dirty = false; lazy = false }) → length two ≡ length one
+        → SlotJoined directories giver giver_page p page right one roles1 two roles2
+    holder_added giver giver_page f c right two roles2 none named role now is long =
+        slot_joined directories one two roles1 roles2 giver giver_page p d page f c right ready_given.sound live user.0 user.1 (ready_unmapped none) (ap is_some ready_table) (ready_names (at_page giver giver_page) f named) role now
+        (entry_by_word (frame_bytes one) (frame_bytes two) d page t (record { frame = f; write = right; may = right; accessed = false; dirty = false; lazy = false }) ready_table is) long
+
+    pub holder_more : (giver giver_page : ℕ) (right : Bool) (two : List ℕ) (roles2 : List Role) → map.get (spaces_in directories bytes) (at_page p page) ≡ None → SlotJoined directories giver giver_page p page right one roles1 two roles2
+        → MapsOneMore (spaces_in directories one) (at_page p page) (spaces_in directories two)
+    holder_more giver giver_page right two roles2 none joined =
+        let S = spaces_in directories one in
+        let slot = at_page p page in
+        one_inserted S (spaces_in directories two) slot (cell_or_fresh S slot) (ready_unmapped none) (λ q. ap (λ x. map.contains_key x q) joined.spaces ∙ key-joined S (at_page giver giver_page) slot right (cell_or_fresh S slot) q)
+
+    -- the copy of another process's page
+    pub ready_long : length one ≡ length bytes
+    ready_long = by linked
+      where
+        by : TableReady bytes roles p d (slot_number page) t one roles1 → length one ≡ length bytes
+        by (inl s) = ap length s.same_bytes
+        by (inr n) = n.long
+
+    pub ready_lies : (f : ℕ) → Inside bytes f → Inside one f
+    ready_lies f lies = record { fits = subst (λ n. 4096 * f + 4096 ≤ n) (sym ready_long) lies.fits; small = lies.small }
+
+    pub ready_free : Room directories (spaces_in directories bytes) roles p page → 0 < free_frames roles1
+    ready_free room = room_for_page directories bytes one roles roles1 p page before room ready_given
+
+    module _ (from source : ℕ) (e e' : PageEntry) (one2 two : List ℕ) (roles2 : List Role) (home : directory_of directories from ≡ Some source) (here : entry_at (frame_bytes bytes) source page ≡ Some e)
+        (none : map.get (spaces_in directories bytes) (at_page p page) ≡ None) (made : EntryCopied one roles1 e e' one2 roles2) where
+      here1 : entry_at (frame_bytes one) source page ≡ Some e
+      here1 = entry_stays directories bytes one from source page before.sound.pids home user.0 user.1 ready_given.entries ∙ here
+
+      pub copy_added : frame_bytes two ≡ with_entry (frame_bytes one2) t page e' → length two ≡ length one2 → SlotCopied directories from p page one roles1 two roles2
+      copy_added is long = by made
+        where
+          by : EntryCopied one roles1 e e' one2 roles2 → SlotCopied directories from p page one roles1 two roles2
+          by (inl s) =
+              subst (λ r. SlotCopied directories from p page one roles1 two r) (sym s.same_roles)
+              (lazy_copied directories one two roles1 from source p d page t e ready_given.sound home live user.0 user.1 (ready_unmapped none) ready_table here1 s.lazy
+              (entry_by_word (frame_bytes one) (frame_bytes two) d page t (copied_entry e e.frame) ready_table (is ∙ (λ i. with_entry (frame_bytes (s.same_bytes i)) t page (s.entry i))))
+              (long ∙ ap length s.same_bytes))
+          by (inr c) =
+              let copied = frame_copied directories one one2 roles1 from source p d page c.frame e ready_given.sound home live user.0 user.1 here1 c.taken.was_free c.copy c.long in
+              real_copied directories one one2 two roles1 roles2 from source p d page t c.frame e ready_given.sound home live user.0 user.1 (ready_unmapped none) ready_table here1 c.real c.taken copied.whole copied.is c.long
+              (entry_by_word (frame_bytes one2) (frame_bytes two) d page t (copied_entry e c.frame) (copied.kept.tables (slot_number page) ∙ ready_table) (is ∙ ap (with_entry (frame_bytes one2) t page) c.entry)) long
+
+      pub copy_alike : AlwaysMapsAlike roles1 roles2
+      copy_alike = by made
+        where
+          by : EntryCopied one roles1 e e' one2 roles2 → AlwaysMapsAlike roles1 roles2
+          by (inl s) = λ S f. ap (λ r. pages_under S r f) s.same_roles
+          by (inr c) = λ S. alike_taken S roles1 roles2 c.frame (Page 1) c.taken refl
+
+      pub copy_more : SlotCopied directories from p page one roles1 two roles2 → MapsOneMore (spaces_in directories one) (at_page p page) (spaces_in directories two)
+      copy_more added =
+          let S = spaces_in directories one in
+          let slot = at_page p page in
+          one_inserted S (spaces_in directories two) slot (copy_of slot (cell_or_fresh S (at_page from page))) (ready_unmapped none) (λ q. ap (λ x. map.contains_key x q) added.spaces)
+
+      pub copy_whole : Room directories (spaces_in directories bytes) roles p page → SlotCopied directories from p page one roles1 two roles2 → PageCopied directories from p page bytes roles two roles2
+      copy_whole room added = page_copied directories bytes one two roles roles1 roles2 from source p page before home user.0 user.1 room ready_given added
+
+    module _ (counts : List ℕ) (C : IsCounted (spaces_in directories bytes) roles counts) where
+      counted1 : IsCounted (spaces_in directories one) roles1 counts
+      counted1 = (ready linked).counted counts C
+
+      pub ready_count : t < length counts
+      ready_count = count_there directories one roles1 counts p d page t 0 ready_given.sound live user ready_table counted1
+
+      pub ready_fits : (n : ℕ) → slice_get counts t ≡ Some n → n ≤ 1024
+      ready_fits n is = count_fits directories one roles1 counts p d page t n ready_given.sound live user ready_table counted1 is
+
+      -- the type's invariant once the page has its entry, and is counted
+      pub added_kept : (two counts2 : List ℕ) (roles2 : List Role) → Room directories (spaces_in directories bytes) roles p page → SlotAdded directories p page one roles1 two roles2
+          → MapsOneMore (spaces_in directories one) (at_page p page) (spaces_in directories two) → AlwaysMapsAlike roles1 roles2 → CountedUp counts t counts2 → IsKept directories two roles2 counts2
+      added_kept two counts2 roles2 room added more alike up =
+          let S = spaces_in directories one in
+          let n = region_pages S p (slot_number page) in
+          let named = ap (option_and_then (λ x. table_of (frame_bytes one) x (slot_number page))) live ∙ ready_table in
+          let is = table_count S S directories one roles1 counts p (slot_number page) t n ready_given.sound named counted1 in
+          record {
+            spaces = mapped directories bytes one two roles roles1 roles2 p page before room ready_given added;
+            counted = counted_roles (spaces_in directories two) roles1 roles2 counts2 (alike (spaces_in directories two))
+                (subst (IsCounted (spaces_in directories two) roles1) (sym (up n is)) (page_counted directories one roles1 counts p d page t n ready_given.sound live user ready_table counted1 is (spaces_in directories two) more));
+          }

@@ -1,0 +1,59 @@
+//! The calls of what is kept that map a page: a page of zeros, or one on the frame of another.
+
+ghost use Rattle.std.specs.Prelude.{◌≡◌, ◌+◌, ◌≤◌, None, length, is_some, true, false};
+ghost use Rattle.page_words.specs.Addresses.{IsUserPage};
+ghost use Rattle.page_words.specs.FiniteMap as map;
+ghost use Rattle.address_space.specs.Spaces.{need, fresh, joined, at_page};
+ghost use Rattle.address_space.specs.View.{directory_of, total_cost};
+ghost use Rattle.address_space.specs.Image.{is_lazy_at};
+ghost use Rattle.address_space.specs.Finds.{IsKeptPaged, spaces_at, image_at};
+
+use crate::home;
+use crate::new_pages::{count_page, fresh_entry, give_table, joined_entry};
+use crate::paged::Paged;
+use page_words::{Page, Pid};
+
+impl Paged {
+    /// Maps a lazy page of zeros.
+    pub fn map_zero(&mut self, pid: Pid, page: Page, write: bool)
+        requires kept { IsKeptPaged self.old }
+        requires live { is_some (directory_of self.old.directories pid) ≡ true }
+        requires user { IsUserPage page }
+        requires unmapped { map.get (spaces_at self.old) (at_page pid page) ≡ None }
+        requires room { 1 + total_cost self.old.directories (spaces_at self.old) + need (spaces_at self.old) pid page ≤ length self.old.frames }
+        ensures spaces { spaces_at self.new ≡ map.insert (spaces_at self.old) (at_page pid page) (fresh (at_page pid page) write) }
+        ensures lazy { is_lazy_at (image_at self.new) (at_page pid page) ≡ true }
+        ensures kept { IsKeptPaged self.new }
+        ensures directories { self.new.directories ≡ self.old.directories }
+        ensures frames { length self.new.frames ≡ length self.old.frames }
+    {
+        let directory = home(&self.directories, pid);
+        let table = give_table(&mut self.memory, &mut self.frames, directory, pid, page);
+        count_page(&mut self.counts, table);
+        page_map::put_entry(&mut self.memory, table, page, fresh_entry(write));
+    }
+
+    /// Lets a slot join the group of another, whose page isn't lazy.
+    pub fn join(&mut self, giver: Pid, giver_page: Page, pid: Pid, page: Page, right: bool)
+        requires kept { IsKeptPaged self.old }
+        requires given { is_some (map.get (spaces_at self.old) (at_page giver giver_page)) ≡ true }
+        requires from { IsUserPage giver_page }
+        requires live { is_some (directory_of self.old.directories pid) ≡ true }
+        requires user { IsUserPage page }
+        requires unmapped { map.get (spaces_at self.old) (at_page pid page) ≡ None }
+        requires real { is_lazy_at (image_at self.old) (at_page giver giver_page) ≡ false }
+        requires room { 1 + total_cost self.old.directories (spaces_at self.old) + need (spaces_at self.old) pid page ≤ length self.old.frames }
+        ensures spaces { spaces_at self.new ≡ joined (spaces_at self.old) (at_page giver giver_page) (at_page pid page) right }
+        ensures kept { IsKeptPaged self.new }
+        ensures directories { self.new.directories ≡ self.old.directories }
+        ensures frames { length self.new.frames ≡ length self.old.frames }
+    {
+        let found = self.place(giver, giver_page);
+        let frame = found.entry.frame;
+        let directory = home(&self.directories, pid);
+        let table = give_table(&mut self.memory, &mut self.frames, directory, pid, page);
+        count_page(&mut self.counts, table);
+        self.frames.hold(frame);
+        page_map::put_entry(&mut self.memory, table, page, joined_entry(frame, right));
+    }
+}
