@@ -30,7 +30,8 @@ fn refusal(event: &Event, cause: Cause, used: u32) -> Decision
     }
 }
 
-fn answered(event: &Event, reply: Reply, used_after: u32) -> Decision
+/// A reply to a call that completes as memory stands, with the charge afterwards.
+pub(crate) fn answered(event: &Event, reply: Reply, used_after: u32) -> Decision
     ensures { result ≡ reply_of event.now reply used_after }
 {
     Decision {
