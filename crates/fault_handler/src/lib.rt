@@ -22,130 +22,15 @@ ghost use Rattle.table_walk.specs.declared.Access.{Access};
 ghost use Rattle.fault_handler.specs.declared.plans.Plan.TheVariants as plan;
 ghost use Rattle.fault_handler.specs.declared.plans.PageStep.TheVariants as step;
 
+mod looks;
+mod planning;
 mod plans;
 
-use page_words::{Page, Pid, Size, Vaddr, in_user_range, page_of, second_page, start_of};
-pub use plans::{PageStep, Plan};
-use process_table::{Cause, Processes};
-use table_walk::{Access, PageFault};
-
-/// The first byte of an access that lies outside the user range.
-fn outside(address: Vaddr, size: Size) -> Option<Vaddr>
-    ensures { result ≡ outside address size }
-{
-    if !in_user_range(page_of(address)) {
-        return Some(address);
-    }
-    match second_page(address, size) {
-        Some(second) if !in_user_range(second) => Some(start_of(second)),
-        _ => None,
-    }
-}
-
-/// Whether a page is mapped without the right to write.
-fn is_read_only(processes: &Processes, pid: Pid, page: Page) -> bool
-    requires { IsUserPage page }
-    ensures { result ≡ is_read_only processes.now.state (at_page pid page) }
-{
-    match processes.spaces().cell(pid, page) {
-        Some(cell) => !cell.write,
-        None => false,
-    }
-}
-
-/// The first byte of an access that lies in a page that is mapped without the right to write.
-fn read_only(processes: &Processes, pid: Pid, address: Vaddr, size: Size) -> Option<Vaddr>
-    requires { EachTouched address size IsUserPage }
-    ensures { result ≡ read_only processes.now.state pid address size }
-{
-    if is_read_only(processes, pid, page_of(address)) {
-        return Some(address);
-    }
-    match second_page(address, size) {
-        Some(second) if is_read_only(processes, pid, second) => Some(start_of(second)),
-        _ => None,
-    }
-}
-
-/// The first byte of a write that its process may not write.
-fn forbidden(
-    processes: &Processes,
-    pid: Pid,
-    address: Vaddr,
-    size: Size,
-    access: Access,
-) -> Option<Vaddr>
-    requires { EachTouched address size IsUserPage }
-    ensures { result ≡ forbidden processes.now.state pid address size access }
-{
-    match access {
-        Access::Read => None,
-        Access::Write => read_only(processes, pid, address, size),
-    }
-}
-
-/// What a page comes to under an access that it may have.
-fn step_of(processes: &Processes, pid: Pid, access: Access, page: Page) -> PageStep
-    requires { IsUserPage page }
-    ensures { result ≡ step_at processes.now pid access page }
-{
-    if processes.spaces().cell(pid, page).is_none() {
-        PageStep::MapZero
-    } else if access == Access::Write && processes.is_lazy(pid, page) {
-        PageStep::Fill
-    } else {
-        PageStep::Complete
-    }
-}
-
-/// What the second page of an access comes to, where there is one.
-fn second_step(
-    processes: &Processes,
-    pid: Pid,
-    address: Vaddr,
-    size: Size,
-    access: Access,
-) -> Option<PageStep>
-    requires { EachTouched address size IsUserPage }
-    ensures { result ≡ option_map (step_at processes.now pid access) (second_page address size) }
-{
-    match second_page(address, size) {
-        Some(second) => Some(step_of(processes, pid, access, second)),
-        None => None,
-    }
-}
-
-/// What an access of a live process comes to.
-///
-/// The first that applies: a fault of code 4 (a read) or 6 (a write) at the first byte outside the user range; a
-/// fault of code 7 for a write at the first byte in a page that is mapped without the right to write; Quota where
-/// there is no room for the pages that are not mapped. A page that is not mapped is mapped first, and a lazy page
-/// that is written is filled first.
-pub fn plan(processes: &Processes, pid: Pid, address: Vaddr, size: Size, access: Access) -> Plan
-    requires live { is_live processes.now.state pid ≡ true }
-    ensures { result ≡ plan_at processes.now pid address size access }
-{
-    match outside(address, size) {
-        Some(byte) => Plan::Fault(PageFault::new(byte, access, false)),
-        None => plan_within(processes, pid, address, size, access),
-    }
-}
-
-/// What an access of a live process to pages of the user range comes to.
-fn plan_within(processes: &Processes, pid: Pid, address: Vaddr, size: Size, access: Access) -> Plan
-    requires live { is_live processes.now.state pid ≡ true }
-    requires within { outside address size ≡ None }
-    ensures { result ≡ plan_at processes.now pid address size access }
-{
-    match forbidden(processes, pid, address, size, access) {
-        Some(byte) => Plan::Fault(PageFault::new(byte, access, true)),
-        None if processes.lacks_room(pid, address, size) => Plan::Refused(Cause::Quota),
-        None => Plan::Ready {
-            first: step_of(processes, pid, access, page_of(address)),
-            second: second_step(processes, pid, address, size, access),
-        },
-    }
-}
+use page_words::{Page, Pid, Size, Vaddr, in_user_range, page_of, second_page};
+pub use planning::{plan, plan_charged};
+pub use plans::{PageStep, Plan, Planned};
+use process_table::Processes;
+use table_walk::Access;
 
 /// Whether an access completes as memory stands.
 fn is_at_once(plan: &Plan) -> bool

@@ -23,7 +23,7 @@ ghost use Rattle.quota_tree.specs.Book.{number_of_children};
 ghost use Rattle.table_walk.specs.declared.Access.TheVariants as access_variant;
 
 use crate::causes::Cause;
-use crate::charges::{charge_at, charge_of, charge_with, charge_without, is_short};
+use crate::charges::{charge_at, charge_of, charge_with, charge_without, is_short, need_of};
 use crate::checks::{
     accept_check, exit_check, map_check, offer_check, protect_check, unmap_check, withdraw_check,
 };
@@ -575,6 +575,17 @@ impl Processes {
     {
         remove_process(&mut self.spaces, &mut self.quotas, pid);
         self.offers.drop_process(pid);
+    }
+
+    /// What one more page of the user range costs a live process: 1 where it has a page in that region of 1,024 pages,
+    /// else 2.
+    pub fn need(&self, pid: Pid, page: Page) -> u32
+        requires live { is_live self.now.state pid ≡ true }
+        requires user { IsUserPage page }
+        ensures value { result ≡ need self.now.state.spaces pid page }
+        ensures most { result ≤ 2 }
+    {
+        need_of(self, pid, page)
     }
 
     /// Whether a live process has no room for the pages that an access touches and that are not mapped. They lie in
