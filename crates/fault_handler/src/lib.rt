@@ -5,22 +5,20 @@
 //! mapped or filled.
 #![tactic(auto)]
 
-ghost use Rattle.std.specs.Prelude.{◌≡◌, ◌≢◌, ◌≤◌, ◌↔◌, ℕ, Bool, true, false, not, IsOk, IfSome, IsSome, IsNone, Some, None};
+ghost use Rattle.std.specs.Prelude.{◌≡◌, ◌≢◌, ◌≤◌, ◌↔◌, ℕ, true, false, not, IfSome, IsSome, IsNone, Some, None};
 ghost use Rattle.std.specs.Option.{option_map};
 ghost use Rattle.page_words.specs.Addresses.{page_number, second_page, touched, EachTouched, IsUserPage};
-ghost use Rattle.address_space.specs.Spaces.{at_page, slot_at, page_need, with_page, with_pages};
+ghost use Rattle.address_space.specs.Spaces.{at_page, page_need, with_page, with_pages};
 ghost use Rattle.process_table.specs.State.{container_of, is_live, is_mapped, lacks_room, room};
-ghost use Rattle.process_table.specs.TestAnswers.{map_answer};
-ghost use Rattle.process_table.specs.Calls.{loaded, access_value, after_access, after_load, after_store, after_map};
+ghost use Rattle.process_table.specs.Calls.{loaded, access_value, after_access, after_load, after_store};
 ghost use Rattle.address_space.specs.Image.{is_lazy_at};
 ghost use Rattle.address_space.specs.View.{directory_of};
 ghost use Rattle.address_space.specs.ByWalk.{finds, value_found, after_walked};
 ghost use Rattle.process_table.specs.Image.{memory_of};
-ghost use Rattle.fault_handler.specs.Plans.{outside, is_read_only, read_only, forbidden, step_at, plan_of, plan_at, goes_on, at_once, takes_no_frame};
+ghost use Rattle.fault_handler.specs.Plans.{maps_page, plan_at, goes_on, at_once, takes_no_frame};
 ghost use Rattle.process_table.specs.View.{View};
 ghost use Rattle.table_walk.specs.declared.Access.{Access};
 ghost use Rattle.fault_handler.specs.declared.plans.Plan.TheVariants as plan;
-ghost use Rattle.fault_handler.specs.declared.plans.PageStep.TheVariants as step;
 
 mod looks;
 mod planning;
@@ -45,26 +43,38 @@ fn is_at_once(plan: &Plan) -> bool
     )
 }
 
-/// Maps a page, where it isn't mapped.
-fn map_missing(processes: &mut Processes, pid: Pid, page: Page)
+/// Maps a page, where its step says so.
+fn map_by_step(processes: &mut Processes, pid: Pid, page: Page, how: PageStep)
     requires user { IsUserPage page }
+    requires how { is_mapped processes.old.state (at_page pid page) ≡ not (maps_page how) }
     requires room { page_need processes.old.state.spaces pid page ≤ room processes.old.state pid }
     ensures { processes.new.state ≡ record processes.old.state { spaces = with_page processes.old.state.spaces pid page } }
 {
-    if processes.spaces().cell(pid, page).is_none() {
-        processes.map(pid, page, true);
+    match how {
+        PageStep::MapZero => processes.map(pid, page, true),
+        PageStep::Complete => {}
+        PageStep::Fill => {}
     }
 }
 
-/// Maps the pages that an access touches and that aren't mapped.
-fn map_pages(processes: &mut Processes, pid: Pid, address: Vaddr, size: Size)
+/// Maps the pages that an access touches and whose steps say so.
+fn map_pages(
+    processes: &mut Processes,
+    pid: Pid,
+    address: Vaddr,
+    size: Size,
+    first: PageStep,
+    second: Option<PageStep>,
+)
     requires user { EachTouched address size IsUserPage }
     requires room { lacks_room processes.old.state pid address size ≡ false }
+    requires first { is_mapped processes.old.state (at_page pid (page_number address)) ≡ not (maps_page first) }
+    requires second { option_map (λ page. is_mapped processes.old.state (at_page pid page)) (second_page address size) ≡ option_map (λ how. not (maps_page how)) second }
     ensures { processes.new.state ≡ record processes.old.state { spaces = with_pages processes.old.state.spaces pid (touched address size) } }
 {
-    map_missing(processes, pid, page_of(address));
+    map_by_step(processes, pid, page_of(address), first);
     match second_page(address, size) {
-        Some(second) => map_missing(processes, pid, second),
+        Some(page) => map_by_step(processes, pid, page, second.unwrap()),
         None => {}
     }
 }
@@ -97,10 +107,13 @@ fn make_ready(
     ensures real { access ≡ Access.Write → EachTouched address size (λ page. is_lazy_at (memory_of processes.new) (at_page pid page) ≡ false) }
     ensures at_once { takes_no_frame plan.now ≡ true → processes.new ≡ processes.old }
 {
+    let Plan::Ready { first, second } = plan else {
+        unreachable!()
+    };
     if is_at_once(plan) {
         return;
     }
-    map_pages(processes, pid, address, size);
+    map_pages(processes, pid, address, size, *first, *second);
     match access {
         Access::Read => {}
         Access::Write => fill_pages(processes, pid, address, size),

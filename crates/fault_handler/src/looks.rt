@@ -1,11 +1,10 @@
 //! What is seen of the pages of an access: each is looked up once.
 
-ghost use Rattle.std.specs.Prelude.{◌≡◌, ◌≤◌, ◌+◌, if◌then◌else◌, IfSome, true, None};
-ghost use Rattle.std.specs.Option.{option_map};
-ghost use Rattle.page_words.specs.Addresses.{page_number, start_number, second_page, EachTouched, IsUserPage};
-ghost use Rattle.address_space.specs.Spaces.{at_page, slot_at, page_need};
+ghost use Rattle.std.specs.Prelude.{◌≡◌, ◌≤◌, IfSome, true};
+ghost use Rattle.page_words.specs.Addresses.{page_number, EachTouched, IsUserPage};
+ghost use Rattle.address_space.specs.Spaces.{at_page};
 ghost use Rattle.process_table.specs.State.{is_live, is_mapped};
-ghost use Rattle.fault_handler.specs.Plans.{is_read_only, step_at};
+ghost use Rattle.fault_handler.specs.Plans.{step_at};
 ghost use Rattle.fault_handler.specs.Looks.{look_of, look_behind, barred, open_one_region, need_by};
 
 use crate::plans::{Look, PageStep};

@@ -1,13 +1,11 @@
 //! What an access comes to, and what its process is charged for after it.
 
 ghost use Rattle.std.specs.Prelude.{◌≡◌, ◌<◌, ◌≤◌, ◌-◌, ℕ, true, false, IfSome, Some, None};
-ghost use Rattle.page_words.specs.Addresses.{EachTouched, IsUserPage};
 ghost use Rattle.address_space.specs.Spaces.{cost};
 ghost use Rattle.process_table.specs.Calls.{after_load, after_store};
 ghost use Rattle.process_table.specs.State.{container_of, is_live};
 ghost use Rattle.fault_handler.specs.Plans.{outside, plan_at, goes_on};
 ghost use Rattle.fault_handler.specs.Looks.{ready_by, roomy_by, planned_by_looks, planned_at};
-ghost use Rattle.fault_handler.specs.declared.plans.Plan.TheVariants as plan;
 
 use crate::looks::{barred, look_at, look_at_second, need_by};
 use crate::plans::{Look, Plan, Planned};
