@@ -1,2 +1,3 @@
+pub mod Looked
 pub mod Settled
 pub mod Walked

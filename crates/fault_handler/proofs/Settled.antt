@@ -1,5 +1,5 @@
 -- An access that goes on: what its plan tells, and that its pages, mapped first, leave what the definition says.
-use Rattle.std.proofs.Common.{◌≡◌, ℕ, ◌-◌, ◌≤◌, nat_lt, arith, Bool, true, false, not, ◌&&◌, cond, List, [], ◌∷◌, map as each, refl, sym, ap, subst, ◌∙◌, inl, inr, Option, Some, None, is_some, unwrap_or, Ok}
+use Rattle.std.proofs.Common.{◌≡◌, ◌≢◌, ℕ, ◌-◌, ◌≤◌, nat_lt, arith, Bool, true, false, not, ◌&&◌, cond, List, [], ◌∷◌, map as each, refl, sym, ap, subst, ◌∙◌, inl, inr, Option, Some, None, is_some, unwrap_or, Ok}
 use Rattle.std.specs.Prelude.{if◌then◌else◌, IsOk, IfSome, find, slice_index, nat_le}
 use Rattle.std.specs.Option.{option_map, option_and_then}
 use Rattle.std.proofs.lemmas.Bool.{not-false, not-true, le-ltb, and_parts}
@@ -14,6 +14,8 @@ use Rattle.page_words.proofs.MapLemmas.{same_or_not, get-insert}
 use Rattle.page_words.proofs.OptionLemmas.{no_value}
 use Rattle.address_space.specs.Spaces.{Slot, Cell, Spaces, slot_order, at_page, slot_at, cell_or_fresh, fresh, bytes_of, value_of, page_need, access_need, need, regions_of, pages_of, cost, with_page, with_pages, all_accessed, all_stored}
 use Rattle.address_space.specs.Image.{is_lazy_at, takes_stores}
+use Rattle.page_words.proofs.SetLemmas.{same_apart}
+use Rattle.address_space.proofs.costs.AccessCosts.{key-insert}
 use Rattle.address_space.proofs.costs.AccessNeeds.{need-in_one, need-in_two, cost-with_page}
 use Rattle.address_space.proofs.costs.MapFirst.{with_touched-same, touched-there}
 use Rattle.table_walk.specs.declared.Access.{Access}
@@ -32,7 +34,7 @@ use Rattle.fault_handler.specs.declared.plans.PageStep.{PageStep}
 use Rattle.fault_handler.specs.declared.plans.PageStep.TheVariants as step
 use Rattle.fault_handler.specs.declared.plans.Plan.{Plan}
 use Rattle.fault_handler.specs.declared.plans.Plan.TheVariants as plan
-use Rattle.fault_handler.specs.Plans.{outside, is_read_only, forbidden, fault_or, planned_by, step_at, plan_at, goes_on, at_once, takes_no_frame}
+use Rattle.fault_handler.specs.Plans.{outside, is_read_only, forbidden, fault_or, planned_by, step_at, maps_page, plan_at, goes_on, at_once, takes_no_frame}
 
 -- ---- Where no byte stops an access
 
@@ -201,6 +203,43 @@ second_room s p address size second is enough =
     let n = need-in_two s.spaces p address size second is in
     let paid = cost-with_page s.spaces p (page_number address) in
     omega (arith, n, fits, paid)
+
+-- ---- What the steps say of what is mapped
+
+abbrev second_in : Plan → Option PageStep
+second_in (plan.Ready f g) = g
+second_in _ = None
+
+module _ (v : View) (p address : ℕ) (size : Size) (access : Access) where
+  mapped_by_step : (page : ℕ) → is_mapped v.state (at_page p page) ≡ not (maps_page (step_at v p access page))
+  mapped_by_step page = by (is_mapped v.state (at_page p page)) (is_write access && is_lazy_at (memory_of v) (at_page p page))
+    where
+      by : (m l : Bool) → m ≡ not (maps_page (if not m then step.MapZero else if l then step.Fill else step.Complete))
+      by true true = refl
+      by true false = refl
+      by false l = refl
+
+  -- the plan that goes on with these steps
+  steps_in : (f : PageStep) (g : Option PageStep) → plan.Ready f g ≡ plan_at v p address size access → plan.Ready f g ≡ plan.Ready (step_at v p access (page_number address)) (option_map (step_at v p access) (second_page address size))
+  steps_in f g is = is ∙ (ready (step_at v p access) v.state p address size access (sym (ap goes_on is))).is
+
+  pub second_mapped : (f : PageStep) (g : Option PageStep) → plan.Ready f g ≡ plan_at v p address size access
+      → option_map (λ page. is_mapped v.state (at_page p page)) (second_page address size) ≡ option_map (λ how. not (maps_page how)) g
+  second_mapped f g is = by (second_page address size) ∙ sym (ap (λ x. option_map (λ how. not (maps_page how)) (second_in x)) (steps_in f g is))
+    where
+      by : (x : Option ℕ) → option_map (λ page. is_mapped v.state (at_page p page)) x ≡ option_map (λ how. not (maps_page how)) (option_map (step_at v p access) x)
+      by None = refl
+      by (Some page) = ap Some (mapped_by_step page)
+
+-- a page is mapped or not, whatever another is
+pub mapped_beside : (S : Spaces) (p page second : ℕ) → second ≢ page → map.contains_key (with_page S p page) (at_page p second) ≡ map.contains_key S (at_page p second)
+mapped_beside S p page second apart = by (map.contains_key S (at_page p page))
+  where
+    by : (b : Bool) → map.contains_key (if b then S else map.insert S (at_page p page) (fresh (at_page p page) true)) (at_page p second) ≡ map.contains_key S (at_page p second)
+    by true = refl
+    by false =
+        key-insert S (at_page p page) (fresh (at_page p page) true) (at_page p second)
+        ∙ ap (λ b. cond b true (map.contains_key S (at_page p second))) (same_apart slot_order (at_page p second) (at_page p page) (λ e. apart (ap (λ (s : Slot). s.page) e)))
 
 -- ---- What completes as memory stands
 

@@ -56,6 +56,11 @@ step_at v p access page =
     if is_write access && is_lazy_at (memory_of v) (at_page p page) then step.Fill else
     step.Complete
 
+-- the page is mapped first
+abbrev pub maps_page : PageStep → Bool
+maps_page step.MapZero = true
+maps_page _ = false
+
 -- the plan of an access by the state alone, which maps pages and fills none
 abbrev pub plan_of : State → ℕ → ℕ → Size → Access → Plan
 plan_of s p address size access = planned_by (step_of s p) s p address size access

@@ -5,147 +5,30 @@
 //! mapped or filled.
 #![tactic(auto)]
 
-ghost use Rattle.std.specs.Prelude.{◌≡◌, ◌≢◌, ◌≤◌, ◌↔◌, ℕ, Bool, true, false, not, IsOk, IfSome, IsSome, IsNone, Some, None};
+ghost use Rattle.std.specs.Prelude.{◌≡◌, ◌≢◌, ◌≤◌, ◌↔◌, ℕ, true, false, not, IfSome, IsSome, IsNone, Some, None};
 ghost use Rattle.std.specs.Option.{option_map};
 ghost use Rattle.page_words.specs.Addresses.{page_number, second_page, touched, EachTouched, IsUserPage};
-ghost use Rattle.address_space.specs.Spaces.{at_page, slot_at, page_need, with_page, with_pages};
+ghost use Rattle.address_space.specs.Spaces.{at_page, page_need, with_page, with_pages};
 ghost use Rattle.process_table.specs.State.{container_of, is_live, is_mapped, lacks_room, room};
-ghost use Rattle.process_table.specs.TestAnswers.{map_answer};
-ghost use Rattle.process_table.specs.Calls.{loaded, access_value, after_access, after_load, after_store, after_map};
+ghost use Rattle.process_table.specs.Calls.{loaded, access_value, after_access, after_load, after_store};
 ghost use Rattle.address_space.specs.Image.{is_lazy_at};
 ghost use Rattle.address_space.specs.View.{directory_of};
 ghost use Rattle.address_space.specs.ByWalk.{finds, value_found, after_walked};
 ghost use Rattle.process_table.specs.Image.{memory_of};
-ghost use Rattle.fault_handler.specs.Plans.{outside, is_read_only, read_only, forbidden, step_at, plan_of, plan_at, goes_on, at_once, takes_no_frame};
+ghost use Rattle.fault_handler.specs.Plans.{maps_page, plan_at, goes_on, at_once, takes_no_frame};
 ghost use Rattle.process_table.specs.View.{View};
 ghost use Rattle.table_walk.specs.declared.Access.{Access};
 ghost use Rattle.fault_handler.specs.declared.plans.Plan.TheVariants as plan;
-ghost use Rattle.fault_handler.specs.declared.plans.PageStep.TheVariants as step;
 
+mod looks;
+mod planning;
 mod plans;
 
-use page_words::{Page, Pid, Size, Vaddr, in_user_range, page_of, second_page, start_of};
-pub use plans::{PageStep, Plan};
-use process_table::{Cause, Processes};
-use table_walk::{Access, PageFault};
-
-/// The first byte of an access that lies outside the user range.
-fn outside(address: Vaddr, size: Size) -> Option<Vaddr>
-    ensures { result ≡ outside address size }
-{
-    if !in_user_range(page_of(address)) {
-        return Some(address);
-    }
-    match second_page(address, size) {
-        Some(second) if !in_user_range(second) => Some(start_of(second)),
-        _ => None,
-    }
-}
-
-/// Whether a page is mapped without the right to write.
-fn is_read_only(processes: &Processes, pid: Pid, page: Page) -> bool
-    requires { IsUserPage page }
-    ensures { result ≡ is_read_only processes.now.state (at_page pid page) }
-{
-    match processes.spaces().cell(pid, page) {
-        Some(cell) => !cell.write,
-        None => false,
-    }
-}
-
-/// The first byte of an access that lies in a page that is mapped without the right to write.
-fn read_only(processes: &Processes, pid: Pid, address: Vaddr, size: Size) -> Option<Vaddr>
-    requires { EachTouched address size IsUserPage }
-    ensures { result ≡ read_only processes.now.state pid address size }
-{
-    if is_read_only(processes, pid, page_of(address)) {
-        return Some(address);
-    }
-    match second_page(address, size) {
-        Some(second) if is_read_only(processes, pid, second) => Some(start_of(second)),
-        _ => None,
-    }
-}
-
-/// The first byte of a write that its process may not write.
-fn forbidden(
-    processes: &Processes,
-    pid: Pid,
-    address: Vaddr,
-    size: Size,
-    access: Access,
-) -> Option<Vaddr>
-    requires { EachTouched address size IsUserPage }
-    ensures { result ≡ forbidden processes.now.state pid address size access }
-{
-    match access {
-        Access::Read => None,
-        Access::Write => read_only(processes, pid, address, size),
-    }
-}
-
-/// What a page comes to under an access that it may have.
-fn step_of(processes: &Processes, pid: Pid, access: Access, page: Page) -> PageStep
-    requires { IsUserPage page }
-    ensures { result ≡ step_at processes.now pid access page }
-{
-    if processes.spaces().cell(pid, page).is_none() {
-        PageStep::MapZero
-    } else if access == Access::Write && processes.is_lazy(pid, page) {
-        PageStep::Fill
-    } else {
-        PageStep::Complete
-    }
-}
-
-/// What the second page of an access comes to, where there is one.
-fn second_step(
-    processes: &Processes,
-    pid: Pid,
-    address: Vaddr,
-    size: Size,
-    access: Access,
-) -> Option<PageStep>
-    requires { EachTouched address size IsUserPage }
-    ensures { result ≡ option_map (step_at processes.now pid access) (second_page address size) }
-{
-    match second_page(address, size) {
-        Some(second) => Some(step_of(processes, pid, access, second)),
-        None => None,
-    }
-}
-
-/// What an access of a live process comes to.
-///
-/// The first that applies: a fault of code 4 (a read) or 6 (a write) at the first byte outside the user range; a
-/// fault of code 7 for a write at the first byte in a page that is mapped without the right to write; Quota where
-/// there is no room for the pages that are not mapped. A page that is not mapped is mapped first, and a lazy page
-/// that is written is filled first.
-pub fn plan(processes: &Processes, pid: Pid, address: Vaddr, size: Size, access: Access) -> Plan
-    requires live { is_live processes.now.state pid ≡ true }
-    ensures { result ≡ plan_at processes.now pid address size access }
-{
-    match outside(address, size) {
-        Some(byte) => Plan::Fault(PageFault::new(byte, access, false)),
-        None => plan_within(processes, pid, address, size, access),
-    }
-}
-
-/// What an access of a live process to pages of the user range comes to.
-fn plan_within(processes: &Processes, pid: Pid, address: Vaddr, size: Size, access: Access) -> Plan
-    requires live { is_live processes.now.state pid ≡ true }
-    requires within { outside address size ≡ None }
-    ensures { result ≡ plan_at processes.now pid address size access }
-{
-    match forbidden(processes, pid, address, size, access) {
-        Some(byte) => Plan::Fault(PageFault::new(byte, access, true)),
-        None if processes.lacks_room(pid, address, size) => Plan::Refused(Cause::Quota),
-        None => Plan::Ready {
-            first: step_of(processes, pid, access, page_of(address)),
-            second: second_step(processes, pid, address, size, access),
-        },
-    }
-}
+use page_words::{Page, Pid, Size, Vaddr, in_user_range, page_of, second_page};
+pub use planning::{plan, plan_charged};
+pub use plans::{PageStep, Plan, Planned};
+use process_table::Processes;
+use table_walk::Access;
 
 /// Whether an access completes as memory stands.
 fn is_at_once(plan: &Plan) -> bool
@@ -160,26 +43,38 @@ fn is_at_once(plan: &Plan) -> bool
     )
 }
 
-/// Maps a page, where it isn't mapped.
-fn map_missing(processes: &mut Processes, pid: Pid, page: Page)
+/// Maps a page, where its step says so.
+fn map_by_step(processes: &mut Processes, pid: Pid, page: Page, how: PageStep)
     requires user { IsUserPage page }
+    requires how { is_mapped processes.old.state (at_page pid page) ≡ not (maps_page how) }
     requires room { page_need processes.old.state.spaces pid page ≤ room processes.old.state pid }
     ensures { processes.new.state ≡ record processes.old.state { spaces = with_page processes.old.state.spaces pid page } }
 {
-    if processes.spaces().cell(pid, page).is_none() {
-        processes.map(pid, page, true);
+    match how {
+        PageStep::MapZero => processes.map(pid, page, true),
+        PageStep::Complete => {}
+        PageStep::Fill => {}
     }
 }
 
-/// Maps the pages that an access touches and that aren't mapped.
-fn map_pages(processes: &mut Processes, pid: Pid, address: Vaddr, size: Size)
+/// Maps the pages that an access touches and whose steps say so.
+fn map_pages(
+    processes: &mut Processes,
+    pid: Pid,
+    address: Vaddr,
+    size: Size,
+    first: PageStep,
+    second: Option<PageStep>,
+)
     requires user { EachTouched address size IsUserPage }
     requires room { lacks_room processes.old.state pid address size ≡ false }
+    requires first { is_mapped processes.old.state (at_page pid (page_number address)) ≡ not (maps_page first) }
+    requires second { option_map (λ page. is_mapped processes.old.state (at_page pid page)) (second_page address size) ≡ option_map (λ how. not (maps_page how)) second }
     ensures { processes.new.state ≡ record processes.old.state { spaces = with_pages processes.old.state.spaces pid (touched address size) } }
 {
-    map_missing(processes, pid, page_of(address));
+    map_by_step(processes, pid, page_of(address), first);
     match second_page(address, size) {
-        Some(second) => map_missing(processes, pid, second),
+        Some(page) => map_by_step(processes, pid, page, second.unwrap()),
         None => {}
     }
 }
@@ -212,10 +107,13 @@ fn make_ready(
     ensures real { access ≡ Access.Write → EachTouched address size (λ page. is_lazy_at (memory_of processes.new) (at_page pid page) ≡ false) }
     ensures at_once { takes_no_frame plan.now ≡ true → processes.new ≡ processes.old }
 {
+    let Plan::Ready { first, second } = plan else {
+        unreachable!()
+    };
     if is_at_once(plan) {
         return;
     }
-    map_pages(processes, pid, address, size);
+    map_pages(processes, pid, address, size, *first, *second);
     match access {
         Access::Read => {}
         Access::Write => fill_pages(processes, pid, address, size),

@@ -1,4 +1,5 @@
 //! What an access comes to.
+use page_words::Vaddr;
 use process_table::Cause;
 use table_walk::PageFault;
 
@@ -26,4 +27,25 @@ pub enum Plan {
     /// A page fault, with the processor's error code.
     Fault(PageFault),
     Refused(Cause),
+}
+
+/// A plan, and what the process is charged for after it.
+#[derive(Clone, Copy, Debug, PartialEq, Eq)]
+pub struct Planned {
+    pub plan: Plan,
+    /// The charge of the process afterwards, in frames: that of today after a fault or a refusal.
+    pub charge: u32,
+}
+
+/// What one look at a page tells of an access to it.
+#[derive(Clone, Copy, Debug, PartialEq, Eq)]
+pub(crate) struct Look {
+    /// The first byte that the access touches in the page.
+    pub byte: Vaddr,
+    /// What the page comes to, where the access may have it.
+    pub step: PageStep,
+    /// Whether the page is mapped without the right to write.
+    pub read_only: bool,
+    /// What one more page costs there: nothing where the page is mapped.
+    pub need: u32,
 }

@@ -9,7 +9,6 @@ use Rattle.process_table.specs.State.{State, is_live, lacks_room}
 use Rattle.process_table.specs.View.{View}
 use Rattle.process_table.specs.Calls.{loaded, after_load, after_store}
 use Rattle.process_table.specs.declared.causes.Cause.TheVariants as cause
-use Rattle.process_table.proofs.StoreCharge.{load_charge, store_charge}
 use Rattle.table_walk.specs.declared.Access.{Access}
 use Rattle.table_walk.specs.declared.Access.TheVariants.{Read, Write}
 use Rattle.fault_handler.specs.Plans.{outside, forbidden, fault_or, planned_by, plan_of, plan_at, step_of, step_at, goes_on}
@@ -37,12 +36,14 @@ same_reply steps others s p address size access r = by (outside address size) (f
     by None None true = refl
     by None None false = refl
 
--- an access is decided by its plan, where the reply and the charge are the definition's for one that goes on
-module _ (v : View) (e : Event) (address : ℕ) (size : Size) (access : Access) (r full : Reply) (charge used : ℕ)
-    (live : is_live v.state e.pid ≡ true) (used_is : used ≡ cost v.state.spaces e.pid)
+-- an access is decided by its plan, where the reply is the definition's for one that goes on, and the charge that
+-- of today for one that does not
+module _ (v : View) (e : Event) (address : ℕ) (size : Size) (access : Access) (r full : Reply) (charge : ℕ)
+    (live : is_live v.state e.pid ≡ true)
     (plan_is : plan_of_call v e.pid e.call ≡ plan_at v e.pid address size access)
     (reply_is : answer_of v.state e.pid e.call ≡ planned_or (plan_of v.state e.pid address size access) full)
     (full_goes : completes full ≡ true)
+    (stays : goes_on (plan_at v e.pid address size access) ≡ false → charge ≡ cost v.state.spaces e.pid)
     (goes : goes_on (plan_at v e.pid address size access) ≡ true → (r ≡ full) × (charge_in (after v.state e.pid e.call) e.pid ≡ charge)) where
   abbrev now : Plan
   now = plan_at v e.pid address size access
@@ -55,42 +56,40 @@ module _ (v : View) (e : Event) (address : ℕ) (size : Size) (access : Access) 
       ap (λ b. if b then answer_of v.state e.pid e.call else reply.Refused cause.NoProcess) live ∙ reply_is
       ∙ same_reply (step_of v.state e.pid) (step_at v e.pid access) v.state e.pid address size access full ∙ ap (λ z. planned_or z full) is
 
-  stopped : completes (answer v.state e) ≡ false → charge_after v.state e ≡ used
-  stopped h = ap (λ t. charge_in t e.pid) (next-stays v.state e h) ∙ ap (λ b. if b then cost v.state.spaces e.pid else 0) live ∙ sym used_is
+  stopped : goes_on now ≡ false → completes (answer v.state e) ≡ false → charge_after v.state e ≡ charge
+  stopped stops h = ap (λ t. charge_in t e.pid) (next-stays v.state e h) ∙ ap (λ b. if b then cost v.state.spaces e.pid else 0) live ∙ sym (stays stops)
 
-  by_plan : (y : Plan) → now ≡ y → planned e y r charge used ≡ decision_of v e
+  by_plan : (y : Plan) → now ≡ y → planned e y r charge ≡ decision_of v e
   by_plan (plan.Refused k) is =
       let told = reply-live (plan.Refused k) is in
-      λ i. record { event = e; plan = sym (plan-live (plan.Refused k) is) i; reply = sym told i; used_after = sym (stopped (ap completes told)) i }
+      λ i. record { event = e; plan = sym (plan-live (plan.Refused k) is) i; reply = sym told i; used_after = sym (stopped (ap goes_on is) (ap completes told)) i }
   by_plan (plan.Fault f) is =
       let told = reply-live (plan.Fault f) is in
-      λ i. record { event = e; plan = sym (plan-live (plan.Fault f) is) i; reply = sym told i; used_after = sym (stopped (ap completes told)) i }
+      λ i. record { event = e; plan = sym (plan-live (plan.Fault f) is) i; reply = sym told i; used_after = sym (stopped (ap goes_on is) (ap completes told)) i }
   by_plan (plan.Ready first second) is =
       let told = reply-live (plan.Ready first second) is in
       let both = goes (ap goes_on is) in
       let charged : charge_after v.state e ≡ charge = ap (λ t. charge_in t e.pid) (next-goes v.state e (ap completes told ∙ full_goes)) ∙ both.1 in
       λ i. record { event = e; plan = sym (plan-live (plan.Ready first second) is) i; reply = (both.0 ∙ sym told) i; used_after = sym charged i }
 
-  decided-access : planned e now r charge used ≡ decision_of v e
+  decided-access : planned e now r charge ≡ decision_of v e
   decided-access = by_plan now refl
 
-pub decided-load : (v : View) (e : Event) (address : ℕ) (size : Size) (value charge used : ℕ) → e.call ≡ call.Load address size → is_live v.state e.pid ≡ true → used ≡ cost v.state.spaces e.pid
+pub decided-load : (v : View) (e : Event) (address : ℕ) (size : Size) (value charge : ℕ) → e.call ≡ call.Load address size → is_live v.state e.pid ≡ true
     → (goes_on (plan_at v e.pid address size Read) ≡ true → value ≡ loaded v.state e.pid address size)
     → (goes_on (plan_at v e.pid address size Read) ≡ true → charge ≡ cost (after_load v.state e.pid address size).spaces e.pid)
-    → planned e (plan_at v e.pid address size Read) (reply.Value value) charge used ≡ decision_of v e
-decided-load v e address size value charge used is live used_is value_is charge_is =
-    decided-access v e address size Read (reply.Value value) (reply.Value (loaded v.state e.pid address size)) charge used live used_is
-    (ap (plan_of_call v e.pid) is) (ap (answer_of v.state e.pid) is) refl
+    → (goes_on (plan_at v e.pid address size Read) ≡ false → charge ≡ cost v.state.spaces e.pid)
+    → planned e (plan_at v e.pid address size Read) (reply.Value value) charge ≡ decision_of v e
+decided-load v e address size value charge is live value_is charge_is stays =
+    decided-access v e address size Read (reply.Value value) (reply.Value (loaded v.state e.pid address size)) charge live
+    (ap (plan_of_call v e.pid) is) (ap (answer_of v.state e.pid) is) refl stays
     (λ g. (ap reply.Value (value_is g), ap (λ c. charge_in (after v.state e.pid c) e.pid) is ∙ ap (λ b. if b then cost (after_load v.state e.pid address size).spaces e.pid else 0) live ∙ sym (charge_is g)))
 
-pub decided-store : (v : View) (e : Event) (address : ℕ) (size : Size) (value charge used : ℕ) → e.call ≡ call.Store address size value → is_live v.state e.pid ≡ true → used ≡ cost v.state.spaces e.pid
-    → (goes_on (plan_at v e.pid address size Write) ≡ true → charge ≡ cost (after_load v.state e.pid address size).spaces e.pid)
-    → planned e (plan_at v e.pid address size Write) reply.Done charge used ≡ decision_of v e
-decided-store v e address size value charge used is live used_is charge_is =
-    decided-access v e address size Write reply.Done reply.Done charge used live used_is
-    (ap (plan_of_call v e.pid) is) (ap (answer_of v.state e.pid) is) refl
-    (λ g. (
-      refl,
-      ap (λ c. charge_in (after v.state e.pid c) e.pid) is ∙ ap (λ b. if b then cost (after_store v.state e.pid address size value).spaces e.pid else 0) live
-          ∙ store_charge v.state e.pid address size value ∙ sym (load_charge v.state e.pid address size) ∙ sym (charge_is g),
-    ))
+pub decided-store : (v : View) (e : Event) (address : ℕ) (size : Size) (value charge : ℕ) → e.call ≡ call.Store address size value → is_live v.state e.pid ≡ true
+    → (goes_on (plan_at v e.pid address size Write) ≡ true → charge ≡ cost (after_store v.state e.pid address size value).spaces e.pid)
+    → (goes_on (plan_at v e.pid address size Write) ≡ false → charge ≡ cost v.state.spaces e.pid)
+    → planned e (plan_at v e.pid address size Write) reply.Done charge ≡ decision_of v e
+decided-store v e address size value charge is live charge_is stays =
+    decided-access v e address size Write reply.Done reply.Done charge live
+    (ap (plan_of_call v e.pid) is) (ap (answer_of v.state e.pid) is) refl stays
+    (λ g. (refl, ap (λ c. charge_in (after v.state e.pid c) e.pid) is ∙ ap (λ b. if b then cost (after_store v.state e.pid address size value).spaces e.pid else 0) live ∙ sym (charge_is g)))

@@ -76,11 +76,11 @@ abbrev pub spawned : Event → Result Pid Cause → ℕ → Decision
 spawned e (Err cause) used = refusal_of e cause used
 spawned e (Ok child) used = reply_of e (reply.Child child) used
 
--- a refusal, a fault, or this reply and charge
-abbrev pub planned : Event → Plan → Reply → ℕ → ℕ → Decision
-planned e (plan.Refused cause) r charge used = refusal_of e cause used
-planned e (plan.Fault fault) r charge used = record { event = e; plan = plan.Fault fault; reply = reply.Fault fault.addr fault.code; used_after = used }
-planned e (plan.Ready first second) r charge used = record { event = e; plan = plan.Ready first second; reply = r; used_after = charge }
+-- a refusal, a fault, or this reply, each with this charge
+abbrev pub planned : Event → Plan → Reply → ℕ → Decision
+planned e (plan.Refused cause) r charge = refusal_of e cause charge
+planned e (plan.Fault fault) r charge = record { event = e; plan = plan.Fault fault; reply = reply.Fault fault.addr fault.code; used_after = charge }
+planned e (plan.Ready first second) r charge = record { event = e; plan = plan.Ready first second; reply = r; used_after = charge }
 
 -- the reply to a process that asks for its quota
 abbrev pub quota_told : Container → Reply

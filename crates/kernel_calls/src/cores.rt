@@ -14,14 +14,14 @@ ghost use Rattle.process_table.specs.WellFormed.{IsWellFormed, total};
 ghost use Rattle.address_space.specs.Image.{LeavesRoom};
 ghost use Rattle.address_space.specs.Spaces.{zeros};
 ghost use Rattle.phys_memory.specs.Bytes.{frame_bytes};
-ghost use Rattle.fault_handler.specs.Plans.{goes_on, plan_of, takes_no_frame};
+ghost use Rattle.fault_handler.specs.Plans.{at_once, goes_on, plan_of, takes_no_frame};
 ghost use Rattle.kernel_calls.specs.Isolation.{IsIsolated};
 ghost use Rattle.kernel_calls.specs.Machine.{answer, after, next, answers, end_of, completes};
-ghost use Rattle.kernel_calls.specs.Decisions.{decision_of, charge_after, plan_of_event};
+ghost use Rattle.kernel_calls.specs.Decisions.{decision_of, charge_in, charge_after, plan_of_event};
 ghost use Rattle.kernel_calls.specs.Walked.{finds_event, reply_found, bytes_accessed};
 
 use crate::calls::{Call, Decision, Event, Reply};
-use crate::decisions::decide_on;
+use crate::decisions::{answered, decide_on};
 use crate::walked;
 use alloc_table::Role;
 use fault_handler::{Plan, settle, try_load, try_store};
@@ -103,6 +103,7 @@ fn complete(processes: &mut Processes, decision: &Decision)
 fn at_once(processes: &mut Processes, event: &Event) -> Option<Reply>
     ensures reply { IfSome result (λ reply. reply ≡ answer processes.old.state event.now) }
     ensures completes { IfSome result (λ reply. completes reply ≡ true) }
+    ensures plan { IsSome result → plan_of_event processes.old event.now ≡ at_once }
     ensures state { IsSome result → processes.new.state ≡ next processes.old.state event.now }
     ensures none { IsNone result → processes.new ≡ processes.old }
 {
@@ -119,6 +120,16 @@ fn at_once(processes: &mut Processes, event: &Event) -> Option<Reply>
             }
         }
         _ => None,
+    }
+}
+
+/// What a process is charged for; 0 where it is not live.
+fn charge_now(processes: &Processes, pid: Pid) -> u32
+    ensures { result ≡ charge_in processes.now.state pid }
+{
+    match processes.container(pid) {
+        Some(container) => container.used,
+        None => 0,
     }
 }
 
@@ -171,9 +182,37 @@ impl Core {
         ensures stands { StandsFor (image_of self.new) self.new.state }
         ensures kept { completes decision.reply ≡ false → self.new ≡ self.old }
     {
-        carry_out(&mut self.processes, &decision);
-        self.stands();
+        self.follow(&decision);
         decision.reply
+    }
+
+    /// Carries out what was decided on this state.
+    fn follow(&mut self, decision: &Decision)
+        requires { decision.now ≡ decision_of self.old decision.now.event }
+        ensures state { self.new.state ≡ next self.old.state decision.now.event }
+        ensures stands { StandsFor (image_of self.new) self.new.state }
+        ensures kept { completes decision.now.reply ≡ false → self.new ≡ self.old }
+    {
+        carry_out(&mut self.processes, decision);
+        self.stands();
+    }
+
+    /// Decides an event and carries it out, and gives what was decided: what `decide` says of the state before.
+    pub fn carry_out(&mut self, event: &Event) -> Decision
+        ensures decision { result ≡ decision_of self.old event.now }
+        ensures reply { result.reply ≡ answer self.old.state event.now }
+        ensures charge { result.used_after ≡ charge_after self.old.state event.now }
+        ensures state { self.new.state ≡ next self.old.state event.now }
+        ensures stands { StandsFor (image_of self.new) self.new.state }
+        ensures kept { completes result.reply ≡ false → self.new ≡ self.old }
+    {
+        if let Some(reply) = at_once(&mut self.processes, event) {
+            self.stands();
+            return answered(event, reply, charge_now(&self.processes, event.pid));
+        }
+        let decision = self.decide(event);
+        self.follow(&decision);
+        decision
     }
 
     /// Decides an event and carries it out.

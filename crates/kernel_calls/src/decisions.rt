@@ -13,7 +13,7 @@ ghost use Rattle.kernel_calls.specs.Machine.{info_of};
 ghost use Rattle.kernel_calls.specs.Decisions.{decision_of, refusal_of, reply_of, tested, spawned, planned, quota_told};
 
 use crate::calls::{Call, Decision, Event, Reply};
-use fault_handler::{PageStep, Plan};
+use fault_handler::{PageStep, Plan, plan_charged};
 use page_words::{Page, Pid, Size, Vaddr};
 use process_table::{Cause, Processes};
 use quota_tree::Container;
@@ -30,7 +30,8 @@ fn refusal(event: &Event, cause: Cause, used: u32) -> Decision
     }
 }
 
-fn answered(event: &Event, reply: Reply, used_after: u32) -> Decision
+/// A reply to a call that completes as memory stands, with the charge afterwards.
+pub(crate) fn answered(event: &Event, reply: Reply, used_after: u32) -> Decision
     ensures { result ≡ reply_of event.now reply used_after }
 {
     Decision {
@@ -85,35 +86,14 @@ fn made(event: &Event, plan: &Plan, reply: &Reply, used_after: u32) -> Decision
     }
 }
 
-/// An access as it was planned: a refusal, a fault, or this reply and charge.
-fn by_plan(event: &Event, plan: &Plan, reply: &Reply, charge: u32, used: u32) -> Decision
-    ensures { result ≡ planned event.now plan.now reply.now charge used }
+/// An access as it was planned: a refusal, a fault, or this reply.
+fn by_plan(event: &Event, plan: &Plan, reply: &Reply, charge: u32) -> Decision
+    ensures { result ≡ planned event.now plan.now reply.now charge }
 {
     match plan {
-        Plan::Refused(cause) => refusal(event, *cause, used),
-        Plan::Fault(fault) => made(event, plan, &fault_told(fault), used),
+        Plan::Refused(cause) => refusal(event, *cause, charge),
+        Plan::Fault(fault) => made(event, plan, &fault_told(fault), charge),
         Plan::Ready { .. } => made(event, plan, reply, charge),
-    }
-}
-
-/// What an access of a live process is charged for, where it goes on.
-fn charge_by(
-    processes: &Processes,
-    plan: &Plan,
-    pid: Pid,
-    address: Vaddr,
-    size: Size,
-    access: Access,
-    used: u32,
-) -> u32
-    requires live { is_live processes.now.state pid ≡ true }
-    requires plan { plan.now ≡ plan_at processes.now pid address size access }
-    ensures { goes_on plan.now ≡ true → result ≡ cost (after_load processes.now.state pid address size).spaces pid }
-{
-    match plan {
-        Plan::Ready { .. } => processes.access_charge(pid, address, size),
-        Plan::Refused(_) => used,
-        Plan::Fault(_) => used,
     }
 }
 
@@ -132,39 +112,43 @@ fn value_by(processes: &Processes, plan: &Plan, pid: Pid, address: Vaddr, size: 
 fn decide_load(
     processes: &Processes,
     event: &Event,
+    container: &Container,
     address: Vaddr,
     size: Size,
-    used: u32,
 ) -> Decision
     requires live { is_live processes.now.state event.now.pid ≡ true }
+    requires container { container_of processes.now.state event.now.pid ≡ Some container.now }
     requires load { event.now.call ≡ call.Load address size }
-    requires used { used ≡ cost processes.now.state.spaces event.now.pid }
     ensures { result ≡ decision_of processes.now event.now }
 {
     let pid = event.pid;
-    let plan = fault_handler::plan(processes, pid, address, size, Access::Read);
-    let value = value_by(processes, &plan, pid, address, size);
-    let charge = charge_by(processes, &plan, pid, address, size, Access::Read, used);
-    by_plan(event, &plan, &Reply::Value(value), charge, used)
+    let planned = plan_charged(processes, pid, address, size, Access::Read, container);
+    let value = value_by(processes, &planned.plan, pid, address, size);
+    by_plan(event, &planned.plan, &Reply::Value(value), planned.charge)
 }
 
 fn decide_store(
     processes: &Processes,
     event: &Event,
+    container: &Container,
     address: Vaddr,
     size: Size,
     value: u32,
-    used: u32,
 ) -> Decision
     requires live { is_live processes.now.state event.now.pid ≡ true }
+    requires container { container_of processes.now.state event.now.pid ≡ Some container.now }
     requires store { event.now.call ≡ call.Store address size value }
-    requires used { used ≡ cost processes.now.state.spaces event.now.pid }
     ensures { result ≡ decision_of processes.now event.now }
 {
-    let pid = event.pid;
-    let plan = fault_handler::plan(processes, pid, address, size, Access::Write);
-    let charge = charge_by(processes, &plan, pid, address, size, Access::Write, used);
-    by_plan(event, &plan, &Reply::Done, charge, used)
+    let planned = plan_charged(
+        processes,
+        event.pid,
+        address,
+        size,
+        Access::Write,
+        container,
+    );
+    by_plan(event, &planned.plan, &Reply::Done, planned.charge)
 }
 
 /// The reply to a process that asks about a page that it has mapped.
@@ -216,9 +200,9 @@ fn decide_live(processes: &Processes, event: &Event, container: &Container) -> D
     let pid = event.pid;
     let used = container.used;
     match event.call {
-        Call::Load { addr, size } => decide_load(processes, event, addr, size, used),
+        Call::Load { addr, size } => decide_load(processes, event, container, addr, size),
         Call::Store { addr, size, value } => {
-            decide_store(processes, event, addr, size, value, used)
+            decide_store(processes, event, container, addr, size, value)
         }
         Call::Map { page, .. } => done_or_refused(event, processes.can_map(pid, page), used),
         Call::Unmap { page } => done_or_refused(event, processes.can_unmap(pid, page), used),

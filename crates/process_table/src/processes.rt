@@ -7,12 +7,13 @@ ghost use Rattle.alloc_table.specs.Roles.{opening_roles};
 ghost use Rattle.address_space.specs.Spaces.{Slot, cost, need, slot_at, fresh, without, is_slot, is_of, cell_or_fresh, protected, joined, at_page, copied};
 ghost use Rattle.page_sharing.specs.Offers.{offer_of};
 ghost use Rattle.std.specs.Option.{unwrap_or};
+ghost use Rattle.address_space.specs.View as seen;
 ghost use Rattle.address_space.specs.View.{directory_of, total_cost};
-ghost use Rattle.quota_tree.specs.Containers.{IsLive, used_of, room_of, with_used, split_answer, after_split, opening};
-ghost use Rattle.process_table.specs.State.{is_live, is_mapped, has_no_room, lacks_room, container_of, open_with};
+ghost use Rattle.quota_tree.specs.Containers.{Containers, IsLive, used_of, room_of, with_used, split_answer, after_split, opening};
+ghost use Rattle.process_table.specs.State.{State, is_live, is_mapped, has_no_room, lacks_room, container_of, open_with};
 ghost use Rattle.process_table.specs.Calls.{map_refusal, unmap_refusal, exit_refusal, after_map, after_unmap, after_protect, after_offer, after_withdraw, after_accept, after_spawn, after_exit, after_load, after_store, after_access, access_value, loaded, after_fork};
 ghost use Rattle.process_table.specs.TestAnswers.{translated, map_answer, unmap_answer, protect_answer, offer_answer, withdraw_answer, accept_answer, spawn_answer, exit_answer, fork_answer, for_copy};
-ghost use Rattle.process_table.specs.View.{state_of, IsProcesses};
+ghost use Rattle.process_table.specs.View.{IsProcesses};
 ghost use Rattle.process_table.specs.Image.{StandsFor, image_of, memory_of};
 ghost use Rattle.address_space.specs.Image as memory;
 ghost use Rattle.address_space.specs.Image.{LeavesRoom, is_lazy_at, takes_stores};
@@ -23,7 +24,7 @@ ghost use Rattle.quota_tree.specs.Book.{number_of_children};
 ghost use Rattle.table_walk.specs.declared.Access.TheVariants as access_variant;
 
 use crate::causes::Cause;
-use crate::charges::{charge_at, charge_of, charge_with, charge_without, is_short};
+use crate::charges::{charge_at, charge_of, charge_with, charge_without, is_short, need_of};
 use crate::checks::{
     accept_check, exit_check, map_check, offer_check, protect_check, unmap_check, withdraw_check,
 };
@@ -77,12 +78,11 @@ fn is_process(quotas: &Quotas, pid: Pid) -> bool
 }
 
 /// Charges a live process for frames that it has room for, which are then free.
-fn take_room(spaces: &Spaces, quotas: &mut Quotas, pid: Pid, frames: u32)
-    requires kept { IsProcesses spaces.now quotas.old }
+fn take_room(quotas: &mut Quotas, pid: Pid, frames: u32)
     requires live { IsLive quotas.old pid }
     requires room { frames ≤ room_of quotas.old pid }
     ensures quotas { quotas.new ≡ with_used quotas.old pid (used_of quotas.old pid + frames) }
-    ensures room { 1 + total_cost spaces.now.directories spaces.now.spaces + frames ≤ length spaces.now.roles }
+    ensures room { (v : seen.View) → IsProcesses v quotas.old → 1 + total_cost v.directories v.spaces + frames ≤ length v.roles }
 {
     quotas.charge(pid, frames);
     quotas.within();
@@ -100,7 +100,7 @@ fn add_page(spaces: &mut Spaces, quotas: &mut Quotas, pid: Pid, page: Page, writ
     ensures book { quotas.new.book ≡ quotas.old.book }
 {
     let need = spaces.need(pid, page);
-    take_room(spaces, quotas, pid, need);
+    take_room(quotas, pid, need);
     spaces.map_zero(pid, page, write);
 }
 
@@ -119,17 +119,14 @@ fn remove_page(spaces: &mut Spaces, quotas: &mut Quotas, pid: Pid, page: Page)
     quotas.refund(pid, relief);
 }
 
-/// Sets the right to write to a mapped page.
-fn set_right(spaces: &mut Spaces, quotas: &Quotas, pid: Pid, page: Page, write: bool)
-    requires kept { IsProcesses spaces.old quotas.now }
+/// Sets the right to write to a mapped page. No charge changes.
+fn set_right(spaces: &mut Spaces, pid: Pid, page: Page, write: bool)
     requires user { IsUserPage page }
     requires mapped { is_some (map.get spaces.old.spaces (at_page pid page)) ≡ true }
     requires right { write ≡ true → (cell_or_fresh spaces.old.spaces (at_page pid page)).may ≡ true }
-    ensures kept { IsProcesses spaces.new quotas.now }
+    ensures kept { (quotas : Containers) → IsProcesses spaces.old quotas → IsProcesses spaces.new quotas }
     ensures spaces { spaces.new.spaces ≡ protected spaces.old.spaces (at_page pid page) write }
 {
-    // No charge changes: only the contract reads the quotas.
-    let _ = quotas;
     spaces.protect(pid, page, write);
 }
 
@@ -142,31 +139,30 @@ fn take_offer(offers: &mut Offers, giver: Pid, page: Page, target: Pid) -> bool
     offers.take(giver, page, target).unwrap()
 }
 
-/// Adds a page of a process to the group of another's, with this right.
-fn join_page(
-    spaces: &mut Spaces,
-    quotas: &mut Quotas,
-    giver: Pid,
-    giver_page: Page,
+/// A page of a process.
+#[derive(Clone, Copy, Debug, PartialEq, Eq)]
+struct Place {
     pid: Pid,
     page: Page,
-    right: bool,
-)
+}
+
+/// Adds a page of a process to the group of another's, with this right.
+fn join_page(spaces: &mut Spaces, quotas: &mut Quotas, giver: &Place, own: &Place, right: bool)
     requires kept { IsProcesses spaces.old quotas.old }
-    requires live { IsLive quotas.old pid }
-    requires given { is_some (map.get spaces.old.spaces (at_page giver giver_page)) ≡ true }
-    requires from { IsUserPage giver_page }
-    requires user { IsUserPage page }
-    requires unmapped { map.get spaces.old.spaces (at_page pid page) ≡ None }
-    requires room { need spaces.old.spaces pid page ≤ room_of quotas.old pid }
+    requires live { IsLive quotas.old own.now.pid }
+    requires given { is_some (map.get spaces.old.spaces (at_page giver.now.pid giver.now.page)) ≡ true }
+    requires from { IsUserPage giver.now.page }
+    requires user { IsUserPage own.now.page }
+    requires unmapped { map.get spaces.old.spaces (at_page own.now.pid own.now.page) ≡ None }
+    requires room { need spaces.old.spaces own.now.pid own.now.page ≤ room_of quotas.old own.now.pid }
     ensures kept { IsProcesses spaces.new quotas.new }
-    ensures spaces { spaces.new.spaces ≡ joined spaces.old.spaces (at_page giver giver_page) (at_page pid page) right }
+    ensures spaces { spaces.new.spaces ≡ joined spaces.old.spaces (at_page giver.now.pid giver.now.page) (at_page own.now.pid own.now.page) right }
     ensures book { quotas.new.book ≡ quotas.old.book }
 {
-    let need = spaces.need(pid, page);
-    take_room(spaces, quotas, pid, need);
-    spaces.fill(giver, giver_page);
-    spaces.join(giver, giver_page, pid, page, right);
+    let need = spaces.need(own.pid, own.page);
+    take_room(quotas, own.pid, need);
+    spaces.fill(giver.pid, giver.page);
+    spaces.join(giver.pid, giver.page, own.pid, own.page, right);
 }
 
 /// The number of a live process's next child of that quota, or the cause against it.
@@ -225,7 +221,7 @@ fn add_copy(spaces: &mut Spaces, quotas: &mut Quotas, pid: Pid, quota: u32) -> P
     quotas.within();
     let child = add_process(spaces, quotas, pid, quota);
     let cost = spaces.cost(pid);
-    take_room(spaces, quotas, child, cost - 1);
+    take_room(quotas, child, cost - 1);
     spaces.copy_space(pid, child);
     child
 }
@@ -247,21 +243,18 @@ fn remove_process(spaces: &mut Spaces, quotas: &mut Quotas, pid: Pid)
 /// An access through mapped pages.
 fn complete_access(
     spaces: &mut Spaces,
-    quotas: &Quotas,
-    offers: &Offers,
     pid: Pid,
     address: Vaddr,
     size: Size,
     access: Access,
     value: u32,
 ) -> u32
-    requires kept { IsProcesses spaces.old quotas.now }
     requires user { EachTouched address size IsUserPage }
     requires mapped { EachTouched address size (λ page. is_some (map.get spaces.old.spaces (at_page pid page)) ≡ true) }
     requires real { access ≡ Access.Write → EachTouched address size (λ page. is_lazy_at (memory.image_of spaces.old) (at_page pid page) ≡ false) }
-    ensures kept { IsProcesses spaces.new quotas.now }
-    ensures value { result ≡ access_value (state_of spaces.old quotas.now offers.now) pid address size access }
-    ensures state { state_of spaces.new quotas.now offers.now ≡ after_access (state_of spaces.old quotas.now offers.now) pid address size access value }
+    ensures kept { (quotas : Containers) → IsProcesses spaces.old quotas → IsProcesses spaces.new quotas }
+    ensures value { (s : State) → s.spaces ≡ spaces.old.spaces → result ≡ access_value s pid address size access }
+    ensures state { (s : State) → s.spaces ≡ spaces.old.spaces → record s { spaces = spaces.new.spaces } ≡ after_access s pid address size access value }
     ensures roles { spaces.new.roles ≡ spaces.old.roles }
 {
     match access {
@@ -276,26 +269,23 @@ fn complete_access(
 /// An access by the walk.
 fn walk_access(
     spaces: &mut Spaces,
-    quotas: &Quotas,
-    offers: &Offers,
     pid: Pid,
     address: Vaddr,
     size: Size,
     access: Access,
     value: u32,
 ) -> u32
-    requires kept { IsProcesses spaces.old quotas.now }
     requires finds { finds (memory.image_of spaces.old) pid address size access ≡ true }
-    ensures kept { IsProcesses spaces.new quotas.now }
+    ensures kept { (quotas : Containers) → IsProcesses spaces.old quotas → IsProcesses spaces.new quotas }
     ensures mapped { EachTouched address size (λ page. is_some (map.get spaces.old.spaces (at_page pid page)) ≡ true) }
     ensures takes { access ≡ Access.Write → EachTouched address size (λ page. takes_stores spaces.old.spaces (memory.image_of spaces.old) (at_page pid page) ≡ true) }
-    ensures value { result ≡ access_value (state_of spaces.old quotas.now offers.now) pid address size access }
-    ensures state { state_of spaces.new quotas.now offers.now ≡ after_access (state_of spaces.old quotas.now offers.now) pid address size access value }
+    ensures value { (s : State) → s.spaces ≡ spaces.old.spaces → result ≡ access_value s pid address size access }
+    ensures state { (s : State) → s.spaces ≡ spaces.old.spaces → record s { spaces = spaces.new.spaces } ≡ after_access s pid address size access value }
     ensures directories { spaces.new.directories ≡ spaces.old.directories }
     ensures roles { spaces.new.roles ≡ spaces.old.roles }
     ensures bytes { (directory : ℕ) → directory_of spaces.old.directories pid ≡ Some directory → spaces.new.bytes ≡ after_walked spaces.old.bytes directory address size access value }
     ensures found { (directory : ℕ) → directory_of spaces.old.directories pid ≡ Some directory → result ≡ value_found spaces.old.bytes directory address size access }
-    ensures containers { (p : ℕ) → container_of (state_of spaces.new quotas.now offers.now) p ≡ container_of (state_of spaces.old quotas.now offers.now) p }
+    ensures costs { (p : ℕ) → cost spaces.new.spaces p ≡ cost spaces.old.spaces p }
 {
     match access {
         Access::Read => spaces.load_by_walk(pid, address, size),
@@ -307,11 +297,10 @@ fn walk_access(
 }
 
 /// Gives a lazy page a frame of its own.
-fn fill_page(spaces: &mut Spaces, quotas: &Quotas, pid: Pid, page: Page)
-    requires kept { IsProcesses spaces.old quotas.now }
+fn fill_page(spaces: &mut Spaces, pid: Pid, page: Page)
     requires user { IsUserPage page }
     requires mapped { is_some (map.get spaces.old.spaces (at_page pid page)) ≡ true }
-    ensures kept { IsProcesses spaces.new quotas.now }
+    ensures kept { (quotas : Containers) → IsProcesses spaces.old quotas → IsProcesses spaces.new quotas }
     ensures spaces { spaces.new.spaces ≡ spaces.old.spaces }
     ensures real { is_lazy_at (memory.image_of spaces.new) (at_page pid page) ≡ false }
     ensures others { (slot : Slot) → is_lazy_at (memory.image_of spaces.old) slot ≡ false → is_lazy_at (memory.image_of spaces.new) slot ≡ false }
@@ -429,7 +418,7 @@ impl Processes {
         requires { IsOk (protect_answer self.old.state pid page write) }
         ensures { self.new.state ≡ after_protect self.old.state pid page write }
     {
-        set_right(&mut self.spaces, &self.quotas, pid, page, write);
+        set_right(&mut self.spaces, pid, page, write);
     }
 
     /// What a process would be charged for once it has offered a page, or the first cause against it:
@@ -495,15 +484,12 @@ impl Processes {
         ensures { self.new.state ≡ after_accept self.old.state pid giver giver_page page }
     {
         let right = take_offer(&mut self.offers, giver, giver_page, pid);
-        join_page(
-            &mut self.spaces,
-            &mut self.quotas,
-            giver,
-            giver_page,
-            pid,
-            page,
-            right,
-        );
+        let giver = Place {
+            pid: giver,
+            page: giver_page,
+        };
+        let own = Place { pid, page };
+        join_page(&mut self.spaces, &mut self.quotas, &giver, &own, right);
     }
 
     /// The pending offers.
@@ -577,6 +563,17 @@ impl Processes {
         self.offers.drop_process(pid);
     }
 
+    /// What one more page of the user range costs a live process: 1 where it has a page in that region of 1,024 pages,
+    /// else 2.
+    pub fn need(&self, pid: Pid, page: Page) -> u32
+        requires live { is_live self.now.state pid ≡ true }
+        requires user { IsUserPage page }
+        ensures value { result ≡ need self.now.state.spaces pid page }
+        ensures most { result ≤ 2 }
+    {
+        need_of(self, pid, page)
+    }
+
     /// Whether a live process has no room for the pages that an access touches and that are not mapped. They lie in
     /// the user range.
     pub fn lacks_room(&self, pid: Pid, address: Vaddr, size: Size) -> bool
@@ -616,16 +613,7 @@ impl Processes {
         ensures state { self.new.state ≡ after_access self.old.state pid address size access value }
         ensures roles { self.new.roles ≡ self.old.roles }
     {
-        complete_access(
-            &mut self.spaces,
-            &self.quotas,
-            &self.offers,
-            pid,
-            address,
-            size,
-            access,
-            value,
-        )
+        complete_access(&mut self.spaces, pid, address, size, access, value)
     }
 
     /// Whether a processor makes an access of a process by itself: the walk of the process's directory finds a
@@ -660,16 +648,7 @@ impl Processes {
         ensures found { (directory : ℕ) → directory_of self.old.directories pid ≡ Some directory → result ≡ value_found self.old.bytes directory address size access }
         ensures containers { (p : ℕ) → container_of self.new.state p ≡ container_of self.old.state p }
     {
-        walk_access(
-            &mut self.spaces,
-            &self.quotas,
-            &self.offers,
-            pid,
-            address,
-            size,
-            access,
-            value,
-        )
+        walk_access(&mut self.spaces, pid, address, size, access, value)
     }
 
     /// Sets or clears accessed in the directory word that leads to a page of a live process, where it is present.
@@ -730,7 +709,7 @@ impl Processes {
         ensures real { is_lazy_at (memory_of self.new) (at_page pid page) ≡ false }
         ensures others { (slot : Slot) → is_lazy_at (memory_of self.old) slot ≡ false → is_lazy_at (memory_of self.new) slot ≡ false }
     {
-        fill_page(&mut self.spaces, &self.quotas, pid, page);
+        fill_page(&mut self.spaces, pid, page);
     }
 
     /// What memory's own words and the containers say of this state, that all processes together cost

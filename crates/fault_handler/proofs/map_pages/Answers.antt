@@ -1,12 +1,25 @@
-use Rattle.std.proofs.Common.{◌≤◌, ap, sym, subst, ◌∙◌}
-use Rattle.address_space.specs.Spaces.{page_need, with_page}
-use Rattle.process_table.specs.State.{State, room}
-use Rattle.fault_handler.proofs.Settled.{second_room}
+use Rattle.std.proofs.Common.{◌≤◌, arith, Bool, true, not, ap, sym, subst, ◌∙◌, Option, unwrap_or}
+use Rattle.std.specs.Option.{option_map}
+use Rattle.page_words.specs.Addresses.{page_number}
+use Rattle.page_words.proofs.Accesses.{crosses}
+use Rattle.address_space.specs.Spaces.{at_page, page_need, with_page}
+use Rattle.process_table.specs.State.{State, is_mapped, room}
+use Rattle.fault_handler.specs.Plans.{maps_page}
+use Rattle.fault_handler.proofs.Settled.{second_room, mapped_beside}
 use Rattle.fault_handler.proofs.map_pages.Goals as goal
 
-pub map_missing-requires-in-Some-clause-room : goal.map_missing-requires-in-Some-clause-room
-map_missing-requires-in-Some-clause-room c =
+pub map_by_step-requires-in-Some-clause-room : goal.map_by_step-requires-in-Some-clause-room
+map_by_step-requires-in-Some-clause-room c =
     let s : State = c.args.processes.now.state in
-    subst (λ (t : State). page_need t.spaces c.args.pid c.in-Some.second ≤ room t c.args.pid)
-    (sym (c.map_missing.ensures ∙ ap (λ n. record s { spaces = with_page s.spaces c.args.pid n }) c.page_of.ensures.value))
-    (second_room s c.args.pid c.args.address c.args.size c.in-Some.second (sym c.second_page.ensures ∙ c.in-Some.is) c.requires.room)
+    subst (λ (t : State). page_need t.spaces c.args.pid c.in-Some.page ≤ room t c.args.pid)
+    (sym (c.map_by_step.ensures ∙ ap (λ n. record s { spaces = with_page s.spaces c.args.pid n }) c.page_of.ensures.value))
+    (second_room s c.args.pid c.args.address c.args.size c.in-Some.page (sym c.second_page.ensures ∙ c.in-Some.is) c.requires.room)
+
+pub map_by_step-requires-in-Some-clause-how : goal.map_by_step-requires-in-Some-clause-how
+map_by_step-requires-in-Some-clause-how c =
+    let s : State = c.args.processes.now.state in
+    let there = sym c.second_page.ensures ∙ c.in-Some.is in
+    let next = (crosses c.args.address c.args.size c.in-Some.page there).next in
+    ap (λ (t : State). is_mapped t (at_page c.args.pid c.in-Some.page)) (c.map_by_step.ensures ∙ ap (λ n. record s { spaces = with_page s.spaces c.args.pid n }) c.page_of.ensures.value)
+    ∙ mapped_beside s.spaces c.args.pid (page_number c.args.address) c.in-Some.page (λ e. omega (arith, e, next))
+    ∙ ap (λ (x : Option Bool). unwrap_or x true) (ap (option_map (λ page. is_mapped s (at_page c.args.pid page))) (sym there) ∙ c.requires.second ∙ ap (option_map (λ how. not (maps_page how))) c.unwrap.ensures)

@@ -10,9 +10,9 @@ pub returns-clause-kept : goal.returns-clause-kept
 returns-clause-kept c =
     let v = c.args.spaces.now in
     let q = c.args.quotas.now in
-    let p = c.args.pid in
-    let giver : Slot = at_page c.args.giver c.args.giver_page in
-    let slot : Slot = at_page p c.args.page in
+    let p = c.args.own.now.pid in
+    let giver : Slot = at_page c.args.giver.now.pid c.args.giver.now.page in
+    let slot : Slot = at_page p c.args.own.now.page in
     let used = used_of q p + c.need-need.result in
     let spaces = c.join.ensures.spaces ∙ ap (λ S. joined S giver slot c.args.right) c.fill.ensures.spaces in
     subst (IsProcesses c.join.new.self) (sym c.take_room.ensures.quotas)

@@ -5,6 +5,6 @@ use Rattle.process_table.proofs.Charged.{charged-same}
 use Rattle.process_table.proofs.processes.set_right.Goals as goal
 
 pub returns-clause-kept : goal.returns-clause-kept
-returns-clause-kept c =
-    charged-same c.args.spaces.now c.protect.new.self c.args.quotas.now c.requires.kept c.protect.ensures.directories (ap length c.protect.ensures.roles)
+returns-clause-kept c = λ quotas kept.
+    charged-same c.args.spaces.now c.protect.new.self quotas kept c.protect.ensures.directories (ap length c.protect.ensures.roles)
     (λ q. ap (λ S. cost S q) c.protect.ensures.spaces ∙ cost-protected_of c.args.spaces.now.spaces (at_page c.args.pid c.args.page) c.args.write q c.requires.mapped)

@@ -8,31 +8,20 @@ use Rattle.address_space.specs.Image as memory
 use Rattle.address_space.specs.Image.{takes_stores}
 use Rattle.address_space.proofs.costs.AccessCosts.{cost-same}
 use Rattle.address_space.proofs.costs.MapFirst.{IsThere, bytes_there, key-all_accessed, key-all_stored}
-use Rattle.std.specs.Option.{option_map}
-use Rattle.quota_tree.specs.Book.{Book, Member, given, number_of_children}
-use Rattle.quota_tree.specs.declared.Container.{Container}
 use Rattle.process_table.proofs.Charged.{charged-same}
 use Rattle.process_table.proofs.processes.walk_access.Goals as goal
 
--- what is known of a process that uses this much
-abbrev known : Book → ℕ → ℕ → Member → Container
-known book p used member = record { parent = member.parent; quota = member.quota; used = used; given = given book p; children = number_of_children book p }
-
--- a process that is charged as it was is known as it was
-same_container : (book : Book) (p n m : ℕ) → n ≡ m → option_map (known book p n) (map.get book p) ≡ option_map (known book p m) (map.get book p)
-same_container book p n m is = ap (λ k. option_map (known book p k) (map.get book p)) is
-
 pub returns-in-Read-clause-kept : goal.returns-in-Read-clause-kept
-returns-in-Read-clause-kept c =
+returns-in-Read-clause-kept c = λ quotas kept.
     let S = c.args.spaces.now.spaces in
-    charged-same c.args.spaces.now c.load_by_walk.new.self c.args.quotas.now c.requires.kept c.load_by_walk.ensures.directories (ap length c.load_by_walk.ensures.roles)
+    charged-same c.args.spaces.now c.load_by_walk.new.self quotas kept c.load_by_walk.ensures.directories (ap length c.load_by_walk.ensures.roles)
     (λ q. ap (λ S. cost S q) c.load_by_walk.ensures.spaces
     ∙ cost-same (all_accessed S c.args.pid (touched c.args.address c.args.size)) S q (key-all_accessed S c.args.pid c.args.address c.args.size c.load_by_walk.ensures.mapped))
 
 pub returns-in-Write-clause-kept : goal.returns-in-Write-clause-kept
-returns-in-Write-clause-kept c =
+returns-in-Write-clause-kept c = λ quotas kept.
     let S = c.args.spaces.now.spaces in
-    charged-same c.args.spaces.now c.store_by_walk.new.self c.args.quotas.now c.requires.kept c.store_by_walk.ensures.directories (ap length c.store_by_walk.ensures.roles)
+    charged-same c.args.spaces.now c.store_by_walk.new.self quotas kept c.store_by_walk.ensures.directories (ap length c.store_by_walk.ensures.roles)
     (λ q. ap (λ S. cost S q) c.store_by_walk.ensures.spaces
     ∙ cost-same (all_stored S c.args.pid c.args.address (bytes_of (byte_count c.args.size) c.args.value)) S q
     (key-all_stored S c.args.pid c.args.address (byte_count c.args.size) c.args.value (bytes_there S c.args.pid c.args.address c.args.size (there c.store_by_walk.ensures.takes))))
@@ -50,20 +39,18 @@ returns-in-Write-clause-kept c =
     there : EachTouched c.args.address c.args.size takes → EachTouched c.args.address c.args.size (IsThere c.args.spaces.now.spaces c.args.pid)
     there h = (one (page_number c.args.address) h.0, second (second_page c.args.address c.args.size) h.1)
 
-pub returns-in-Read-clause-containers : goal.returns-in-Read-clause-containers
-returns-in-Read-clause-containers c = λ p.
+pub returns-in-Read-clause-costs : goal.returns-in-Read-clause-costs
+returns-in-Read-clause-costs c = λ p.
     let S = c.args.spaces.now.spaces in
-    same_container c.args.quotas.now.book p (cost c.load_by_walk.new.self.spaces p) (cost S p)
-    (ap (λ S. cost S p) c.load_by_walk.ensures.spaces
-    ∙ cost-same (all_accessed S c.args.pid (touched c.args.address c.args.size)) S p (key-all_accessed S c.args.pid c.args.address c.args.size c.load_by_walk.ensures.mapped))
+    ap (λ S. cost S p) c.load_by_walk.ensures.spaces
+    ∙ cost-same (all_accessed S c.args.pid (touched c.args.address c.args.size)) S p (key-all_accessed S c.args.pid c.args.address c.args.size c.load_by_walk.ensures.mapped)
 
-pub returns-in-Write-clause-containers : goal.returns-in-Write-clause-containers
-returns-in-Write-clause-containers c = λ p.
+pub returns-in-Write-clause-costs : goal.returns-in-Write-clause-costs
+returns-in-Write-clause-costs c = λ p.
     let S = c.args.spaces.now.spaces in
-    same_container c.args.quotas.now.book p (cost c.store_by_walk.new.self.spaces p) (cost S p)
-    (ap (λ S. cost S p) c.store_by_walk.ensures.spaces
+    ap (λ S. cost S p) c.store_by_walk.ensures.spaces
     ∙ cost-same (all_stored S c.args.pid c.args.address (bytes_of (byte_count c.args.size) c.args.value)) S p
-    (key-all_stored S c.args.pid c.args.address (byte_count c.args.size) c.args.value (bytes_there S c.args.pid c.args.address c.args.size (there c.store_by_walk.ensures.takes))))
+    (key-all_stored S c.args.pid c.args.address (byte_count c.args.size) c.args.value (bytes_there S c.args.pid c.args.address c.args.size (there c.store_by_walk.ensures.takes)))
   where
     takes : ℕ → Type 0
     takes page = takes_stores c.args.spaces.now.spaces (memory.image_of c.args.spaces.now) (at_page c.args.pid page) ≡ true

@@ -1,4 +1,4 @@
-use Rattle.std.proofs.Common.{sym, subst}
+use Rattle.std.proofs.Common.{refl, sym, subst}
 use Rattle.page_words.specs.Addresses.{EachTouched}
 use Rattle.address_space.proofs.costs.MapFirst.{IsThere}
 use Rattle.process_table.specs.State.{State}
@@ -16,8 +16,8 @@ invariant_of-self c =
     let size = c.args.size in
     let mapped : EachTouched address size (IsThere s.spaces p) = subst (λ (v : View). EachTouched address size (IsThere v.state.spaces p)) (sym c.self.view_is) c.requires.mapped in
     record {
-      kept = c.complete_access.ensures.kept;
-      well_formed = subst IsWellFormed (sym c.complete_access.ensures.state) (keeps-access s p address size c.args.access c.args.value c.self.invariant.well_formed mapped);
+      kept = c.complete_access.ensures.kept c.self.inside.quotas c.self.invariant.kept;
+      well_formed = subst IsWellFormed (sym (c.complete_access.ensures.state s refl)) (keeps-access s p address size c.args.access c.args.value c.self.invariant.well_formed mapped);
     }
 
 pub complete_access-requires-clause-user : goal.complete_access-requires-clause-user

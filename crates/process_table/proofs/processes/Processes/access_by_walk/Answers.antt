@@ -1,4 +1,4 @@
-use Rattle.std.proofs.Common.{sym, subst}
+use Rattle.std.proofs.Common.{refl, sym, subst}
 use Rattle.process_table.specs.State.{State}
 use Rattle.process_table.specs.View.{state_of}
 use Rattle.process_table.specs.WellFormed.{IsWellFormed}
@@ -10,8 +10,8 @@ pub invariant_of-self : goal.invariant_of-self
 invariant_of-self c =
     let s : State = state_of c.self.inside.spaces c.self.inside.quotas c.self.inside.offers in
     record {
-      kept = c.walk_access.ensures.kept;
-      well_formed = subst IsWellFormed (sym c.walk_access.ensures.state) (keeps-access s c.args.pid c.args.address c.args.size c.args.access c.args.value c.self.invariant.well_formed c.walk_access.ensures.mapped);
+      kept = c.walk_access.ensures.kept c.self.inside.quotas c.self.invariant.kept;
+      well_formed = subst IsWellFormed (sym (c.walk_access.ensures.state s refl)) (keeps-access s c.args.pid c.args.address c.args.size c.args.access c.args.value c.self.invariant.well_formed c.walk_access.ensures.mapped);
     }
 
 pub returns-clause-user : goal.returns-clause-user

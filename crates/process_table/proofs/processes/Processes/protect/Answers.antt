@@ -14,5 +14,5 @@ invariant_of-self c =
     let page = c.args.page in
     let write = c.args.write in
     let ok : IsOk (protect_answer s p page write) = subst (λ (v : View). IsOk (protect_answer v.state p page write)) (sym c.self.view_is) c.requires in
-    whole c.set_right.new.spaces c.self.inside.quotas c.self.inside.offers (after_protect s p page write) c.set_right.ensures.kept c.set_right.ensures.spaces refl refl
+    whole c.set_right.new.spaces c.self.inside.quotas c.self.inside.offers (after_protect s p page write) (c.set_right.ensures.kept c.self.inside.quotas c.self.invariant.kept) c.set_right.ensures.spaces refl refl
     (keeps-protect s p page write c.self.invariant.well_formed ok)

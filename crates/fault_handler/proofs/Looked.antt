@@ -1,0 +1,138 @@
+-- One look at each page of an access tells its plan and its charge.
+use Rattle.std.proofs.Common.{◌≡◌, ℕ, ◌+◌, ◌-◌, ◌==◌, nat_lt, arith, Bool, true, false, not, ◌&&◌, cond, refl, sym, ap, ◌∙◌, Option, Some, None, unwrap_or}
+use Rattle.std.specs.Prelude.{if◌then◌else◌}
+use Rattle.std.specs.Option.{option_map, option_and_then}
+use Rattle.page_words.specs.Addresses.{page_number, slot_number, start_number, second_page}
+use Rattle.page_words.specs.declared.addresses.Size.{Size}
+use Rattle.page_words.specs.FiniteMap as map
+use Rattle.page_words.specs.FiniteSet as set
+use Rattle.page_words.proofs.Accesses.{first_by_page, crosses}
+use Rattle.address_space.specs.Spaces.{Spaces, at_page, cost, page_need, access_need, regions_of, pages_of}
+use Rattle.address_space.proofs.costs.AccessNeeds.{need-in_one, need-in_two, second_need}
+use Rattle.quota_tree.specs.Book.{Member, given}
+use Rattle.quota_tree.specs.declared.Container.{Container}
+use Rattle.table_walk.specs.declared.Access.{Access}
+use Rattle.table_walk.specs.declared.Access.TheVariants.{Read, Write}
+use Rattle.process_table.specs.State.{State, room, as_container, container_of}
+use Rattle.process_table.specs.View.{View}
+use Rattle.process_table.specs.declared.causes.Cause.TheVariants.{Quota}
+use Rattle.fault_handler.specs.declared.plans.Plan.{Plan}
+use Rattle.fault_handler.specs.declared.plans.Plan.TheVariants as plan
+use Rattle.fault_handler.specs.declared.plans.Planned.{Planned}
+use Rattle.fault_handler.specs.declared.plans.Look.{Look}
+use Rattle.fault_handler.specs.Plans.{outside, is_read_only, forbidden, fault_or, step_at, goes_on}
+use Rattle.fault_handler.specs.Looks.{look_of, look_behind, barred, need_by, ready_by, fault_by, planned_by_looks, planned_at}
+
+-- ---- A container
+
+same_container : (s : State) (p : ℕ) (c : Container) (m : Member) → option_map (λ member. as_container s p member) (Some m) ≡ Some c → as_container s p m ≡ c
+same_container s p c m h = ap (λ o. unwrap_or o c) h
+
+pub used_is : (s : State) (p : ℕ) (c : Container) → container_of s p ≡ Some c → c.used ≡ cost s.spaces p
+used_is s p c is = by (map.get s.book p) is
+  where
+    by : (x : Option Member) → option_map (λ member. as_container s p member) x ≡ Some c → c.used ≡ cost s.spaces p
+    by None h = cc
+    by (Some m) h = sym (ap (λ (k : Container). k.used) (same_container s p c m h))
+
+room_is : (s : State) (p : ℕ) (c : Container) → container_of s p ≡ Some c → c.quota - c.used - c.given ≡ room s p
+room_is s p c is = by (map.get s.book p) refl is
+  where
+    by : (x : Option Member) → map.get s.book p ≡ x → option_map (λ member. as_container s p member) x ≡ Some c → c.quota - c.used - c.given ≡ room s p
+    by None has h = cc
+    by (Some m) has h =
+        sym (ap (λ (k : Container). k.quota - k.used - k.given) (same_container s p c m h))
+        ∙ sym (ap (λ (y : Option Member). unwrap_or (option_map (λ member. member.quota) y) 0 - cost s.spaces p - given s.book p) has)
+
+-- ---- The pages
+
+module _ (v : View) (p address : ℕ) (size : Size) (access : Access) where
+  abbrev s : State
+  s = v.state
+
+  abbrev S : Spaces
+  S = v.state.spaces
+
+  abbrev page : ℕ
+  page = page_number address
+
+  abbrev first : Look
+  first = look_of v p access address
+
+  abbrev behind : Option ℕ → Option Look
+  behind x = option_map (λ second. look_of v p access (start_number second)) x
+
+  start : (second : ℕ) → page_number (start_number second) ≡ second
+  start second = omega arith
+
+  barred_is : barred access first (look_behind v p access address size) ≡ forbidden s p address size access
+  barred_is = by access (second_page address size) refl
+    where
+      test : ℕ → Bool
+      test second = is_read_only s (at_page p second)
+
+      by : (a : Access) (x : Option ℕ) → second_page address size ≡ x → barred a first (behind x) ≡ forbidden s p address size a
+      by Read None is = refl
+      by Read (Some second) is = refl
+      by Write None is = sym (first_by_page test address size ∙ ap (λ y. cond (test page) (Some address) (option_and_then (λ n. cond (test n) (Some (start_number n)) None) y)) is)
+      by Write (Some second) is =
+          ap (λ n. cond (test page) (Some address) (cond (test n) (Some (start_number second)) None)) (start second)
+          ∙ sym (first_by_page test address size ∙ ap (λ y. cond (test page) (Some address) (option_and_then (λ n. cond (test n) (Some (start_number n)) None) y)) is)
+
+  steps_are : ready_by first (look_behind v p access address size) ≡ plan.Ready (step_at v p access page) (option_map (step_at v p access) (second_page address size))
+  steps_are = by (second_page address size)
+    where
+      by : (x : Option ℕ) → ready_by first (behind x) ≡ plan.Ready (step_at v p access page) (option_map (step_at v p access) x)
+      by None = refl
+      by (Some second) = ap (λ n. plan.Ready (step_at v p access page) (Some (step_at v p access n))) (start second)
+
+  -- two pages need what the first does, and what the second does beside it
+  beside : (m n r t same : Bool)
+      → ◌≡◌ {A = ℕ} (if nat_lt 0 (if m then 0 else (if r then 1 else 2)) && (nat_lt 0 (if n then 0 else (if t then 1 else 2)) && same) then 1 else (if n then 0 else (if t then 1 else 2))) (if n then 0 else (if not m && same then 1 else (if t then 1 else 2)))
+  beside true true r t same = refl
+  beside true false r t same = refl
+  beside false true true t same = refl
+  beside false true false t same = refl
+  beside false false true true same = refl
+  beside false false true false same = refl
+  beside false false false true same = refl
+  beside false false false false same = refl
+
+  need_is : need_by first (look_behind v p access address size) ≡ access_need S p address size
+  need_is = by (second_page address size) refl
+    where
+      by : (x : Option ℕ) → second_page address size ≡ x → need_by first (behind x) ≡ access_need S p address size
+      by None is = sym (need-in_one S p address size is)
+      by (Some second) is =
+          let next = (crosses address size second is).next in
+          ap (λ n. page_need S p page + (if nat_lt 0 (page_need S p page) && (nat_lt 0 (page_need S p n) && (slot_number page == slot_number n)) then 1 else page_need S p n)) (start second)
+          ∙ ap (λ n. page_need S p page + n)
+          (beside (map.contains_key S (at_page p page)) (map.contains_key S (at_page p second)) (set.contains (regions_of (pages_of S p)) (slot_number page)) (set.contains (regions_of (pages_of S p)) (slot_number second)) (slot_number page == slot_number second)
+          ∙ sym (second_need S p page second (λ e. omega (arith, e, next))))
+          ∙ sym (need-in_two S p address size second is)
+
+  -- ---- The plan and the charge
+
+  joined : (byte : Option ℕ) (full : Bool) (ready : Plan) (c : Container) (frames : ℕ) → goes_on ready ≡ true
+      → fault_by byte access true c (if full then record { plan = plan.Refused Quota; charge = c.used } else record { plan = ready; charge = c.used + frames })
+      ≡ (let x : Plan = fault_or byte access true (if full then plan.Refused Quota else ready) in record { plan = x; charge = if goes_on x then c.used + frames else c.used })
+  joined (Some byte) full ready c frames goes = refl
+  joined None true ready c frames goes = refl
+  joined None false ready c frames goes = ap (λ b. record { plan = ready; charge = if b then c.used + frames else c.used }) (sym goes)
+
+  pub looked : (c : Container) → container_of s p ≡ Some c → outside address size ≡ None
+      → planned_by_looks access first (look_behind v p access address size) c ≡ planned_at v p address size access
+  looked c has within =
+      (λ i. fault_by (barred_is i) access true c (if nat_lt (room_is s p c has i) (need_is i) then record { plan = plan.Refused Quota; charge = c.used } else record { plan = steps_are i; charge = c.used + need_is i }))
+      ∙ joined (forbidden s p address size access) (nat_lt (room s p) (access_need S p address size)) ready c (access_need S p address size) refl
+      ∙ (λ i. let x : Plan = fault_or (sym within i) access false (fault_or (forbidden s p address size access) access true (if nat_lt (room s p) (access_need S p address size) then plan.Refused Quota else ready)) in
+      record { plan = x; charge = if goes_on x then used_is s p c has i + access_need S p address size else used_is s p c has i })
+    where
+      ready : Plan
+      ready = plan.Ready (step_at v p access page) (option_map (step_at v p access) (second_page address size))
+
+  -- what is planned goes on with the charge that its pages need
+  pub charge_goes : (x : Planned) → x ≡ planned_at v p address size access → goes_on x.plan ≡ true → x.charge ≡ cost S p + access_need S p address size
+  charge_goes x is goes =
+      ap (λ (y : Planned). y.charge) is
+      ∙ ap (λ b. if b then cost S p + access_need S p address size else cost S p) (sym (ap (λ (y : Planned). goes_on y.plan) is) ∙ goes)

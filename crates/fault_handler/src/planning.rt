@@ -1,0 +1,166 @@
+//! What an access comes to, and what its process is charged for after it.
+
+ghost use Rattle.std.specs.Prelude.{◌≡◌, ◌<◌, ◌≤◌, ◌-◌, ℕ, true, false, IfSome, Some, None};
+ghost use Rattle.address_space.specs.Spaces.{cost};
+ghost use Rattle.process_table.specs.Calls.{after_load, after_store};
+ghost use Rattle.process_table.specs.State.{container_of, is_live};
+ghost use Rattle.fault_handler.specs.Plans.{outside, plan_at, goes_on};
+ghost use Rattle.fault_handler.specs.Looks.{ready_by, roomy_by, planned_by_looks, planned_at};
+
+use crate::looks::{barred, look_at, look_at_second, need_by};
+use crate::plans::{Look, Plan, Planned};
+use page_words::{Pid, Size, Vaddr, in_user_range, page_of, second_page, start_of};
+use process_table::{Cause, Processes};
+use quota_tree::Container;
+use table_walk::{Access, PageFault};
+
+/// The first byte of an access that lies outside the user range.
+fn outside(address: Vaddr, size: Size) -> Option<Vaddr>
+    ensures { result ≡ outside address size }
+{
+    if !in_user_range(page_of(address)) {
+        return Some(address);
+    }
+    match second_page(address, size) {
+        Some(second) if !in_user_range(second) => Some(start_of(second)),
+        _ => None,
+    }
+}
+
+/// What is left of a container's quota.
+fn left_of(container: &Container) -> u32
+    ensures { result ≡ container.now.quota - container.now.used - container.now.given }
+{
+    container
+        .quota
+        .saturating_sub(container.used)
+        .saturating_sub(container.given)
+}
+
+/// The plan of an access to pages that it may have.
+fn ready(first: &Look, second: &Option<Look>) -> Plan
+    ensures { result ≡ ready_by first.now second.now }
+{
+    Plan::Ready {
+        first: first.step,
+        second: match second {
+            Some(second) => Some(second.step),
+            None => None,
+        },
+    }
+}
+
+/// A plan of these parts.
+fn planned(plan: Plan, charge: u32) -> Planned
+    ensures { result ≡ record { plan = plan; charge = charge } }
+{
+    Planned { plan, charge }
+}
+
+/// What an access to pages that it may have comes to, by what is left of its process's quota.
+fn by_room(first: &Look, second: &Option<Look>, container: &Container) -> Planned
+    requires first { first.now.need ≤ 2 }
+    requires second { IfSome second.now (λ look. look.need ≤ 2) }
+    requires used { container.now.used < 4096 }
+    ensures { result ≡ roomy_by first.now second.now container.now }
+{
+    let need = need_by(first, second);
+    if left_of(container) < need {
+        planned(Plan::Refused(Cause::Quota), container.used)
+    } else {
+        planned(ready(first, second), container.used + need)
+    }
+}
+
+/// What an access to pages of the user range comes to.
+fn by_looks(access: Access, first: &Look, second: &Option<Look>, container: &Container) -> Planned
+    requires first { first.now.need ≤ 2 }
+    requires second { IfSome second.now (λ look. look.need ≤ 2) }
+    requires used { container.now.used < 4096 }
+    ensures { result ≡ planned_by_looks access first.now second.now container.now }
+{
+    match barred(access, first, second) {
+        Some(byte) => planned(
+            Plan::Fault(PageFault::new(byte, access, true)),
+            container.used,
+        ),
+        None => by_room(first, second, container),
+    }
+}
+
+/// What an access of a live process to pages of the user range comes to.
+fn plan_within(
+    processes: &Processes,
+    pid: Pid,
+    address: Vaddr,
+    size: Size,
+    access: Access,
+    container: &Container,
+) -> Planned
+    requires live { is_live processes.now.state pid ≡ true }
+    requires container { container_of processes.now.state pid ≡ Some container.now }
+    requires within { outside address size ≡ None }
+    ensures { result ≡ planned_at processes.now pid address size access }
+{
+    processes.stands();
+    processes.spaces().stands();
+    let first = look_at(processes, pid, access, address);
+    let second = look_at_second(processes, pid, access, address, size);
+    by_looks(access, &first, &second, container)
+}
+
+/// What an access of a live process comes to, which has this container.
+fn planned_of(
+    processes: &Processes,
+    pid: Pid,
+    address: Vaddr,
+    size: Size,
+    access: Access,
+    container: &Container,
+) -> Planned
+    requires live { is_live processes.now.state pid ≡ true }
+    requires container { container_of processes.now.state pid ≡ Some container.now }
+    ensures { result ≡ planned_at processes.now pid address size access }
+{
+    match outside(address, size) {
+        Some(byte) => planned(
+            Plan::Fault(PageFault::new(byte, access, false)),
+            container.used,
+        ),
+        None => plan_within(processes, pid, address, size, access, container),
+    }
+}
+
+/// What an access of a live process comes to, as `plan` gives it, and what the process is charged for after it: that
+/// of today after a fault or a refusal. Each page is looked up once; the container is the process's.
+pub fn plan_charged(
+    processes: &Processes,
+    pid: Pid,
+    address: Vaddr,
+    size: Size,
+    access: Access,
+    container: &Container,
+) -> Planned
+    requires live { is_live processes.now.state pid ≡ true }
+    requires container { container_of processes.now.state pid ≡ Some container.now }
+    ensures plan { result.plan ≡ plan_at processes.now pid address size access }
+    ensures load { goes_on result.plan ≡ true → result.charge ≡ cost (after_load processes.now.state pid address size).spaces pid }
+    ensures store { (value : ℕ) → goes_on result.plan ≡ true → result.charge ≡ cost (after_store processes.now.state pid address size value).spaces pid }
+    ensures stays { goes_on result.plan ≡ false → result.charge ≡ cost processes.now.state.spaces pid }
+{
+    planned_of(processes, pid, address, size, access, container)
+}
+
+/// What an access of a live process comes to.
+///
+/// The first that applies: a fault of code 4 (a read) or 6 (a write) at the first byte outside the user range; a
+/// fault of code 7 for a write at the first byte in a page that is mapped without the right to write; Quota where
+/// there is no room for the pages that are not mapped. A page that is not mapped is mapped first, and a lazy page
+/// that is written is filled first.
+pub fn plan(processes: &Processes, pid: Pid, address: Vaddr, size: Size, access: Access) -> Plan
+    requires live { is_live processes.now.state pid ≡ true }
+    ensures { result ≡ plan_at processes.now pid address size access }
+{
+    let container = processes.container(pid).unwrap();
+    plan_charged(processes, pid, address, size, access, &container).plan
+}
