@@ -49,7 +49,7 @@ impl<G: Gate + Drop> Model for Blank<G> {
 
     ghost view = { λ b. record { frames = b.frames; cpus = b.cpus; monitors = b.monitors; book = b.opened.seen.book } };
 
-    ghost invariant = { λ b. (b.cpus ≤ 8) × (16 ≤ b.frames) × (b.frames ≤ 4096) × (b.core.state ≡ open_with b.frames) × (b.writer.desk.shown.value ≡ page b.frames b.opened.seen.book []) × (b.writer.desk.place.me.0.client ≡ view_of b.frames b.opened.seen.book) };
+    ghost invariant = { λ b. (b.cpus ≤ 8) × (16 ≤ b.frames) × (b.frames ≤ 4096) × (b.core.state ≡ open_with b.frames) × (b.writer.desk.shown.value ≡ page b.frames b.opened.seen.book []) × (b.writer.desk.place.me.0.client ≡ view_of b.frames b.opened.seen.book) × (b.writer.desk.spare.value ≡ page b.frames b.opened.seen.book []) };
 }
 
 /// A kernel: its core, log and writer under one lock. Contracts see how many CPUs it has. End it by `close`.
@@ -206,7 +206,7 @@ fn seats<N: Name>(
 ) -> Result<(Vec<Cpu<N>>, Vec<Monitor<N>>), AllocError>
     requires few { count ≤ 8 }
     requires writer { (writer.old.desk.shown.value ≡ page N.frames N.book []) × (view writer.old.desk.place ≡ view_of N.frames N.book) }
-    ensures writer { (view writer.new.desk.place ≡ view writer.old.desk.place) × (writer.new.desk.shown ≡ writer.old.desk.shown) }
+    ensures writer { (view writer.new.desk.place ≡ view writer.old.desk.place) × (writer.new.desk.shown ≡ writer.old.desk.shown) × (writer.new.desk.spare ≡ writer.old.desk.spare) }
     ensures cpus { IfOk result (λ t. t.0.items ≡ new_makers count) }
     ensures monitors { IfOk result (λ t. t.1.items ≡ replicate watchers []) }
 {

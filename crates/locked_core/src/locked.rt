@@ -19,7 +19,6 @@ use crate::cpu::Cpu;
 use crate::faults::Fault;
 use crate::publish::publish;
 use crate::rule::LogWriter;
-use crate::shown::Shown;
 use kernel_calls::{Call, Core, Decision, Event, Reply};
 use logbook::{Offer, Word};
 use memory_image::Image;
@@ -71,18 +70,17 @@ impl<N: Name> Book<N> {
     }
 }
 
-/// A call that was judged under the lock: what was published then, how many entries its CPU had, and what
-/// was decided. It can be carried out on what it was judged on alone.
+/// A call that was judged under the lock: how many entries its CPU had then, and what was decided. It can be
+/// carried out on what it was judged on alone.
 #[derive(Drop)]
 pub struct Ready {
-    page: Shown,
     nth: usize,
     decision: Decision,
 }
 
 /// The core, the log of all calls, the history that it is, and what publishes it. Contracts see the core
-/// and the log, which is a legal history: the core is in the state after it, and what is published
-/// reports on it.
+/// and the log, which is a legal history: the core is in the state after it, what is published reports on
+/// it, and the side that is not published on a beginning of it.
 pub struct Locked<N: Name> {
     core: Core,
     log: CallLog,
@@ -93,7 +91,7 @@ pub struct Locked<N: Name> {
 impl<N: Name> Model for Locked<N> {
     ghost use Rattle.std.specs.Prelude.{◌≡◌};
     ghost use Rattle.locked_core.specs.Held.{Held};
-    ghost use Rattle.locked_core.specs.Pages.{page};
+    ghost use Rattle.locked_core.specs.Pages.{LagsBehind, page};
     ghost use Rattle.locked_core.specs.Published.{view_of};
     ghost use Rattle.memory_report.specs.Histories.{Legal, state_after};
 
@@ -101,7 +99,7 @@ impl<N: Name> Model for Locked<N> {
 
     ghost view = { λ l. record { core = l.core; log = l.log.entries } };
 
-    ghost invariant = { λ l. Legal N.frames l.log.entries × (l.core.state ≡ state_after N.frames l.log.entries) × (l.writer.desk.shown.value ≡ page N.frames N.book l.log.entries) × (l.writer.desk.place.me.0.client ≡ view_of N.frames N.book) };
+    ghost invariant = { λ l. Legal N.frames l.log.entries × (l.core.state ≡ state_after N.frames l.log.entries) × (l.writer.desk.shown.value ≡ page N.frames N.book l.log.entries) × (l.writer.desk.place.me.0.client ≡ view_of N.frames N.book) × LagsBehind l.writer.desk.spare.value (page N.frames N.book l.log.entries) };
 }
 
 impl<N: Name> Locked<N> {
@@ -112,6 +110,7 @@ impl<N: Name> Locked<N> {
         requires core { core.state ≡ open_with N.frames }
         requires book { opened.seen.book ≡ N.book }
         requires writer { (writer.desk.shown.value ≡ page N.frames N.book []) × (view writer.desk.place ≡ view_of N.frames N.book) }
+        requires spare { writer.desk.spare.value ≡ page N.frames N.book [] }
         ensures log { result.log ≡ [] }
         ensures core { result.core.state ≡ open_with N.frames }
     {
@@ -127,31 +126,24 @@ impl<N: Name> Locked<N> {
         }
     }
 
-    /// What is published: the report on the log.
-    fn page(&self) -> Shown
-        ensures { result ≡ page N.frames N.book self.now.log }
-    {
-        self.writer.published().again()
-    }
-
-    /// What is published, where this CPU fits the log.
+    /// Whether this CPU fits the log: it has as many calls as the log has of it, and what it has seen begins
+    /// the log.
     ///
     /// Unread where the kernel's history is longer than the log; Stale where the log is shorter than what
     /// the CPU has seen, or has another number of its entries.
-    fn page_for(&self, cpu: &Cpu<N>) -> Result<Shown, Fault>
-        ensures page { IfOk result (λ p. p ≡ page N.frames N.book self.now.log) }
+    fn fit(&self, cpu: &Cpu<N>) -> Result<(), Fault>
         ensures fits { IfOk result (λ _. StartsWith self.now.log cpu.now.seen × (calls_of cpu.now.number self.now.log ≡ calls_of cpu.now.number cpu.now.seen)) }
         ensures refused { IfErr result (IsRefused N.frames self.now.log cpu.now) }
     {
-        let page = self.page();
-        if self.book.length(page.beginning()) != page.count() as u64 {
+        let published = self.writer.published();
+        if self.book.length(published.beginning()) != published.count() as u64 {
             return Err(Fault::Unread);
         }
-        if !cpu.agrees(&self.log, &page.front::<N>()) {
+        if !cpu.agrees(&self.log, &published.front::<N>()) {
             let front = self.log.len();
             return Err(Fault::Stale { front });
         }
-        Ok(page)
+        Ok(())
     }
 
     /// The image of the core, where this CPU fits the log.
@@ -163,7 +155,7 @@ impl<N: Name> Locked<N> {
         ensures fits { IfOk result (λ _. StartsWith self.now.log cpu.now.seen × (calls_of cpu.now.number self.now.log ≡ calls_of cpu.now.number cpu.now.seen)) }
         ensures refused { IfErr result (IsRefused N.frames self.now.log cpu.now) }
     {
-        match self.page_for(cpu) {
+        match self.fit(cpu) {
             Ok(_) => match Image::of(*self.log.entries.allocator(), &self.core) {
                 Ok(image) => Ok(image),
                 Err(_) => Err(Fault::NoMemory),
@@ -178,13 +170,12 @@ impl<N: Name> Locked<N> {
     /// the CPU has seen, or has another number of its entries.
     pub(crate) fn judge(&self, cpu: &Cpu<N>, pid: Pid, call: Call) -> Result<Ready, Fault>
         ensures legal { IfOk result (λ _. Legal N.frames self.now.log) }
-        ensures page { IfOk result (λ r. r.page ≡ page N.frames N.book self.now.log) }
         ensures nth { IfOk result (λ r. (cpu.now.number < 8) × (r.nth ≡ calls_of cpu.now.number self.now.log)) }
         ensures decided { IfOk result (λ r. r.decision ≡ decision_of self.now.core (record { cpu = cpu.now.number; pid = pid; call = call })) }
         ensures fits { IfOk result (λ _. StartsWith self.now.log cpu.now.seen × (calls_of cpu.now.number self.now.log ≡ calls_of cpu.now.number cpu.now.seen)) }
         ensures refused { IfErr result (IsRefused N.frames self.now.log cpu.now) }
     {
-        let page = self.page_for(cpu)?;
+        self.fit(cpu)?;
         let event = Event {
             cpu: cpu.number(),
             pid,
@@ -192,11 +183,7 @@ impl<N: Name> Locked<N> {
         };
         let nth = self.log.calls_of(event.cpu);
         let decision = self.core.decide(&event);
-        Ok(Ready {
-            page,
-            nth,
-            decision,
-        })
+        Ok(Ready { nth, decision })
     }
 
     /// Carries out a call that was judged on this very core and log: makes room in the log, commits, logs
@@ -209,7 +196,6 @@ impl<N: Name> Locked<N> {
         rt: &R,
         ready: Ready,
     ) -> Result<(Reply, Front<N>), Fault>
-        requires page { ready.page ≡ page N.frames N.book self.old.log }
         requires nth { (ready.decision.event.cpu < 8) × (ready.nth ≡ calls_of ready.decision.event.cpu self.old.log) }
         requires decided { ready.decision ≡ decision_of self.old.core ready.decision.event }
         ensures log { IfOk result (λ _. self.new.log ≡ self.old.log ++ entry_after N.frames self.old.log ready.decision.event.cpu ready.decision.event.pid ready.decision.event.call ∷ []) }
@@ -226,25 +212,19 @@ impl<N: Name> Locked<N> {
             book,
             writer,
         } = self;
-        let Ready {
-            mut page,
-            nth,
-            decision,
-        } = ready;
+        let Ready { nth, decision } = ready;
         if log.reserve().is_err() {
             return Err(Fault::NoMemory);
         }
         let entry = entry_of(&decision, nth);
-        let mut seen = page.beginning();
-        if !book.add(page.count(), &mut seen, &entry) {
+        let mut seen = writer.published().beginning();
+        if !book.add(log.len(), &mut seen, &entry) {
             return Err(Fault::Unread);
         }
-        page.grow(seen, &entry);
         let reply = core.commit(decision);
         log.push(&entry);
-        let front = page.front::<N>();
-        publish(rt, writer, page);
-        Ok((reply, front))
+        publish(rt, writer, log.entries(), &seen);
+        Ok((reply, writer.published().front::<N>()))
     }
 
     /// Hands out the history, where these CPUs are all of so many, and agree with the log.

@@ -1,18 +1,20 @@
 //! The steps of the writer and of the readers under the rule.
 //!
-//! What is published goes from one copy to the other whole, so the writer's queue of operations stays empty.
+//! The side that no reader has any more is brought up to the log, in place, and is shown then. So no page is
+//! copied, and the writer's queue of operations stays empty.
 ghost use Rattle.std.specs.Prelude.{◌≡◌, ◌<◌, ◌≤◌, ◌^◌, [], IfOk, IfSome};
 ghost use Rattle.crossbeam_utils.specs.Register.{TurnsAt};
 ghost use Rattle.left_right.specs.Sides.{view};
-ghost use Rattle.locked_core.specs.Pages.{page};
-ghost use Rattle.locked_core.specs.Published.{view_of, IsOf, Keeps};
+ghost use Rattle.locked_core.specs.Pages.{LagsBehind, page};
+ghost use Rattle.locked_core.specs.Published.{view_of, IsOf, Keeps, Opens, Stays};
+ghost use Rattle.memory_report.specs.Histories.{Legal};
 
 use crate::book::Beginning;
-use crate::rule::{Later, LogReader, LogWriter, Look, Notes, Opening, WhichKernel};
+use crate::rule::{Later, LogReader, LogWriter, Look, Notes, Opening};
 use crate::shown::Shown;
 use core::mem::replace_with;
-use crossbeam_utils::rule::Outcome;
 use left_right::writer::Writer;
+use memory_report::LogEntry;
 use std::alloc::{AllocError, Global};
 use std::sync::Wait;
 
@@ -32,29 +34,30 @@ pub fn look(reader: LogReader) -> (LogReader, Option<Shown>)
 
 /// A reader of the kernel that the writer publishes.
 pub fn reader_of(writer: &mut LogWriter) -> Result<LogReader, AllocError>
-    ensures writer { (view writer.new.desk.place ≡ view writer.old.desk.place) × (writer.new.desk.shown ≡ writer.old.desk.shown) }
+    ensures writer { (view writer.new.desk.place ≡ view writer.old.desk.place) × (writer.new.desk.shown ≡ writer.old.desk.shown) × (writer.new.desk.spare ≡ writer.old.desk.spare) }
     ensures reader { IfOk result (λ r. view r.place ≡ view writer.old.desk.place) }
 {
     let mut reader = writer.factory().reader()?;
-    reader.learn::<Notes>(writer.tell::<Notes>());
+    reader.learn::<Notes>(writer.desk.tell::<Notes>());
     Ok(reader)
 }
 
-/// Readers take this page from now on. It takes no memory: the copy that no reader has any more becomes the page.
-fn show_as<M: Outcome<Shown, WhichKernel>, R: Wait>(rt: &R, writer: &mut LogWriter, page: Shown)
-    requires { TurnsAt Keeps writer.old.desk.place.id (view writer.old.desk.place) writer.old.desk.shown.value page M.then }
-    ensures shown { writer.new.desk.shown.value ≡ page }
-    ensures rule { M.then (view writer.old.desk.place) writer.old.desk.shown.value page (view writer.new.desk.place) }
+/// Readers take this page from now on: it takes the place of the side that no reader has any more. It takes
+/// no memory.
+fn show_opening<R: Wait>(rt: &R, writer: &mut LogWriter, page: Shown)
+    requires { TurnsAt Keeps writer.old.desk.place.id (view writer.old.desk.place) writer.old.desk.shown.value page Opens }
+    ensures shown { (writer.new.desk.shown.value ≡ page) × (writer.new.desk.spare.value ≡ writer.old.desk.shown.value) }
+    ensures rule { Opens (view writer.old.desk.place) writer.old.desk.shown.value page (view writer.new.desk.place) }
 {
     replace_with(
         &mut writer.desk,
         page,
         |desk, page|
-            requires { TurnsAt Keeps desk.place.id (view desk.place) desk.shown.value page M.then }
+            requires { TurnsAt Keeps desk.place.id (view desk.place) desk.shown.value page Opens }
         {
             let (open, mut spare) = desk.open(rt);
             *spare = page;
-            (open.show_as::<M>(spare), ())
+            (open.show_as::<Opening>(spare), ())
         },
     )
 }
@@ -70,21 +73,36 @@ pub fn writer_of<R: Wait>(
     requires size { (16 ≤ frames) × (frames ≤ 4096) }
     requires readers { (0 < readers) × (readers < 2 ^ 32) }
     requires empty { seen.now.log ≡ [] }
-    ensures shown { IfOk result (λ w. w.desk.shown.value ≡ page frames seen.now.book []) }
+    ensures shown { IfOk result (λ w. (w.desk.shown.value ≡ page frames seen.now.book []) × (w.desk.spare.value ≡ page frames seen.now.book [])) }
     ensures view { IfOk result (λ w. view w.desk.place ≡ view_of frames seen.now.book) }
 {
     let first = Shown::opening(frames, seen);
     let (second, third) = (first.again(), first.again());
     let mut writer: LogWriter = Writer::new(alloc, first, second, readers)?;
-    show_as::<Opening, R>(rt, &mut writer, third);
+    show_opening(rt, &mut writer, third);
     Ok(writer)
 }
 
-/// Publishes a later page of the same kernel.
-pub fn publish<R: Wait>(rt: &R, writer: &mut LogWriter, page: Shown)
-    requires kernel { view writer.old.desk.place ≡ view_of page.frames page.book }
+/// Publishes the report on the log, of which this is the beginning that was seen. The side that no reader has
+/// any more takes in what it lacks. It takes no memory.
+pub fn publish<R: Wait>(rt: &R, writer: &mut LogWriter, log: &[LogEntry], seen: &Beginning)
+    requires kernel { view writer.old.desk.place ≡ view_of writer.old.desk.spare.value.frames seen.now.book }
+    requires seen { seen.now.log ≡ log.now }
+    requires behind { LagsBehind writer.old.desk.spare.value (page writer.old.desk.spare.value.frames seen.now.book log.now) }
+    requires legal { Legal writer.old.desk.spare.value.frames log.now }
     ensures view { view writer.new.desk.place ≡ view writer.old.desk.place }
-    ensures shown { writer.new.desk.shown.value ≡ page }
+    ensures shown { writer.new.desk.shown.value ≡ page writer.old.desk.spare.value.frames seen.now.book log.now }
+    ensures spare { writer.new.desk.spare.value ≡ writer.old.desk.shown.value }
 {
-    show_as::<Later, R>(rt, writer, page);
+    replace_with(
+        &mut writer.desk,
+        (log, seen),
+        |desk, news|
+            requires { (news.1.now.log ≡ news.0.now) × LagsBehind desk.spare.value (page desk.spare.value.frames news.1.now.book news.0.now) × Legal desk.spare.value.frames news.0.now × TurnsAt Keeps desk.place.id (view desk.place) desk.shown.value (page desk.spare.value.frames news.1.now.book news.0.now) Stays }
+        {
+            let (open, mut spare) = desk.open(rt);
+            spare.catch_up(news.0, news.1);
+            (open.show_as::<Later>(spare), ())
+        },
+    )
 }

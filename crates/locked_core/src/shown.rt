@@ -1,8 +1,8 @@
 //! What is published: a report, beside the beginning of the history that it reports on.
-ghost use Rattle.std.specs.Prelude.{◌≡◌, ◌+◌, ◌<◌, ◌≤◌, ◌^◌, ◌++◌, ◌∷◌, [], length};
+ghost use Rattle.std.specs.Prelude.{◌≡◌, ◌≤◌, [], length};
 ghost use Rattle.memory_report.specs.Histories.{Legal, state_after};
 ghost use Rattle.memory_report.specs.Reports.{report_of};
-ghost use Rattle.locked_core.specs.Pages.{page};
+ghost use Rattle.locked_core.specs.Pages.{CatchesUp, LagsBehind, page};
 
 use crate::book::{Beginning, Front, Law, Name};
 use left_right::Absorb;
@@ -87,20 +87,30 @@ impl Shown {
         self.seen.again()
     }
 
-    /// Takes in one more entry, by which the history was seen to have grown.
-    pub fn grow(&mut self, seen: Beginning, entry: &LogEntry)
-        requires seen { (seen.book ≡ self.old.book) × (seen.log ≡ self.old.log ++ entry.now ∷ []) }
-        requires room { length self.old.log + 1 < 2 ^ 64 }
-        requires legal { Legal self.old.frames (self.old.log ++ entry.now ∷ []) }
-        ensures { self.new ≡ page self.old.frames self.old.book (self.old.log ++ entry.now ∷ []) }
+    /// Takes in all that the log has behind the entries that it reports on.
+    pub fn catch_up(&mut self, log: &[LogEntry], seen: &Beginning)
+        requires seen { seen.now.log ≡ log.now }
+        requires behind { LagsBehind self.old (page self.old.frames seen.now.book log.now) }
+        requires legal { Legal self.old.frames log.now }
+        ensures { self.new ≡ page self.old.frames seen.now.book log.now }
     {
-        self.report.absorb(entry);
-        self.count += 1;
-        self.seen = seen;
+        absorb_from(&mut self.report, log, self.count);
+        self.count = log.len();
+        self.seen = seen.again();
     }
 }
 
-/// Nothing is put into the writer's queue: each page is shown whole.
+/// Absorbs the entries of the log from this place on, in their order.
+fn absorb_from(report: &mut Report, log: &[LogEntry], first: usize)
+    requires { first ≤ length log.now }
+    ensures { CatchesUp report.old first log.now report.new }
+{
+    for place in first..log.len() {
+        report.absorb(&log[place]);
+    }
+}
+
+/// Nothing is put into the writer's queue: each side takes in what it lacks from the log itself.
 impl Absorb<()> for Shown {
     type State = u8;
 

@@ -1,6 +1,6 @@
-use Rattle.std.proofs.Common.{sym, ap, ◌∙◌}
+use Rattle.std.proofs.Common.{[], refl, sym, ap, ◌∙◌, subst}
 use Rattle.locked_core.proofs.Entries.{legal_opening}
-use Rattle.locked_core.specs.Pages.{page}
+use Rattle.locked_core.specs.Pages.{Page, LagsBehind, page}
 use Rattle.locked_core.proofs.locked.Locked.new.Goals as goal
 
 pub invariant_of-result : goal.invariant_of-result
@@ -8,4 +8,11 @@ invariant_of-result g c =
     let none = c.requires.log in
     let begun = legal_opening g.N.Name.frames c.args.log.entries c.args.core.state c.requires.size.0 c.requires.size.1 none c.requires.core in
     let w = c.requires.writer in
-    (begun.0, begun.1, w.0 ∙ ap (page g.N.Name.frames g.N.Name.book) (sym none), w.1)
+    let whole : Page = page g.N.Name.frames g.N.Name.book c.args.log.entries in
+    let empty : LagsBehind (page g.N.Name.frames g.N.Name.book []) whole = record { frames = refl; book = refl; begins = (c.args.log.entries, refl) } in (
+      begun.0,
+      begun.1,
+      w.0 ∙ ap (page g.N.Name.frames g.N.Name.book) (sym none),
+      w.1,
+      subst (λ (p : Page). LagsBehind p whole) (sym c.requires.spare) empty,
+    )
