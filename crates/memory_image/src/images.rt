@@ -158,7 +158,7 @@ fn word_at_index(bytes: &[u8], frame: u32, index: u32) -> u32
     requires index { index < 1024 }
     ensures { result ≡ word_in (frame_bytes bytes.now frame) index }
 {
-    word_from(bytes, frame as usize * FRAME_BYTES + index as usize * 4)
+    word_from(bytes, FRAME_BYTES * frame as usize + index as usize * 4)
 }
 
 fn word_or_zero(bytes: &[u8], frames: u32, frame: u32, index: u32) -> u32
