@@ -6,6 +6,7 @@ pub mod Departures
 pub mod DirWords
 pub mod Finding
 pub mod FoundPages
+pub mod GonePages
 pub mod Joins
 pub mod LazyFilling
 pub mod Leaves
