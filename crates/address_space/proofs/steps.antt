@@ -17,3 +17,4 @@ pub mod Steps
 pub mod Stores
 pub mod Touches
 pub mod WalkSteps
+pub mod WalkedPages
