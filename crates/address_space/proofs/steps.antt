@@ -6,6 +6,7 @@ pub mod Departures
 pub mod DirWords
 pub mod Finding
 pub mod FoundPages
+pub mod GonePages
 pub mod Joins
 pub mod LazyFilling
 pub mod Leaves
@@ -16,3 +17,4 @@ pub mod Steps
 pub mod Stores
 pub mod Touches
 pub mod WalkSteps
+pub mod WalkedPages

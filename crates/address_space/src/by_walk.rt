@@ -47,48 +47,6 @@ impl Spaces {
         self.finds_at(pid, address, access) && self.finds_second(pid, address, size, access)
     }
 
-    /// Marks the words that lead to an address, for a load.
-    fn mark_load(&mut self, pid: Pid, directory: Frame, address: Vaddr)
-        requires live { directory_of self.old.directories pid ≡ Some directory }
-        requires found { IsOk (walk_of self.old.bytes directory address Access.Read) }
-        requires fits { address < 2 ^ 32 }
-        ensures spaces { self.new.spaces ≡ accessed self.old.spaces (slot_at pid address) }
-        ensures directories { self.new.directories ≡ self.old.directories }
-        ensures roles { self.new.roles ≡ self.old.roles }
-        ensures bytes { self.new.bytes ≡ marked self.old.bytes directory address Access.Read }
-        ensures walks { (at : ℕ) (kind : Access) → walk_of self.new.bytes directory at kind ≡ walk_of self.old.bytes directory at kind }
-    {
-        walked::mark_load(
-            &mut self.paged.memory,
-            &self.paged.frames,
-            &self.paged.directories,
-            pid,
-            directory,
-            address,
-        );
-    }
-
-    /// Loads by the walks of a directory.
-    fn load_through(&mut self, pid: Pid, directory: Frame, address: Vaddr, size: Size) -> u32
-        requires live { directory_of self.old.directories pid ≡ Some directory }
-        requires found { (i : ℕ) → i < byte_count size → IsOk (walk_of self.old.bytes directory (address + i) Access.Read) }
-        requires fits { address + byte_count size < 2 ^ 32 }
-        ensures found { result ≡ number_found self.old.bytes directory address size }
-        ensures value { result ≡ number_of self.old.spaces pid (covered address size) }
-        ensures spaces { self.new.spaces ≡ all_accessed self.old.spaces pid (touched address size) }
-        ensures directories { self.new.directories ≡ self.old.directories }
-        ensures roles { self.new.roles ≡ self.old.roles }
-        ensures bytes { self.new.bytes ≡ after_walked_load self.old.bytes directory address (second_page address size) }
-    {
-        let value = walked::found_number(&self.paged.memory, directory, address, size);
-        self.mark_load(pid, directory, address);
-        let Some(second) = second_page(address, size) else {
-            return value;
-        };
-        self.mark_load(pid, directory, start_of(second));
-        value
-    }
-
     /// A load as a processor makes it, where the walks find a frame for each page that it touches: the number that
     /// stands where they lead, and the words that lead to each page are marked. It is the load that `read` makes.
     pub fn load_by_walk(&mut self, pid: Pid, address: Vaddr, size: Size) -> u32
@@ -101,8 +59,7 @@ impl Spaces {
         ensures roles { self.new.roles ≡ self.old.roles }
         ensures bytes { (directory : ℕ) → directory_of self.old.directories pid ≡ Some directory → self.new.bytes ≡ after_walked_load self.old.bytes directory address (second_page address size) }
     {
-        let directory = home(&self.paged.directories, pid);
-        self.load_through(pid, directory, address, size)
+        self.paged.load_by_walk(pid, address, size)
     }
 
     /// Stores the lowest byte of a number where the walk leads, and gives the number without it and the address
@@ -182,15 +139,6 @@ impl Spaces {
         ensures roles { self.new.roles ≡ self.old.roles }
         ensures bytes { (directory : ℕ) → directory_of self.old.directories pid ≡ Some directory → self.new.bytes ≡ with_walked self.old.bytes directory page walked }
     {
-        let directory = home(&self.paged.directories, pid);
-        walked::set_walked(
-            &mut self.paged.memory,
-            &self.paged.frames,
-            &self.paged.directories,
-            pid,
-            directory,
-            page,
-            walked,
-        );
+        self.paged.set_walked(pid, page, walked);
     }
 }

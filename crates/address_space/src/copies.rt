@@ -11,8 +11,9 @@ ghost use Rattle.address_space.specs.Changes.{IsEmptySpace, PageCopied};
 ghost use Rattle.address_space.specs.Image.{is_lazy_at};
 ghost use Rattle.address_space.specs.Finds.{IsKeptPaged, spaces_at, image_at, EntryCopied};
 
-use crate::new_pages::{count_page, give_table};
+use crate::new_pages::give_table;
 use crate::paged::Paged;
+use crate::region_counts::count_page;
 use crate::{home, take};
 use alloc_table::{FrameTable, Role};
 use page_map::{FIRST_SLOT, PageEntry};

@@ -1,38 +1,14 @@
 //! A process's space goes: its pages leave their groups, and its directory comes free.
 
 ghost use Rattle.std.specs.Prelude.{◌≡◌, true, Some, None, is_some, slice_set};
-ghost use Rattle.address_space.specs.View.{directory_of, spaces_in};
-ghost use Rattle.address_space.specs.Sound.{IsSpaces};
-ghost use Rattle.address_space.specs.Counts.{IsCounted, KeepsCounts};
+ghost use Rattle.address_space.specs.View.{directory_of};
 ghost use Rattle.address_space.specs.Changes.{IsEmptySpace, PagesDropped, DirectoryDropped, SpaceDropped};
+ghost use Rattle.address_space.specs.Finds.{IsKeptPaged, spaces_at};
 
-use crate::links::remove_entry;
+use crate::paged::Paged;
 use crate::{Directories, home};
-use alloc_table::FrameTable;
+use page_map::FIRST_SLOT;
 use page_words::{Frame, Page, Pid};
-use phys_memory::Memory;
-
-/// Takes each page of a process out of its group.
-fn drop_pages(
-    memory: &mut Memory,
-    frames: &mut FrameTable,
-    directories: &Directories,
-    counts: &mut Vec<u32>,
-    pid: Pid,
-    directory: Frame,
-)
-    requires spaces { IsSpaces directories.now memory.old frames.old }
-    requires live { directory_of directories.now pid ≡ Some directory }
-    requires counted { IsCounted (spaces_in directories.now memory.old) frames.old counts.old.items }
-    ensures counted { IsCounted (spaces_in directories.now memory.new) frames.new counts.new.items }
-    ensures dropped { PagesDropped directories.now pid memory.old frames.old memory.new frames.new }
-{
-    let mut from = 0x40000;
-    while let Some(page) = page_map::next_page(memory, directory, Page(from)) {
-        remove_entry(memory, frames, directories, counts, pid, directory, page);
-        from = page.0 + 1;
-    }
-}
 
 /// Takes a process's directory off the list.
 fn forget(directories: &mut Directories, pid: Pid)
@@ -41,39 +17,44 @@ fn forget(directories: &mut Directories, pid: Pid)
     directories[pid.number() as usize] = None;
 }
 
-/// Takes away a directory that maps no page.
-fn drop_directory(
-    memory: &Memory,
-    frames: &mut FrameTable,
-    directories: &mut Directories,
-    pid: Pid,
-    directory: Frame,
-)
-    requires spaces { IsSpaces directories.old memory.now frames.old }
-    requires live { directory_of directories.old pid ≡ Some directory }
-    requires empty { IsEmptySpace (spaces_in directories.old memory.now) pid }
-    ensures dropped { DirectoryDropped directories.old pid memory.now frames.old directories.new frames.new }
-    ensures counted { KeepsCounts (spaces_in directories.old memory.now) frames.old (spaces_in directories.new memory.now) frames.new }
-{
-    frames.release(directory);
-    forget(directories, pid);
-}
+impl Paged {
+    /// Takes each page of a process out of its group.
+    fn drop_pages(&mut self, pid: Pid, directory: Frame)
+        requires kept { IsKeptPaged self.old }
+        requires live { directory_of self.old.directories pid ≡ Some directory }
+        ensures dropped { PagesDropped self.old.directories pid self.old.memory self.old.frames self.new.memory self.new.frames }
+        ensures kept { IsKeptPaged self.new }
+        ensures directories { self.new.directories ≡ self.old.directories }
+    {
+        let mut from = FIRST_SLOT * 1024;
+        while let Some(page) = page_map::next_page(&self.memory, directory, Page(from)) {
+            self.unmap(pid, page);
+            from = page.0 + 1;
+        }
+    }
 
-/// Takes away a process's space.
-pub fn drop_space(
-    memory: &mut Memory,
-    frames: &mut FrameTable,
-    directories: &mut Directories,
-    counts: &mut Vec<u32>,
-    pid: Pid,
-)
-    requires spaces { IsSpaces directories.old memory.old frames.old }
-    requires live { is_some (directory_of directories.old pid) ≡ true }
-    requires counted { IsCounted (spaces_in directories.old memory.old) frames.old counts.old.items }
-    ensures dropped { SpaceDropped directories.old pid memory.old frames.old directories.new memory.new frames.new }
-    ensures counted { IsCounted (spaces_in directories.new memory.new) frames.new counts.new.items }
-{
-    let directory = home(directories, pid);
-    drop_pages(memory, frames, directories, counts, pid, directory);
-    drop_directory(memory, frames, directories, pid, directory);
+    /// Takes away a directory that maps no page.
+    fn drop_directory(&mut self, pid: Pid, directory: Frame)
+        requires kept { IsKeptPaged self.old }
+        requires live { directory_of self.old.directories pid ≡ Some directory }
+        requires empty { IsEmptySpace (spaces_at self.old) pid }
+        ensures dropped { DirectoryDropped self.old.directories pid self.old.memory self.old.frames self.new.directories self.new.frames }
+        ensures kept { IsKeptPaged self.new }
+        ensures memory { self.new.memory ≡ self.old.memory }
+    {
+        self.frames.release(directory);
+        forget(&mut self.directories, pid);
+    }
+
+    /// Takes away a process's space.
+    pub fn drop_space(&mut self, pid: Pid)
+        requires kept { IsKeptPaged self.old }
+        requires live { is_some (directory_of self.old.directories pid) ≡ true }
+        ensures dropped { SpaceDropped self.old.directories pid self.old.memory self.old.frames self.new.directories self.new.memory self.new.frames }
+        ensures kept { IsKeptPaged self.new }
+    {
+        let directory = home(&self.directories, pid);
+        self.drop_pages(pid, directory);
+        self.drop_directory(pid, directory);
+    }
 }

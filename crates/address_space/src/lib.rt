@@ -36,7 +36,6 @@ mod seen_pages;
 mod walked;
 
 use alloc_table::{FrameTable, Role};
-use links::{add_directory, remove_entry};
 use page_words::{
     Frame, MAX_FRAMES, MIN_FRAMES, Page, Pid, Size, Vaddr, offset_of, page_of, second_page,
     slot_of, start_of,
@@ -176,12 +175,7 @@ impl Spaces {
         ensures others { (other : ℕ) → other ≢ pid → directory_of self.new.directories other ≡ directory_of self.old.directories other }
         ensures frames { length self.new.roles ≡ length self.old.roles }
     {
-        add_directory(
-            &mut self.paged.memory,
-            &mut self.paged.frames,
-            &mut self.paged.directories,
-            pid,
-        );
+        self.paged.add_directory(pid);
     }
 
     /// Maps a page of zeros, which is lazy: it takes no frame but one for its table, where that is missing.
@@ -392,12 +386,7 @@ impl Spaces {
         requires live { is_some (directory_of self.now.directories pid) ≡ true }
         ensures { result ≡ cost self.now.spaces pid }
     {
-        charges::cost_in(
-            &self.paged.memory,
-            &self.paged.frames,
-            &self.paged.directories,
-            pid,
-        )
+        self.paged.cost(pid)
     }
 
     /// What a process's cost falls by when a mapped page goes: 2 where it is the last of its region of
@@ -407,14 +396,7 @@ impl Spaces {
         requires user { IsUserPage page }
         ensures { cost (without self.now.spaces (is_slot pid page)) pid + result ≡ cost self.now.spaces pid }
     {
-        charges::relief_in(
-            &self.paged.memory,
-            &self.paged.frames,
-            &self.paged.directories,
-            &self.paged.counts,
-            pid,
-            page,
-        )
+        self.paged.relief(pid, page)
     }
 
     /// The byte at an address, 0 where no page is mapped. It sets no flag.
@@ -535,16 +517,7 @@ impl Spaces {
         ensures directories { self.new.directories ≡ self.old.directories }
         ensures frames { length self.new.roles ≡ length self.old.roles }
     {
-        let directory = home(&self.paged.directories, pid);
-        remove_entry(
-            &mut self.paged.memory,
-            &mut self.paged.frames,
-            &self.paged.directories,
-            &mut self.paged.counts,
-            pid,
-            directory,
-            page,
-        );
+        self.paged.unmap(pid, page);
     }
 
     /// Takes away a process's space: its pages leave their groups, and the frames of its pages that
@@ -556,13 +529,7 @@ impl Spaces {
         ensures others { (other : ℕ) → other ≢ pid → directory_of self.new.directories other ≡ directory_of self.old.directories other }
         ensures frames { length self.new.roles ≡ length self.old.roles }
     {
-        drops::drop_space(
-            &mut self.paged.memory,
-            &mut self.paged.frames,
-            &mut self.paged.directories,
-            &mut self.paged.counts,
-            pid,
-        );
+        self.paged.drop_space(pid);
     }
 
     /// The memory: 4,096 bytes for each frame.

@@ -1,22 +1,20 @@
-//! What links a directory, a table or a page, and takes a page out again: one word each, and its frame.
+//! What goes with a page that is taken out, and what is given with a directory.
 
-ghost use Rattle.std.specs.Prelude.{◌≡◌, ℕ, ◌+◌, ◌<◌, ◌≤◌, Some, None, length, is_some, true, false};
-ghost use Rattle.page_words.specs.Addresses.{slot_number, IsUserPage};
-ghost use Rattle.phys_memory.specs.Bytes.{frame_bytes};
-ghost use Rattle.alloc_table.specs.Roles.{free_frames, IsInUse};
-ghost use Rattle.page_map.specs.Entries.{table_of, entry_at};
+ghost use Rattle.std.specs.Prelude.{◌≡◌, ◌≢◌, ℕ, ◌+◌, ◌≤◌, Some, None, length, is_some, true, false};
+ghost use Rattle.page_words.specs.Addresses.{IsUserPage};
+ghost use Rattle.alloc_table.specs.Roles.{IsInUse};
 ghost use Rattle.page_words.specs.FiniteMap as map;
-ghost use Rattle.address_space.specs.Spaces.{joined, at_page};
-ghost use Rattle.address_space.specs.View.{directory_of, table_in, entries_in, spaces_in, total_cost};
-ghost use Rattle.address_space.specs.Sound.{IsSound, Names, IsSpaces};
-ghost use Rattle.address_space.specs.Counts.{IsCounted, AlwaysMapsAlike, KeepsCounts};
-ghost use Rattle.address_space.specs.Changes.{table_need, TableGiven, PageAdded, SlotJoined, TableFreed, EntryLeft, SlotRemoved, SpaceAdded};
+ghost use Rattle.address_space.specs.Spaces.{without, is_slot, at_page};
+ghost use Rattle.address_space.specs.View.{directory_of, total_cost};
+ghost use Rattle.address_space.specs.Changes.{TableFreed, EntryLeft, SlotRemoved, SpaceAdded};
+ghost use Rattle.address_space.specs.Finds.{IsKeptPaged, spaces_at};
 
-use crate::{Directories, region_counts, take};
+use crate::paged::Paged;
+use crate::region_counts::uncount_page;
+use crate::{home, take};
 use alloc_table::{FrameTable, Role};
 use page_map::PageEntry;
 use page_words::{Frame, Page, Pid};
-use phys_memory::Memory;
 
 /// Frees a table that was unlinked.
 pub fn free_table(frames: &mut FrameTable, freed: Option<Frame>)
@@ -38,53 +36,42 @@ pub fn leave(frames: &mut FrameTable, entry: PageEntry)
     }
 }
 
-/// Takes a slot out of its group.
-pub fn remove_entry(
-    memory: &mut Memory,
-    frames: &mut FrameTable,
-    directories: &Directories,
-    counts: &mut Vec<u32>,
-    pid: Pid,
-    directory: Frame,
-    page: Page,
-)
-    requires spaces { IsSpaces directories.now memory.old frames.old }
-    requires live { directory_of directories.now pid ≡ Some directory }
-    requires user { IsUserPage page }
-    requires mapped { is_some (entry_at (frame_bytes memory.old) directory page) ≡ true }
-    requires counted { IsCounted (spaces_in directories.now memory.old) frames.old counts.old.items }
-    ensures removed { SlotRemoved directories.now pid page memory.old frames.old memory.new frames.new }
-    ensures counted { IsCounted (spaces_in directories.now memory.new) frames.new counts.new.items }
-{
-    let entry = page_map::entry(memory, directory, page).unwrap();
-    let mapped = region_counts::uncount_page(
-        memory,
-        frames,
-        directories,
-        counts,
-        pid,
-        directory,
-        page,
-    );
-    let freed = page_map::clear_counted_entry(memory, directory, page, mapped);
-    leave(frames, entry);
-    free_table(frames, freed);
-}
+impl Paged {
+    /// Takes a slot out of its group.
+    pub fn unmap(&mut self, pid: Pid, page: Page)
+        requires kept { IsKeptPaged self.old }
+        requires mapped { is_some (map.get (spaces_at self.old) (at_page pid page)) ≡ true }
+        requires user { IsUserPage page }
+        ensures removed { SlotRemoved self.old.directories pid page self.old.memory self.old.frames self.new.memory self.new.frames }
+        ensures spaces { spaces_at self.new ≡ without (spaces_at self.old) (is_slot pid page) }
+        ensures kept { IsKeptPaged self.new }
+        ensures directories { self.new.directories ≡ self.old.directories }
+        ensures frames { length self.new.frames ≡ length self.old.frames }
+    {
+        let found = self.place(pid, page);
+        let directory = home(&self.directories, pid);
+        let mapped = uncount_page(&mut self.counts, found.table);
+        let freed = page_map::clear_found_entry(
+            &mut self.memory,
+            directory,
+            found.table,
+            page,
+            mapped,
+        );
+        leave(&mut self.frames, found.entry);
+        free_table(&mut self.frames, freed);
+    }
 
-/// Gives a process a blank directory.
-pub fn add_directory(
-    memory: &mut Memory,
-    frames: &mut FrameTable,
-    directories: &mut Directories,
-    pid: Pid,
-)
-    requires spaces { IsSpaces directories.old memory.old frames.old }
-    requires none { directory_of directories.old pid ≡ None }
-    requires room { 2 + total_cost directories.old (spaces_in directories.old memory.old) ≤ length frames.old }
-    ensures added { SpaceAdded directories.old pid memory.old frames.old directories.new memory.new frames.new }
-    ensures counted { KeepsCounts (spaces_in directories.old memory.old) frames.old (spaces_in directories.new memory.new) frames.new }
-{
-    let directory = take(frames, Role::Directory { pid });
-    memory.zero_frame(directory);
-    directories[pid.number() as usize] = Some(directory);
+    /// Gives a process a blank directory.
+    pub fn add_directory(&mut self, pid: Pid)
+        requires kept { IsKeptPaged self.old }
+        requires none { directory_of self.old.directories pid ≡ None }
+        requires room { 2 + total_cost self.old.directories (spaces_at self.old) ≤ length self.old.frames }
+        ensures added { SpaceAdded self.old.directories pid self.old.memory self.old.frames self.new.directories self.new.memory self.new.frames }
+        ensures kept { IsKeptPaged self.new }
+    {
+        let directory = take(&mut self.frames, Role::Directory { pid });
+        self.memory.zero_frame(directory);
+        self.directories[pid.number() as usize] = Some(directory);
+    }
 }

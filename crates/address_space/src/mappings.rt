@@ -9,8 +9,9 @@ ghost use Rattle.address_space.specs.Image.{is_lazy_at};
 ghost use Rattle.address_space.specs.Finds.{IsKeptPaged, spaces_at, image_at};
 
 use crate::home;
-use crate::new_pages::{count_page, fresh_entry, give_table, joined_entry};
+use crate::new_pages::{fresh_entry, give_table, joined_entry};
 use crate::paged::Paged;
+use crate::region_counts::count_page;
 use page_words::{Page, Pid};
 
 impl Paged {

@@ -1,12 +1,12 @@
-//! What a page that gets an entry needs: its table, the count of its table, and the entry.
+//! What a page that gets an entry needs: its table, and the entry.
 
-ghost use Rattle.std.specs.Prelude.{◌≡◌, ◌+◌, ◌*◌, ◌<◌, ◌≤◌, ℕ, Some, true, false, length, slice_get};
+ghost use Rattle.std.specs.Prelude.{◌≡◌, ◌*◌, ◌≤◌, Some, true, false, length, slice_get};
 ghost use Rattle.page_words.specs.Addresses.{slot_number, IsUserPage};
 ghost use Rattle.phys_memory.specs.Bytes.{frame_bytes};
 ghost use Rattle.alloc_table.specs.Roles.{free_frames};
 ghost use Rattle.page_map.specs.Entries.{IsPageMap, table_of};
 ghost use Rattle.address_space.specs.Changes.{table_need};
-ghost use Rattle.address_space.specs.Finds.{TableReady, CountedUp};
+ghost use Rattle.address_space.specs.Finds.{TableReady};
 
 use crate::take;
 use alloc_table::{FrameTable, Role};
@@ -36,16 +36,6 @@ pub fn give_table(
     let table = take(frames, Role::Table { pid, slot });
     page_map::link_table(memory, directory, slot, table);
     table
-}
-
-/// Counts a page that a table is going to map.
-pub fn count_page(counts: &mut Vec<u32>, table: Frame)
-    requires inside { table < length counts.old.items }
-    requires few { (n : ℕ) → slice_get counts.old.items table ≡ Some n → n ≤ 1024 }
-    ensures { CountedUp counts.old.items table counts.new.items }
-{
-    let count = counts[table.0 as usize];
-    counts[table.0 as usize] = count + 1;
 }
 
 /// The entry of a page of zeros, which is lazy.

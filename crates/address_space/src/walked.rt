@@ -1,19 +1,24 @@
 //! Accesses as a processor makes them: by the walk of a directory, which marks the words that lead to a page.
 
-ghost use Rattle.std.specs.Prelude.{◌≡◌, ◌+◌, ◌*◌, ◌/◌, ◌%◌, ◌<◌, ◌^◌, ℕ, [], ◌∷◌, Some, IsOk, length, slice_index, slice_set};
-ghost use Rattle.page_words.specs.Addresses.{IsUserPage, page_number, offset_number, byte_count};
+ghost use Rattle.std.specs.Prelude.{◌≡◌, ◌+◌, ◌*◌, ◌/◌, ◌%◌, ◌<◌, ◌≤◌, ◌^◌, ℕ, [], ◌∷◌, Some, true, is_some, IsOk, length, slice_index, slice_set};
+ghost use Rattle.page_words.specs.Addresses.{IsUserPage, page_number, offset_number, byte_count, covered, second_page, touched, EachTouched};
+ghost use Rattle.page_words.specs.FiniteMap as map;
 ghost use Rattle.table_walk.specs.Walk.{walk_of};
 ghost use Rattle.table_walk.specs.Marks.{marked};
-ghost use Rattle.address_space.specs.ByWalk.{byte_place, number_found, walked_word, with_walked};
-ghost use Rattle.address_space.specs.Spaces.{accessed, stored, slot_at};
+ghost use Rattle.address_space.specs.ByWalk.{finds, byte_place, number_found, after_walked_load, walked_word, with_walked};
+ghost use Rattle.address_space.specs.Spaces.{all_accessed, stored, number_of, at_page, slot_at};
 ghost use Rattle.address_space.specs.View.{directory_of, spaces_in};
 ghost use Rattle.address_space.specs.Sound.{IsSound};
 ghost use Rattle.address_space.specs.Changes.{Touched};
+ghost use Rattle.address_space.specs.Finds.{IsKeptPaged, MemoryAlone, spaces_at, image_at};
 
-use crate::Directories;
 use crate::accesses::of_two;
+use crate::paged::Paged;
+use crate::{Directories, home};
 use alloc_table::FrameTable;
-use page_words::{DirWord, Frame, Page, Pid, Size, Vaddr, offset_of, slot_of};
+use page_words::{
+    DirWord, Frame, Page, Pid, Size, Vaddr, offset_of, second_page, slot_of, start_of,
+};
 use phys_memory::{FRAME_BYTES, Memory};
 use table_walk::{Access, mark, walk};
 
@@ -60,7 +65,7 @@ fn found_two(memory: &Memory, directory: Frame, address: Vaddr) -> u32
 }
 
 /// The number of the bytes to which the walks of a load lead.
-pub fn found_number(memory: &Memory, directory: Frame, address: Vaddr, size: Size) -> u32
+fn found_number(memory: &Memory, directory: Frame, address: Vaddr, size: Size) -> u32
     requires found { (i : ℕ) → i < byte_count size → IsOk (walk_of memory.now directory (address + i) Access.Read) }
     requires fits { address + byte_count size < 2 ^ 32 }
     ensures { result ≡ number_found memory.now directory address size }
@@ -74,26 +79,6 @@ pub fn found_number(memory: &Memory, directory: Frame, address: Vaddr, size: Siz
             low + 65536 * high
         }
     }
-}
-
-/// Marks the words of a load.
-pub fn mark_load(
-    memory: &mut Memory,
-    frames: &FrameTable,
-    directories: &Directories,
-    pid: Pid,
-    directory: Frame,
-    address: Vaddr,
-)
-    requires sound { IsSound directories.now memory.old frames.now }
-    requires live { directory_of directories.now pid ≡ Some directory }
-    requires found { IsOk (walk_of memory.old directory address Access.Read) }
-    requires fits { address < 2 ^ 32 }
-    ensures bytes { memory.new ≡ marked memory.old directory address Access.Read }
-    ensures touched { Touched directories.now (accessed (spaces_in directories.now memory.old) (slot_at pid address)) memory.old frames.now memory.new }
-    ensures walks { (at : ℕ) (kind : Access) → walk_of memory.new directory at kind ≡ walk_of memory.old directory at kind }
-{
-    mark(memory, directory, address, Access::Read);
 }
 
 /// Marks the words of a store, and writes the lowest byte of a number where they lead.
@@ -132,25 +117,54 @@ fn walked_word(word: u32, walked: bool) -> u32
     changed.word()
 }
 
-/// Sets or clears accessed in the directory word that leads to a page, where it is present.
-pub fn set_walked(
-    memory: &mut Memory,
-    frames: &FrameTable,
-    directories: &Directories,
-    pid: Pid,
-    directory: Frame,
-    page: Page,
-    walked: bool,
-)
-    requires sound { IsSound directories.now memory.old frames.now }
-    requires live { directory_of directories.now pid ≡ Some directory }
+/// The same with the directory word that leads to a page.
+fn set_word_walked(memory: &mut Memory, directory: Frame, page: Page, walked: bool)
+    requires inside { 4096 * directory + 4096 ≤ length memory.old }
     requires user { IsUserPage page }
     ensures bytes { memory.new ≡ with_walked memory.old directory page walked }
-    ensures touched { Touched directories.now (spaces_in directories.now memory.old) memory.old frames.now memory.new }
+    ensures length { length memory.new ≡ length memory.old }
 {
     let frames = memory.frames();
     prove!(directory.0 < frames);
     let place = directory.0 as usize * FRAME_BYTES + slot_of(page) as usize * 4;
     let word = memory.read_word(place);
     memory.write_word(place, walked_word(word, walked));
+}
+
+impl Paged {
+    /// Sets or clears accessed in the directory word that leads to a page, where it is present.
+    pub fn set_walked(&mut self, pid: Pid, page: Page, walked: bool)
+        requires kept { IsKeptPaged self.old }
+        requires live { is_some (directory_of self.old.directories pid) ≡ true }
+        requires user { IsUserPage page }
+        ensures spaces { spaces_at self.new ≡ spaces_at self.old }
+        ensures bytes { (directory : ℕ) → directory_of self.old.directories pid ≡ Some directory → self.new.memory ≡ with_walked self.old.memory directory page walked }
+        ensures kept { IsKeptPaged self.new }
+        ensures alone { MemoryAlone self.old self.new }
+    {
+        let directory = home(&self.directories, pid);
+        set_word_walked(&mut self.memory, directory, page, walked);
+    }
+
+    /// A load as a processor makes it, where the walks find a frame for each page that it touches.
+    pub fn load_by_walk(&mut self, pid: Pid, address: Vaddr, size: Size) -> u32
+        requires kept { IsKeptPaged self.old }
+        requires finds { finds (image_at self.old) pid address size Access.Read ≡ true }
+        ensures found { (directory : ℕ) → directory_of self.old.directories pid ≡ Some directory → result ≡ number_found self.old.memory directory address size }
+        ensures value { result ≡ number_of (spaces_at self.old) pid (covered address size) }
+        ensures mapped { EachTouched address size (λ page. is_some (map.get (spaces_at self.old) (at_page pid page)) ≡ true) }
+        ensures spaces { spaces_at self.new ≡ all_accessed (spaces_at self.old) pid (touched address size) }
+        ensures bytes { (directory : ℕ) → directory_of self.old.directories pid ≡ Some directory → self.new.memory ≡ after_walked_load self.old.memory directory address (second_page address size) }
+        ensures kept { IsKeptPaged self.new }
+        ensures alone { MemoryAlone self.old self.new }
+    {
+        let directory = home(&self.directories, pid);
+        let value = found_number(&self.memory, directory, address, size);
+        mark(&mut self.memory, directory, address, Access::Read);
+        let Some(second) = second_page(address, size) else {
+            return value;
+        };
+        mark(&mut self.memory, directory, start_of(second), Access::Read);
+        value
+    }
 }

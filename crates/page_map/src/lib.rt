@@ -290,6 +290,31 @@ pub fn clear_entry(memory: &mut Memory, directory: Frame, page: Page) -> Option<
     remove_entry(memory, directory, page)
 }
 
+fn remove_found_entry(
+    memory: &mut Memory,
+    directory: Frame,
+    table: Frame,
+    page: Page,
+    mapped: u32,
+) -> Option<Frame>
+    requires user { IsUserPage page }
+    requires map { IsPageMap memory.old directory }
+    requires table { table_of (frame_bytes memory.old) directory (slot_number page) ≡ Some table }
+    requires last { mapped ≡ 1 → IsLastEntry (frame_bytes memory.old) (frame_number (dir_word (frame_bytes memory.old) directory (slot_number page))) page }
+    requires others { mapped ≢ 1 → HasOtherEntry (frame_bytes memory.old) (frame_number (dir_word (frame_bytes memory.old) directory (slot_number page))) page }
+    ensures cleared { IsCleared (frame_bytes memory.old) directory page result (frame_bytes memory.new) }
+    ensures length { length memory.new ≡ length memory.old }
+    ensures last { is_some result ≡ true → mapped ≡ 1 }
+{
+    set_word(memory, table, index_of(page), 0);
+    if mapped == 1 {
+        set_word(memory, directory, slot_of(page), 0);
+        Some(table)
+    } else {
+        None
+    }
+}
+
 fn remove_counted_entry(
     memory: &mut Memory,
     directory: Frame,
@@ -305,15 +330,8 @@ fn remove_counted_entry(
     ensures length { length memory.new ≡ length memory.old }
     ensures last { is_some result ≡ true → mapped ≡ 1 }
 {
-    let slot = slot_of(page);
-    let table = table(memory, directory, slot)?;
-    set_word(memory, table, index_of(page), 0);
-    if mapped == 1 {
-        set_word(memory, directory, slot, 0);
-        Some(table)
-    } else {
-        None
-    }
+    let table = table(memory, directory, slot_of(page))?;
+    remove_found_entry(memory, directory, table, page, mapped)
 }
 
 /// Clears the entry of a mapped page, in whose slot that many pages are mapped, this one among them, as
@@ -337,6 +355,29 @@ pub fn clear_counted_entry(
     ensures foreign { (frame : ℕ) → IsForeign (frame_bytes memory.old) directory frame → frame_bytes memory.new frame ≡ frame_bytes memory.old frame }
 {
     remove_counted_entry(memory, directory, page, mapped)
+}
+
+/// The same by the page's table, for a caller that found it: it reads no word at all.
+pub fn clear_found_entry(
+    memory: &mut Memory,
+    directory: Frame,
+    table: Frame,
+    page: Page,
+    mapped: u32,
+) -> Option<Frame>
+    requires user { IsUserPage page }
+    requires map { IsPageMap memory.old directory }
+    requires table { table_of (frame_bytes memory.old) directory (slot_number page) ≡ Some table }
+    requires entry { is_some (entry_at (frame_bytes memory.old) directory page) ≡ true }
+    requires mapped { mapped ≡ count_range (λ other. is_some (entry_at (frame_bytes memory.old) directory other)) (1024 * slot_number page) 1024 }
+    ensures cleared { IsCleared (frame_bytes memory.old) directory page result (frame_bytes memory.new) }
+    ensures length { length memory.new ≡ length memory.old }
+    ensures last { is_some result ≡ true → mapped ≡ 1 }
+    ensures entries { entries_of (frame_bytes memory.new) directory ≡ map.remove (entries_of (frame_bytes memory.old) directory) page }
+    ensures map { IsPageMap memory.new directory }
+    ensures foreign { (frame : ℕ) → IsForeign (frame_bytes memory.old) directory frame → frame_bytes memory.new frame ≡ frame_bytes memory.old frame }
+{
+    remove_found_entry(memory, directory, table, page, mapped)
 }
 
 /// 1 where a word of a table is present, and else 0.

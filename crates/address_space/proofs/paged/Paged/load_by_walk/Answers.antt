@@ -1,0 +1,105 @@
+use Rattle.std.proofs.Common.{◌≡◌, ◌^◌, ◌<◌, ap, sym, subst, ◌∙◌, Some, None, arith}
+use Rattle.std.specs.Prelude.{IsOk}
+use Rattle.std.specs.Result.{is_ok}
+use Rattle.page_words.specs.Addresses.{page_number, start_number, second_page, page_and}
+use Rattle.table_walk.specs.declared.Access.TheVariants.{Read}
+use Rattle.table_walk.specs.Walk.{walk_of}
+use Rattle.address_space.specs.declared.paged.Paged.{Paged}
+use Rattle.address_space.specs.Spaces.{all_accessed, accessed, at_page}
+use Rattle.address_space.specs.Finds.{spaces_at, image_at}
+use Rattle.address_space.proofs.steps.WalkSteps.{found_apart}
+use Rattle.address_space.proofs.steps.Finding.{finds_live, found_at, found_each, found_fits, found_pages, number_is}
+use Rattle.address_space.proofs.steps.WalkedPages.{finds_first, finds_second, marked_left}
+use Rattle.address_space.proofs.paged.Paged.load_by_walk.Goals as goal
+
+pub home-directory-requires : goal.home-directory-requires
+home-directory-requires c = finds_live (image_at c.args.self.now) c.args.pid c.args.address c.args.size Read c.requires.finds
+
+pub found_number-value-requires-clause-found : goal.found_number-value-requires-clause-found
+found_number-value-requires-clause-found c = (found_each c.args.self.now.directories c.args.self.now.memory c.args.self.now.frames c.args.pid c.home-directory.result c.args.address c.args.size Read c.requires.kept.spaces.sound c.home-directory.ensures c.requires.finds).found
+
+pub found_number-value-requires-clause-fits : goal.found_number-value-requires-clause-fits
+found_number-value-requires-clause-fits c = found_fits c.args.self.now.memory c.home-directory.result c.args.address c.args.size Read (found_each c.args.self.now.directories c.args.self.now.memory c.args.self.now.frames c.args.pid c.home-directory.result c.args.address c.args.size Read c.requires.kept.spaces.sound c.home-directory.ensures c.requires.finds)
+
+pub mark-requires-clause-found : goal.mark-requires-clause-found
+mark-requires-clause-found c =
+    let one = found_at (image_at c.args.self.now) c.args.pid c.home-directory.result c.args.address Read c.home-directory.ensures (finds_first (image_at c.args.self.now) c.args.pid c.args.address c.args.size Read c.requires.finds) in
+    one.1
+
+pub mark-requires-clause-apart : goal.mark-requires-clause-apart
+mark-requires-clause-apart c =
+    let one = found_at (image_at c.args.self.now) c.args.pid c.home-directory.result c.args.address Read c.home-directory.ensures (finds_first (image_at c.args.self.now) c.args.pid c.args.address c.args.size Read c.requires.finds) in
+    found_apart c.args.self.now.directories c.args.self.now.memory c.args.self.now.frames c.args.pid c.home-directory.result c.args.address Read c.requires.kept.spaces.sound c.home-directory.ensures one.0 one.1
+
+pub returns-in_default-clause-value : goal.returns-in_default-clause-value
+returns-in_default-clause-value c =
+    c.found_number-value.ensures
+    ∙ number_is c.args.self.now.directories c.args.self.now.memory c.args.self.now.frames c.args.pid c.home-directory.result c.args.address c.args.size c.requires.kept.spaces.sound c.home-directory.ensures
+    (found_fits c.args.self.now.memory c.home-directory.result c.args.address c.args.size Read (found_each c.args.self.now.directories c.args.self.now.memory c.args.self.now.frames c.args.pid c.home-directory.result c.args.address c.args.size Read c.requires.kept.spaces.sound c.home-directory.ensures c.requires.finds))
+    (found_each c.args.self.now.directories c.args.self.now.memory c.args.self.now.frames c.args.pid c.home-directory.result c.args.address c.args.size Read c.requires.kept.spaces.sound c.home-directory.ensures c.requires.finds).found
+
+pub returns-in_default-clause-mapped : goal.returns-in_default-clause-mapped
+returns-in_default-clause-mapped c = (found_pages c.args.self.now.directories c.args.self.now.memory c.args.self.now.frames c.args.pid c.home-directory.result c.args.address c.args.size Read c.requires.kept.spaces.sound c.home-directory.ensures c.requires.finds).mapped
+
+pub returns-in_default-clause-spaces : goal.returns-in_default-clause-spaces
+returns-in_default-clause-spaces c =
+    let one = found_at (image_at c.args.self.now) c.args.pid c.home-directory.result c.args.address Read c.home-directory.ensures (finds_first (image_at c.args.self.now) c.args.pid c.args.address c.args.size Read c.requires.finds) in
+    let first = marked_left c.args.self.now c.args.pid c.home-directory.result c.args.address c.mark.new.memory c.requires.kept c.home-directory.ensures one.0 one.1 c.mark.ensures.words in
+    let none : second_page c.args.address c.args.size ≡ None = sym c.second_page.ensures ∙ c.in_default.is in
+    first.spaces ∙ sym (ap (λ x. all_accessed (spaces_at c.args.self.now) c.args.pid (page_and (page_number c.args.address) x)) none)
+
+pub returns-in_default-clause-kept : goal.returns-in_default-clause-kept
+returns-in_default-clause-kept c =
+    let one = found_at (image_at c.args.self.now) c.args.pid c.home-directory.result c.args.address Read c.home-directory.ensures (finds_first (image_at c.args.self.now) c.args.pid c.args.address c.args.size Read c.requires.finds) in
+    let first = marked_left c.args.self.now c.args.pid c.home-directory.result c.args.address c.mark.new.memory c.requires.kept c.home-directory.ensures one.0 one.1 c.mark.ensures.words in
+    first.kept
+
+pub mark-requires-2-clause-apart : goal.mark-requires-2-clause-apart
+mark-requires-2-clause-apart c =
+    let one = found_at (image_at c.args.self.now) c.args.pid c.home-directory.result c.args.address Read c.home-directory.ensures (finds_first (image_at c.args.self.now) c.args.pid c.args.address c.args.size Read c.requires.finds) in
+    let first = marked_left c.args.self.now c.args.pid c.home-directory.result c.args.address c.mark.new.memory c.requires.kept c.home-directory.ensures one.0 one.1 c.mark.ensures.words in
+    let is : second_page c.args.address c.args.size ≡ Some c.in-Some.second = sym c.second_page.ensures ∙ c.in-Some.is in
+    let two = subst (λ a. (a < 2 ^ 32) × IsOk (walk_of c.args.self.now.memory c.home-directory.result a Read)) (sym c.start_of.ensures)
+    (found_at (image_at c.args.self.now) c.args.pid c.home-directory.result (start_number c.in-Some.second) Read c.home-directory.ensures
+    (finds_second (image_at c.args.self.now) c.args.pid c.args.address c.args.size Read c.in-Some.second is c.requires.finds)) in
+    let middle : Paged = record { memory = c.mark.new.memory; frames = c.args.self.now.frames; directories = c.args.self.now.directories; counts = c.args.self.now.counts } in
+    let ok = ap is_ok (c.mark.ensures.walks c.home-directory.result c.start_of.result Read) ∙ two.1 in
+    found_apart c.args.self.now.directories c.mark.new.memory c.args.self.now.frames c.args.pid c.home-directory.result c.start_of.result Read first.kept.spaces.sound c.home-directory.ensures two.0 ok
+
+pub returns-clause-value : goal.returns-clause-value
+returns-clause-value c =
+    c.found_number-value.ensures
+    ∙ number_is c.args.self.now.directories c.args.self.now.memory c.args.self.now.frames c.args.pid c.home-directory.result c.args.address c.args.size c.requires.kept.spaces.sound c.home-directory.ensures
+    (found_fits c.args.self.now.memory c.home-directory.result c.args.address c.args.size Read (found_each c.args.self.now.directories c.args.self.now.memory c.args.self.now.frames c.args.pid c.home-directory.result c.args.address c.args.size Read c.requires.kept.spaces.sound c.home-directory.ensures c.requires.finds))
+    (found_each c.args.self.now.directories c.args.self.now.memory c.args.self.now.frames c.args.pid c.home-directory.result c.args.address c.args.size Read c.requires.kept.spaces.sound c.home-directory.ensures c.requires.finds).found
+
+pub returns-clause-mapped : goal.returns-clause-mapped
+returns-clause-mapped c = (found_pages c.args.self.now.directories c.args.self.now.memory c.args.self.now.frames c.args.pid c.home-directory.result c.args.address c.args.size Read c.requires.kept.spaces.sound c.home-directory.ensures c.requires.finds).mapped
+
+pub returns-clause-spaces : goal.returns-clause-spaces
+returns-clause-spaces c =
+    let one = found_at (image_at c.args.self.now) c.args.pid c.home-directory.result c.args.address Read c.home-directory.ensures (finds_first (image_at c.args.self.now) c.args.pid c.args.address c.args.size Read c.requires.finds) in
+    let first = marked_left c.args.self.now c.args.pid c.home-directory.result c.args.address c.mark.new.memory c.requires.kept c.home-directory.ensures one.0 one.1 c.mark.ensures.words in
+    let is : second_page c.args.address c.args.size ≡ Some c.in-Some.second = sym c.second_page.ensures ∙ c.in-Some.is in
+    let two = subst (λ a. (a < 2 ^ 32) × IsOk (walk_of c.args.self.now.memory c.home-directory.result a Read)) (sym c.start_of.ensures)
+    (found_at (image_at c.args.self.now) c.args.pid c.home-directory.result (start_number c.in-Some.second) Read c.home-directory.ensures
+    (finds_second (image_at c.args.self.now) c.args.pid c.args.address c.args.size Read c.in-Some.second is c.requires.finds)) in
+    let middle : Paged = record { memory = c.mark.new.memory; frames = c.args.self.now.frames; directories = c.args.self.now.directories; counts = c.args.self.now.counts } in
+    let ok = ap is_ok (c.mark.ensures.walks c.home-directory.result c.start_of.result Read) ∙ two.1 in
+    let second = marked_left middle c.args.pid c.home-directory.result c.start_of.result c.mark-2.new.memory first.kept c.home-directory.ensures two.0 ok c.mark-2.ensures.words in
+    let same : page_number c.start_of.result ≡ c.in-Some.second = let at = c.start_of.ensures in omega (arith, at) in
+    second.spaces ∙ (λ i. accessed (first.spaces i) (at_page c.args.pid (same i)))
+    ∙ sym (ap (λ x. all_accessed (spaces_at c.args.self.now) c.args.pid (page_and (page_number c.args.address) x)) is)
+
+pub returns-clause-kept : goal.returns-clause-kept
+returns-clause-kept c =
+    let one = found_at (image_at c.args.self.now) c.args.pid c.home-directory.result c.args.address Read c.home-directory.ensures (finds_first (image_at c.args.self.now) c.args.pid c.args.address c.args.size Read c.requires.finds) in
+    let first = marked_left c.args.self.now c.args.pid c.home-directory.result c.args.address c.mark.new.memory c.requires.kept c.home-directory.ensures one.0 one.1 c.mark.ensures.words in
+    let is : second_page c.args.address c.args.size ≡ Some c.in-Some.second = sym c.second_page.ensures ∙ c.in-Some.is in
+    let two = subst (λ a. (a < 2 ^ 32) × IsOk (walk_of c.args.self.now.memory c.home-directory.result a Read)) (sym c.start_of.ensures)
+    (found_at (image_at c.args.self.now) c.args.pid c.home-directory.result (start_number c.in-Some.second) Read c.home-directory.ensures
+    (finds_second (image_at c.args.self.now) c.args.pid c.args.address c.args.size Read c.in-Some.second is c.requires.finds)) in
+    let middle : Paged = record { memory = c.mark.new.memory; frames = c.args.self.now.frames; directories = c.args.self.now.directories; counts = c.args.self.now.counts } in
+    let ok = ap is_ok (c.mark.ensures.walks c.home-directory.result c.start_of.result Read) ∙ two.1 in
+    let second = marked_left middle c.args.pid c.home-directory.result c.start_of.result c.mark-2.new.memory first.kept c.home-directory.ensures two.0 ok c.mark-2.ensures.words in
+    second.kept

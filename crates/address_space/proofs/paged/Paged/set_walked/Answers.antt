@@ -1,0 +1,26 @@
+use Rattle.std.proofs.Common.{◌≡◌, ap, sym, ◌∙◌, refl, Some}
+use Rattle.alloc_table.specs.declared.Role.TheVariants.{Directory}
+use Rattle.address_space.specs.ByWalk.{with_walked}
+use Rattle.address_space.specs.Finds.{spaces_at}
+use Rattle.address_space.proofs.steps.Steps.{inside}
+use Rattle.address_space.proofs.steps.Touches.{kept_touched}
+use Rattle.address_space.proofs.steps.DirWords.{dir_word_walked}
+use Rattle.address_space.proofs.paged.Paged.set_walked.Goals as goal
+
+pub set_word_walked-requires-clause-inside : goal.set_word_walked-requires-clause-inside
+set_word_walked-requires-clause-inside c =
+    (inside c.args.self.now.directories c.args.self.now.memory c.args.self.now.frames c.home-directory.result (Directory c.args.pid) c.requires.kept.spaces.sound (c.requires.kept.spaces.sound.tables.directory c.args.pid c.home-directory.result c.home-directory.ensures)).fits
+
+pub returns-clause-spaces : goal.returns-clause-spaces
+returns-clause-spaces c = (dir_word_walked c.args.self.now.directories c.args.self.now.memory c.set_word_walked.new.memory c.args.self.now.frames c.args.pid c.home-directory.result c.args.page c.args.walked c.requires.kept.spaces.sound c.home-directory.ensures c.requires.user.1 c.set_word_walked.ensures.bytes c.set_word_walked.ensures.length).spaces
+
+pub returns-clause-bytes : goal.returns-clause-bytes
+returns-clause-bytes c d live =
+    let e : Some c.home-directory.result ≡ Some d = sym c.home-directory.ensures ∙ live in
+    let same : c.home-directory.result ≡ d = cc in
+    c.set_word_walked.ensures.bytes ∙ ap (λ x. with_walked c.args.self.now.memory x c.args.page c.args.walked) same
+
+pub returns-clause-kept : goal.returns-clause-kept
+returns-clause-kept c =
+    kept_touched c.args.self.now.directories c.args.self.now.memory c.set_word_walked.new.memory c.args.self.now.frames c.args.self.now.counts.items (spaces_at c.args.self.now) c.requires.kept
+    (dir_word_walked c.args.self.now.directories c.args.self.now.memory c.set_word_walked.new.memory c.args.self.now.frames c.args.pid c.home-directory.result c.args.page c.args.walked c.requires.kept.spaces.sound c.home-directory.ensures c.requires.user.1 c.set_word_walked.ensures.bytes c.set_word_walked.ensures.length) (λ q. refl)
