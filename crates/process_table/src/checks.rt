@@ -52,27 +52,17 @@ pub fn unmap_check(processes: &Processes, pid: Pid, page: Page) -> Option<Cause>
     }
 }
 
-/// Whether a process asks for the right to write to a mapped page, and may not have it.
-fn lacks_right(processes: &Processes, pid: Pid, page: Page, write: bool) -> bool
-    requires user { IsUserPage page }
-    requires mapped { is_mapped processes.now.state (at_page pid page) ≡ true }
-    ensures { result ≡ (write && not (cell_or_fresh processes.now.state.spaces (at_page pid page)).may) }
-{
-    write && !processes.spaces().cell(pid, page).unwrap().may
-}
-
 /// Why a live process may not set a page's right to write, where it may not.
 pub fn protect_check(processes: &Processes, pid: Pid, page: Page, write: bool) -> Option<Cause>
     ensures { result ≡ protect_refusal processes.now.state pid page write }
 {
     if !in_user_range(page) {
-        Some(Cause::BadPage)
-    } else if processes.spaces().cell(pid, page).is_none() {
-        Some(Cause::NotMapped)
-    } else if lacks_right(processes, pid, page, write) {
-        Some(Cause::Rights)
-    } else {
-        None
+        return Some(Cause::BadPage);
+    }
+    match processes.spaces().cell(pid, page) {
+        None => Some(Cause::NotMapped),
+        Some(cell) if write && !cell.may => Some(Cause::Rights),
+        Some(_) => None,
     }
 }
 
@@ -100,14 +90,16 @@ pub fn offer_check(
     ensures { result ≡ offer_refusal processes.now.state pid page target write }
 {
     if !in_user_range(page) {
-        Some(Cause::BadPage)
-    } else if processes.spaces().cell(pid, page).is_none() {
-        Some(Cause::NotMapped)
-    } else if target == pid {
+        return Some(Cause::BadPage);
+    }
+    let Some(cell) = processes.spaces().cell(pid, page) else {
+        return Some(Cause::NotMapped);
+    };
+    if target == pid {
         Some(Cause::SelfOffer)
     } else if !processes.live(target) {
         Some(Cause::NoTarget)
-    } else if lacks_right(processes, pid, page, write) {
+    } else if write && !cell.may {
         Some(Cause::Rights)
     } else {
         pending_check(processes.offers(), pid, page, target)
