@@ -96,6 +96,57 @@ fn counts_what_it_charges(rt: HostRuntime) -> Result<(), Fail> {
     Ok(())
 }
 
+#[test]
+fn carries_out_at_once_or_by_its_plan(rt: HostRuntime) -> Result<(), Fail> {
+    let mut core = Core::boot(rt.alloc(), 16)?;
+    let root = Pid::new(0).ok_or("no root")?;
+    let size = Size::Four;
+    let first = Vaddr(0x4000_0000);
+    let across = Vaddr(0x4000_0ffe);
+    let outside = Vaddr(0x3fff_fffc);
+    let carried = [
+        Call::Store {
+            addr: across,
+            size,
+            value: 0xdead_beef,
+        },
+        Call::Store {
+            addr: first,
+            size,
+            value: 7,
+        },
+        Call::Load { addr: across, size },
+        Call::Load { addr: first, size },
+        Call::Load {
+            addr: outside,
+            size,
+        },
+        Call::Exit,
+    ]
+    .map(|call| {
+        let decision = core.carry_out(&event(root, call));
+        (decision.reply, decision.used_after)
+    });
+    assert_eq!(rt;
+        carried,
+        [
+            (Reply::Done, 4),
+            (Reply::Done, 4),
+            (Reply::Value(0xdead_beef), 4),
+            (Reply::Value(7), 4),
+            (
+                Reply::Fault {
+                    addr: outside,
+                    code: 4
+                },
+                4
+            ),
+            (Reply::Refused(Cause::RootExit), 4)
+        ]
+    );
+    Ok(())
+}
+
 fn refused_number(reply: Reply) -> u8 {
     match reply {
         Reply::Refused(cause) => cause as u8,

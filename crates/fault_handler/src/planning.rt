@@ -1,6 +1,6 @@
 //! What an access comes to, and what its process is charged for after it.
 
-ghost use Rattle.std.specs.Prelude.{◌≡◌, ◌<◌, ◌≤◌, ◌-◌, ℕ, true, false, IfSome, Some, None};
+ghost use Rattle.std.specs.Prelude.{◌≡◌, ◌<◌, ◌≤◌, ℕ, true, false, IfSome, Some, None};
 ghost use Rattle.address_space.specs.Spaces.{cost};
 ghost use Rattle.process_table.specs.Calls.{after_load, after_store};
 ghost use Rattle.process_table.specs.State.{container_of, is_live};
@@ -10,7 +10,7 @@ ghost use Rattle.fault_handler.specs.Looks.{ready_by, roomy_by, planned_by_looks
 use crate::looks::{barred, look_at, look_at_second, need_by};
 use crate::plans::{Look, Plan, Planned};
 use page_words::{Pid, Size, Vaddr, in_user_range, page_of, second_page, start_of};
-use process_table::{Cause, Processes};
+use process_table::{Cause, Processes, left_of};
 use quota_tree::Container;
 use table_walk::{Access, PageFault};
 
@@ -25,16 +25,6 @@ fn outside(address: Vaddr, size: Size) -> Option<Vaddr>
         Some(second) if !in_user_range(second) => Some(start_of(second)),
         _ => None,
     }
-}
-
-/// What is left of a container's quota.
-fn left_of(container: &Container) -> u32
-    ensures { result ≡ container.now.quota - container.now.used - container.now.given }
-{
-    container
-        .quota
-        .saturating_sub(container.used)
-        .saturating_sub(container.given)
 }
 
 /// The plan of an access to pages that it may have.

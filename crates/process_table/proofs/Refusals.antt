@@ -1,5 +1,5 @@
 -- What follows where a call is not refused.
-use Rattle.std.proofs.Common.{◌≡◌, ◌≢◌, ℕ, ◌+◌, ◌<◌, ◌&&◌, ◌==◌, Bool, true, false, not, refl, sym, ap, ◌∙◌, Option, Some, None, Ok, arith}
+use Rattle.std.proofs.Common.{◌≡◌, ◌≢◌, ℕ, ◌+◌, ◌<◌, ◌&&◌, ◌==◌, Bool, true, false, not, refl, sym, ap, ◌∙◌, Option, Some, None, Ok, Err, arith}
 use Rattle.std.specs.Prelude.{if◌then◌else◌, is_some, IsOk, nat_le}
 use Rattle.std.proofs.lemmas.Bool.Decides.{nat_tests}
 use Rattle.page_words.specs.Addresses.{is_user_page}
@@ -9,10 +9,10 @@ use Rattle.address_space.proofs.costs.Costs.{cost-insert}
 use Rattle.address_space.proofs.costs.Totals.{cost-joined}
 use Rattle.page_sharing.specs.Offers.{offer_of, pending}
 use Rattle.process_table.specs.State.{State, is_live, is_mapped, has_no_room}
-use Rattle.process_table.specs.Calls.{map_refusal, protect_refusal, offer_refusal, accept_refusal, offered}
+use Rattle.process_table.specs.Calls.{map_refusal, protect_refusal, offer_refusal, accept_refusal, offered, after_map, after_accept}
 use Rattle.process_table.specs.TestAnswers.{first_cause, number_unless, map_answer, accept_answer}
 use Rattle.process_table.specs.declared.causes.Cause.{Cause}
-use Rattle.process_table.specs.declared.causes.Cause.TheVariants.{NoProcess}
+use Rattle.process_table.specs.declared.causes.Cause.TheVariants.{NoProcess, BadPage, Mapped, Quota, NoOffer}
 use Rattle.std.proofs.lemmas.Bool.{not-false}
 use Rattle.page_words.proofs.OptionLemmas.{no_value}
 use Rattle.std.proofs.lemmas.Bool.{eqb-false}
@@ -109,14 +109,6 @@ no_cause s p cause number ok = by (is_live s p) cause ok refl refl
     by true (Some c) h live is = cc
     by false x h live is = cc
 
--- where there is no first cause, the process is live and there is no cause
-pub no_first_cause : (s : State) (p : ℕ) (cause : Option Cause) → first_cause s p cause ≡ None → (is_live s p ≡ true) × (cause ≡ None)
-no_first_cause s p cause none = by (is_live s p) none refl
-  where
-    by : (live : Bool) → (if live then cause else Some NoProcess) ≡ None → is_live s p ≡ live → (is_live s p ≡ true) × (cause ≡ None)
-    by true h live = (live, h)
-    by false h live = cc
-
 -- the charge that the test of a map answers
 pub map-charge : (s : State) (p page charge : ℕ) → is_live s p ≡ true → map_refusal s p page ≡ None → charge ≡ cost s.spaces p + need s.spaces p page → map_answer s p page ≡ Ok charge
 map-charge s p page charge live free is =
@@ -131,3 +123,23 @@ accept-charge s p giver giver_page page charge live free is =
     let e : first_cause s p (accept_refusal s p giver giver_page page) ≡ None = ap (λ b. if b then accept_refusal s p giver giver_page page else Some NoProcess) live ∙ free in
     ap (λ x. number_unless x (cost (joined s.spaces (at_page giver giver_page) (at_page p page) right) p)) e
     ∙ ap Ok (cost-joined s.spaces (at_page giver giver_page) (at_page p page) right (may_accept s p giver giver_page page free).none ∙ sym is)
+
+-- ---- A page that is not mapped, by whether there is room for it
+
+-- what the test of a map answers
+pub test_map : (s : State) (p page : ℕ) → is_live s p ≡ true → is_user_page page ≡ true → is_mapped s (at_page p page) ≡ false
+    → (if has_no_room s (at_page p page) then Err Quota else Ok (cost s.spaces p + need s.spaces p page)) ≡ map_answer s p page
+test_map s p page live user gone = by (has_no_room s (at_page p page)) refl
+  where
+    by : (b : Bool) → has_no_room s (at_page p page) ≡ b → (if b then Err Quota else Ok (cost s.spaces p + need s.spaces p page)) ≡ map_answer s p page
+    by true full = sym (λ i. number_unless (if live i then (if not (user i) then Some BadPage else if gone i then Some Mapped else if full i then Some Quota else None) else Some NoProcess) (cost (after_map s p page true).spaces p))
+    by false roomy = sym (map-charge s p page _ live (λ i. if not (user i) then Some BadPage else if gone i then Some Mapped else if roomy i then Some Quota else None) refl)
+
+-- what the test of an accept answers
+pub test_accept : (s : State) (p giver giver_page page : ℕ) → is_live s p ≡ true → is_user_page page ≡ true → map.contains_key s.offers (offer_of giver giver_page p) ≡ true → is_mapped s (at_page p page) ≡ false
+    → (if has_no_room s (at_page p page) then Err Quota else Ok (cost s.spaces p + need s.spaces p page)) ≡ accept_answer s p giver giver_page page
+test_accept s p giver giver_page page live user there gone = by (has_no_room s (at_page p page)) refl
+  where
+    by : (b : Bool) → has_no_room s (at_page p page) ≡ b → (if b then Err Quota else Ok (cost s.spaces p + need s.spaces p page)) ≡ accept_answer s p giver giver_page page
+    by true full = sym (λ i. number_unless (if live i then (if not (user i) then Some BadPage else if not (there i) then Some NoOffer else if gone i then Some Mapped else if full i then Some Quota else None) else Some NoProcess) (cost (after_accept s p giver giver_page page).spaces p))
+    by false roomy = sym (accept-charge s p giver giver_page page _ live (λ i. if not (user i) then Some BadPage else if not (there i) then Some NoOffer else if gone i then Some Mapped else if roomy i then Some Quota else None) refl)

@@ -1,12 +1,15 @@
 //! What a live process is charged for, and what it has room for.
 
-ghost use Rattle.std.specs.Prelude.{◌≡◌, ◌+◌, ◌≤◌, ◌<◌, true};
+ghost use Rattle.std.specs.Prelude.{◌≡◌, ◌+◌, ◌-◌, ◌≤◌, ◌<◌, if◌then◌else◌, nat_lt, true, Some, Ok, Err};
 ghost use Rattle.page_words.specs.Addresses.{EachTouched, IsUserPage};
 ghost use Rattle.address_space.specs.Spaces.{cost, need, access_need, without, is_slot, at_page};
-ghost use Rattle.process_table.specs.State.{is_live, is_mapped, has_no_room, lacks_room, room};
+ghost use Rattle.process_table.specs.State.{is_live, is_mapped, has_no_room, lacks_room, room, container_of};
+ghost use Rattle.process_table.specs.declared.causes.Cause.TheVariants as cause;
 
+use crate::causes::Cause;
 use crate::processes::Processes;
 use page_words::{Page, Pid, Size, Vaddr};
+use quota_tree::Container;
 
 /// What a live process is charged for.
 pub fn charge_of(processes: &Processes, pid: Pid) -> u32
@@ -19,14 +22,35 @@ pub fn charge_of(processes: &Processes, pid: Pid) -> u32
     processes.container(pid).unwrap().used
 }
 
+/// What is left of a container's quota.
+pub fn left_of(container: &Container) -> u32
+    ensures { result ≡ container.now.quota - container.now.used - container.now.given }
+{
+    container
+        .quota
+        .saturating_sub(container.used)
+        .saturating_sub(container.given)
+}
+
 /// What is left of a live process's quota.
 fn room_of(processes: &Processes, pid: Pid) -> u32
     requires live { is_live processes.now.state pid ≡ true }
     ensures { result ≡ room processes.now.state pid }
 {
-    processes.stands();
-    let container = processes.container(pid).unwrap();
-    container.quota - container.used - container.given
+    left_of(&processes.container(pid).unwrap())
+}
+
+/// What is charged for a container and so many frames more, where it has room for them, and else Quota.
+fn charged_more(container: &Container, frames: u32) -> Result<u32, Cause>
+    requires used { container.now.used < 4096 }
+    requires few { frames ≤ 2 }
+    ensures { result ≡ (if nat_lt (container.now.quota - container.now.used - container.now.given) frames then Err cause.Quota else Ok (container.now.used + frames)) }
+{
+    if left_of(container) < frames {
+        Err(Cause::Quota)
+    } else {
+        Ok(container.used + frames)
+    }
 }
 
 /// What one more page costs a live process.
@@ -40,32 +64,32 @@ pub fn need_of(processes: &Processes, pid: Pid, page: Page) -> u32
     processes.spaces().need(pid, page)
 }
 
-/// Whether a live process has no room for one more page.
-pub fn is_full(processes: &Processes, pid: Pid, page: Page) -> bool
+/// What a live process is charged for once a page is mapped that is not, or Quota where it has no room for it. The
+/// container is the process's.
+pub fn charge_with(
+    processes: &Processes,
+    container: &Container,
+    pid: Pid,
+    page: Page,
+) -> Result<u32, Cause>
+    requires container { container_of processes.now.state pid ≡ Some container.now }
     requires live { is_live processes.now.state pid ≡ true }
     requires user { IsUserPage page }
-    ensures { result ≡ has_no_room processes.now.state (at_page pid page) }
+    ensures { result ≡ (if has_no_room processes.now.state (at_page pid page) then Err cause.Quota else Ok (cost processes.now.state.spaces pid + need processes.now.state.spaces pid page)) }
 {
-    room_of(processes, pid) < need_of(processes, pid, page)
+    processes.stands();
+    processes.spaces().stands();
+    charged_more(container, need_of(processes, pid, page))
 }
 
-/// What a live process is charged for once a page is mapped that is not.
-pub fn charge_with(processes: &Processes, pid: Pid, page: Page) -> u32
-    requires live { is_live processes.now.state pid ≡ true }
-    requires user { IsUserPage page }
-    ensures { result ≡ cost processes.now.state.spaces pid + need processes.now.state.spaces pid page }
-{
-    charge_of(processes, pid) + need_of(processes, pid, page)
-}
-
-/// What a live process is charged for once a mapped page is gone.
-pub fn charge_without(processes: &Processes, pid: Pid, page: Page) -> u32
-    requires live { is_live processes.now.state pid ≡ true }
+/// What a live process is charged for once a mapped page is gone. The container is the process's.
+pub fn charge_without(processes: &Processes, container: &Container, pid: Pid, page: Page) -> u32
+    requires container { container_of processes.now.state pid ≡ Some container.now }
     requires user { IsUserPage page }
     requires mapped { is_mapped processes.now.state (at_page pid page) ≡ true }
     ensures { result ≡ cost (without processes.now.state.spaces (is_slot pid page)) pid }
 {
-    charge_of(processes, pid) - processes.spaces().relief(pid, page)
+    container.used - processes.spaces().relief(pid, page)
 }
 
 /// Whether a live process has no room for the pages that an access touches and that are not mapped.

@@ -5,41 +5,45 @@ ghost use Rattle.page_words.specs.Addresses.{IsUserPage};
 ghost use Rattle.page_words.specs.FiniteMap as map;
 ghost use Rattle.address_space.specs.Spaces.{cell_or_fresh, at_page};
 ghost use Rattle.page_sharing.specs.Offers.{offer_of, pending};
-ghost use Rattle.process_table.specs.State.{is_mapped};
-ghost use Rattle.process_table.specs.Calls.{map_refusal, unmap_refusal, protect_refusal, offer_refusal, withdraw_refusal, accept_refusal, exit_refusal};
-ghost use Rattle.process_table.specs.TestAnswers.{first_cause};
+ghost use Rattle.process_table.specs.State.{is_live, is_mapped, container_of};
+ghost use Rattle.process_table.specs.Calls.{unmap_refusal, protect_refusal, offer_refusal, withdraw_refusal, exit_refusal};
+ghost use Rattle.process_table.specs.TestAnswers.{first_cause, map_answer, accept_answer};
 ghost use Rattle.process_table.specs.declared.causes.Cause.TheVariants as cause;
 
 use crate::causes::Cause;
-use crate::charges::is_full;
+use crate::charges::charge_with;
 use crate::processes::Processes;
 use page_sharing::Offers;
 use page_words::{Page, Pid, in_user_range};
+use quota_tree::Container;
 
-/// Why a process may not map a page, where it may not.
-pub fn map_check(processes: &Processes, pid: Pid, page: Page) -> Option<Cause>
-    ensures { result ≡ first_cause processes.now.state pid (map_refusal processes.now.state pid page) }
+/// What a live process would be charged for once it has mapped a page, or the cause against it. The container is the
+/// process's.
+#[tactic(auto, using(crate::proofs::Refusals::test_map))]
+pub fn map_test(
+    processes: &Processes,
+    container: &Container,
+    pid: Pid,
+    page: Page,
+) -> Result<u32, Cause>
+    requires container { container_of processes.now.state pid ≡ Some container.now }
+    requires live { is_live processes.now.state pid ≡ true }
+    ensures { result ≡ map_answer processes.now.state pid page }
 {
-    if !processes.live(pid) {
-        Some(Cause::NoProcess)
-    } else if !in_user_range(page) {
-        Some(Cause::BadPage)
+    if !in_user_range(page) {
+        Err(Cause::BadPage)
     } else if processes.spaces().cell(pid, page).is_some() {
-        Some(Cause::Mapped)
-    } else if is_full(processes, pid, page) {
-        Some(Cause::Quota)
+        Err(Cause::Mapped)
     } else {
-        None
+        charge_with(processes, container, pid, page)
     }
 }
 
-/// Why a process may not unmap a page, where it may not.
+/// Why a live process may not unmap a page, where it may not.
 pub fn unmap_check(processes: &Processes, pid: Pid, page: Page) -> Option<Cause>
-    ensures { result ≡ first_cause processes.now.state pid (unmap_refusal processes.now.state pid page) }
+    ensures { result ≡ unmap_refusal processes.now.state pid page }
 {
-    if !processes.live(pid) {
-        Some(Cause::NoProcess)
-    } else if !in_user_range(page) {
+    if !in_user_range(page) {
         Some(Cause::BadPage)
     } else if processes.spaces().cell(pid, page).is_none() {
         Some(Cause::NotMapped)
@@ -48,29 +52,17 @@ pub fn unmap_check(processes: &Processes, pid: Pid, page: Page) -> Option<Cause>
     }
 }
 
-/// Whether a process asks for the right to write to a mapped page, and may not have it.
-fn lacks_right(processes: &Processes, pid: Pid, page: Page, write: bool) -> bool
-    requires user { IsUserPage page }
-    requires mapped { is_mapped processes.now.state (at_page pid page) ≡ true }
-    ensures { result ≡ (write && not (cell_or_fresh processes.now.state.spaces (at_page pid page)).may) }
-{
-    write && !processes.spaces().cell(pid, page).unwrap().may
-}
-
-/// Why a process may not set a page's right to write, where it may not.
+/// Why a live process may not set a page's right to write, where it may not.
 pub fn protect_check(processes: &Processes, pid: Pid, page: Page, write: bool) -> Option<Cause>
-    ensures { result ≡ first_cause processes.now.state pid (protect_refusal processes.now.state pid page write) }
+    ensures { result ≡ protect_refusal processes.now.state pid page write }
 {
-    if !processes.live(pid) {
-        Some(Cause::NoProcess)
-    } else if !in_user_range(page) {
-        Some(Cause::BadPage)
-    } else if processes.spaces().cell(pid, page).is_none() {
-        Some(Cause::NotMapped)
-    } else if lacks_right(processes, pid, page, write) {
-        Some(Cause::Rights)
-    } else {
-        None
+    if !in_user_range(page) {
+        return Some(Cause::BadPage);
+    }
+    match processes.spaces().cell(pid, page) {
+        None => Some(Cause::NotMapped),
+        Some(cell) if write && !cell.may => Some(Cause::Rights),
+        Some(_) => None,
     }
 }
 
@@ -87,7 +79,7 @@ fn pending_check(offers: &Offers, pid: Pid, page: Page, target: Pid) -> Option<C
     }
 }
 
-/// Why a process may not offer a page, where it may not.
+/// Why a live process may not offer a page, where it may not.
 pub fn offer_check(
     processes: &Processes,
     pid: Pid,
@@ -95,32 +87,30 @@ pub fn offer_check(
     target: Pid,
     write: bool,
 ) -> Option<Cause>
-    ensures { result ≡ first_cause processes.now.state pid (offer_refusal processes.now.state pid page target write) }
+    ensures { result ≡ offer_refusal processes.now.state pid page target write }
 {
-    if !processes.live(pid) {
-        Some(Cause::NoProcess)
-    } else if !in_user_range(page) {
-        Some(Cause::BadPage)
-    } else if processes.spaces().cell(pid, page).is_none() {
-        Some(Cause::NotMapped)
-    } else if target == pid {
+    if !in_user_range(page) {
+        return Some(Cause::BadPage);
+    }
+    let Some(cell) = processes.spaces().cell(pid, page) else {
+        return Some(Cause::NotMapped);
+    };
+    if target == pid {
         Some(Cause::SelfOffer)
     } else if !processes.live(target) {
         Some(Cause::NoTarget)
-    } else if lacks_right(processes, pid, page, write) {
+    } else if write && !cell.may {
         Some(Cause::Rights)
     } else {
         pending_check(processes.offers(), pid, page, target)
     }
 }
 
-/// Why a process may not withdraw an offer, where it may not.
+/// Why a live process may not withdraw an offer, where it may not.
 pub fn withdraw_check(processes: &Processes, pid: Pid, page: Page, target: Pid) -> Option<Cause>
-    ensures { result ≡ first_cause processes.now.state pid (withdraw_refusal processes.now.state pid page target) }
+    ensures { result ≡ withdraw_refusal processes.now.state pid page target }
 {
-    if !processes.live(pid) {
-        Some(Cause::NoProcess)
-    } else if !in_user_range(page) {
+    if !in_user_range(page) {
         Some(Cause::BadPage)
     } else if processes.offers().get(pid, page, target).is_none() {
         Some(Cause::NoOffer)
@@ -129,28 +119,29 @@ pub fn withdraw_check(processes: &Processes, pid: Pid, page: Page, target: Pid) 
     }
 }
 
-/// Why a process may not accept an offer, where it may not.
-pub fn accept_check(
+/// What a live process would be charged for once it has accepted an offer, or the cause against it. The container is
+/// the process's.
+#[tactic(auto, using(crate::proofs::Refusals::test_accept))]
+pub fn accept_test(
     processes: &Processes,
+    container: &Container,
     pid: Pid,
     giver: Pid,
     giver_page: Page,
     page: Page,
-) -> Option<Cause>
-    ensures { result ≡ first_cause processes.now.state pid (accept_refusal processes.now.state pid giver giver_page page) }
+) -> Result<u32, Cause>
+    requires container { container_of processes.now.state pid ≡ Some container.now }
+    requires live { is_live processes.now.state pid ≡ true }
+    ensures { result ≡ accept_answer processes.now.state pid giver giver_page page }
 {
-    if !processes.live(pid) {
-        Some(Cause::NoProcess)
-    } else if !in_user_range(page) {
-        Some(Cause::BadPage)
+    if !in_user_range(page) {
+        Err(Cause::BadPage)
     } else if processes.offers().get(giver, giver_page, pid).is_none() {
-        Some(Cause::NoOffer)
+        Err(Cause::NoOffer)
     } else if processes.spaces().cell(pid, page).is_some() {
-        Some(Cause::Mapped)
-    } else if is_full(processes, pid, page) {
-        Some(Cause::Quota)
+        Err(Cause::Mapped)
     } else {
-        None
+        charge_with(processes, container, pid, page)
     }
 }
 

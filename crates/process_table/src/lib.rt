@@ -8,5 +8,6 @@ mod laws;
 mod processes;
 
 pub use causes::Cause;
+pub use charges::left_of;
 pub use laws::{calls_keep_states_well_formed, images_stand_for_one, processes_apart_stand_alone};
 pub use processes::{Processes, ProcessesFault};

@@ -24,9 +24,9 @@ ghost use Rattle.quota_tree.specs.Book.{number_of_children};
 ghost use Rattle.table_walk.specs.declared.Access.TheVariants as access_variant;
 
 use crate::causes::Cause;
-use crate::charges::{charge_at, charge_of, charge_with, charge_without, is_short, need_of};
+use crate::charges::{charge_at, charge_of, charge_without, is_short, need_of};
 use crate::checks::{
-    accept_check, exit_check, map_check, offer_check, protect_check, unmap_check, withdraw_check,
+    accept_test, exit_check, map_test, offer_check, protect_check, unmap_check, withdraw_check,
 };
 use address_space::{Spaces, SpacesFault};
 use page_sharing::Offers;
@@ -367,9 +367,9 @@ impl Processes {
     pub fn can_map(&self, pid: Pid, page: Page) -> Result<u32, Cause>
         ensures { result ≡ map_answer self.now.state pid page }
     {
-        match map_check(self, pid, page) {
-            Some(cause) => Err(cause),
-            None => Ok(charge_with(self, pid, page)),
+        match self.container(pid) {
+            Some(container) => map_test(self, &container, pid, page),
+            None => Err(Cause::NoProcess),
         }
     }
 
@@ -386,9 +386,12 @@ impl Processes {
     pub fn can_unmap(&self, pid: Pid, page: Page) -> Result<u32, Cause>
         ensures { result ≡ unmap_answer self.now.state pid page }
     {
+        let Some(container) = self.container(pid) else {
+            return Err(Cause::NoProcess);
+        };
         match unmap_check(self, pid, page) {
             Some(cause) => Err(cause),
-            None => Ok(charge_without(self, pid, page)),
+            None => Ok(charge_without(self, &container, pid, page)),
         }
     }
 
@@ -407,9 +410,12 @@ impl Processes {
     pub fn can_protect(&self, pid: Pid, page: Page, write: bool) -> Result<u32, Cause>
         ensures { result ≡ protect_answer self.now.state pid page write }
     {
+        let Some(container) = self.container(pid) else {
+            return Err(Cause::NoProcess);
+        };
         match protect_check(self, pid, page, write) {
             Some(cause) => Err(cause),
-            None => Ok(charge_of(self, pid)),
+            None => Ok(container.used),
         }
     }
 
@@ -427,9 +433,12 @@ impl Processes {
     pub fn can_offer(&self, pid: Pid, page: Page, target: Pid, write: bool) -> Result<u32, Cause>
         ensures { result ≡ offer_answer self.now.state pid page target write }
     {
+        let Some(container) = self.container(pid) else {
+            return Err(Cause::NoProcess);
+        };
         match offer_check(self, pid, page, target, write) {
             Some(cause) => Err(cause),
-            None => Ok(charge_of(self, pid)),
+            None => Ok(container.used),
         }
     }
 
@@ -446,9 +455,12 @@ impl Processes {
     pub fn can_withdraw(&self, pid: Pid, page: Page, target: Pid) -> Result<u32, Cause>
         ensures { result ≡ withdraw_answer self.now.state pid page target }
     {
+        let Some(container) = self.container(pid) else {
+            return Err(Cause::NoProcess);
+        };
         match withdraw_check(self, pid, page, target) {
             Some(cause) => Err(cause),
-            None => Ok(charge_of(self, pid)),
+            None => Ok(container.used),
         }
     }
 
@@ -471,9 +483,9 @@ impl Processes {
     ) -> Result<u32, Cause>
         ensures { result ≡ accept_answer self.now.state pid giver giver_page page }
     {
-        match accept_check(self, pid, giver, giver_page, page) {
-            Some(cause) => Err(cause),
-            None => Ok(charge_with(self, pid, page)),
+        match self.container(pid) {
+            Some(container) => accept_test(self, &container, pid, giver, giver_page, page),
+            None => Err(Cause::NoProcess),
         }
     }
 
