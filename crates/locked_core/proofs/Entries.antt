@@ -9,9 +9,7 @@ use Rattle.kernel_calls.specs.declared.calls.Decision.{Decision}
 use Rattle.kernel_calls.specs.declared.calls.Event.{Event}
 use Rattle.memory_report.proofs.HistoryLemmas.{empty_is_legal, grows_legal, state-push}
 use Rattle.memory_report.specs.Histories.{Legal, state_after, entries_of, calls_of, entry_after}
-use Rattle.memory_report.specs.Reports.{report_of, Absorbs}
 use Rattle.memory_report.specs.declared.entries.LogEntry.{LogEntry}
-use Rattle.memory_report.specs.declared.report.Report.{Report}
 use Rattle.process_table.specs.State.{State, open_with}
 use Rattle.process_table.specs.View.{View}
 use Rattle.kernel_calls.specs.declared.calls.Reply.{Reply}
@@ -71,16 +69,6 @@ logged frames log new core now cpu pid call e legal at is grown moved =
       grown = by;
       calls = ap (calls_of cpu) by ∙ calls_push cpu log (entry_after frames log cpu pid call) refl;
     }
-
--- what is published with one more entry
-pub shown_grown : (frames : ℕ) (log new : List LogEntry) (e : LogEntry) (report now : Report) (count : ℕ) → new ≡ log ++ e ∷ [] → count ≡ length log
-    → report ≡ report_of (state_after frames log) → Absorbs report e now → Legal frames (log ++ e ∷ [])
-    → (count + 1 ≡ length new) × Legal frames new × (now ≡ report_of (state_after frames new))
-shown_grown frames log new e report now count grown len at took legal = (
-  ap (λ (k : ℕ). k + 1) len ∙ (sym (length-append log (e ∷ [])) ∙ ap length (sym grown)),
-  subst (Legal frames) (sym grown) legal,
-  took frames log legal at ∙ ap (λ l. report_of (state_after frames l)) (sym grown),
-)
 
 -- what a CPU has seen after a call that was judged on the log and carried out on it
 pub makes : (frames : ℕ) (before after : Maker) (pid : ℕ) (call : Call) (reply : Reply) (event : Event) (log new front : List LogEntry) → event ≡ record { cpu = before.number; pid = pid; call = call }
