@@ -30,7 +30,7 @@ fn room_of(processes: &Processes, pid: Pid) -> u32
 }
 
 /// What one more page costs a live process.
-pub fn need_of(processes: &Processes, pid: Pid, page: Page) -> u32
+fn need_of(processes: &Processes, pid: Pid, page: Page) -> u32
     requires live { is_live processes.now.state pid ≡ true }
     requires user { IsUserPage page }
     ensures value { result ≡ need processes.now.state.spaces pid page }
