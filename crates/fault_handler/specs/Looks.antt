@@ -10,10 +10,16 @@ use Rattle.table_walk.specs.Walk.{is_write, page_fault}
 use Rattle.process_table.specs.View.{View}
 use Rattle.process_table.specs.declared.causes.Cause.TheVariants.{Quota}
 use Rattle.fault_handler.specs.declared.plans.Look.{Look}
+use Rattle.fault_handler.specs.declared.plans.PageStep.{PageStep}
+use Rattle.fault_handler.specs.declared.plans.PageStep.TheVariants as step
 use Rattle.fault_handler.specs.declared.plans.Plan.{Plan}
 use Rattle.fault_handler.specs.declared.plans.Plan.TheVariants as plan
 use Rattle.fault_handler.specs.declared.plans.Planned.{Planned}
 use Rattle.fault_handler.specs.Plans.{is_read_only, step_at, plan_at, goes_on}
+
+-- the step of a mapped page: one that is written gets its frame first, where it is lazy
+abbrev pub step_there : Access → Bool → PageStep
+step_there access is_lazy = if is_write access && is_lazy then step.Fill else step.Complete
 
 -- what is seen of the page that a byte lies in
 abbrev pub look_of : View → ℕ → Access → ℕ → Look

@@ -5,20 +5,18 @@ ghost use Rattle.page_words.specs.Addresses.{page_number, EachTouched, IsUserPag
 ghost use Rattle.address_space.specs.Spaces.{at_page};
 ghost use Rattle.process_table.specs.State.{is_live, is_mapped};
 ghost use Rattle.fault_handler.specs.Plans.{step_at};
-ghost use Rattle.fault_handler.specs.Looks.{look_of, look_behind, barred, open_one_region, need_by};
+ghost use Rattle.fault_handler.specs.Looks.{step_there, look_of, look_behind, barred, open_one_region, need_by};
 
 use crate::plans::{Look, PageStep};
 use page_words::{Page, Pid, Size, Vaddr, page_of, second_page, slot_of, start_of};
 use process_table::Processes;
 use table_walk::Access;
 
-/// What a mapped page comes to.
-fn step_there(processes: &Processes, pid: Pid, access: Access, page: Page) -> PageStep
-    requires user { IsUserPage page }
-    requires mapped { is_mapped processes.now.state (at_page pid page) ≡ true }
-    ensures { result ≡ step_at processes.now pid access page }
+/// What a mapped page comes to: a write gives a lazy one its frame first.
+fn step_there(access: Access, is_lazy: bool) -> PageStep
+    ensures { result ≡ step_there access is_lazy }
 {
-    if access == Access::Write && processes.is_lazy(pid, page) {
+    if access == Access::Write && is_lazy {
         PageStep::Fill
     } else {
         PageStep::Complete
@@ -32,17 +30,17 @@ pub fn look_at(processes: &Processes, pid: Pid, access: Access, byte: Vaddr) -> 
     ensures look { result ≡ look_of processes.now pid access byte }
     ensures few { result.need ≤ 2 }
 {
-    let page = page_of(byte);
-    match processes.spaces().cell(pid, page) {
+    let seen = processes.seen(pid, page_of(byte));
+    match seen.cell() {
         None => Look {
             byte,
             step: PageStep::MapZero,
             read_only: false,
-            need: processes.need(pid, page),
+            need: seen.need(),
         },
         Some(cell) => Look {
             byte,
-            step: step_there(processes, pid, access, page),
+            step: step_there(access, seen.is_lazy()),
             read_only: !cell.write,
             need: 0,
         },

@@ -54,7 +54,7 @@ fn charged_more(container: &Container, frames: u32) -> Result<u32, Cause>
 }
 
 /// What one more page costs a live process.
-pub fn need_of(processes: &Processes, pid: Pid, page: Page) -> u32
+fn need_of(processes: &Processes, pid: Pid, page: Page) -> u32
     requires live { is_live processes.now.state pid ≡ true }
     requires user { IsUserPage page }
     ensures value { result ≡ need processes.now.state.spaces pid page }

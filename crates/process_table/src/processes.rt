@@ -6,7 +6,7 @@ ghost use Rattle.page_words.specs.FiniteMap as map;
 ghost use Rattle.alloc_table.specs.Roles.{opening_roles};
 ghost use Rattle.address_space.specs.Spaces.{Slot, cost, need, slot_at, fresh, without, is_slot, is_of, cell_or_fresh, protected, joined, at_page, copied};
 ghost use Rattle.page_sharing.specs.Offers.{offer_of};
-ghost use Rattle.std.specs.Option.{unwrap_or};
+ghost use Rattle.std.specs.Option.{option_map, unwrap_or};
 ghost use Rattle.address_space.specs.View as seen;
 ghost use Rattle.address_space.specs.View.{directory_of, total_cost};
 ghost use Rattle.quota_tree.specs.Containers.{Containers, IsLive, used_of, room_of, with_used, split_answer, after_split, opening};
@@ -17,6 +17,8 @@ ghost use Rattle.process_table.specs.View.{IsProcesses};
 ghost use Rattle.process_table.specs.Image.{StandsFor, image_of, memory_of};
 ghost use Rattle.address_space.specs.Image as memory;
 ghost use Rattle.address_space.specs.Image.{LeavesRoom, is_lazy_at, takes_stores};
+ghost use Rattle.address_space.specs.Seen.{cell_seen, lazy_seen, need_seen};
+ghost use Rattle.address_space.specs.Shown.{shown};
 ghost use Rattle.process_table.specs.WellFormed.{IsWellFormed, total};
 ghost use Rattle.address_space.specs.Walks.{WalksAgree};
 ghost use Rattle.address_space.specs.ByWalk.{finds, value_found, after_walked, with_walked};
@@ -24,11 +26,11 @@ ghost use Rattle.quota_tree.specs.Book.{number_of_children};
 ghost use Rattle.table_walk.specs.declared.Access.TheVariants as access_variant;
 
 use crate::causes::Cause;
-use crate::charges::{charge_at, charge_of, charge_without, is_short, need_of};
+use crate::charges::{charge_at, charge_of, charge_without, is_short};
 use crate::checks::{
     accept_test, exit_check, map_test, offer_check, protect_check, unmap_check, withdraw_check,
 };
-use address_space::{Spaces, SpacesFault};
+use address_space::{Seen, Spaces, SpacesFault};
 use page_sharing::Offers;
 use page_words::{Page, Pid, Size, Vaddr};
 use quota_tree::{Container, QuotaFault, Quotas};
@@ -575,15 +577,16 @@ impl Processes {
         self.offers.drop_process(pid);
     }
 
-    /// What one more page of the user range costs a live process: 1 where it has a page in that region of 1,024 pages,
-    /// else 2.
-    pub fn need(&self, pid: Pid, page: Page) -> u32
-        requires live { is_live self.now.state pid ≡ true }
+    /// What a process has at a page of the user range, by one look: its cell, whether it is lazy, and what one more page
+    /// costs there.
+    pub fn seen(&self, pid: Pid, page: Page) -> Seen
         requires user { IsUserPage page }
-        ensures value { result ≡ need self.now.state.spaces pid page }
-        ensures most { result ≤ 2 }
+        ensures cell { cell_seen result ≡ option_map shown (map.get self.now.state.spaces (at_page pid page)) }
+        ensures lazy { lazy_seen result ≡ is_lazy_at (memory_of self.now) (at_page pid page) }
+        ensures need { need_seen result ≡ need self.now.state.spaces pid page }
+        ensures most { need_seen result ≤ 2 }
     {
-        need_of(self, pid, page)
+        self.spaces.seen(pid, page)
     }
 
     /// Whether a live process has no room for the pages that an access touches and that are not mapped. They lie in
