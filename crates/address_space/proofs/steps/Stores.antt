@@ -278,18 +278,14 @@ byte_is_write frame at v l =
     let d : suc at ≡ at + 1 = omega arith in
     set_split frame at (v % 256) l ∙ ap (λ k. take at frame ++ (v % 256 ∷ drop k frame)) d ∙ sym (append_assoc (take at frame) (v % 256 ∷ []) (drop (at + 1) frame))
 
-pub byte_placed : (bytes one : List ℕ) (f at v : ℕ) → Inside bytes f → at < 4096 → one ≡ slice_set bytes (f * 4096 + at) v
+pub byte_placed : (bytes one : List ℕ) (f at v : ℕ) → Inside bytes f → at < 4096 → one ≡ slice_set bytes (4096 * f + at) v
     → frame_bytes one ≡ with_frame (frame_bytes bytes) f (slice_set (frame_bytes bytes f) at v)
-byte_placed bytes one f at v i l is =
-    let a : f * 4096 + at ≡ 4096 * f + at = omega arith in
-    ap frame_bytes is ∙ ap (λ k. frame_bytes (slice_set bytes k v)) a ∙ frames-with_byte bytes f at v l i.fits
+byte_placed bytes one f at v i l is = ap frame_bytes is ∙ frames-with_byte bytes f at v l i.fits
 
 -- a word of a page, by its place in memory
-pub word_placed : (bytes one : List ℕ) (f at word : ℕ) → Inside bytes f → at + 4 ≤ 4096 → one ≡ with_word bytes (f * 4096 + at) word
+pub word_placed : (bytes one : List ℕ) (f at word : ℕ) → Inside bytes f → at + 4 ≤ 4096 → one ≡ with_word bytes (4096 * f + at) word
     → frame_bytes one ≡ with_frame (frame_bytes bytes) f (with_word (frame_bytes bytes f) at word)
-word_placed bytes one f at word i l is =
-    let a : f * 4096 + at ≡ 4096 * f + at = omega arith in
-    ap frame_bytes is ∙ ap (λ k. frame_bytes (with_word bytes k word)) a ∙ frames-with_word_at bytes f at word l i.fits
+word_placed bytes one f at word i l is = ap frame_bytes is ∙ frames-with_word_at bytes f at word l i.fits
 
 -- ---- A mapped slot
 
