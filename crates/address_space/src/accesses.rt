@@ -8,7 +8,7 @@ ghost use Rattle.address_space.specs.Sound.{Inside};
 ghost use Rattle.address_space.specs.Finds.{LiesIn, EntryIs, BytesStored};
 
 use crate::lookup::Found;
-use page_map::PageEntry;
+use page_map::{PageEntry, place_of};
 use page_words::{Frame, Size};
 use phys_memory::Memory;
 
@@ -26,7 +26,7 @@ pub fn number_at(memory: &Memory, frame: Frame, at: u32, size: Size) -> u32
     requires inside { at + byte_count size ≤ 4096 }
     ensures { result ≡ value_of (bytes_at (frame_bytes memory.now frame) at (byte_count size)) }
 {
-    let place = frame.0 as usize * 4096 + at as usize;
+    let place = place_of(frame, at);
     match size {
         Size::One => u32::from(memory.read_byte(place)),
         Size::Two => of_two(memory.read_byte(place), memory.read_byte(place + 1)),
@@ -40,7 +40,7 @@ pub fn byte_of(memory: &Memory, frame: Frame, at: u32) -> u8
     requires inside { at < 4096 }
     ensures { result ≡ slice_index (frame_bytes memory.now frame) at }
 {
-    memory.read_byte(frame.0 as usize * 4096 + at as usize)
+    memory.read_byte(place_of(frame, at))
 }
 
 /// Sets three flags of a page's entry. A word that stays as it is isn't written.
@@ -81,8 +81,7 @@ fn put_byte(memory: &mut Memory, frame: Frame, at: u32, value: u32)
     ensures frames { frame_bytes memory.new ≡ with_frame (frame_bytes memory.old) frame (write_at (frame_bytes memory.old frame) at (bytes_of 1 value)) }
     ensures length { length memory.new ≡ length memory.old }
 {
-    let place = frame.0 as usize * 4096 + at as usize;
-    memory.write_byte(place, (value % 256) as u8);
+    memory.write_byte(place_of(frame, at), (value % 256) as u8);
 }
 
 /// Writes the lowest four bytes of a number.
@@ -92,7 +91,7 @@ fn put_word(memory: &mut Memory, frame: Frame, at: u32, value: u32)
     ensures frames { frame_bytes memory.new ≡ with_frame (frame_bytes memory.old) frame (write_at (frame_bytes memory.old frame) at (bytes_of 4 value)) }
     ensures length { length memory.new ≡ length memory.old }
 {
-    memory.write_word(frame.0 as usize * 4096 + at as usize, value);
+    memory.write_word(place_of(frame, at), value);
 }
 
 /// The frame, the place in it and the bytes of a store that lie in one page.

@@ -16,10 +16,11 @@ use crate::accesses::of_two;
 use crate::paged::Paged;
 use crate::{Directories, home};
 use alloc_table::FrameTable;
+use page_map::place_of;
 use page_words::{
     DirWord, Frame, Page, Pid, Size, Vaddr, offset_of, second_page, slot_of, start_of,
 };
-use phys_memory::{FRAME_BYTES, Memory};
+use phys_memory::Memory;
 use table_walk::{Access, mark, walk};
 
 /// The place of an address's byte in the frame that its walk finds.
@@ -27,7 +28,7 @@ fn place_in(frame: Frame, address: Vaddr) -> usize
     requires { frame < 2 ^ 20 }
     ensures { result ≡ 4096 * frame + offset_number address }
 {
-    frame.0 as usize * FRAME_BYTES + offset_of(address) as usize
+    place_of(frame, offset_of(address))
 }
 
 /// The place to which the walk of an access leads.
@@ -126,7 +127,7 @@ fn set_word_walked(memory: &mut Memory, directory: Frame, page: Page, walked: bo
 {
     let frames = memory.frames();
     prove!(directory.0 < frames);
-    let place = directory.0 as usize * FRAME_BYTES + slot_of(page) as usize * 4;
+    let place = place_of(directory, slot_of(page) * 4);
     let word = memory.read_word(place);
     memory.write_word(place, walked_word(word, walked));
 }

@@ -60,26 +60,24 @@ one_of [] h = absurd (omega arith)
 one_of (a ∷ xs) h = omega arith
 
 -- a word of memory is the number in its page's bytes
-pub word_read_in : (bytes : List ℕ) (f at : ℕ) → Inside bytes f → at + 4 ≤ 4096 → word_at bytes (f * 4096 + at) ≡ value_of (bytes_at (frame_bytes bytes f) at 4)
+pub word_read_in : (bytes : List ℕ) (f at : ℕ) → Inside bytes f → at + 4 ≤ 4096 → word_at bytes (4096 * f + at) ≡ value_of (bytes_at (frame_bytes bytes f) at 4)
 unfolding word_at
 word_read_in bytes f at i l =
-    let a : f * 4096 + at ≡ 4096 * f + at = omega arith in
     let long = length-frame bytes f i.fits in
     let rest = length-drop at (frame_bytes bytes f) in
-    ap (word_at bytes) a ∙ word_at-frame bytes f at l
+    word_at-frame bytes f at l
     ∙ four_of (drop at (frame_bytes bytes f)) (omega (arith, long, rest))
 
-pub byte_read_in : (bytes : List ℕ) (f at : ℕ) → Inside bytes f → at < 4096 → slice_index bytes (f * 4096 + at) ≡ value_of (bytes_at (frame_bytes bytes f) at 1)
+pub byte_read_in : (bytes : List ℕ) (f at : ℕ) → Inside bytes f → at < 4096 → slice_index bytes (4096 * f + at) ≡ value_of (bytes_at (frame_bytes bytes f) at 1)
 byte_read_in bytes f at i l =
-    let a : f * 4096 + at ≡ 4096 * f + at = omega arith in
     let z : at ≡ at + 0 = omega arith in
     let long = length-frame bytes f i.fits in
     let rest = length-drop at (frame_bytes bytes f) in
-    ap (slice_index bytes) a ∙ sym (byte-frame bytes f at l) ∙ ap (slice_index (frame_bytes bytes f)) z
+    sym (byte-frame bytes f at l) ∙ ap (slice_index (frame_bytes bytes f)) z
     ∙ sym (get_or-drop at (frame_bytes bytes f) 0 0) ∙ one_of (drop at (frame_bytes bytes f)) (omega (arith, long, rest))
 
-pub byte_in_frame : (bytes : List ℕ) (f at : ℕ) → at < 4096 → slice_index bytes (f * 4096 + at) ≡ slice_index (frame_bytes bytes f) at
-byte_in_frame bytes f at l = let a : f * 4096 + at ≡ 4096 * f + at = omega arith in ap (slice_index bytes) a ∙ sym (byte-frame bytes f at l)
+pub byte_in_frame : (bytes : List ℕ) (f at : ℕ) → at < 4096 → slice_index bytes (4096 * f + at) ≡ slice_index (frame_bytes bytes f) at
+byte_in_frame bytes f at l = sym (byte-frame bytes f at l)
 
 -- ---- What one more page costs
 

@@ -341,11 +341,6 @@ stores_read directories bytes roles p page sound low high = by_directory (direct
         ap (λ x. takes_stores_through (option_and_then (λ d. entry_at m d page) x)) none ∙ sym (ap (λ b. b && others) (ap is_some (no_cell directories bytes p page none)))
     by_directory (Some d) live = ap (λ x. takes_stores_through (option_and_then (λ d. entry_at m d page) x)) live ∙ by_entry d live (entry_at m d page) refl
 
--- a process without a directory has no lazy page
-pub lazy_none : (directories : List (Option ℕ)) (bytes : List ℕ) (roles : List Role) (p page : ℕ) → directory_of directories p ≡ None → is_lazy_at (image_of directories bytes roles) (at_page p page) ≡ false
-lazy_none directories bytes roles p page none =
-    ap (λ x. unwrap_or (option_map is_lazy (option_and_then (λ t. present_word (image_of directories bytes roles) t (word_of (image_of directories bytes roles) t (index_number page))) (option_and_then (λ d. named_by (slot_number page) (word_of (image_of directories bytes roles) d (slot_number page))) x))) false) none
-
 same_truth : (x y : Bool) → (IsTrue x → IsTrue y) → (IsTrue y → IsTrue x) → x ≡ y
 same_truth true true f g = refl
 same_truth true false f g = sym (f refl)

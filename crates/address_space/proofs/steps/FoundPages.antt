@@ -1,5 +1,5 @@
 -- A page that was found: what is known of it, and what an access through it leaves.
-use Rattle.std.proofs.Common.{◌≡◌, ◌≢◌, ◌^◌, ℕ, ◌+◌, ◌<◌, ◌≤◌, Bool, true, false, not, List, length, refl, ap, sym, ◌∙◌, subst, arith, inl, inr, Option, Some, None}
+use Rattle.std.proofs.Common.{◌≡◌, ℕ, ◌+◌, ◌<◌, ◌≤◌, Bool, true, false, not, List, length, refl, ap, sym, ◌∙◌, subst, arith, inl, inr, Option, Some, None}
 use Rattle.std.specs.Prelude.{is_some, slice_get, replicate}
 use Rattle.std.specs.Option.{option_and_then, option_map}
 use Rattle.page_words.specs.Addresses.{slot_number, index_number, byte_count, IsUserPage}
@@ -8,12 +8,12 @@ use Rattle.page_words.specs.FiniteMap as map
 use Rattle.std.proofs.lemmas.Bool.{and_parts}
 use Rattle.phys_memory.specs.Bytes.{frame_bytes, word_in}
 use Rattle.page_map.specs.declared.PageEntry.{PageEntry}
-use Rattle.page_map.specs.Entries.{Frames, dir_word, table_of, word_entry, entry_at, with_entry, is_lazy_entry, entry_word, IsKernelEntry}
+use Rattle.page_map.specs.Entries.{Frames, dir_word, table_of, word_entry, entry_at, with_entry, is_lazy_entry, IsKernelEntry}
 use Rattle.address_space.specs.declared.lookup.Found.{Found}
 use Rattle.address_space.specs.declared.paged.Paged.{Paged}
 use Rattle.address_space.specs.Spaces.{need, Slot, Spaces, Cell, cell_or_fresh, bytes_of, stored, accessed, protected, at_page}
 use Rattle.address_space.specs.Cells.{cell_of}
-use Rattle.address_space.specs.View.{Directories, directory_of, table_in, entry_in, entries_in, spaces_in}
+use Rattle.address_space.specs.View.{Directories, directory_of, entry_in, entries_in, spaces_in}
 use Rattle.address_space.specs.Changes.{PageFilled, EntryPut, Touched, takes_stores_through}
 use Rattle.address_space.specs.Image.{is_lazy_at, takes_stores}
 use Rattle.address_space.specs.Counts.{IsKept}
@@ -29,8 +29,6 @@ use Rattle.alloc_table.specs.Roles.{IsPageBelow, free_frames}
 use Rattle.alloc_table.specs.declared.Role.TheVariants.{Free, Page}
 use Rattle.address_space.specs.Shown.{shown}
 use Rattle.address_space.specs.declared.Cell.{Cell as Shown}
-use Rattle.address_space.proofs.entries.EntrySteps.{tables_kept, entry_other}
-use Rattle.page_map.proofs.WordLaws.{entry_word-lt}
 use Rattle.address_space.proofs.steps.Openings.{no_cell}
 use Rattle.address_space.proofs.steps.Steps.{page_map_of, live_small, table_by_word, map_kept, zeroed, inside, free_loose}
 use Rattle.page_map.specs.Pages.{is_mapped}
@@ -163,20 +161,6 @@ need_with paged p page t before user is = need-one (directory_of paged.directori
     by None live h = cc
     by (Some d) live h = live_small paged.directories p d before.spaces.sound.pids live
 
--- the entry of a slot is that of its table
-entry_by_table : (D : Directories) (m : Frames) (p page : ℕ) → entry_in D m (at_page p page) ≡ option_and_then (λ t. word_entry (word_in (m t) (index_number page))) (table_in D m p (slot_number page))
-entry_by_table D m p page = by (D p)
-  where
-    by : (x : Option ℕ) → option_and_then (λ d. entry_at m d page) x ≡ option_and_then (λ t. word_entry (word_in (m t) (index_number page))) (option_and_then (λ d. table_of m d (slot_number page)) x)
-    by None = refl
-    by (Some d) = refl
-
--- a table and an entry make what is found
-found_made : (D : Directories) (m : Frames) (p page t : ℕ) (e : PageEntry) → table_in D m p (slot_number page) ≡ Some t → entry_in D m (at_page p page) ≡ Some e → found_in D m p page ≡ Some (record { page = page; table = t; entry = e })
-found_made D m p page t e table entry =
-    let word : word_entry (word_in (m t) (index_number page)) ≡ Some e = sym (entry_by_table D m p page ∙ ap (option_and_then (λ t. word_entry (word_in (m t) (index_number page)))) table) ∙ entry in
-    ap (option_and_then (found_by m page)) table ∙ ap (option_map (λ e. record { page = page; table = t; entry = e })) word
-
 -- ---- A page that was found, whose invariant holds
 
 module _ (paged : Paged) (p page : ℕ) (f : Found) (before : IsKeptPaged paged) (user : IsUserPage page) (is : found_at paged p page ≡ Some f) where
@@ -242,22 +226,6 @@ module _ (paged : Paged) (p page : ℕ) (f : Found) (before : IsKeptPaged paged)
     kept = kept_touched paged.directories paged.memory two paged.frames paged.counts.items S before touched keys;
     lazy = lazy_kept paged.directories paged.memory two paged.frames before.spaces.sound touched.sound touched.lazy;
   }
-
-  -- another page that was found is found still, where this one's entry was set
-  pub found_apart : (two : List ℕ) (e' : PageEntry) (other : ℕ) (g : Found) → e'.frame < 2 ^ 20 → other ≢ page → EntryIs paged.memory f e' two → found_at paged p other ≡ Some g
-      → found_in (directory_of paged.directories) (frame_bytes two) p other ≡ Some g
-  found_apart two e' other g small apart (inl stays) was = ap (λ x. found_in (directory_of paged.directories) (frame_bytes x) p other) stays.1 ∙ was
-  found_apart two e' other g small apart (inr written) was =
-      let D : Directories = directory_of paged.directories in
-      let m : Frames = frame_bytes paged.memory in
-      let T = before.spaces.sound.tables in
-      let s = known paged.directories paged.memory p other g was in
-      let up : frame_bytes two ≡ with_entry m f.table page e' = written ∙ ap (λ n. with_entry m f.table n e') there.same_page in
-      let table = ap (λ x. table_in D x p (slot_number other)) up ∙ tables_kept D m (slice_get paged.frames) T p there.directory page f.table (entry_word e') there.live there.table (entry_word-lt e' small) p (slot_number other)
-      ∙ ap (option_and_then (λ d. table_of m d (slot_number other))) s.live ∙ s.table in
-      let entry = ap (λ x. entry_in D x (at_page p other)) up ∙ entry_other D m (slice_get paged.frames) T p there.directory page f.table (entry_word e') there.live there.table (entry_word-lt e' small) (at_page p other) (λ same. apart (ap (λ (q : Slot). q.page) same))
-      ∙ ap (option_and_then (λ d. entry_at m d other)) s.live ∙ s.here in
-      found_made D (frame_bytes two) p other g.table g.entry table entry ∙ ap Some (λ i. record { page = sym s.same_page i; table = g.table; entry = g.entry })
 
   -- a load
   pub found_loaded : (two : List ℕ) → EntryIs paged.memory f (record f.entry { accessed = true }) two → length two ≡ length paged.memory → Left paged (accessed (spaces_at paged) (at_page p page)) two

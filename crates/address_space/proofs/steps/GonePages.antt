@@ -2,7 +2,6 @@
 use Rattle.std.proofs.Common.{◌≡◌, ℕ, ◌-◌, ◌*◌, ◌<◌, ◌≤◌, true, false, List, length, refl, ap, sym, ◌∙◌, subst, Option, Some}
 use Rattle.std.specs.Prelude.{is_some, slice_get, slice_set}
 use Rattle.page_words.specs.Addresses.{slot_number, IsUserPage}
-use Rattle.page_words.specs.FiniteMap as map
 use Rattle.phys_memory.specs.Bytes.{frame_bytes}
 use Rattle.alloc_table.specs.declared.Role.{Role}
 use Rattle.alloc_table.specs.declared.Role.TheVariants.{Page}
@@ -12,7 +11,6 @@ use Rattle.page_map.specs.Entries.{table_of, entry_at, IsCleared}
 use Rattle.page_map.specs.Pages.{count_range}
 use Rattle.address_space.specs.declared.lookup.Found.{Found}
 use Rattle.address_space.specs.declared.paged.Paged.{Paged}
-use Rattle.address_space.specs.Spaces.{at_page}
 use Rattle.address_space.specs.View.{directory_of, spaces_in}
 use Rattle.address_space.specs.Counts.{IsCounted, IsKept}
 use Rattle.address_space.specs.Changes.{EntryLeft, TableFreed, SlotRemoved}

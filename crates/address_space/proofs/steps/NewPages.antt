@@ -1,22 +1,22 @@
 -- A page that gets an entry: its table, which may be linked for it, the count of the table, and the entry.
-use Rattle.std.proofs.Common.{◌≡◌, ℕ, ◌+◌, ◌*◌, ◌^◌, ◌<◌, ◌≤◌, Bool, true, false, List, length, refl, ap, sym, ◌∙◌, subst, arith, inl, inr, Option, Some, None}
-use Rattle.std.specs.Prelude.{is_some, slice_get, slice_set, ◌⊎◌}
+use Rattle.std.proofs.Common.{◌≡◌, ℕ, ◌+◌, ◌*◌, ◌^◌, ◌<◌, ◌≤◌, Bool, false, List, length, refl, ap, sym, ◌∙◌, subst, arith, inl, inr, Option, Some, None}
+use Rattle.std.specs.Prelude.{is_some, slice_get, slice_set}
 use Rattle.std.specs.Option.{option_and_then}
 use Rattle.page_words.specs.Addresses.{slot_number, IsUserPage}
 use Rattle.page_words.specs.Words.{frame_number}
 use Rattle.page_words.specs.FiniteMap as map
 use Rattle.phys_memory.specs.Bytes.{frame_bytes}
 use Rattle.alloc_table.specs.declared.Role.{Role}
-use Rattle.alloc_table.specs.declared.Role.TheVariants.{Directory, Free, Table, Page}
-use Rattle.alloc_table.specs.Roles.{free_frames, IsTaken, IsPageBelow}
+use Rattle.alloc_table.specs.declared.Role.TheVariants.{Page}
+use Rattle.alloc_table.specs.Roles.{free_frames, IsPageBelow}
 use Rattle.page_map.specs.declared.PageEntry.{PageEntry}
-use Rattle.page_map.specs.Entries.{Frames, dir_word, table_of, entry_at, with_entry, with_table}
-use Rattle.address_space.specs.Spaces.{Slot, Spaces, at_page, fresh, cell_or_fresh, copy_of}
+use Rattle.page_map.specs.Entries.{Frames, dir_word, table_of, entry_at, with_entry}
+use Rattle.address_space.specs.Spaces.{Slot, at_page, fresh, cell_or_fresh, copy_of}
 use Rattle.address_space.specs.View.{directory_of, table_in, entries_in, spaces_in}
 use Rattle.address_space.specs.Sound.{IsSound, IsSpaces, Names, Inside}
 use Rattle.address_space.specs.Counts.{IsCounted, IsKept, KeepsCounts, AlwaysMapsAlike, MapsOneMore}
 use Rattle.address_space.specs.Changes.{table_need, TableGiven, SlotAdded, PageAdded, SlotJoined, SlotCopied, PageCopied}
-use Rattle.address_space.specs.Finds.{TableReady, TableStays, TableIsNew, CountedUp, EntryCopied}
+use Rattle.address_space.specs.Finds.{TableReady, CountedUp, EntryCopied}
 use Rattle.address_space.proofs.costs.Costed.{Room, room_for_table, room_for_page, mapped}
 use Rattle.address_space.proofs.steps.CountSteps.{counted_roles, table_counted, table_count, count_there, count_fits, page_counted, one_inserted, alike_taken}
 use Rattle.address_space.proofs.steps.Steps.{page_map_of, inside, table_by_word, table_given, table_given_there, lazy_entry, page_added}

@@ -2,7 +2,6 @@
 use Rattle.std.proofs.Common.{◌≡◌, ℕ, suc, ◌+◌, ◌*◌, ◌/◌, ◌%◌, ◌^◌, ◌<◌, ◌≤◌, Bool, true, false, cond, List, [], ◌∷◌, ◌++◌, length, take, drop, refl, ap, sym, ◌∙◌, subst, arith, inl, inr, Option, Some, None, append_assoc, length-append, length-drop, zero}
 use Rattle.std.specs.Prelude.{is_some, slice_get, slice_set, if◌then◌else◌}
 use Rattle.std.specs.Option.{option_and_then}
-use Rattle.std.specs.List.{list_any}
 use Rattle.byteorder.specs.Endian.{little_bytes}
 use Rattle.page_words.specs.Addresses.{slot_number, index_number, byte_count}
 use Rattle.page_words.specs.declared.addresses.Size.{Size}
@@ -12,14 +11,13 @@ use Rattle.phys_memory.proofs.Frames.{with_frame-other, frames-with_word_at, fra
 use Rattle.alloc_table.specs.declared.Role.{Role}
 use Rattle.alloc_table.specs.declared.Role.TheVariants.{Table, Page}
 use Rattle.page_map.specs.declared.PageEntry.{PageEntry}
-use Rattle.page_map.specs.Entries.{Frames, dir_word, table_of, word_entry, entry_from, entry_at, with_entry, entry_word, is_lazy_entry, IsKernelEntry}
+use Rattle.page_map.specs.Entries.{Frames, dir_word, table_of, word_entry, entry_from, entry_at, with_entry, entry_word, IsKernelEntry}
 use Rattle.page_map.proofs.WordLaws.{entry_word-names, entry_word-lt, entry_word-present, word_entry-entry_word}
 use Rattle.page_words.specs.FiniteMap as map
 use Rattle.page_words.specs.FiniteMap.{change_each}
 use Rattle.std.proofs.lemmas.List.{set_split, length-take-le}
-use Rattle.address_space.specs.Spaces.{Slot, slot_order, Spaces, Cell, cell_or_fresh, write_at, bytes_of, stored, accessed as accessed_in, protected, at_page}
+use Rattle.address_space.specs.Spaces.{Slot, Spaces, Cell, cell_or_fresh, write_at, bytes_of, stored, accessed as accessed_in, protected, at_page}
 use Rattle.page_words.specs.FiniteMap.{collect, put_some}
-use Rattle.address_space.specs.Slots.{user_slots}
 use Rattle.page_words.specs.FiniteMap.{same}
 use Rattle.address_space.proofs.entries.UserSlots.{in_user_slots}
 use Rattle.address_space.specs.Cells.{Entries, holders_of, cell_of, spaces_of}
@@ -30,10 +28,8 @@ use Rattle.address_space.proofs.costs.CostSteps.{total-kept}
 use Rattle.address_space.proofs.entries.EntrySteps.{Loose, get-entries_in, entries-insert, tables-entry, use_kept}
 use Rattle.address_space.proofs.frames.FrameSteps.{loose-entry, loose-entries, tables-loose, use_loose}
 use Rattle.address_space.proofs.frames.PageSteps.{same_bytes, pages-same, no_table, lazy-same}
-use Rattle.address_space.proofs.entries.Refinement.{get-spaces_of, insert_there, store_refines, flags_refine, cell_at}
+use Rattle.address_space.proofs.entries.Refinement.{insert_there, store_refines, flags_refine, cell_at}
 use Rattle.address_space.proofs.steps.Steps.{inside, holds_inside, live_small, page_loose, table_by_word}
-use Rattle.page_words.proofs.OptionLemmas.{is_some-map}
-use Rattle.page_words.proofs.OptionLemmas.{some_value}
 use Rattle.std.proofs.lemmas.Bool.{ne_eqb}
 
 -- ---- Bytes
@@ -278,50 +274,14 @@ byte_is_write frame at v l =
     let d : suc at ≡ at + 1 = omega arith in
     set_split frame at (v % 256) l ∙ ap (λ k. take at frame ++ (v % 256 ∷ drop k frame)) d ∙ sym (append_assoc (take at frame) (v % 256 ∷ []) (drop (at + 1) frame))
 
-pub byte_placed : (bytes one : List ℕ) (f at v : ℕ) → Inside bytes f → at < 4096 → one ≡ slice_set bytes (f * 4096 + at) v
+pub byte_placed : (bytes one : List ℕ) (f at v : ℕ) → Inside bytes f → at < 4096 → one ≡ slice_set bytes (4096 * f + at) v
     → frame_bytes one ≡ with_frame (frame_bytes bytes) f (slice_set (frame_bytes bytes f) at v)
-byte_placed bytes one f at v i l is =
-    let a : f * 4096 + at ≡ 4096 * f + at = omega arith in
-    ap frame_bytes is ∙ ap (λ k. frame_bytes (slice_set bytes k v)) a ∙ frames-with_byte bytes f at v l i.fits
+byte_placed bytes one f at v i l is = ap frame_bytes is ∙ frames-with_byte bytes f at v l i.fits
 
 -- a word of a page, by its place in memory
-pub word_placed : (bytes one : List ℕ) (f at word : ℕ) → Inside bytes f → at + 4 ≤ 4096 → one ≡ with_word bytes (f * 4096 + at) word
+pub word_placed : (bytes one : List ℕ) (f at word : ℕ) → Inside bytes f → at + 4 ≤ 4096 → one ≡ with_word bytes (4096 * f + at) word
     → frame_bytes one ≡ with_frame (frame_bytes bytes) f (with_word (frame_bytes bytes f) at word)
-word_placed bytes one f at word i l is =
-    let a : f * 4096 + at ≡ 4096 * f + at = omega arith in
-    ap frame_bytes is ∙ ap (λ k. frame_bytes (with_word bytes k word)) a ∙ frames-with_word_at bytes f at word l i.fits
-
--- ---- A mapped slot
-
-pub record Mapped (directories : List (Option ℕ)) (bytes : List ℕ) (p page : ℕ) : Type 0 where
-  pub directory : ℕ
-  pub live : directory_of directories p ≡ Some directory
-  pub entry : PageEntry
-  pub here : entry_at (frame_bytes bytes) directory page ≡ Some entry
-
-pub mapped_slot : (directories : List (Option ℕ)) (bytes : List ℕ) (p page : ℕ) → is_some (map.get (spaces_in directories bytes) (at_page p page)) ≡ true → Mapped directories bytes p page
-unfolding spaces_in
-mapped_slot directories bytes p page h = by_directory (directory_of directories p) refl (in_user (list_any (same slot_order slot) user_slots) (entry_in D m slot) (sym (ap is_some (get-spaces_of E m slot) ∙ is_some-map (cell_of E m slot) (map.get E slot) ∙ ap is_some (get-entries_in D m slot)) ∙ h))
-  where
-    D : Directories
-    D = directory_of directories
-
-    m : Frames
-    m = frame_bytes bytes
-
-    E : Entries
-    E = entries_in D m
-
-    slot : Slot
-    slot = at_page p page
-
-    in_user : (b : Bool) (x : Option PageEntry) → is_some (cond b x None) ≡ true → is_some x ≡ true
-    in_user true x h = h
-    in_user false x h = cc
-
-    by_directory : (x : Option ℕ) → D p ≡ x → is_some (option_and_then (λ d. entry_at m d page) x) ≡ true → Mapped directories bytes p page
-    by_directory None is h = cc
-    by_directory (Some d) is h = let e = some_value (entry_at m d page) h in record { directory = d; live = is; entry = e.0; here = e.1 }
+word_placed bytes one f at word i l is = ap frame_bytes is ∙ frames-with_word_at bytes f at word l i.fits
 
 -- ---- Entries that were read
 
@@ -334,16 +294,6 @@ pub named_entry : (directories : List (Option ℕ)) (bytes : List ℕ) (roles : 
     → entry_at (frame_bytes bytes) d page ≡ Some e → Names (entries_in (directory_of directories) (frame_bytes bytes)) (at_page p page) e.frame
 named_entry directories bytes roles p d page e sound live low high is =
     (e, get_user (directory_of directories) (frame_bytes bytes) p d page e live (live_small directories p d sound.pids live) low high is, refl)
-
--- a mapped slot has a directory, and an entry there
-pub mapped_live : (directories : List (Option ℕ)) (bytes : List ℕ) (p page : ℕ) → Mapped directories bytes p page → is_some (directory_of directories p) ≡ true
-mapped_live directories bytes p page h = ap is_some h.live
-
-pub mapped_entry : (directories : List (Option ℕ)) (bytes : List ℕ) (p d page : ℕ) → (h : Mapped directories bytes p page) → directory_of directories p ≡ Some d → entry_at (frame_bytes bytes) d page ≡ Some h.entry
-mapped_entry directories bytes p d page h is =
-    let e : Some d ≡ Some h.directory = sym is ∙ h.live in
-    let same : d ≡ h.directory = cc in
-    ap (λ x. entry_at (frame_bytes bytes) x page) same ∙ h.here
 
 -- where a store through an entry goes
 pub record Place (bytes : List ℕ) (roles : List Role) (d page : ℕ) (e : PageEntry) : Type 0 where
@@ -363,10 +313,6 @@ stored_place directories bytes roles p d page e sound live low high is real =
       long = sound.tables.long e.frame (Page r.count) r.page;
       table = ap is_some (found (directory_of directories) (frame_bytes bytes) p d page e is).there;
     }
-
--- an entry that was read where a slot isn't lazy
-pub real_entry : (x : Option PageEntry) (e : PageEntry) → x ≡ Some e → is_lazy_entry x ≡ false → e.lazy ≡ false
-real_entry x e is real = sym (ap is_lazy_entry is) ∙ real
 
 -- the frame that an entry names lies in memory
 pub named_inside : (directories : List (Option ℕ)) (bytes : List ℕ) (roles : List Role) (p d page : ℕ) (e : PageEntry) → IsSound directories bytes roles → directory_of directories p ≡ Some d → 0x40000 ≤ page → page < 0xf0000

@@ -1,5 +1,5 @@
 use Rattle.std.proofs.Common.{◌≡◌, ◌+◌, ap, sym, ◌∙◌, arith, Some}
-use Rattle.page_words.specs.Addresses.{page_number, second_page}
+use Rattle.page_words.specs.Addresses.{second_page}
 use Rattle.page_words.proofs.Accesses.{crosses}
 use Rattle.address_space.specs.Spaces.{page_need, with_page}
 use Rattle.address_space.proofs.costs.AccessNeeds.{need-in_two, page_need_seen, second_need_seen}

@@ -3,14 +3,18 @@ use Rattle.std.specs.Prelude.{slice_index}
 use Rattle.phys_memory.specs.Bytes.{word_at, frame_bytes}
 use Rattle.address_space.proofs.entries.Readings.{word_read_in, byte_read_in, byte_in_frame}
 use Rattle.address_space.proofs.steps.Bytes.{value_by_places}
+use Rattle.page_words.proofs.Accesses.{some_bytes}
 use Rattle.address_space.specs.Spaces.{value_of}
 use Rattle.address_space.proofs.accesses.number_at.Goals as goal
+
+pub place_of-place-requires-clause-inside : goal.place_of-place-requires-clause-inside
+place_of-place-requires-clause-inside c = let some = (some_bytes c.args.size).1 in let i = c.requires.inside in omega (arith, some, i)
 
 pub returns-in-One : goal.returns-in-One
 returns-in-One c =
     let inside : c.args.at < 4096 = let i : c.args.at + 1 ≤ 4096 = rw c.in-One.is at c.requires.inside in omega (arith, i) in
     rw c.in-One.is
-    (c.from.ensures ∙ c.read_byte.ensures ∙ ap (λ f. slice_index c.args.memory.now (f * 4096 + c.args.at)) c.frame.view_is
+    (c.from.ensures ∙ c.read_byte.ensures ∙ ap (slice_index c.args.memory.now) c.place_of-place.ensures
     ∙ byte_read_in c.args.memory.now c.args.frame c.args.at c.requires.frame inside)
 
 pub returns-in-Two : goal.returns-in-Two
@@ -18,8 +22,8 @@ returns-in-Two c =
     let inside : c.args.at + 2 ≤ 4096 = rw c.in-Two.is at c.requires.inside in
     let two : c.args.at + 1 < 4096 = omega (arith, inside) in
     let bytes = frame_bytes c.args.memory.now c.args.frame in
-    let next : c.frame.inside.0 * 4096 + c.args.at + 1 ≡ c.args.frame * 4096 + (c.args.at + 1) = let f = c.frame.view_is in omega (arith, f) in
-    let first = c.read_byte-in-Two.ensures ∙ ap (λ f. slice_index c.args.memory.now (f * 4096 + c.args.at)) c.frame.view_is ∙ byte_in_frame c.args.memory.now c.args.frame c.args.at (omega (arith, two)) in
+    let next : c.place_of-place.result + 1 ≡ 4096 * c.args.frame + (c.args.at + 1) = let p = c.place_of-place.ensures in omega (arith, p) in
+    let first = c.read_byte-in-Two.ensures ∙ ap (slice_index c.args.memory.now) c.place_of-place.ensures ∙ byte_in_frame c.args.memory.now c.args.frame c.args.at (omega (arith, two)) in
     let second = c.read_byte-in-Two-2.ensures ∙ ap (slice_index c.args.memory.now) next ∙ byte_in_frame c.args.memory.now c.args.frame (c.args.at + 1) two in
     rw c.in-Two.is (c.of_two.ensures.value ∙ (λ i. value_of (first i ∷ second i ∷ [])) ∙ value_by_places bytes c.args.at 2)
 
@@ -27,5 +31,5 @@ pub returns-in-Four : goal.returns-in-Four
 returns-in-Four c =
     let inside : c.args.at + 4 ≤ 4096 = rw c.in-Four.is at c.requires.inside in
     rw c.in-Four.is
-    (c.read_word.ensures ∙ ap (λ f. word_at c.args.memory.now (f * 4096 + c.args.at)) c.frame.view_is
+    (c.read_word.ensures ∙ ap (word_at c.args.memory.now) c.place_of-place.ensures
     ∙ word_read_in c.args.memory.now c.args.frame c.args.at c.requires.frame inside)

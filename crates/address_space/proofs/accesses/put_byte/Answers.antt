@@ -1,4 +1,4 @@
-use Rattle.std.proofs.Common.{◌+◌, ◌*◌, ◌%◌, ap, ◌∙◌, arith}
+use Rattle.std.proofs.Common.{◌%◌, ap, ◌∙◌, arith}
 use Rattle.std.specs.Prelude.{slice_set}
 use Rattle.phys_memory.specs.Bytes.{with_frame, frame_bytes}
 use Rattle.phys_memory.proofs.Frames.{length-frame}
@@ -10,5 +10,5 @@ returns-clause-frames c =
     let f = c.args.frame in
     let long = length-frame c.args.memory.now f c.requires.frame.fits in
     byte_placed c.args.memory.now c.write_byte.new.self f c.args.at (c.args.value % 256) c.requires.frame c.requires.inside
-    (c.write_byte.ensures.bytes ∙ ap (λ g. slice_set c.args.memory.now (g * 4096 + c.args.at) (c.args.value % 256)) c.frame.view_is)
+    (c.write_byte.ensures.bytes ∙ ap (λ p. slice_set c.args.memory.now p (c.args.value % 256)) c.place_of.ensures)
     ∙ ap (with_frame (frame_bytes c.args.memory.now) f) (byte_is_write (frame_bytes c.args.memory.now f) c.args.at c.args.value (omega (arith, long, c.requires.inside)))

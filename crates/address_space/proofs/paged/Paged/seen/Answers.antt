@@ -1,9 +1,8 @@
-use Rattle.std.proofs.Common.{◌≡◌, ap, sym, ◌∙◌, Option, Some}
+use Rattle.std.proofs.Common.{ap, sym, ◌∙◌}
 use Rattle.std.specs.Option.{option_and_then, option_map}
 use Rattle.phys_memory.specs.Bytes.{frame_bytes}
 use Rattle.address_space.specs.Shown.{shown}
-use Rattle.address_space.specs.declared.lookup.Found.{Found}
-use Rattle.address_space.specs.Finds.{found_by, found_at}
+use Rattle.address_space.specs.Finds.{found_by}
 use Rattle.address_space.proofs.steps.FoundPages.{absent_cell, absent_lazy, need_without, need_with, found_below, found_real, found_shown}
 use Rattle.address_space.proofs.paged.Paged.seen.Goals as goal
 
