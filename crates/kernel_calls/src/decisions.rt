@@ -1,9 +1,9 @@
 //! What is decided of an event: its plan, its reply and the charge of its process afterwards.
 
-ghost use Rattle.std.specs.Prelude.{◌≡◌, ◌≢◌, true, false, Some};
+ghost use Rattle.std.specs.Prelude.{◌≡◌, true, false, Some};
 ghost use Rattle.address_space.specs.Spaces.{cost, cell_or_fresh, at_page};
 ghost use Rattle.process_table.specs.State.{is_live, is_mapped, container_of};
-ghost use Rattle.process_table.specs.Calls.{after_load, loaded};
+ghost use Rattle.process_table.specs.Calls.{loaded};
 ghost use Rattle.fault_handler.specs.Plans.{plan_at, goes_on};
 ghost use Rattle.table_walk.specs.declared.Access.TheVariants as access;
 ghost use Rattle.kernel_calls.specs.declared.calls.Call.TheVariants as call;
