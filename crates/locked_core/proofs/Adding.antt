@@ -9,15 +9,15 @@ use Rattle.memory_report.specs.declared.entries.LogEntry.{LogEntry}
 use Rattle.locked_core.specs.Rules.{CellsHold, Adds}
 use Rattle.locked_core.proofs.Prefixes.{starts_whole}
 
-abbrev pub shown : List LogEntry → List LogEntry
-shown log = []
+abbrev pub shows_nothing : List LogEntry → List LogEntry
+shows_nothing log = []
 
 abbrev pub moved : List LogEntry → List LogEntry → ℕ → Type 0
 moved xs ys n = Unit {0}
 
 pub adds_goes : (log v : List LogEntry) (e : LogEntry) (old : ℕ) → length v ≡ old → IsPrefix v log
     → (b : Bool) → (length log == old) ≡ b
-    → Goes CellsHold shown moved 0 (v, (no_nib, None)) (λ n. either (n == old) (old + 1) n) (Adds (step 0 old (old + 1) e) (v, (no_nib, None))) ((length log, true) ∷ (0, true) ∷ []) log
+    → Goes CellsHold shows_nothing moved 0 (v, (no_nib, None)) (λ n. either (n == old) (old + 1) n) (Adds (step 0 old (old + 1) e) (v, (no_nib, None))) ((length log, true) ∷ (0, true) ∷ []) log
 adds_goes log v e old len pre true is =
     let here : length log ≡ old = grind (arith, nat_tests) in
     let same : log ≡ v = starts_whole log v (pre.0, sym pre.1) (omega arith) in
@@ -44,7 +44,7 @@ adds_goes log v e old len pre false is =
 
 -- whatever the book is, the exchange adds the entry to all that was seen, or finds that the history is longer
 pub adds_moves : (v : List LogEntry) (e : LogEntry) (old : ℕ) → length v ≡ old
-    → Moves CellsHold shown moved 0 (v, (no_nib, None)) (λ n. either (n == old) (old + 1) n) (Adds (step 0 old (old + 1) e) (v, (no_nib, None)))
+    → Moves CellsHold shows_nothing moved 0 (v, (no_nib, None)) (λ n. either (n == old) (old + 1) n) (Adds (step 0 old (old + 1) e) (v, (no_nib, None)))
 adds_moves v e old len cs log kept pre away =
-    let P : List Cell → Type 0 = λ c. (0 < length c) × ((cell c 0).1 ≡ true) × Goes CellsHold shown moved 0 (v, (no_nib, None)) (λ n. either (n == old) (old + 1) n) (Adds (step 0 old (old + 1) e) (v, (no_nib, None))) c log in
+    let P : List Cell → Type 0 = λ c. (0 < length c) × ((cell c 0).1 ≡ true) × Goes CellsHold shows_nothing moved 0 (v, (no_nib, None)) (λ n. either (n == old) (old + 1) n) (Adds (step 0 old (old + 1) e) (v, (no_nib, None))) c log in
     subst P (sym kept.words) (omega arith, refl, adds_goes log v e old len pre (length log == old) refl)

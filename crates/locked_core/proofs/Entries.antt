@@ -2,16 +2,14 @@
 use Rattle.std.proofs.Common.{◌≡◌, ℕ, ◌+◌, ◌≤◌, ◌==◌, List, [], ◌∷◌, ◌++◌, length, Bool, true, false, refl, sym, ap, ◌∙◌, subst, arith, length-append, eq-eqb, le_refl}
 use Rattle.std.specs.Prelude.{filter, cond}
 use Rattle.std.proofs.lemmas.List.Elements.{filter-append}
-use Rattle.kernel_calls.specs.Decisions.{charge_after, decision_of}
+use Rattle.kernel_calls.specs.Decisions.{charge_after}
 use Rattle.kernel_calls.specs.Machine.{answer, next}
 use Rattle.kernel_calls.specs.declared.calls.Call.{Call}
-use Rattle.kernel_calls.specs.declared.calls.Decision.{Decision}
 use Rattle.kernel_calls.specs.declared.calls.Event.{Event}
 use Rattle.memory_report.proofs.HistoryLemmas.{empty_is_legal, grows_legal, state-push}
 use Rattle.memory_report.specs.Histories.{Legal, state_after, entries_of, calls_of, entry_after}
 use Rattle.memory_report.specs.declared.entries.LogEntry.{LogEntry}
 use Rattle.process_table.specs.State.{State, open_with}
-use Rattle.process_table.specs.View.{View}
 use Rattle.kernel_calls.specs.declared.calls.Reply.{Reply}
 use Rattle.locked_core.proofs.Prefixes.{same_entries}
 use Rattle.locked_core.specs.Held.{Held}
@@ -33,13 +31,14 @@ calls_few cpu (e ∷ es) = by_case (e.cpu == cpu) (calls_few cpu es)
     by_case true h = omega arith
     by_case false h = omega arith
 
--- what is logged of a call as it was decided
-pub entry_is : (frames : ℕ) (log : List LogEntry) (core : View) (nth : ℕ) (d : Decision) (e : LogEntry) → core.state ≡ state_after frames log → nth ≡ calls_of d.event.cpu log → d ≡ decision_of core d.event
-    → e ≡ record { cpu = d.event.cpu; nth = nth; pid = d.event.pid; call = d.event.call; reply = d.reply; used_after = d.used_after } → e ≡ entry_after frames log d.event.cpu d.event.pid d.event.call
-entry_is frames log core nth d e at count decided is =
-    let r : d.reply ≡ answer (state_after frames log) d.event = ap (λ (x : Decision). x.reply) decided ∙ ap (λ (s : State). answer s d.event) at in
-    let u : d.used_after ≡ charge_after (state_after frames log) d.event = ap (λ (x : Decision). x.used_after) decided ∙ ap (λ (s : State). charge_after s d.event) at in
-    is ∙ (λ i. record { cpu = d.event.cpu; nth = count i; pid = d.event.pid; call = d.event.call; reply = r i; used_after = u i })
+-- what is logged of a call as it was answered and charged
+pub entry_is : (frames : ℕ) (log : List LogEntry) (core : State) (nth : ℕ) (event : Event) (reply : Reply) (used : ℕ) (e : LogEntry) → core ≡ state_after frames log → nth ≡ calls_of event.cpu log
+    → reply ≡ answer core event → used ≡ charge_after core event → e ≡ record { cpu = event.cpu; nth = nth; pid = event.pid; call = event.call; reply = reply; used_after = used }
+    → e ≡ entry_after frames log event.cpu event.pid event.call
+entry_is frames log core nth event reply used e at count answered charged is =
+    let r : reply ≡ answer (state_after frames log) event = answered ∙ ap (λ (s : State). answer s event) at in
+    let u : used ≡ charge_after (state_after frames log) event = charged ∙ ap (λ (s : State). charge_after s event) at in
+    is ∙ (λ i. record { cpu = event.cpu; nth = count i; pid = event.pid; call = event.call; reply = r i; used_after = u i })
 
 -- the entries of one CPU, with one more
 pub entries_push : (cpu : ℕ) (log : List LogEntry) (e : LogEntry) → e.cpu ≡ cpu → entries_of cpu (log ++ e ∷ []) ≡ entries_of cpu log ++ e ∷ []
@@ -105,9 +104,9 @@ abbrev pub Stands : ℕ → Held → Type 0
 Stands frames h = Legal frames h.log × (h.core.state ≡ state_after frames h.log)
 
 -- the entry of a call that was judged ends a legal history
-pub judged : (frames : ℕ) (h : Held) (nth : ℕ) (d : Decision) (e : LogEntry) → Stands frames h → nth ≡ calls_of d.event.cpu h.log → d ≡ decision_of h.core d.event
-    → e ≡ record { cpu = d.event.cpu; nth = nth; pid = d.event.pid; call = d.event.call; reply = d.reply; used_after = d.used_after }
-    → (e ≡ entry_after frames h.log d.event.cpu d.event.pid d.event.call) × Legal frames (h.log ++ e ∷ [])
-judged frames h nth d e stands count decided is =
-    let same : e ≡ entry_after frames h.log d.event.cpu d.event.pid d.event.call = entry_is frames h.log h.core nth d e stands.1 count decided is in
-    (same, subst (λ (x : LogEntry). Legal frames (h.log ++ x ∷ [])) (sym same) (grows_legal frames h.log d.event.cpu d.event.pid d.event.call stands.0))
+pub judged : (frames : ℕ) (h : Held) (nth : ℕ) (event : Event) (reply : Reply) (used : ℕ) (e : LogEntry) → Stands frames h → nth ≡ calls_of event.cpu h.log
+    → reply ≡ answer h.core.state event → used ≡ charge_after h.core.state event → e ≡ record { cpu = event.cpu; nth = nth; pid = event.pid; call = event.call; reply = reply; used_after = used }
+    → (e ≡ entry_after frames h.log event.cpu event.pid event.call) × Legal frames (h.log ++ e ∷ [])
+judged frames h nth event reply used e stands count answered charged is =
+    let same : e ≡ entry_after frames h.log event.cpu event.pid event.call = entry_is frames h.log h.core.state nth event reply used e stands.1 count answered charged is in
+    (same, subst (λ (x : LogEntry). Legal frames (h.log ++ x ∷ [])) (sym same) (grows_legal frames h.log event.cpu event.pid event.call stands.0))

@@ -3,7 +3,7 @@ ghost use Rattle.std.specs.Prelude.{◌≡◌, ◌<◌, [], length, MatchBool};
 ghost use Rattle.memory_report.specs.Histories.{Legal, StartsWith};
 ghost use Rattle.locked_core.specs.Rules.{head_of};
 
-use kernel_calls::{Call, Reply};
+use kernel_calls::{Call, Event, Reply};
 use logbook::{Gain, Plain, Play, Rule, Seen, Start, Word};
 use memory_report::LogEntry;
 use page_words::Pid;
@@ -75,6 +75,35 @@ impl Plain<LogEntry, LogEntry, u64> for Add {
     ghost ask = { λ entry. entry };
 
     ghost state = { λ entry. None };
+}
+
+/// A call that comes: the log before it, and what it asks.
+pub struct Coming<'a, N: Name> {
+    pub log: &'a [LogEntry],
+    pub event: &'a Event,
+    of: PhantomData<N>,
+}
+
+impl<'a, N: Name> Coming<'a, N> {
+    pub fn new(log: &'a [LogEntry], event: &'a Event) -> Coming<'a, N>
+        ensures { (result.log ≡ log) × (result.event ≡ event) }
+    {
+        Coming {
+            log,
+            event,
+            of: PhantomData,
+        }
+    }
+}
+
+/// What a call that comes adds to the history is its entry behind this log, which the core will make.
+impl<'a, N: Name> Plain<Coming<'a, N>, LogEntry, u64> for Add {
+    ghost use Rattle.std.specs.Prelude.{None};
+    ghost use Rattle.memory_report.specs.Histories.{entry_after};
+
+    ghost ask = { λ c. entry_after N.frames c.log.now c.event.now.cpu c.event.now.pid c.event.now.call };
+
+    ghost state = { λ c. None };
 }
 
 /// Which kernel it is. Each call of a program picks it.

@@ -10,10 +10,9 @@ use std::alloc::{AllocError, Global};
 use std::marker::Model;
 
 /// What is logged of a call as it was decided, with that number of its CPU's entries before it.
-pub fn entry_of(decision: &Decision, nth: usize) -> LogEntry
-    ensures { result ≡ record { cpu = decision.now.event.cpu; nth = nth; pid = decision.now.event.pid; call = decision.now.event.call; reply = decision.now.reply; used_after = decision.now.used_after } }
+pub fn entry_of(event: &Event, nth: usize, decision: &Decision) -> LogEntry
+    ensures { result ≡ record { cpu = event.now.cpu; nth = nth; pid = event.now.pid; call = event.now.call; reply = decision.now.reply; used_after = decision.now.used_after } }
 {
-    let event: Event = decision.event;
     LogEntry {
         cpu: event.cpu,
         nth,

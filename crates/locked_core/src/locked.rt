@@ -1,7 +1,6 @@
 //! The value under the lock.
 
 ghost use Rattle.std.specs.Prelude.{◌≡◌, ◌≤◌, ◌<◌, ◌+◌, ◌==◌, ◌^◌, ◌++◌, [], ◌∷◌, IfOk, IfErr, OnErr, List, length, true};
-ghost use Rattle.kernel_calls.specs.Decisions.{decision_of};
 ghost use Rattle.left_right.specs.Sides.{view};
 ghost use Rattle.locked_core.specs.Makers.{AreAll, Closes, IsRefused, Prevents};
 ghost use Rattle.locked_core.specs.Pages.{page};
@@ -12,14 +11,14 @@ ghost use Rattle.locked_core.specs.Rules.{head_of};
 ghost use Rattle.memory_report.specs.declared.entries.LogEntry.{LogEntry};
 ghost use Rattle.process_table.specs.State.{open_with};
 
-use crate::book::{Add, Beginning, Front, Law, Look, Name, Nothing, Opened, no_entry};
+use crate::book::{Add, Beginning, Coming, Front, Law, Look, Name, Nothing, Opened, no_entry};
 use crate::call_log::{CallLog, entry_of};
 use crate::closing::{History, are_all};
 use crate::cpu::Cpu;
 use crate::faults::Fault;
 use crate::publish::publish;
 use crate::rule::LogWriter;
-use kernel_calls::{Call, Core, Decision, Event, Reply};
+use kernel_calls::{Call, Core, Event, Reply};
 use logbook::{Offer, Word};
 use memory_image::Image;
 use memory_report::LogEntry;
@@ -47,14 +46,15 @@ impl<N: Name> Book<N> {
         self.head.load::<Look, Nothing>(&mut seen, &mut offer)
     }
 
-    /// Adds an entry to all that was seen, and says whether it did. It did not where the history is longer.
-    fn add(&self, count: usize, seen: &mut Beginning, entry: &LogEntry) -> bool
+    /// Adds the entry of a call that comes to all that was seen, and says whether it did. It did not where the
+    /// history is longer.
+    fn add(&self, count: usize, seen: &mut Beginning, coming: &Coming<N>) -> bool
         requires room { count + 1 < 2 ^ 64 }
         requires seen { (count ≡ length seen.old.log) × (seen.old.book ≡ N.book) }
-        ensures { result ≡ true → (seen.new.book ≡ N.book) × (seen.new.log ≡ seen.old.log ++ entry.now ∷ []) }
+        ensures { result ≡ true → (seen.new.book ≡ N.book) × (seen.new.log ≡ seen.old.log ++ entry_after N.frames coming.now.log.now coming.now.event.now.cpu coming.now.event.now.pid coming.now.event.now.call ∷ []) }
     {
-        let mut offer: Offer<LogEntry, u64, Law, Nothing> = seen.plain::<Nothing, LogEntry, Add>(
-            entry,
+        let mut offer: Offer<LogEntry, u64, Law, Nothing> = seen.plain::<Nothing, Coming<N>, Add>(
+            coming,
         );
         let mut pen = seen.no_pen();
         let found = self
@@ -70,12 +70,12 @@ impl<N: Name> Book<N> {
     }
 }
 
-/// A call that was judged under the lock: how many entries its CPU had then, and what was decided. It can be
-/// carried out on what it was judged on alone.
+/// A call that was judged under the lock: how many entries its CPU had then, and what it asks. It can be carried
+/// out on the log that it was judged on alone.
 #[derive(Drop)]
 pub struct Ready {
     nth: usize,
-    decision: Decision,
+    event: Event,
 }
 
 /// The core, the log of all calls, the history that it is, and what publishes it. Contracts see the core
@@ -164,14 +164,14 @@ impl<N: Name> Locked<N> {
         }
     }
 
-    /// Judges a call of this CPU, and decides it. Nothing changes.
+    /// Judges a call of this CPU. Nothing changes.
     ///
     /// Unread where the kernel's history is longer than the log; Stale where the log is shorter than what
     /// the CPU has seen, or has another number of its entries.
     pub(crate) fn judge(&self, cpu: &Cpu<N>, pid: Pid, call: Call) -> Result<Ready, Fault>
         ensures legal { IfOk result (λ _. Legal N.frames self.now.log) }
         ensures nth { IfOk result (λ r. (cpu.now.number < 8) × (r.nth ≡ calls_of cpu.now.number self.now.log)) }
-        ensures decided { IfOk result (λ r. r.decision ≡ decision_of self.now.core (record { cpu = cpu.now.number; pid = pid; call = call })) }
+        ensures event { IfOk result (λ r. r.event ≡ record { cpu = cpu.now.number; pid = pid; call = call }) }
         ensures fits { IfOk result (λ _. StartsWith self.now.log cpu.now.seen × (calls_of cpu.now.number self.now.log ≡ calls_of cpu.now.number cpu.now.seen)) }
         ensures refused { IfErr result (IsRefused N.frames self.now.log cpu.now) }
     {
@@ -182,12 +182,11 @@ impl<N: Name> Locked<N> {
             call,
         };
         let nth = self.log.calls_of(event.cpu);
-        let decision = self.core.decide(&event);
-        Ok(Ready { nth, decision })
+        Ok(Ready { nth, event })
     }
 
-    /// Carries out a call that was judged on this very core and log: makes room in the log, commits, logs
-    /// and publishes. Its reply, and the log with its entry.
+    /// Carries out a call that was judged on this very log: makes room in the log, adds the call's entry to the
+    /// history, decides and carries it out in one go, logs and publishes it. Its reply, and the log with its entry.
     ///
     /// NoMemory where the log can't grow, Unread where the kernel's history is longer than the log; nothing
     /// has changed then.
@@ -196,13 +195,12 @@ impl<N: Name> Locked<N> {
         rt: &R,
         ready: Ready,
     ) -> Result<(Reply, Front<N>), Fault>
-        requires nth { (ready.decision.event.cpu < 8) × (ready.nth ≡ calls_of ready.decision.event.cpu self.old.log) }
-        requires decided { ready.decision ≡ decision_of self.old.core ready.decision.event }
-        ensures log { IfOk result (λ _. self.new.log ≡ self.old.log ++ entry_after N.frames self.old.log ready.decision.event.cpu ready.decision.event.pid ready.decision.event.call ∷ []) }
-        ensures reply { IfOk result (λ r. r.0 ≡ (entry_after N.frames self.old.log ready.decision.event.cpu ready.decision.event.pid ready.decision.event.call).reply) }
+        requires nth { (ready.event.cpu < 8) × (ready.nth ≡ calls_of ready.event.cpu self.old.log) }
+        ensures log { IfOk result (λ _. self.new.log ≡ self.old.log ++ entry_after N.frames self.old.log ready.event.cpu ready.event.pid ready.event.call ∷ []) }
+        ensures reply { IfOk result (λ r. r.0 ≡ (entry_after N.frames self.old.log ready.event.cpu ready.event.pid ready.event.call).reply) }
         ensures front { IfOk result (λ r. (r.1 ≡ self.new.log) × (length r.1 < 2 ^ 64)) }
         ensures legal { IfOk result (λ _. Legal N.frames self.new.log) }
-        ensures calls { IfOk result (λ _. calls_of ready.decision.event.cpu self.new.log ≡ calls_of ready.decision.event.cpu self.old.log + 1) }
+        ensures calls { IfOk result (λ _. calls_of ready.event.cpu self.new.log ≡ calls_of ready.event.cpu self.old.log + 1) }
         ensures prevented { IfErr result Prevents }
         ensures err { OnErr result (self.new ≡ self.old) }
     {
@@ -212,19 +210,19 @@ impl<N: Name> Locked<N> {
             book,
             writer,
         } = self;
-        let Ready { nth, decision } = ready;
+        let Ready { nth, event } = ready;
         if log.reserve().is_err() {
             return Err(Fault::NoMemory);
         }
-        let entry = entry_of(&decision, nth);
         let mut seen = writer.published().beginning();
-        if !book.add(log.len(), &mut seen, &entry) {
+        if !book.add(log.len(), &mut seen, &Coming::new(log.entries(), &event)) {
             return Err(Fault::Unread);
         }
-        let reply = core.commit(decision);
+        let decision = core.carry_out(&event);
+        let entry = entry_of(&event, nth, &decision);
         log.push(&entry);
         publish(rt, writer, log.entries(), &seen);
-        Ok((reply, writer.published().front::<N>()))
+        Ok((entry.reply, writer.published().front::<N>()))
     }
 
     /// Hands out the history, where these CPUs are all of so many, and agree with the log.

@@ -1,5 +1,4 @@
 use Rattle.std.proofs.Common.{rules, ◌≡◌, ◌∙◌, ap, sym, subst}
-use Rattle.kernel_calls.specs.declared.calls.Decision.{Decision}
 use Rattle.locked_core.proofs.Entries.{makes, prevents_refuses}
 use Rattle.locked_core.proofs.cpu.Cpu.call.Goals as goal
 use Rattle.locked_core.specs.Held.{Held}
@@ -26,8 +25,8 @@ returns-clause-made g c =
     let same : c.deref.result.now ≡ c.deref_mut.result.now = search rules in
     let fits : StartsWith c.deref_mut.result.now.log before.seen × (calls_of before.number c.deref_mut.result.now.log ≡ calls_of before.number before.seen) =
     subst (λ (h : Held). StartsWith h.log before.seen × (calls_of before.number h.log ≡ calls_of before.number before.seen)) same c.in-Ok.ensures.fits in
-    makes g.N.Name.frames before c.made.new.self c.args.pid c.args.call c.in-Ok-carry_out.carried.0 c.in-Ok.ready.decision.event c.deref_mut.result.now.log c.carry_out.new.self.log c.in-Ok-carry_out.carried.1
-    (ap (λ (d : Decision). d.event) c.in-Ok.ensures.decided) fits done.legal done.log done.reply done.front.0 c.made.ensures
+    makes g.N.Name.frames before c.made.new.self c.args.pid c.args.call c.in-Ok-carry_out.carried.0 c.in-Ok.ready.event c.deref_mut.result.now.log c.carry_out.new.self.log c.in-Ok-carry_out.carried.1
+    c.in-Ok.ensures.event fits done.legal done.log done.reply done.front.0 c.made.ensures
 
 -- what it has seen is the log with its entry, which is a legal history
 pub returns-clause-isolated : goal.returns-clause-isolated

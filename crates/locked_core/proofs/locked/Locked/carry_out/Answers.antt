@@ -1,7 +1,8 @@
 -- What a call that was judged leaves under the lock.
 use Rattle.std.proofs.Common.{rules, ◌≡◌, List, [], ◌∷◌, ◌++◌, sym, ap, ◌∙◌, subst}
-use Rattle.kernel_calls.specs.Machine.{next}
-use Rattle.kernel_calls.specs.declared.calls.Decision.{Decision}
+use Rattle.kernel_calls.specs.Decisions.{charge_after}
+use Rattle.kernel_calls.specs.Machine.{answer, next}
+use Rattle.kernel_calls.specs.declared.calls.Event.{Event}
 use Rattle.locked_core.proofs.CatchingUp.{lags_by_one}
 use Rattle.locked_core.proofs.Entries.{Stands, judged, logged}
 use Rattle.locked_core.specs.Held.{Held}
@@ -14,9 +15,10 @@ use Rattle.locked_core.proofs.locked.Locked.carry_out.Goals as goal
 pub publish-requires-clause-legal : goal.publish-requires-clause-legal
 publish-requires-clause-legal g c =
     let h : Held = c.args.self.now in
+    let event : Event = c.args.ready.event in
     let e : LogEntry = c.entry_of-entry.result in
     let stands = subst (Stands g.N.Name.frames) c.self.view_is (c.self.invariant.0, c.self.invariant.1) in
-    let ends = judged g.N.Name.frames h c.args.ready.nth c.args.ready.decision e stands c.requires.nth.1 c.requires.decided c.entry_of-entry.ensures in
+    let ends = judged g.N.Name.frames h c.args.ready.nth event c.carry_out-decision.result.reply c.carry_out-decision.result.used_after e stands c.requires.nth.1 (c.carry_out-decision.ensures.reply ∙ ap (λ (k : Held). answer k.core.state event) c.self.view_is) (c.carry_out-decision.ensures.charge ∙ ap (λ (k : Held). charge_after k.core.state event) c.self.view_is) c.entry_of-entry.ensures in
     let grown : c.entries.result.now ≡ h.log ++ e ∷ [] = c.entries.ensures ∙ (c.push.ensures.entries ∙ ap (λ l. l ++ e ∷ []) (c.reserve.ensures.entries ∙ ap (λ (k : Held). k.log) c.self.view_is)) in
     let legal : Legal g.N.Name.frames c.entries.result.now = subst (Legal g.N.Name.frames) (sym grown) ends.1 in
     rw (c.self.invariant.4.frames) legal
@@ -24,15 +26,15 @@ publish-requires-clause-legal g c =
 pub invariant_of-self-2 : goal.invariant_of-self-2
 invariant_of-self-2 g c =
     let h : Held = c.args.self.now in
-    let d : Decision = c.args.ready.decision in
+    let event : Event = c.args.ready.event in
     let e : LogEntry = c.entry_of-entry.result in
     let new : List LogEntry = c.push.new.self.entries in
     let stands = subst (Stands g.N.Name.frames) c.self.view_is (c.self.invariant.0, c.self.invariant.1) in
-    let ends = judged g.N.Name.frames h c.args.ready.nth d e stands c.requires.nth.1 c.requires.decided c.entry_of-entry.ensures in
+    let ends = judged g.N.Name.frames h c.args.ready.nth event c.carry_out-decision.result.reply c.carry_out-decision.result.used_after e stands c.requires.nth.1 (c.carry_out-decision.ensures.reply ∙ ap (λ (k : Held). answer k.core.state event) c.self.view_is) (c.carry_out-decision.ensures.charge ∙ ap (λ (k : Held). charge_after k.core.state event) c.self.view_is) c.entry_of-entry.ensures in
     let longer : new ≡ c.self.inside.log.entries ++ e ∷ [] = c.push.ensures.entries ∙ ap (λ l. l ++ e ∷ []) c.reserve.ensures.entries in
     let grown : new ≡ h.log ++ e ∷ [] = longer ∙ ap (λ (k : Held). k.log ++ e ∷ []) c.self.view_is in
-    let moved : c.commit-reply.new.self.state ≡ next h.core.state d.event = c.commit-reply.ensures.state ∙ ap (λ (k : Held). next k.core.state d.event) c.self.view_is in
-    let all = logged g.N.Name.frames h.log new h.core.state c.commit-reply.new.self.state d.event.cpu d.event.pid d.event.call e stands.0 stands.1 ends.0 grown moved in
+    let moved : c.carry_out-decision.new.self.state ≡ next h.core.state event = c.carry_out-decision.ensures.state ∙ ap (λ (k : Held). next k.core.state event) c.self.view_is in
+    let all = logged g.N.Name.frames h.log new h.core.state c.carry_out-decision.new.self.state event.cpu event.pid event.call e stands.0 stands.1 ends.0 grown moved in
     let book_is : c.add.new.seen.book ≡ g.N.Name.book = search rules in (
       all.legal,
       all.stands,
