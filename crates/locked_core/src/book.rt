@@ -78,6 +78,7 @@ impl Plain<LogEntry, LogEntry, u64> for Add {
 }
 
 /// A call that comes: the log before it, and what it asks.
+#[derive(Drop)]
 pub struct Coming<'a, N: Name> {
     pub log: &'a [LogEntry],
     pub event: &'a Event,
@@ -86,7 +87,7 @@ pub struct Coming<'a, N: Name> {
 
 impl<'a, N: Name> Coming<'a, N> {
     pub fn new(log: &'a [LogEntry], event: &'a Event) -> Coming<'a, N>
-        ensures { (result.log ≡ log) × (result.event ≡ event) }
+        ensures { (result.log.now ≡ log.now) × (result.event.now ≡ event.now) }
     {
         Coming {
             log,
