@@ -1,18 +1,17 @@
 //! The calls of address spaces for accesses that a processor makes by its walk.
 
-ghost use Rattle.std.specs.Prelude.{◌≡◌, ◌+◌, ◌/◌, ◌%◌, ◌<◌, ◌^◌, ℕ, [], ◌∷◌, Some, is_some, true, IsOk, slice_set};
+ghost use Rattle.std.specs.Prelude.{◌≡◌, ◌+◌, ◌/◌, ◌%◌, ◌<◌, ◌^◌, ℕ, [], ◌∷◌, Some, is_some, true, slice_set};
 ghost use Rattle.std.specs.Option.{option_map, unwrap_or};
 ghost use Rattle.page_words.specs.Addresses.{offset_number, byte_count, covered, second_page, start_number, touched, EachTouched, IsUserPage};
 ghost use Rattle.page_words.specs.FiniteMap as map;
-ghost use Rattle.table_walk.specs.Walk.{walk_of};
 ghost use Rattle.table_walk.specs.Marks.{marked};
 ghost use Rattle.address_space.specs.ByWalk.{finds, finds_at, byte_place, number_found, after_walked_load, after_walked_store, with_walked};
 ghost use Rattle.address_space.specs.Image.{image_of, takes_stores};
 ghost use Rattle.address_space.specs.Spaces.{at_page, accessed, all_accessed, stored, all_stored, bytes_of, number_of, slot_at};
 ghost use Rattle.address_space.specs.View.{directory_of};
 
-use crate::{Spaces, home, space_of, walked};
-use page_words::{Frame, Page, Pid, Size, Vaddr, second_page, start_of};
+use crate::{Spaces, space_of};
+use page_words::{Page, Pid, Size, Vaddr, second_page, start_of};
 use table_walk::{Access, walk};
 
 /// How many pages the 32-bit addresses have.
@@ -62,59 +61,6 @@ impl Spaces {
         self.paged.load_by_walk(pid, address, size)
     }
 
-    /// Stores the lowest byte of a number where the walk leads, and gives the number without it and the address
-    /// behind it.
-    fn store_byte(&mut self, pid: Pid, directory: Frame, address: Vaddr, value: u32) -> (Vaddr, u32)
-        requires live { directory_of self.old.directories pid ≡ Some directory }
-        requires found { IsOk (walk_of self.old.bytes directory address Access.Write) }
-        requires fits { address < 2 ^ 32 }
-        ensures address { result.0 ≡ address + 1 }
-        ensures value { result.1 ≡ value / 256 }
-        ensures spaces { self.new.spaces ≡ stored self.old.spaces (slot_at pid address) (offset_number address) (value % 256 ∷ []) }
-        ensures directories { self.new.directories ≡ self.old.directories }
-        ensures roles { self.new.roles ≡ self.old.roles }
-        ensures bytes { self.new.bytes ≡ slice_set (marked self.old.bytes directory address Access.Write) (byte_place self.old.bytes directory address) (value % 256) }
-        ensures walks { (at : ℕ) (kind : Access) → at < 2 ^ 32 → walk_of self.new.bytes directory at kind ≡ walk_of self.old.bytes directory at kind }
-    {
-        walked::store_byte(
-            &mut self.paged.memory,
-            &self.paged.frames,
-            &self.paged.directories,
-            pid,
-            directory,
-            address,
-            value,
-        );
-        (Vaddr(address.0 + 1), value / 256)
-    }
-
-    /// Stores by the walks of a directory, byte by byte.
-    fn store_through(&mut self, pid: Pid, directory: Frame, address: Vaddr, size: Size, value: u32)
-        requires live { directory_of self.old.directories pid ≡ Some directory }
-        requires found { (i : ℕ) → i < byte_count size → IsOk (walk_of self.old.bytes directory (address + i) Access.Write) }
-        requires fits { address + byte_count size < 2 ^ 32 }
-        ensures spaces { self.new.spaces ≡ all_stored self.old.spaces pid address (bytes_of (byte_count size) value) }
-        ensures directories { self.new.directories ≡ self.old.directories }
-        ensures roles { self.new.roles ≡ self.old.roles }
-        ensures bytes { self.new.bytes ≡ after_walked_store self.old.bytes directory address (bytes_of (byte_count size) value) }
-    {
-        match size {
-            Size::One => {
-                self.store_byte(pid, directory, address, value);
-            }
-            Size::Two => {
-                let (second, rest) = self.store_byte(pid, directory, address, value);
-                self.store_byte(pid, directory, second, rest);
-            }
-            Size::Four => {
-                let (second, rest) = self.store_byte(pid, directory, address, value);
-                let (third, rest) = self.store_byte(pid, directory, second, rest);
-                let (fourth, rest) = self.store_byte(pid, directory, third, rest);
-                self.store_byte(pid, directory, fourth, rest);
-            }
-        }
-    }
-
     /// A store as a processor makes it, where the walks find a frame for each page that it touches: the words that
     /// lead to each byte are marked, and it is written where they lead. It is the store that `write` makes.
     pub fn store_by_walk(&mut self, pid: Pid, address: Vaddr, size: Size, value: u32)
@@ -125,8 +71,7 @@ impl Spaces {
         ensures roles { self.new.roles ≡ self.old.roles }
         ensures bytes { (directory : ℕ) → directory_of self.old.directories pid ≡ Some directory → self.new.bytes ≡ after_walked_store self.old.bytes directory address (bytes_of (byte_count size) value) }
     {
-        let directory = home(&self.paged.directories, pid);
-        self.store_through(pid, directory, address, size, value);
+        self.paged.store_by_walk(pid, address, size, value);
     }
 
     /// Sets or clears accessed in the directory word that leads to a page, where it is present. Nothing that a space

@@ -5,17 +5,15 @@ ghost use Rattle.page_words.specs.Addresses.{IsUserPage, page_number, offset_num
 ghost use Rattle.page_words.specs.FiniteMap as map;
 ghost use Rattle.table_walk.specs.Walk.{walk_of};
 ghost use Rattle.table_walk.specs.Marks.{marked};
-ghost use Rattle.address_space.specs.ByWalk.{finds, byte_place, number_found, after_walked_load, walked_word, with_walked};
-ghost use Rattle.address_space.specs.Spaces.{all_accessed, stored, number_of, at_page, slot_at};
-ghost use Rattle.address_space.specs.View.{directory_of, spaces_in};
-ghost use Rattle.address_space.specs.Sound.{IsSound};
-ghost use Rattle.address_space.specs.Changes.{Touched};
+ghost use Rattle.address_space.specs.ByWalk.{finds, finds_at, byte_place, number_found, after_walked_load, after_walked_store, walked_word, with_walked};
+ghost use Rattle.address_space.specs.Spaces.{all_accessed, stored, all_stored, bytes_of, number_of, at_page, slot_at};
+ghost use Rattle.address_space.specs.Image.{takes_stores};
+ghost use Rattle.address_space.specs.View.{directory_of};
 ghost use Rattle.address_space.specs.Finds.{IsKeptPaged, MemoryAlone, spaces_at, image_at};
 
 use crate::accesses::of_two;
+use crate::home;
 use crate::paged::Paged;
-use crate::{Directories, home};
-use alloc_table::FrameTable;
 use page_map::place_of;
 use page_words::{
     DirWord, Frame, Page, Pid, Size, Vaddr, offset_of, second_page, slot_of, start_of,
@@ -82,30 +80,6 @@ fn found_number(memory: &Memory, directory: Frame, address: Vaddr, size: Size) -
     }
 }
 
-/// Marks the words of a store, and writes the lowest byte of a number where they lead.
-pub fn store_byte(
-    memory: &mut Memory,
-    frames: &FrameTable,
-    directories: &Directories,
-    pid: Pid,
-    directory: Frame,
-    address: Vaddr,
-    value: u32,
-)
-    requires sound { IsSound directories.now memory.old frames.now }
-    requires live { directory_of directories.now pid ≡ Some directory }
-    requires found { IsOk (walk_of memory.old directory address Access.Write) }
-    requires fits { address < 2 ^ 32 }
-    ensures bytes { memory.new ≡ slice_set (marked memory.old directory address Access.Write) (byte_place memory.old directory address) (value % 256) }
-    ensures touched { Touched directories.now (stored (spaces_in directories.now memory.old) (slot_at pid address) (offset_number address) (value % 256 ∷ [])) memory.old frames.now memory.new }
-    ensures walks { (at : ℕ) (kind : Access) → at < 2 ^ 32 → walk_of memory.new directory at kind ≡ walk_of memory.old directory at kind }
-    ensures user { IsUserPage (page_number address) }
-{
-    let place = found_place(memory, directory, address, Access::Write);
-    mark(memory, directory, address, Access::Write);
-    memory.write_byte(place, (value % 256) as u8);
-}
-
 /// A directory word with accessed set or cleared, where it is present.
 fn walked_word(word: u32, walked: bool) -> u32
     ensures { result ≡ walked_word walked word }
@@ -167,5 +141,66 @@ impl Paged {
         };
         mark(&mut self.memory, directory, start_of(second), Access::Read);
         value
+    }
+
+    /// Marks the words of a store, and writes the lowest byte of a number where they lead. It gives the address
+    /// behind it and the number without it. Each walk of the process finds a frame as before.
+    fn store_byte_by_walk(&mut self, pid: Pid, address: Vaddr, value: u32) -> (Vaddr, u32)
+        requires kept { IsKeptPaged self.old }
+        requires finds { finds_at (image_at self.old) pid Access.Write address ≡ true }
+        requires fits { address + 1 < 2 ^ 32 }
+        ensures address { result.0 ≡ address + 1 }
+        ensures value { result.1 ≡ value / 256 }
+        ensures spaces { spaces_at self.new ≡ stored (spaces_at self.old) (slot_at pid address) (offset_number address) (value % 256 ∷ []) }
+        ensures bytes { (directory : ℕ) → directory_of self.old.directories pid ≡ Some directory → self.new.memory ≡ slice_set (marked self.old.memory directory address Access.Write) (byte_place self.old.memory directory address) (value % 256) }
+        ensures finds { (kind : Access) (at : ℕ) → finds_at (image_at self.new) pid kind at ≡ finds_at (image_at self.old) pid kind at }
+        ensures kept { IsKeptPaged self.new }
+        ensures alone { MemoryAlone self.old self.new }
+    {
+        let directory = home(&self.directories, pid);
+        let place = found_place(&self.memory, directory, address, Access::Write);
+        mark(&mut self.memory, directory, address, Access::Write);
+        self.memory.write_byte(place, (value % 256) as u8);
+        (Vaddr(address.0 + 1), value / 256)
+    }
+
+    /// Stores where the walk of each byte leads, byte by byte.
+    fn store_through(&mut self, pid: Pid, address: Vaddr, size: Size, value: u32)
+        requires kept { IsKeptPaged self.old }
+        requires finds { (i : ℕ) → i < byte_count size → finds_at (image_at self.old) pid Access.Write (address + i) ≡ true }
+        requires fits { address + byte_count size < 2 ^ 32 }
+        ensures spaces { spaces_at self.new ≡ all_stored (spaces_at self.old) pid address (bytes_of (byte_count size) value) }
+        ensures bytes { (directory : ℕ) → directory_of self.old.directories pid ≡ Some directory → self.new.memory ≡ after_walked_store self.old.memory directory address (bytes_of (byte_count size) value) }
+        ensures kept { IsKeptPaged self.new }
+        ensures alone { MemoryAlone self.old self.new }
+    {
+        match size {
+            Size::One => {
+                self.store_byte_by_walk(pid, address, value);
+            }
+            Size::Two => {
+                let (second, rest) = self.store_byte_by_walk(pid, address, value);
+                self.store_byte_by_walk(pid, second, rest);
+            }
+            Size::Four => {
+                let (second, rest) = self.store_byte_by_walk(pid, address, value);
+                let (third, rest) = self.store_byte_by_walk(pid, second, rest);
+                let (fourth, rest) = self.store_byte_by_walk(pid, third, rest);
+                self.store_byte_by_walk(pid, fourth, rest);
+            }
+        }
+    }
+
+    /// A store as a processor makes it, where the walks find a frame for each page that it touches.
+    pub fn store_by_walk(&mut self, pid: Pid, address: Vaddr, size: Size, value: u32)
+        requires kept { IsKeptPaged self.old }
+        requires finds { finds (image_at self.old) pid address size Access.Write ≡ true }
+        ensures takes { EachTouched address size (λ page. takes_stores (spaces_at self.old) (image_at self.old) (at_page pid page) ≡ true) }
+        ensures spaces { spaces_at self.new ≡ all_stored (spaces_at self.old) pid address (bytes_of (byte_count size) value) }
+        ensures bytes { (directory : ℕ) → directory_of self.old.directories pid ≡ Some directory → self.new.memory ≡ after_walked_store self.old.memory directory address (bytes_of (byte_count size) value) }
+        ensures kept { IsKeptPaged self.new }
+        ensures alone { MemoryAlone self.old self.new }
+    {
+        self.store_through(pid, address, size, value);
     }
 }

@@ -1,6 +1,6 @@
 -- What walks that find a frame for each page of an access find at each of its bytes.
 use Rattle.std.proofs.Common.{◌≡◌, ℕ, zero, suc, ◌+◌, ◌^◌, ◌<◌, true, false, List, ◌∷◌, map as each, refl, ap, sym, ◌∙◌, subst, arith, Option, Some, None}
-use Rattle.std.specs.Prelude.{is_some, nat_lt, IfSome, IsOk, slice_index}
+use Rattle.std.specs.Prelude.{◌&&◌, is_some, nat_lt, IfSome, IsOk, slice_index}
 use Rattle.std.specs.Option.{option_map, option_and_then, unwrap_or}
 use Rattle.std.specs.List.{range_with_len}
 use Rattle.std.specs.Result.{is_ok}
@@ -31,12 +31,16 @@ use Rattle.address_space.proofs.steps.WalkSteps.{found_entry, page_found, found_
 -- ---- By the test
 
 -- a walk that finds a frame is that of a live process
-pub finds_live : (image : Image) (p address : ℕ) (size : Size) (access : Access) → finds image p address size access ≡ true → is_some (directory_at image p) ≡ true
-finds_live image p address size access h = by (directory_at image p) (and_parts (nat_lt address 0x100000000) _ (and_parts (finds_at image p access address) _ h).0).1
+pub finds_live_at : (image : Image) (p address : ℕ) (access : Access) → finds_at image p access address ≡ true → is_some (directory_at image p) ≡ true
+finds_live_at image p address access h = by (directory_at image p) (and_parts (nat_lt address 0x100000000) _ h).1
   where
     by : (x : Option ℕ) → unwrap_or (option_map (λ directory. is_ok (walk_of image.bytes directory address access)) x) false ≡ true → is_some x ≡ true
     by None h = cc
     by (Some d) h = refl
+
+-- so are those of an access
+pub finds_live : (image : Image) (p address : ℕ) (size : Size) (access : Access) → finds image p address size access ≡ true → is_some (directory_at image p) ≡ true
+finds_live image p address size access h = finds_live_at image p address access (and_parts (finds_at image p access address) _ h).0
 
 pub found_at : (image : Image) (p d address : ℕ) (access : Access) → directory_at image p ≡ Some d → finds_at image p access address ≡ true → (address < 2 ^ 32) × IsOk (walk_of image.bytes d address access)
 found_at image p d address access live h =
@@ -115,6 +119,33 @@ found_fits bytes d address size access each =
     let high = u.1 in
     omega (arith, count, few, high)
 
+-- the walk of each byte finds a frame, and its addresses have 32 bits
+pub record FindsEach (image : Image) (p address : ℕ) (size : Size) (access : Access) : Type 0 where
+  pub finds : (i : ℕ) → i < byte_count size → finds_at image p access (address + i) ≡ true
+  pub fits : address + byte_count size < 2 ^ 32
+
+pub finds_each : (directories : List (Option ℕ)) (bytes : List ℕ) (roles : List Role) (p address : ℕ) (size : Size) (access : Access) → IsSound directories bytes roles
+    → finds (record { directories = directories; bytes = bytes; roles = roles }) p address size access ≡ true → FindsEach (record { directories = directories; bytes = bytes; roles = roles }) p address size access
+finds_each directories bytes roles p address size access sound h = by (directory_of directories p) refl (finds_live image p address size access h)
+  where
+    image : Image
+    image = record { directories = directories; bytes = bytes; roles = roles }
+
+    by : (x : Option ℕ) → directory_of directories p ≡ x → is_some x ≡ true → FindsEach image p address size access
+    by None is some = cc
+    by (Some d) is some =
+        let each = found_each directories bytes roles p d address size access sound is h in
+        let fits = found_fits bytes d address size access each in
+        record {
+          finds = λ i l.
+              let small : address + i < 0x100000000 = omega (arith, fits, l) in
+              let test : nat_lt (address + i) 0x100000000 ≡ true = grind (arith, nat_tests) in
+              ap (λ b. b && unwrap_or (option_map (λ directory. is_ok (walk_of bytes directory (address + i) access)) (directory_of directories p)) false) test
+              ∙ ap (λ x. unwrap_or (option_map (λ directory. is_ok (walk_of bytes directory (address + i) access)) x) false) is
+              ∙ each.found i l;
+          fits = fits;
+        }
+
 -- ---- The number at the bytes
 
 same_each : (f g : ℕ → ℕ) (a n : ℕ) → ((i : ℕ) → i < n → f (a + i) ≡ g (a + i)) → each f (range_with_len a n) ≡ each g (range_with_len a n)
@@ -173,3 +204,16 @@ found_pages directories bytes roles p d address size access sound live h =
         by : (x : Option ℕ) → unwrap_or (option_map (λ page. finds_at image p access (start_number page)) x) true ≡ true → IfSome x P
         by None is = tt
         by (Some page) is = let e : page_number (start_number page) ≡ page = omega arith in subst P e (at (start_number page) is)
+
+-- each page of a store takes stores
+pub finds_takes : (directories : List (Option ℕ)) (bytes : List ℕ) (roles : List Role) (p address : ℕ) (size : Size) → IsSound directories bytes roles
+    → finds (record { directories = directories; bytes = bytes; roles = roles }) p address size Write ≡ true
+    → EachTouched address size (λ page. takes_stores (spaces_in directories bytes) (record { directories = directories; bytes = bytes; roles = roles }) (at_page p page) ≡ true)
+finds_takes directories bytes roles p address size sound h = by (directory_of directories p) refl (finds_live image p address size Write h)
+  where
+    image : Image
+    image = record { directories = directories; bytes = bytes; roles = roles }
+
+    by : (x : Option ℕ) → directory_of directories p ≡ x → is_some x ≡ true → EachTouched address size (λ page. takes_stores (spaces_in directories bytes) image (at_page p page) ≡ true)
+    by None is some = cc
+    by (Some d) is some = (found_pages directories bytes roles p d address size Write sound is h).takes refl

@@ -1,27 +1,30 @@
--- Loads that a processor makes by its walk, on what is kept.
-use Rattle.std.proofs.Common.{◌≡◌, ◌^◌, ◌<◌, ℕ, true, List, ap, sym, ◌∙◌, subst, Option, Some}
-use Rattle.std.specs.Prelude.{IsOk}
+-- Accesses that a processor makes by its walk, on what is kept.
+use Rattle.std.proofs.Common.{◌≡◌, ◌%◌, ◌^◌, ◌<◌, ℕ, Bool, true, false, List, [], ◌∷◌, length, refl, ap, sym, ◌∙◌, subst, arith, Option, Some}
+use Rattle.std.specs.Prelude.{◌&&◌, IsOk, nat_lt, slice_set}
 use Rattle.std.specs.Option.{option_map, unwrap_or}
+use Rattle.std.specs.Result.{is_ok}
 use Rattle.std.proofs.lemmas.Bool.{and_parts}
-use Rattle.page_words.specs.Addresses.{start_number, second_page}
+use Rattle.std.proofs.lemmas.Bool.Decides.{nat_tests}
+use Rattle.page_words.specs.Addresses.{offset_number, start_number, second_page}
 use Rattle.page_words.specs.declared.addresses.Size.{Size}
 use Rattle.table_walk.specs.declared.Access.{Access}
-use Rattle.table_walk.specs.declared.Access.TheVariants.{Read}
+use Rattle.table_walk.specs.declared.Access.TheVariants.{Read, Write}
 use Rattle.table_walk.specs.Walk.{walk_of}
 use Rattle.table_walk.specs.Marks.{marked}
 use Rattle.address_space.specs.declared.paged.Paged.{Paged}
-use Rattle.address_space.specs.ByWalk.{finds_at, finds}
+use Rattle.address_space.specs.ByWalk.{finds_at, finds, byte_place}
 use Rattle.address_space.specs.Image.{Image}
-use Rattle.address_space.specs.Spaces.{accessed, slot_at}
+use Rattle.address_space.specs.Spaces.{Slot, accessed, stored, cell_or_fresh, slot_at}
 use Rattle.address_space.specs.View.{directory_of}
 use Rattle.address_space.specs.Changes.{Touched}
-use Rattle.address_space.specs.Finds.{IsKeptPaged, spaces_at}
-use Rattle.address_space.proofs.costs.AccessCosts.{kept}
+use Rattle.address_space.specs.Finds.{IsKeptPaged, spaces_at, image_at}
+use Rattle.address_space.specs.Counts.{IsKept}
+use Rattle.address_space.proofs.costs.AccessCosts.{kept, key-stored}
 use Rattle.address_space.proofs.standing.Standing.{lazy_kept}
 use Rattle.address_space.proofs.steps.Touches.{kept_touched}
-use Rattle.address_space.proofs.steps.Finding.{found_mapped}
+use Rattle.address_space.proofs.steps.Finding.{found_at, found_mapped}
 use Rattle.address_space.proofs.steps.FoundPages.{Left}
-use Rattle.address_space.proofs.steps.WalkSteps.{found_entry, load_marked}
+use Rattle.address_space.proofs.steps.WalkSteps.{found_entry, load_marked, byte_written}
 
 -- the walk of the first page, and that of the second where there is one
 pub finds_first : (image : Image) (p address : ℕ) (size : Size) (access : Access) → finds image p address size access ≡ true → finds_at image p access address ≡ true
@@ -43,4 +46,46 @@ marked_left paged p d address two before live small ok is =
       kept = kept_touched paged.directories paged.memory two paged.frames paged.counts.items (accessed (spaces_at paged) (slot_at p address)) before touched
           (kept (spaces_at paged) (slot_at p address) _ (found_mapped paged.directories paged.memory paged.frames p d address Read sound live small ok));
       lazy = lazy_kept paged.directories paged.memory two paged.frames sound touched.sound touched.lazy;
+    }
+
+-- ---- A byte stored
+
+-- what is kept after a byte was stored where the walk leads
+pub record ByteLeft (paged : Paged) (p address v : ℕ) (two : List ℕ) : Type 0 where
+  pub spaces : spaces_at (record paged { memory = two }) ≡ stored (spaces_at paged) (slot_at p address) (offset_number address) (v % 256 ∷ [])
+  pub kept : IsKept paged.directories two paged.frames paged.counts.items
+  -- each walk finds a frame as before
+  pub finds : (kind : Access) (at : ℕ) → finds_at (record { directories = paged.directories; bytes = two; roles = paged.frames }) p kind at ≡ finds_at (image_at paged) p kind at
+
+both_alike : (a b c : Bool) → (a ≡ true → b ≡ c) → (a && b) ≡ (a && c)
+both_alike true b c h = h refl
+both_alike false b c h = refl
+
+-- walks that end alike find frames alike
+finds_alike : (image image' : Image) (p d : ℕ) (kind : Access) (at : ℕ) → directory_of image.directories p ≡ Some d → image'.directories ≡ image.directories
+    → (at < 2 ^ 32 → walk_of image'.bytes d at kind ≡ walk_of image.bytes d at kind) → finds_at image' p kind at ≡ finds_at image p kind at
+finds_alike image image' p d kind at live same walks =
+    both_alike (nat_lt at 0x100000000) _ _
+    (λ test.
+    let small : at < 0x100000000 = grind (arith, nat_tests) in
+    ap (λ x. unwrap_or (option_map (λ directory. is_ok (walk_of image'.bytes directory at kind)) (directory_of x p)) false) same
+    ∙ ap (λ x. unwrap_or (option_map (λ directory. is_ok (walk_of image'.bytes directory at kind)) x) false) live
+    ∙ ap is_ok (walks (omega (arith, small)))
+    ∙ sym (ap (λ x. unwrap_or (option_map (λ directory. is_ok (walk_of image.bytes directory at kind)) x) false) live))
+
+pub byte_left : (paged : Paged) (p d address v : ℕ) (two : List ℕ) → IsKeptPaged paged → directory_of paged.directories p ≡ Some d → finds_at (image_at paged) p Write address ≡ true
+    → ((other at : ℕ) (kind : Access) → walk_of (marked paged.memory d address Write) other at kind ≡ walk_of paged.memory other at kind)
+    → two ≡ slice_set (marked paged.memory d address Write) (byte_place paged.memory d address) (v % 256) → length two ≡ length (marked paged.memory d address Write) → ByteLeft paged p address v two
+byte_left paged p d address v two before live test walks is long =
+    let sound = before.spaces.sound in
+    let found = found_at (image_at paged) p d address Write live test in
+    let parts = byte_written paged.directories paged.memory two paged.frames p d address v sound live found.0 found.1 walks is long in
+    let slot : Slot = slot_at p address in
+    let S = spaces_at paged in
+    record {
+      spaces = parts.touched.spaces;
+      kept = kept_touched paged.directories paged.memory two paged.frames paged.counts.items (stored S slot (offset_number address) (v % 256 ∷ [])) before parts.touched
+          (λ q. key-stored S slot (offset_number address) (v % 256 ∷ []) (cell_or_fresh S slot) q
+          ∙ kept S slot (cell_or_fresh S slot) (found_mapped paged.directories paged.memory paged.frames p d address Write sound live found.0 found.1) q);
+      finds = λ kind at. finds_alike (image_at paged) (record { directories = paged.directories; bytes = two; roles = paged.frames }) p d kind at live refl (parts.walks at kind);
     }
