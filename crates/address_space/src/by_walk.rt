@@ -1,13 +1,12 @@
 //! The calls of address spaces for accesses that a processor makes by its walk.
 
-ghost use Rattle.std.specs.Prelude.{◌≡◌, ◌+◌, ◌/◌, ◌%◌, ◌<◌, ◌^◌, ℕ, [], ◌∷◌, Some, is_some, true, slice_set};
+ghost use Rattle.std.specs.Prelude.{◌≡◌, ℕ, Some, is_some, true};
 ghost use Rattle.std.specs.Option.{option_map, unwrap_or};
-ghost use Rattle.page_words.specs.Addresses.{offset_number, byte_count, covered, second_page, start_number, touched, EachTouched, IsUserPage};
+ghost use Rattle.page_words.specs.Addresses.{byte_count, covered, second_page, start_number, touched, EachTouched, IsUserPage};
 ghost use Rattle.page_words.specs.FiniteMap as map;
-ghost use Rattle.table_walk.specs.Marks.{marked};
-ghost use Rattle.address_space.specs.ByWalk.{finds, finds_at, byte_place, number_found, after_walked_load, after_walked_store, with_walked};
+ghost use Rattle.address_space.specs.ByWalk.{finds, finds_at, number_found, after_walked_load, after_walked_store, with_walked};
 ghost use Rattle.address_space.specs.Image.{image_of, takes_stores};
-ghost use Rattle.address_space.specs.Spaces.{at_page, accessed, all_accessed, stored, all_stored, bytes_of, number_of, slot_at};
+ghost use Rattle.address_space.specs.Spaces.{at_page, accessed, all_accessed, all_stored, bytes_of, number_of};
 ghost use Rattle.address_space.specs.View.{directory_of};
 
 use crate::{Spaces, space_of};

@@ -1,10 +1,11 @@
 //! Accesses as a processor makes them: by the walk of a directory, which marks the words that lead to a page.
 
 ghost use Rattle.std.specs.Prelude.{◌≡◌, ◌+◌, ◌*◌, ◌/◌, ◌%◌, ◌<◌, ◌≤◌, ◌^◌, ℕ, [], ◌∷◌, Some, true, is_some, IsOk, length, slice_index, slice_set};
-ghost use Rattle.page_words.specs.Addresses.{IsUserPage, page_number, offset_number, byte_count, covered, second_page, touched, EachTouched};
+ghost use Rattle.std.specs.Result.{ForOk};
+ghost use Rattle.page_words.specs.Addresses.{IsUserPage, offset_number, byte_count, covered, second_page, touched, EachTouched};
 ghost use Rattle.page_words.specs.FiniteMap as map;
 ghost use Rattle.table_walk.specs.Walk.{walk_of};
-ghost use Rattle.table_walk.specs.Marks.{marked};
+ghost use Rattle.table_walk.specs.Marks.{marked, StandsApart};
 ghost use Rattle.address_space.specs.ByWalk.{finds, finds_at, byte_place, number_found, after_walked_load, after_walked_store, walked_word, with_walked};
 ghost use Rattle.address_space.specs.Spaces.{all_accessed, stored, all_stored, bytes_of, number_of, at_page, slot_at};
 ghost use Rattle.address_space.specs.Image.{takes_stores};
@@ -80,6 +81,19 @@ fn found_number(memory: &Memory, directory: Frame, address: Vaddr, size: Size) -
     }
 }
 
+/// Marks the words of a store, and writes the lowest byte of a number where they lead.
+fn put_byte_found(memory: &mut Memory, directory: Frame, address: Vaddr, value: u32)
+    requires found { IsOk (walk_of memory.old directory address Access.Write) }
+    requires apart { ForOk (walk_of memory.old directory address Access.Write) (StandsApart memory.old directory address) }
+    ensures bytes { memory.new ≡ slice_set (marked memory.old directory address Access.Write) (byte_place memory.old directory address) (value % 256) }
+    ensures length { length memory.new ≡ length (marked memory.old directory address Access.Write) }
+    ensures walks { (other at : ℕ) (kind : Access) → walk_of (marked memory.old directory address Access.Write) other at kind ≡ walk_of memory.old other at kind }
+{
+    let place = found_place(memory, directory, address, Access::Write);
+    mark(memory, directory, address, Access::Write);
+    memory.write_byte(place, (value % 256) as u8);
+}
+
 /// A directory word with accessed set or cleared, where it is present.
 fn walked_word(word: u32, walked: bool) -> u32
     ensures { result ≡ walked_word walked word }
@@ -143,8 +157,8 @@ impl Paged {
         value
     }
 
-    /// Marks the words of a store, and writes the lowest byte of a number where they lead. It gives the address
-    /// behind it and the number without it. Each walk of the process finds a frame as before.
+    /// Stores the lowest byte of a number where the walk leads. It gives the address behind it and the number
+    /// without it. Each walk of the process finds a frame as before.
     fn store_byte_by_walk(&mut self, pid: Pid, address: Vaddr, value: u32) -> (Vaddr, u32)
         requires kept { IsKeptPaged self.old }
         requires finds { finds_at (image_at self.old) pid Access.Write address ≡ true }
@@ -158,9 +172,7 @@ impl Paged {
         ensures alone { MemoryAlone self.old self.new }
     {
         let directory = home(&self.directories, pid);
-        let place = found_place(&self.memory, directory, address, Access::Write);
-        mark(&mut self.memory, directory, address, Access::Write);
-        self.memory.write_byte(place, (value % 256) as u8);
+        put_byte_found(&mut self.memory, directory, address, value);
         (Vaddr(address.0 + 1), value / 256)
     }
 
