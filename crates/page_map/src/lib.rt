@@ -315,49 +315,9 @@ fn remove_found_entry(
     }
 }
 
-fn remove_counted_entry(
-    memory: &mut Memory,
-    directory: Frame,
-    page: Page,
-    mapped: u32,
-) -> Option<Frame>
-    requires user { IsUserPage page }
-    requires map { IsPageMap memory.old directory }
-    requires table { is_present (dir_word (frame_bytes memory.old) directory (slot_number page)) ≡ true }
-    requires last { mapped ≡ 1 → IsLastEntry (frame_bytes memory.old) (frame_number (dir_word (frame_bytes memory.old) directory (slot_number page))) page }
-    requires others { mapped ≢ 1 → HasOtherEntry (frame_bytes memory.old) (frame_number (dir_word (frame_bytes memory.old) directory (slot_number page))) page }
-    ensures cleared { IsCleared (frame_bytes memory.old) directory page result (frame_bytes memory.new) }
-    ensures length { length memory.new ≡ length memory.old }
-    ensures last { is_some result ≡ true → mapped ≡ 1 }
-{
-    let table = table(memory, directory, slot_of(page))?;
-    remove_found_entry(memory, directory, table, page, mapped)
-}
-
-/// Clears the entry of a mapped page, in whose slot that many pages are mapped, this one among them, as
-/// `clear_entry` does: where it was the last one, it unlinks the table and returns it; else it returns
-/// None. It reads no other word of the table.
-pub fn clear_counted_entry(
-    memory: &mut Memory,
-    directory: Frame,
-    page: Page,
-    mapped: u32,
-) -> Option<Frame>
-    requires user { IsUserPage page }
-    requires map { IsPageMap memory.old directory }
-    requires entry { is_some (entry_at (frame_bytes memory.old) directory page) ≡ true }
-    requires mapped { mapped ≡ count_range (λ other. is_some (entry_at (frame_bytes memory.old) directory other)) (1024 * slot_number page) 1024 }
-    ensures cleared { IsCleared (frame_bytes memory.old) directory page result (frame_bytes memory.new) }
-    ensures length { length memory.new ≡ length memory.old }
-    ensures last { is_some result ≡ true → mapped ≡ 1 }
-    ensures entries { entries_of (frame_bytes memory.new) directory ≡ map.remove (entries_of (frame_bytes memory.old) directory) page }
-    ensures map { IsPageMap memory.new directory }
-    ensures foreign { (frame : ℕ) → IsForeign (frame_bytes memory.old) directory frame → frame_bytes memory.new frame ≡ frame_bytes memory.old frame }
-{
-    remove_counted_entry(memory, directory, page, mapped)
-}
-
-/// The same by the page's table, for a caller that found it: it reads no word at all.
+/// Clears the entry of a mapped page in its slot's table, where that many pages are mapped, this one among them, as
+/// `clear_entry` does: where it was the last one, it unlinks the table and returns it; else it returns None. The
+/// caller found the table and counted, so that it reads no word at all.
 pub fn clear_found_entry(
     memory: &mut Memory,
     directory: Frame,
