@@ -70,9 +70,10 @@ pub record BytesStored (bytes : List ℕ) (found : Found) (at : ℕ) (new : List
   pub entry : EntryIs between found (record found.entry { accessed = true; dirty = true }) bytes'
   pub long : length bytes' ≡ length between
 
--- it got a frame of zeros of its own
-pub record FrameGiven (bytes : List ℕ) (roles : List Role) (found : Found) (bytes' : List ℕ) (roles' : List Role) : Type 0 where
+-- it got a frame of zeros of its own, and has this entry
+pub record FrameGiven (bytes : List ℕ) (roles : List Role) (found : Found) (e : PageEntry) (bytes' : List ℕ) (roles' : List Role) : Type 0 where
   pub frame : ℕ
+  pub same : e ≡ record found.entry { frame = frame; lazy = false }
   pub taken : IsTaken roles frame (Page 1) roles'
   pub between : List ℕ
   pub zeros : between ≡ with_frame_bytes bytes frame (replicate 4096 0)

@@ -22,15 +22,16 @@ fn filled(entry: PageEntry, frame: Frame) -> PageEntry
     }
 }
 
-/// Gives a page a frame of zeros of its own.
-pub fn give_frame(memory: &mut Memory, frames: &mut FrameTable, found: &Found)
+/// Gives a page a frame of zeros of its own: the entry that it has then.
+pub fn give_frame(memory: &mut Memory, frames: &mut FrameTable, found: &Found) -> PageEntry
     requires lies { LiesIn memory.old found.now }
     requires size { length memory.old ≡ 4096 * length frames.old }
     requires few { length frames.old ≤ 4096 }
     requires free { 0 < free_frames frames.old }
-    ensures { FrameGiven memory.old frames.old found.now memory.new frames.new }
+    ensures { FrameGiven memory.old frames.old found.now result memory.new frames.new }
 {
     let frame = take(frames, Role::Page { count: 1 });
     memory.zero_frame(frame);
     page_map::put_entry(memory, found.table, found.page, filled(found.entry, frame));
+    filled(found.entry, frame)
 }

@@ -192,6 +192,23 @@ impl Spaces {
         self.paged.map_zero(pid, page, write);
     }
 
+    /// Maps a page of zeros that may be written, as `map_zero` does, and stores bytes that lie in it, as `write` does. It
+    /// takes a frame for the page, and one for its table, where that is missing; the page is looked up once.
+    pub fn map_stored(&mut self, pid: Pid, address: Vaddr, size: Size, value: u32)
+        requires within { second_page address size ≡ None }
+        requires live { is_some (directory_of self.old.directories pid) ≡ true }
+        requires user { IsUserPage (page_number address) }
+        requires unmapped { map.get self.old.spaces (slot_at pid address) ≡ None }
+        requires room { 1 + total_cost self.old.directories self.old.spaces + need self.old.spaces pid (page_number address) ≤ length self.old.roles }
+        ensures spaces { self.new.spaces ≡ stored (map.insert self.old.spaces (slot_at pid address) (fresh (slot_at pid address) true)) (slot_at pid address) (offset_number address) (bytes_of (byte_count size) value) }
+        ensures real { is_lazy_at (image_of self.new) (slot_at pid address) ≡ false }
+        ensures directories { self.new.directories ≡ self.old.directories }
+        ensures frames { length self.new.roles ≡ length self.old.roles }
+    {
+        self.paged
+            .map_stored(pid, page_of(address), offset_of(address), size, value);
+    }
+
     /// Lets a slot join the group of another.
     pub fn join(&mut self, giver: Pid, giver_page: Page, pid: Pid, page: Page, right: bool)
         requires given { is_some (map.get self.old.spaces (at_page giver giver_page)) ≡ true }

@@ -4,7 +4,7 @@ use Rattle.std.specs.Prelude.{if◌then◌else◌, IsOk, IfSome, find, slice_ind
 use Rattle.std.specs.Option.{option_map, option_and_then}
 use Rattle.std.proofs.lemmas.Bool.{not-false, not-true, le-ltb, and_parts}
 use Rattle.std.proofs.lemmas.Bool.Decides.{nat_tests}
-use Rattle.page_words.specs.Addresses.{page_number, offset_number, start_number, byte_count, covered, second_page, touched, EachTouched, IsUserPage, is_user_page}
+use Rattle.page_words.specs.Addresses.{page_number, offset_number, start_number, byte_count, covered, second_page, page_and, touched, EachTouched, IsUserPage, is_user_page}
 use Rattle.page_words.specs.declared.addresses.Size.{Size}
 use Rattle.page_words.specs.FiniteMap as map
 use Rattle.page_words.specs.FiniteMap.{same}
@@ -26,7 +26,7 @@ use Rattle.page_words.specs.Addresses.{slot_number}
 use Rattle.process_table.specs.State.{State, is_live, is_mapped, has_no_room, room, lacks_room}
 use Rattle.process_table.specs.View.{View}
 use Rattle.process_table.specs.Image.{memory_of}
-use Rattle.process_table.specs.Calls.{access_value, after_access, after_map}
+use Rattle.process_table.specs.Calls.{access_value, after_access, after_map, after_store}
 use Rattle.process_table.specs.TestAnswers.{map_answer, number_unless}
 use Rattle.process_table.specs.declared.causes.Cause.TheVariants.{NoProcess, BadPage, Mapped, Quota}
 use Rattle.process_table.proofs.SpaceLaws.{user_page, not_less}
@@ -34,7 +34,7 @@ use Rattle.fault_handler.specs.declared.plans.PageStep.{PageStep}
 use Rattle.fault_handler.specs.declared.plans.PageStep.TheVariants as step
 use Rattle.fault_handler.specs.declared.plans.Plan.{Plan}
 use Rattle.fault_handler.specs.declared.plans.Plan.TheVariants as plan
-use Rattle.fault_handler.specs.Plans.{outside, is_read_only, forbidden, fault_or, planned_by, step_at, maps_page, plan_at, goes_on, at_once, takes_no_frame}
+use Rattle.fault_handler.specs.Plans.{outside, is_read_only, forbidden, fault_or, planned_by, step_at, maps_page, plan_at, goes_on, at_once, new_page, takes_no_frame}
 
 -- ---- Where no byte stops an access
 
@@ -333,3 +333,40 @@ at_once_store v p address size is =
     by true true true a b c = cc
     by true false l a b c = cc
     by false w l a b c = cc
+
+-- ---- A page that is mapped for an access, and is its only one
+
+abbrev first_in : Plan → PageStep
+first_in (plan.Ready f g) = f
+first_in _ = step.Complete
+
+pub record MapsOne (s : State) (p address : ℕ) (size : Size) : Type 0 where
+  pub within : second_page address size ≡ None
+  pub gone : is_mapped s (slot_at p address) ≡ false
+  pub may : IsOk (map_answer s p (page_number address))
+
+pub maps_one : (v : View) (p address : ℕ) (size : Size) (access : Access) → plan_at v p address size access ≡ new_page → MapsOne v.state p address size
+maps_one v p address size access is =
+    let steps = steps_in v p address size access step.MapZero None (sym is) in
+    let g = ready (step_at v p access) v.state p address size access (ap goes_on is) in
+    let page = page_number address in
+    let gone : is_mapped v.state (at_page p page) ≡ false = mapped_by_step v p address size access page ∙ ap (λ x. not (maps_page (first_in x))) (sym steps) in
+    record {
+      within = none (second_page address size) (sym (ap second_in steps));
+      gone = gone;
+      may = may_map v.state p page (page_is_user page (all_user address size g.outside).0) (first_room v.state p address size g.room) gone;
+    }
+  where
+    none : (x : Option ℕ) → option_map (step_at v p access) x ≡ None → x ≡ None
+    none None h = refl
+    none (Some page) h = cc
+
+-- a store to it leaves what a store with its page mapped first leaves
+pub stored_new : (s : State) (p address : ℕ) (size : Size) (value : ℕ) → MapsOne s p address size → after_store (after_map s p (page_number address) true) p address size value ≡ after_store s p address size value
+stored_new s p address size value one =
+    ap (λ T. after_access (record s { spaces = T }) p address size Write value) (sym (with_new (second_page address size) one.within))
+    ∙ mapped_after s p address size Write value
+  where
+    with_new : (x : Option ℕ) → x ≡ None → with_pages s.spaces p (page_and (page_number address) x) ≡ map.insert s.spaces (slot_at p address) (fresh (slot_at p address) true)
+    with_new None h = ap (λ b. if b then s.spaces else map.insert s.spaces (slot_at p address) (fresh (slot_at p address) true)) one.gone
+    with_new (Some page) h = cc

@@ -15,7 +15,7 @@ ghost use Rattle.address_space.specs.Image.{is_lazy_at};
 ghost use Rattle.address_space.specs.View.{directory_of};
 ghost use Rattle.address_space.specs.ByWalk.{finds, value_found, after_walked};
 ghost use Rattle.process_table.specs.Image.{memory_of};
-ghost use Rattle.fault_handler.specs.Plans.{maps_page, plan_at, goes_on, at_once, takes_no_frame};
+ghost use Rattle.fault_handler.specs.Plans.{maps_page, plan_at, goes_on, at_once, new_page, takes_no_frame};
 ghost use Rattle.process_table.specs.View.{View};
 ghost use Rattle.table_walk.specs.declared.Access.{Access};
 ghost use Rattle.fault_handler.specs.declared.plans.Plan.TheVariants as plan;
@@ -120,6 +120,31 @@ fn make_ready(
     }
 }
 
+/// Whether an access stores into one page, which is mapped for it.
+fn stores_in_new_page(plan: &Plan, access: Access) -> bool
+    ensures plan { result ≡ true → plan.now ≡ new_page }
+    ensures access { result ≡ true → access ≡ Access.Write }
+{
+    match access {
+        Access::Read => false,
+        Access::Write => matches!(
+            plan,
+            Plan::Ready {
+                first: PageStep::MapZero,
+                second: None,
+            }
+        ),
+    }
+}
+
+/// Maps the one page of a store that is not mapped, and stores into it.
+fn store_in_new_page(processes: &mut Processes, pid: Pid, address: Vaddr, size: Size, value: u32)
+    requires { plan_at processes.old pid address size Access.Write ≡ new_page }
+    ensures { processes.new.state ≡ after_store processes.old.state pid address size value }
+{
+    processes.map_stored(pid, address, size, value);
+}
+
 /// Carries out an access that completes, by the plan of this state: the value read, or 0 after a write.
 /// An access that completes as memory stands takes no frame.
 pub fn settle(
@@ -137,6 +162,10 @@ pub fn settle(
     ensures state { processes.new.state ≡ after_access processes.old.state pid address size access value }
     ensures frames { takes_no_frame plan ≡ true → processes.new.roles ≡ processes.old.roles }
 {
+    if stores_in_new_page(&plan, access) {
+        store_in_new_page(processes, pid, address, size, value);
+        return 0;
+    }
     make_ready(processes, &plan, pid, address, size, access);
     processes.access(pid, address, size, access, value)
 }

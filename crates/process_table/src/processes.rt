@@ -1,10 +1,10 @@
 //! The type of the processes, and its calls.
 
 ghost use Rattle.std.specs.Prelude.{◌≡◌, ◌≢◌, ◌↔◌, ℕ, ◌+◌, ◌≤◌, ◌<◌, Bool, true, false, not, Some, None, Ok, IsOk, IfOk, IfSome, IsSome, IsNone, IsErrOf, length, is_some, replicate, slice_get};
-ghost use Rattle.page_words.specs.Addresses.{page_number, byte_count, second_page, EachTouched, IsUserPage, is_user_page};
+ghost use Rattle.page_words.specs.Addresses.{page_number, byte_count, second_page, touched, EachTouched, IsUserPage, is_user_page};
 ghost use Rattle.page_words.specs.FiniteMap as map;
 ghost use Rattle.alloc_table.specs.Roles.{opening_roles};
-ghost use Rattle.address_space.specs.Spaces.{Slot, cost, need, slot_at, fresh, without, is_slot, is_of, cell_or_fresh, protected, joined, at_page, copied};
+ghost use Rattle.address_space.specs.Spaces.{Slot, cost, need, slot_at, fresh, with_pages, all_stored, bytes_of, without, is_slot, is_of, cell_or_fresh, protected, joined, at_page, copied};
 ghost use Rattle.page_sharing.specs.Offers.{offer_of};
 ghost use Rattle.std.specs.Option.{option_map, unwrap_or};
 ghost use Rattle.address_space.specs.View as seen;
@@ -32,7 +32,7 @@ use crate::checks::{
 };
 use address_space::{Seen, Spaces, SpacesFault};
 use page_sharing::Offers;
-use page_words::{Page, Pid, Size, Vaddr};
+use page_words::{Page, Pid, Size, Vaddr, page_of};
 use quota_tree::{Container, QuotaFault, Quotas};
 use std::alloc::Global;
 use std::marker::Model;
@@ -104,6 +104,30 @@ fn add_page(spaces: &mut Spaces, quotas: &mut Quotas, pid: Pid, page: Page, writ
     let need = spaces.need(pid, page);
     take_room(quotas, pid, need);
     spaces.map_zero(pid, page, write);
+}
+
+/// Maps a page of zeros that may be written, and stores bytes that lie in it.
+fn add_stored(
+    spaces: &mut Spaces,
+    quotas: &mut Quotas,
+    pid: Pid,
+    address: Vaddr,
+    size: Size,
+    value: u32,
+)
+    requires kept { IsProcesses spaces.old quotas.old }
+    requires live { IsLive quotas.old pid }
+    requires within { second_page address size ≡ None }
+    requires user { IsUserPage (page_number address) }
+    requires unmapped { map.get spaces.old.spaces (slot_at pid address) ≡ None }
+    requires room { need spaces.old.spaces pid (page_number address) ≤ room_of quotas.old pid }
+    ensures kept { IsProcesses spaces.new quotas.new }
+    ensures spaces { spaces.new.spaces ≡ all_stored (with_pages (map.insert spaces.old.spaces (slot_at pid address) (fresh (slot_at pid address) true)) pid (touched address size)) pid address (bytes_of (byte_count size) value) }
+    ensures book { quotas.new.book ≡ quotas.old.book }
+{
+    let need = spaces.need(pid, page_of(address));
+    take_room(quotas, pid, need);
+    spaces.map_stored(pid, address, size, value);
 }
 
 /// Takes a mapped page away.
@@ -381,6 +405,23 @@ impl Processes {
         ensures { self.new.state ≡ after_map self.old.state pid page write }
     {
         add_page(&mut self.spaces, &mut self.quotas, pid, page, write);
+    }
+
+    /// Maps a page of zeros that the process may map, with the right to write, and stores bytes that lie in it, as
+    /// `map` and then `access` would.
+    pub fn map_stored(&mut self, pid: Pid, address: Vaddr, size: Size, value: u32)
+        requires may { IsOk (map_answer self.old.state pid (page_number address)) }
+        requires within { second_page address size ≡ None }
+        ensures { self.new.state ≡ after_store (after_map self.old.state pid (page_number address) true) pid address size value }
+    {
+        add_stored(
+            &mut self.spaces,
+            &mut self.quotas,
+            pid,
+            address,
+            size,
+            value,
+        );
     }
 
     /// What a process would be charged for once a page is unmapped, or the first cause against it:

@@ -1,14 +1,17 @@
 -- A page that was found: what is known of it, and what an access through it leaves.
-use Rattle.std.proofs.Common.{◌≡◌, ℕ, ◌+◌, ◌<◌, ◌≤◌, Bool, true, false, not, List, length, refl, ap, sym, ◌∙◌, subst, arith, inl, inr, Option, Some, None}
+use Rattle.std.proofs.Common.{◌≡◌, ℕ, ◌+◌, ◌^◌, ◌<◌, ◌≤◌, Bool, true, false, not, List, length, refl, ap, sym, ◌∙◌, subst, arith, inl, inr, Option, Some, None}
 use Rattle.std.specs.Prelude.{is_some, slice_get, replicate}
 use Rattle.std.specs.Option.{option_and_then, option_map}
 use Rattle.page_words.specs.Addresses.{slot_number, index_number, byte_count, IsUserPage}
 use Rattle.page_words.specs.declared.addresses.Size.{Size}
 use Rattle.page_words.specs.FiniteMap as map
 use Rattle.std.proofs.lemmas.Bool.{and_parts}
-use Rattle.phys_memory.specs.Bytes.{frame_bytes, word_in}
+use Rattle.phys_memory.specs.Bytes.{frame_bytes, word_in, with_word_in}
+use Rattle.phys_memory.proofs.Frames.{with_frame-same, word_in_same}
 use Rattle.page_map.specs.declared.PageEntry.{PageEntry}
-use Rattle.page_map.specs.Entries.{Frames, dir_word, table_of, word_entry, entry_at, with_entry, is_lazy_entry, IsKernelEntry}
+use Rattle.page_map.specs.Entries.{Frames, dir_word, table_of, word_entry, entry_at, with_entry, entry_word, is_lazy_entry, IsKernelEntry}
+use Rattle.page_map.proofs.WordLaws.{entry_word-lt, word_entry-entry_word}
+use Rattle.address_space.proofs.entries.EntrySteps.{tables_kept}
 use Rattle.address_space.specs.declared.lookup.Found.{Found}
 use Rattle.address_space.specs.declared.paged.Paged.{Paged}
 use Rattle.address_space.specs.Spaces.{need, Slot, Spaces, Cell, cell_or_fresh, bytes_of, stored, accessed, protected, at_page}
@@ -26,7 +29,7 @@ use Rattle.address_space.proofs.entries.Readings.{mapped_read, get-spaces_in, gr
 use Rattle.address_space.proofs.frames.FewHolders.{count_few}
 use Rattle.address_space.proofs.costs.CostSteps.{need-one, need-two}
 use Rattle.alloc_table.specs.Roles.{IsPageBelow, free_frames}
-use Rattle.alloc_table.specs.declared.Role.TheVariants.{Free, Page}
+use Rattle.alloc_table.specs.declared.Role.TheVariants.{Free, Page, Table}
 use Rattle.address_space.specs.Shown.{shown}
 use Rattle.address_space.specs.declared.Cell.{Cell as Shown}
 use Rattle.address_space.proofs.steps.Openings.{no_cell}
@@ -37,7 +40,7 @@ use Rattle.address_space.proofs.steps.LazyFilling.{page_filled, room_to_fill}
 use Rattle.address_space.proofs.steps.CountSteps.{counts_kept, alike_taken}
 use Rattle.alloc_table.specs.declared.Role.{Role}
 use Rattle.std.proofs.lemmas.List.{length-replicate}
-use Rattle.address_space.proofs.steps.Stores.{named_entry, page_of_name, named_inside, entry_rules, cell_read, flags_set, flagged_load, flagged_right, stored_place, page_stored, written_long}
+use Rattle.address_space.proofs.steps.Stores.{frame_written, named_entry, page_of_name, named_inside, entry_rules, cell_read, flags_set, flagged_load, flagged_right, stored_place, page_stored, written_long}
 
 -- what was found is the entry of the page's slot
 pub found_entry : (D : Directories) (m : Frames) (p page : ℕ) → option_map (λ (f : Found). f.entry) (found_in D m p page) ≡ entry_in D m (at_page p page)
@@ -161,6 +164,26 @@ need_with paged p page t before user is = need-one (directory_of paged.directori
     by None live h = cc
     by (Some d) live h = live_small paged.directories p d before.spaces.sound.pids live
 
+-- a page is found at the entry that was written for it
+pub found_written : (directories : List (Option ℕ)) (bytes two : List ℕ) (roles : List Role) (p d page t : ℕ) (e : PageEntry) → IsSound directories bytes roles → directory_of directories p ≡ Some d
+    → table_of (frame_bytes bytes) d (slot_number page) ≡ Some t → e.frame < 2 ^ 20 → frame_bytes two ≡ with_entry (frame_bytes bytes) t page e
+    → found_in (directory_of directories) (frame_bytes two) p page ≡ Some (record { page = page; table = t; entry = e })
+found_written directories bytes two roles p d page t e sound live there small is =
+    let D : Directories = directory_of directories in
+    let m : Frames = frame_bytes bytes in
+    let m2 : Frames = with_entry m t page e in
+    let index = index_number page in
+    let named = ap (option_and_then (λ x. table_of m x (slot_number page))) live ∙ there in
+    let long = sound.tables.long t (Table p (slot_number page)) (sound.tables.table p (slot_number page) t named) in
+    let lt = entry_word-lt e small in
+    ap (λ n. found_in D n p page) is
+    ∙ ap (option_and_then (found_by m2 page)) (tables_kept D m (slice_get roles) sound.tables p d page t (entry_word e) live there lt p (slot_number page) ∙ named)
+    ∙ ap (found_word page t) (ap (λ l. word_in l index) (with_frame-same m t (with_word_in (m t) index (entry_word e))) ∙ word_in_same (m t) index (entry_word e) long (omega arith) lt)
+    ∙ ap (option_map (λ x. record { page = page; table = t; entry = x })) (word_entry-entry_word e small)
+  where
+    found_word : ℕ → ℕ → ℕ → Option Found
+    found_word page t w = option_map (λ x. record { page = page; table = t; entry = x }) (word_entry w)
+
 -- ---- A page that was found, whose invariant holds
 
 module _ (paged : Paged) (p page : ℕ) (f : Found) (before : IsKeptPaged paged) (user : IsUserPage page) (is : found_at paged p page ≡ Some f) where
@@ -260,8 +283,8 @@ module _ (paged : Paged) (p page : ℕ) (f : Found) (before : IsKeptPaged paged)
       (λ q. key-stored (spaces_at paged) (at_page p page) at (bytes_of (byte_count size) value) (cell_or_fresh (spaces_at paged) (at_page p page)) q ∙ kept (spaces_at paged) (at_page p page) (cell_or_fresh (spaces_at paged) (at_page p page)) found_there q)
 
   -- a frame of its own
-  pub found_filled : (two : List ℕ) (roles' : List Role) → f.entry.lazy ≡ true → FrameGiven paged.memory paged.frames f two roles' → PageFilled paged.directories p page paged.memory paged.frames two roles'
-  found_filled two roles' lazy g =
+  pub found_filled : (e' : PageEntry) (two : List ℕ) (roles' : List Role) → f.entry.lazy ≡ true → FrameGiven paged.memory paged.frames f e' two roles' → PageFilled paged.directories p page paged.memory paged.frames two roles'
+  found_filled e' two roles' lazy g =
       let R = slice_get paged.frames in
       let free = g.taken.was_free in
       let is = zeroed paged.memory g.between g.frame (inside paged.directories paged.memory paged.frames g.frame Free before.spaces.sound free) g.zeros in
@@ -271,11 +294,26 @@ module _ (paged : Paged) (p page : ℕ) (f : Found) (before : IsKeptPaged paged)
       ∙ sym (ap (λ t. with_entry (frame_bytes g.between) t page (record f.entry { frame = g.frame; lazy = false })) (table_by_word (dir_word (frame_bytes g.between) there.directory (slot_number page)) f.table table)) in
       page_filled paged.directories paged.memory g.between two paged.frames roles' p there.directory page g.frame f.entry before.spaces there.live user.0 user.1 there.here lazy g.taken is g.between_long written g.long
 
-  pub filled_kept : (two : List ℕ) (roles' : List Role) → FrameGiven paged.memory paged.frames f two roles' → PageFilled paged.directories p page paged.memory paged.frames two roles' → IsKept paged.directories two roles' paged.counts.items
-  filled_kept two roles' g filled = record {
+  pub filled_kept : (e' : PageEntry) (two : List ℕ) (roles' : List Role) → FrameGiven paged.memory paged.frames f e' two roles' → PageFilled paged.directories p page paged.memory paged.frames two roles' → IsKept paged.directories two roles' paged.counts.items
+  filled_kept e' two roles' g filled = record {
     spaces = filled.after;
     counted = counts_kept (spaces_at paged) (spaces_in paged.directories two) paged.frames roles' filled.spaces (alike_taken (spaces_at paged) paged.frames roles' g.frame (Page 1) g.taken refl) paged.counts.items before.counted;
   }
+
+  -- and it is found there
+  pub filled_found : (e' : PageEntry) (two : List ℕ) (roles' : List Role) → FrameGiven paged.memory paged.frames f e' two roles'
+      → found_in (directory_of paged.directories) (frame_bytes two) p page ≡ Some (record { page = page; table = f.table; entry = e' })
+  filled_found e' two roles' g =
+      let free = g.taken.was_free in
+      let at = inside paged.directories paged.memory paged.frames g.frame Free before.spaces.sound free in
+      let is = zeroed paged.memory g.between g.frame at g.zeros in
+      let loose = free_loose (slice_get paged.frames) g.frame free in
+      let long = length-replicate {A = ℕ} 4096 0 in
+      let kept = map_kept paged.directories paged.memory g.between paged.frames p there.directory g.frame (replicate 4096 0) before.spaces.sound there.live loose long is g.between_long in
+      let w = frame_written paged.directories paged.memory g.between paged.frames g.frame (replicate 4096 0) before.spaces.sound loose long is g.between_long in
+      found_written paged.directories g.between two paged.frames p there.directory page f.table e' w.sound there.live (kept.tables (slot_number page) ∙ there.table)
+      (subst (λ (e : PageEntry). e.frame < 2 ^ 20) (sym g.same) at.small)
+      (g.entry ∙ (λ i. with_entry (frame_bytes g.between) f.table (there.same_page i) (sym g.same i)))
 
   pub room_found : f.entry.lazy ≡ true → 0 < free_frames paged.frames
   room_found lazy = room_to_fill paged.directories paged.memory paged.frames p there.directory page f.entry before.spaces there.live user.0 user.1 there.here lazy

@@ -14,6 +14,7 @@ put_entry-requires-clause-frame c =
 pub returns : goal.returns
 returns c = record {
   frame = c.take-frame.result;
+  same = c.filled-2.ensures;
   taken = c.take-frame.ensures;
   between = c.zero_frame.new.self;
   zeros = c.zero_frame.ensures.bytes;

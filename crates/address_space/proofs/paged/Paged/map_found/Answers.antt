@@ -1,12 +1,14 @@
-use Rattle.std.proofs.Common.{ap, ◌∙◌, refl}
+use Rattle.std.proofs.Common.{◌^◌, ◌<◌, ap, sym, subst, arith, ◌∙◌, refl}
 use Rattle.phys_memory.specs.Bytes.{frame_bytes}
 use Rattle.page_words.specs.FiniteMap as map
+use Rattle.page_map.specs.declared.PageEntry.{PageEntry}
 use Rattle.page_map.specs.Entries.{with_entry, is_lazy_entry}
 use Rattle.address_space.specs.Spaces.{Spaces, fresh, at_page}
 use Rattle.address_space.proofs.standing.Standing.{same_lazy}
 use Rattle.address_space.proofs.steps.Steps.{page_map_of}
-use Rattle.address_space.proofs.steps.NewPages.{table_room, ready_given, ready_inside, ready_count, ready_fits, zero_added, zero_more, added_kept}
-use Rattle.address_space.proofs.paged.Paged.map_zero.Goals as goal
+use Rattle.address_space.proofs.steps.NewPages.{table_room, ready_given, ready_table, ready_inside, ready_count, ready_fits, zero_added, zero_more, added_kept}
+use Rattle.address_space.proofs.steps.FoundPages.{found_written}
+use Rattle.address_space.proofs.paged.Paged.map_found.Goals as goal
 
 pub give_table-table-requires-clause-map : goal.give_table-table-requires-clause-map
 give_table-table-requires-clause-map c = page_map_of c.args.self.now.directories c.args.self.now.memory c.args.self.now.frames c.args.pid c.home-directory.result c.requires.kept.spaces.sound c.home-directory.ensures
@@ -57,3 +59,10 @@ returns-clause-kept c =
     c.give_table-table.ensures c.args.self.now.counts.items c.requires.kept.counted c.put_entry.new.memory c.count_page.new.counts.items c.give_table-table.new.frames c.requires.room added.slot
     (zero_more c.args.self.now.directories c.args.self.now.memory c.args.self.now.frames c.args.pid c.home-directory.result c.args.page c.give_table-table.result c.give_table-table.new.memory c.give_table-table.new.frames c.requires.kept.spaces c.requires.user c.home-directory.ensures c.give_table-table.ensures c.args.write c.put_entry.new.memory c.requires.unmapped added)
     (λ _ _. refl) c.count_page.ensures
+
+pub returns-clause-found : goal.returns-clause-found
+returns-clause-found c =
+    let given = ready_given c.args.self.now.directories c.args.self.now.memory c.args.self.now.frames c.args.pid c.home-directory.result c.args.page c.give_table-table.result c.give_table-table.new.memory c.give_table-table.new.frames c.requires.kept.spaces c.requires.user c.home-directory.ensures c.give_table-table.ensures in
+    let there = ready_table c.args.self.now.directories c.args.self.now.memory c.args.self.now.frames c.args.pid c.home-directory.result c.args.page c.give_table-table.result c.give_table-table.new.memory c.give_table-table.new.frames c.requires.kept.spaces c.requires.user c.home-directory.ensures c.give_table-table.ensures in
+    found_written c.args.self.now.directories c.give_table-table.new.memory c.put_entry.new.memory c.give_table-table.new.frames c.args.pid c.home-directory.result c.args.page c.give_table-table.result c.fresh_entry-entry.result given.sound c.home-directory.ensures there
+    (subst (λ (e : PageEntry). e.frame < 2 ^ 20) (sym c.fresh_entry-entry.ensures) (omega arith)) (c.put_entry.ensures.frames ∙ ap (with_entry (frame_bytes c.give_table-table.new.memory) c.give_table-table.result c.args.page) (c.fresh_entry.ensures ∙ sym c.fresh_entry-entry.ensures))
