@@ -59,19 +59,27 @@ impl Model for Core {
 }
 
 /// Carries out a call that is neither refused nor a fault.
+#[inline(always)]
 fn complete(processes: &mut Processes, decision: &Decision)
     requires decided { decision.now ≡ decision_of processes.old decision.now.event }
     requires completes { goes_on decision.now.plan ≡ true }
     ensures { processes.new.state ≡ after processes.old.state decision.now.event.pid decision.now.event.call }
 {
     let pid = decision.event.pid;
-    let plan = decision.plan;
     match decision.event.call {
         Call::Load { addr, size } => {
-            settle(processes, plan, pid, addr, size, Access::Read, 0);
+            settle(processes, decision.plan, pid, addr, size, Access::Read, 0);
         }
         Call::Store { addr, size, value } => {
-            settle(processes, plan, pid, addr, size, Access::Write, value);
+            settle(
+                processes,
+                decision.plan,
+                pid,
+                addr,
+                size,
+                Access::Write,
+                value,
+            );
         }
         Call::Map { page, write } => processes.map(pid, page, write),
         Call::Unmap { page } => processes.unmap(pid, page),
@@ -100,6 +108,7 @@ fn complete(processes: &mut Processes, decision: &Decision)
 }
 
 /// Carries out a load or a store that completes at once, in one page. None, and nothing changes, for any other event.
+#[inline(always)]
 fn at_once(processes: &mut Processes, event: &Event) -> Option<Reply>
     ensures reply { IfSome result (λ reply. reply ≡ answer processes.old.state event.now) }
     ensures completes { IfSome result (λ reply. completes reply ≡ true) }
@@ -134,6 +143,7 @@ fn charge_now(processes: &Processes, pid: Pid) -> u32
 }
 
 /// Carries out what was decided.
+#[inline(always)]
 fn carry_out(processes: &mut Processes, decision: &Decision)
     requires decided { decision.now ≡ decision_of processes.old decision.now.event }
     ensures state { processes.new.state ≡ next processes.old.state decision.now.event }
@@ -166,6 +176,7 @@ impl Core {
     }
 
     /// What is decided of an event: its plan, its reply and the charge of its process afterwards.
+    #[inline(never)]
     pub fn decide(&self, event: &Event) -> Decision
         ensures decision { result ≡ decision_of self.now event.now }
         ensures reply { result.reply ≡ answer self.now.state event.now }
@@ -187,6 +198,7 @@ impl Core {
     }
 
     /// Carries out what was decided on this state.
+    #[inline(never)]
     fn follow(&mut self, decision: &Decision)
         requires { decision.now ≡ decision_of self.old decision.now.event }
         ensures state { self.new.state ≡ next self.old.state decision.now.event }
@@ -195,6 +207,21 @@ impl Core {
     {
         carry_out(&mut self.processes, decision);
         self.stands();
+    }
+
+    /// The reply to an event that is decided first. It stands apart from `step`, which keeps no decision where none is
+    /// made, and it hands none out, so that what is decided need not be put together.
+    #[inline(never)]
+    fn reply_planned(&mut self, event: &Event) -> Reply
+        ensures reply { result ≡ answer self.old.state event.now }
+        ensures state { self.new.state ≡ next self.old.state event.now }
+        ensures stands { StandsFor (image_of self.new) self.new.state }
+        ensures kept { completes result ≡ false → self.new ≡ self.old }
+    {
+        let decision = decide_on(&self.processes, event);
+        carry_out(&mut self.processes, &decision);
+        self.stands();
+        decision.reply
     }
 
     /// Decides an event and carries it out, and gives what was decided: what `decide` says of the state before.
@@ -226,8 +253,7 @@ impl Core {
             self.stands();
             return reply;
         }
-        let decision = self.decide(event);
-        self.commit(decision)
+        self.reply_planned(event)
     }
 
     /// Carries out events in order, and writes the reply to each in its place. What a process is told that

@@ -109,6 +109,7 @@ fn value_by(processes: &Processes, plan: &Plan, pid: Pid, address: Vaddr, size: 
     }
 }
 
+#[inline(always)]
 fn decide_load(
     processes: &Processes,
     event: &Event,
@@ -127,6 +128,7 @@ fn decide_load(
     by_plan(event, &planned.plan, &Reply::Value(value), planned.charge)
 }
 
+#[inline(always)]
 fn decide_store(
     processes: &Processes,
     event: &Event,
@@ -167,6 +169,7 @@ fn info_told(processes: &Processes, pid: Pid, page: Page) -> Reply
     }
 }
 
+#[inline(always)]
 fn decide_info(processes: &Processes, event: &Event, page: Page, used: u32) -> Decision
     requires live { is_live processes.now.state event.now.pid ≡ true }
     requires info { event.now.call ≡ call.Info page }
@@ -192,6 +195,7 @@ fn quota_told(container: &Container) -> Reply
 
 /// What is decided of an event of a live process, which has this container.
 #[tactic(auto, using(crate::proofs::Charges::map_charge, crate::proofs::Charges::spawn_lives, crate::proofs::Charges::exit_gone))]
+#[inline(always)]
 fn decide_live(processes: &Processes, event: &Event, container: &Container) -> Decision
     requires live { is_live processes.now.state event.now.pid ≡ true }
     requires container { container_of processes.now.state event.now.pid ≡ Some container.now }
@@ -234,6 +238,7 @@ fn decide_live(processes: &Processes, event: &Event, container: &Container) -> D
 }
 
 /// What is decided of an event.
+#[inline(always)]
 pub(crate) fn decide_on(processes: &Processes, event: &Event) -> Decision
     ensures { result ≡ decision_of processes.now event.now }
 {

@@ -127,19 +127,21 @@ accept-charge s p giver giver_page page charge live free is =
 -- ---- A page that is not mapped, by whether there is room for it
 
 -- what the test of a map answers
-pub test_map : (s : State) (p page : ℕ) → is_live s p ≡ true → is_user_page page ≡ true → is_mapped s (at_page p page) ≡ false
-    → (if has_no_room s (at_page p page) then Err Quota else Ok (cost s.spaces p + need s.spaces p page)) ≡ map_answer s p page
-test_map s p page live user gone = by (has_no_room s (at_page p page)) refl
+pub test_map : (s : State) (p page : ℕ) → is_live s p ≡ true → is_user_page page ≡ true
+    → (if is_mapped s (at_page p page) then Err Mapped else if has_no_room s (at_page p page) then Err Quota else Ok (cost s.spaces p + need s.spaces p page)) ≡ map_answer s p page
+test_map s p page live user = by (is_mapped s (at_page p page)) (has_no_room s (at_page p page)) refl refl
   where
-    by : (b : Bool) → has_no_room s (at_page p page) ≡ b → (if b then Err Quota else Ok (cost s.spaces p + need s.spaces p page)) ≡ map_answer s p page
-    by true full = sym (λ i. number_unless (if live i then (if not (user i) then Some BadPage else if gone i then Some Mapped else if full i then Some Quota else None) else Some NoProcess) (cost (after_map s p page true).spaces p))
-    by false roomy = sym (map-charge s p page _ live (λ i. if not (user i) then Some BadPage else if gone i then Some Mapped else if roomy i then Some Quota else None) refl)
+    by : (a b : Bool) → is_mapped s (at_page p page) ≡ a → has_no_room s (at_page p page) ≡ b → (if a then Err Mapped else if b then Err Quota else Ok (cost s.spaces p + need s.spaces p page)) ≡ map_answer s p page
+    by true b there has = sym (λ i. number_unless (if live i then (if not (user i) then Some BadPage else if there i then Some Mapped else if has_no_room s (at_page p page) then Some Quota else None) else Some NoProcess) (cost (after_map s p page true).spaces p))
+    by false true gone full = sym (λ i. number_unless (if live i then (if not (user i) then Some BadPage else if gone i then Some Mapped else if full i then Some Quota else None) else Some NoProcess) (cost (after_map s p page true).spaces p))
+    by false false gone roomy = sym (map-charge s p page _ live (λ i. if not (user i) then Some BadPage else if gone i then Some Mapped else if roomy i then Some Quota else None) refl)
 
 -- what the test of an accept answers
-pub test_accept : (s : State) (p giver giver_page page : ℕ) → is_live s p ≡ true → is_user_page page ≡ true → map.contains_key s.offers (offer_of giver giver_page p) ≡ true → is_mapped s (at_page p page) ≡ false
-    → (if has_no_room s (at_page p page) then Err Quota else Ok (cost s.spaces p + need s.spaces p page)) ≡ accept_answer s p giver giver_page page
-test_accept s p giver giver_page page live user there gone = by (has_no_room s (at_page p page)) refl
+pub test_accept : (s : State) (p giver giver_page page : ℕ) → is_live s p ≡ true → is_user_page page ≡ true → map.contains_key s.offers (offer_of giver giver_page p) ≡ true
+    → (if is_mapped s (at_page p page) then Err Mapped else if has_no_room s (at_page p page) then Err Quota else Ok (cost s.spaces p + need s.spaces p page)) ≡ accept_answer s p giver giver_page page
+test_accept s p giver giver_page page live user there = by (is_mapped s (at_page p page)) (has_no_room s (at_page p page)) refl refl
   where
-    by : (b : Bool) → has_no_room s (at_page p page) ≡ b → (if b then Err Quota else Ok (cost s.spaces p + need s.spaces p page)) ≡ accept_answer s p giver giver_page page
-    by true full = sym (λ i. number_unless (if live i then (if not (user i) then Some BadPage else if not (there i) then Some NoOffer else if gone i then Some Mapped else if full i then Some Quota else None) else Some NoProcess) (cost (after_accept s p giver giver_page page).spaces p))
-    by false roomy = sym (accept-charge s p giver giver_page page _ live (λ i. if not (user i) then Some BadPage else if not (there i) then Some NoOffer else if gone i then Some Mapped else if roomy i then Some Quota else None) refl)
+    by : (a b : Bool) → is_mapped s (at_page p page) ≡ a → has_no_room s (at_page p page) ≡ b → (if a then Err Mapped else if b then Err Quota else Ok (cost s.spaces p + need s.spaces p page)) ≡ accept_answer s p giver giver_page page
+    by true b mapped has = sym (λ i. number_unless (if live i then (if not (user i) then Some BadPage else if not (there i) then Some NoOffer else if mapped i then Some Mapped else if has_no_room s (at_page p page) then Some Quota else None) else Some NoProcess) (cost (after_accept s p giver giver_page page).spaces p))
+    by false true gone full = sym (λ i. number_unless (if live i then (if not (user i) then Some BadPage else if not (there i) then Some NoOffer else if gone i then Some Mapped else if full i then Some Quota else None) else Some NoProcess) (cost (after_accept s p giver giver_page page).spaces p))
+    by false false gone roomy = sym (accept-charge s p giver giver_page page _ live (λ i. if not (user i) then Some BadPage else if not (there i) then Some NoOffer else if gone i then Some Mapped else if roomy i then Some Quota else None) refl)

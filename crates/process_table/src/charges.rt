@@ -53,19 +53,8 @@ fn charged_more(container: &Container, frames: u32) -> Result<u32, Cause>
     }
 }
 
-/// What one more page costs a live process.
-fn need_of(processes: &Processes, pid: Pid, page: Page) -> u32
-    requires live { is_live processes.now.state pid ≡ true }
-    requires user { IsUserPage page }
-    ensures value { result ≡ need processes.now.state.spaces pid page }
-    ensures most { result ≤ 2 }
-{
-    processes.stands();
-    processes.spaces().need(pid, page)
-}
-
-/// What a live process is charged for once a page is mapped that is not, or Quota where it has no room for it. The
-/// container is the process's.
+/// What a live process is charged for once it has a page that it hasn't, or the cause against it: Mapped, Quota. The
+/// container is the process's, and the page is looked up once.
 pub fn charge_with(
     processes: &Processes,
     container: &Container,
@@ -75,11 +64,16 @@ pub fn charge_with(
     requires container { container_of processes.now.state pid ≡ Some container.now }
     requires live { is_live processes.now.state pid ≡ true }
     requires user { IsUserPage page }
-    ensures { result ≡ (if has_no_room processes.now.state (at_page pid page) then Err cause.Quota else Ok (cost processes.now.state.spaces pid + need processes.now.state.spaces pid page)) }
+    ensures { result ≡ (if is_mapped processes.now.state (at_page pid page) then Err cause.Mapped else if has_no_room processes.now.state (at_page pid page) then Err cause.Quota else Ok (cost processes.now.state.spaces pid + need processes.now.state.spaces pid page)) }
 {
     processes.stands();
     processes.spaces().stands();
-    charged_more(container, need_of(processes, pid, page))
+    let seen = processes.seen(pid, page);
+    if seen.cell().is_some() {
+        Err(Cause::Mapped)
+    } else {
+        charged_more(container, seen.need())
+    }
 }
 
 /// What a live process is charged for once a mapped page is gone. The container is the process's.

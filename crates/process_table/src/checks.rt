@@ -32,8 +32,6 @@ pub fn map_test(
 {
     if !in_user_range(page) {
         Err(Cause::BadPage)
-    } else if processes.spaces().cell(pid, page).is_some() {
-        Err(Cause::Mapped)
     } else {
         charge_with(processes, container, pid, page)
     }
@@ -138,8 +136,6 @@ pub fn accept_test(
         Err(Cause::BadPage)
     } else if processes.offers().get(giver, giver_page, pid).is_none() {
         Err(Cause::NoOffer)
-    } else if processes.spaces().cell(pid, page).is_some() {
-        Err(Cause::Mapped)
     } else {
         charge_with(processes, container, pid, page)
     }
