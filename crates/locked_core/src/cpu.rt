@@ -147,7 +147,7 @@ impl<N: Name> Cpu<N> {
         ensures refused { IfErr result (λ f. (log : List LogEntry) × IsRefused N.frames log self.old f) }
         ensures err { OnErr result (self.new ≡ self.old) }
     {
-        let mut guard = kernel.state.lock(rt);
+        let mut guard = kernel.taken(rt);
         let ready = match guard.judge(self, pid, call) {
             Ok(ready) => ready,
             Err(fault) => {

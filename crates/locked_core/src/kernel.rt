@@ -18,12 +18,16 @@ use crate::locked::Locked;
 use crate::monitor::Monitor;
 use crate::publish::{reader_of, writer_of};
 use crate::rule::LogWriter;
+use crossbeam_utils::Backoff;
 use kernel_calls::Core;
 use memory_image::Image;
 use page_words::{MAX_FRAMES, MIN_FRAMES};
 use std::alloc::{AllocError, Global};
 use std::marker::Model;
 use std::sync::{Mutex, MutexGuard, Wait};
+
+/// How often a lock that is held is looked at before a thread sleeps for it.
+const LOOKS: u32 = 16;
 
 /// A kernel that has booted, and that no type names yet. Contracts see its sizes, and which book its history is
 /// written in, which is empty. End it by `open`.
@@ -120,6 +124,19 @@ impl<N: Name, G: Gate + Drop> Kernel<N, G> {
         })
     }
 
+    /// Takes the lock. While another has it, it is looked at less and less often, so that many calls of one CPU go on
+    /// undisturbed in a row, and their memory need not come from another processor; then the thread sleeps for it.
+    pub(crate) fn taken<R: Wait>(&self, rt: &R) -> MutexGuard<'_, Locked<N>> {
+        let backoff = Backoff::new();
+        for _ in 0..LOOKS {
+            if let Some(guard) = self.state.try_lock() {
+                return guard;
+            }
+            backoff.spin();
+        }
+        self.state.lock(rt)
+    }
+
     /// Takes the image of the kernel's memory, of one moment between calls: waits for the lock. The CPU has
     /// the calls and has seen what it had.
     ///
@@ -131,7 +148,7 @@ impl<N: Name, G: Gate + Drop> Kernel<N, G> {
         ensures kept { cpu.new ≡ cpu.old }
         ensures refused { IfErr result (λ f. (log : List LogEntry) × IsRefused N.frames log cpu.old f) }
     {
-        let guard = self.state.lock(rt);
+        let guard = self.taken(rt);
         let image = guard.snapshot(cpu);
         MutexGuard::unlock(guard);
         image
