@@ -121,15 +121,11 @@ fn tower_command<'a>(alloc: Global) -> Result<Command<'a>, AllocError>
     ensures globals { IfOk result (λ command. (fields_of command).has_globals ≡ false) }
     ensures required { IfOk result (λ command. (fields_of command).subcommand_required ≡ true) }
 {
-    let run = run_command(alloc)?;
-    let race = race_command(alloc)?;
-    let image = image_command(alloc)?;
-    let check = check_command(alloc)?;
     let tower = Command::new(alloc, "tower");
-    let tower = with_command(tower, run)?;
-    let tower = with_command(tower, race)?;
-    let tower = with_command(tower, image)?;
-    let tower = with_command(tower, check)?;
+    let tower = with_command(tower, run_command(alloc)?)?;
+    let tower = with_command(tower, race_command(alloc)?)?;
+    let tower = with_command(tower, image_command(alloc)?)?;
+    let tower = with_command(tower, check_command(alloc)?)?;
     Ok(tower.subcommand_required(true))
 }
 
