@@ -107,6 +107,11 @@ pub record SlotRemoved (directories : List (Option ℕ)) (p page : ℕ) (bytes :
   pub spaces : spaces_in directories bytes' ≡ without (spaces_in directories bytes) (is_slot p page)
   pub length : length roles' ≡ length roles
 
+-- a process has this directory
+pub record IsDirectory (directories : List (Option ℕ)) (directory : ℕ) : Type 0 where
+  pub process : ℕ
+  pub live : directory_of directories process ≡ Some directory
+
 -- no page of a process is mapped
 abbrev pub IsEmptySpace : Spaces → ℕ → Type 0
 IsEmptySpace spaces p = (page : ℕ) → map.get spaces (at_page p page) ≡ None

@@ -1,13 +1,15 @@
 //! All pages of a process are copied to another process.
 
-ghost use Rattle.std.specs.Prelude.{◌≡◌, ◌+◌, ◌*◌, ◌<◌, ◌≤◌, ◌^◌, ℕ, true, false, None, is_some, length};
+ghost use Rattle.std.specs.Prelude.{◌≡◌, ◌+◌, ◌*◌, ◌<◌, ◌≤◌, ◌^◌, ℕ, true, false, Some, None, is_some, length};
 ghost use Rattle.page_words.specs.Addresses.{IsUserPage};
 ghost use Rattle.page_words.specs.FiniteMap as map;
+ghost use Rattle.phys_memory.specs.Bytes.{frame_bytes};
 ghost use Rattle.alloc_table.specs.Roles.{free_frames};
+ghost use Rattle.page_map.specs.Entries.{entry_at};
 ghost use Rattle.address_space.specs.Spaces.{need, cost, at_page, copied};
 ghost use Rattle.address_space.specs.View.{directory_of, total_cost};
 ghost use Rattle.address_space.specs.Sound.{Inside};
-ghost use Rattle.address_space.specs.Changes.{IsEmptySpace, PageCopied};
+ghost use Rattle.address_space.specs.Changes.{IsDirectory, IsEmptySpace, PageCopied};
 ghost use Rattle.address_space.specs.Image.{is_lazy_at};
 ghost use Rattle.address_space.specs.Finds.{IsKeptPaged, spaces_at, image_at, EntryCopied};
 
@@ -51,24 +53,24 @@ fn copy_of(memory: &mut Memory, frames: &mut FrameTable, entry: PageEntry) -> Pa
 }
 
 impl Paged {
-    /// Copies a page to the same page of another process, which has none there.
-    fn copy_page(&mut self, from: Pid, to: Pid, page: Page)
+    /// Copies a page that a directory maps to the same page of another process, which has none there.
+    fn copy_page(&mut self, source: Frame, to: Pid, target: Frame, page: Page)
         requires kept { IsKeptPaged self.old }
-        requires mapped { is_some (map.get (spaces_at self.old) (at_page from page)) ≡ true }
-        requires live { is_some (directory_of self.old.directories to) ≡ true }
+        requires source { IsDirectory self.old.directories source }
+        requires mapped { is_some (entry_at (frame_bytes self.old.memory) source page) ≡ true }
+        requires target { directory_of self.old.directories to ≡ Some target }
         requires user { IsUserPage page }
         requires unmapped { map.get (spaces_at self.old) (at_page to page) ≡ None }
         requires room { 1 + total_cost self.old.directories (spaces_at self.old) + need (spaces_at self.old) to page ≤ length self.old.frames }
-        ensures copied { PageCopied self.old.directories from to page self.old.memory self.old.frames self.new.memory self.new.frames }
+        ensures copied { (from : ℕ) → directory_of self.old.directories from ≡ Some source → PageCopied self.old.directories from to page self.old.memory self.old.frames self.new.memory self.new.frames }
         ensures kept { IsKeptPaged self.new }
         ensures directories { self.new.directories ≡ self.old.directories }
     {
-        let found = self.place(from, page);
-        let directory = home(&self.directories, to);
-        let table = give_table(&mut self.memory, &mut self.frames, directory, to, page);
+        let entry = page_map::entry(&self.memory, source, page).unwrap();
+        let table = give_table(&mut self.memory, &mut self.frames, target, to, page);
         count_page(&mut self.counts, table);
-        let entry = copy_of(&mut self.memory, &mut self.frames, found.entry);
-        page_map::put_entry(&mut self.memory, table, page, entry);
+        let copy = copy_of(&mut self.memory, &mut self.frames, entry);
+        page_map::put_entry(&mut self.memory, table, page, copy);
     }
 
     /// Copies each page of a process to another process, which has none.
@@ -85,9 +87,10 @@ impl Paged {
         ensures frames { length self.new.frames ≡ length self.old.frames }
     {
         let source = home(&self.directories, from);
+        let target = home(&self.directories, to);
         let mut next = FIRST_SLOT * 1024;
         while let Some(page) = page_map::next_page(&self.memory, source, Page(next)) {
-            self.copy_page(from, to, page);
+            self.copy_page(source, to, target, page);
             next = page.0 + 1;
         }
     }

@@ -538,32 +538,71 @@ fn check_alike(rt: &impl Abort, one: &Core, two: &Core) -> Result<(), Fail> {
     Ok(())
 }
 
+/// Two machines with the same events, on the second of which accesses are made byte by byte; each with its plain
+/// map and its draws.
+#[derive(Drop)]
+struct Twins {
+    whole: Core,
+    parts: Core,
+    plain: Plain,
+    other: Plain,
+    draws: Generator,
+    again: Generator,
+}
+
+impl Twins {
+    fn new(rt: &HostRuntime) -> Result<Twins, Fail> {
+        let mut whole = Core::boot(rt.alloc(), 64)?;
+        begin(&mut whole)?;
+        let mut parts = Core::boot(rt.alloc(), 64)?;
+        begin(&mut parts)?;
+        Ok(Twins {
+            whole,
+            parts,
+            plain: Plain::new(),
+            other: Plain::new(),
+            draws: Generator { seed: 7 },
+            again: Generator { seed: 7 },
+        })
+    }
+
+    /// Disturbs both in the same way.
+    fn disturb(&mut self, rt: &impl Abort) -> Result<(), Fail> {
+        let done = disturb(&mut self.whole, &mut self.plain, &mut self.draws)?;
+        let same = disturb(&mut self.parts, &mut self.other, &mut self.again)?;
+        assert_eq!(rt; same, done);
+        Ok(())
+    }
+
+    /// Makes one access on both, and compares what it gives where it goes on.
+    fn access(&mut self, rt: &impl Abort, turn: u32) -> Result<u32, Fail> {
+        let access = self.draws.access()?;
+        self.again.access()?;
+        let reply = told(&mut self.whole, access.pid, access.call());
+        if ending(&reply) >= 2 {
+            return Ok(0);
+        }
+        assert_eq!(rt;
+            byte_by_byte(&mut self.parts, &access),
+            reply,
+            "turn {turn}"
+        );
+        Ok(1)
+    }
+}
+
 #[test]
 fn accesses_are_those_of_their_bytes(rt: HostRuntime) -> Result<(), Fail> {
-    let mut whole = Core::boot(rt.alloc(), 64)?;
-    let mut parts = Core::boot(rt.alloc(), 64)?;
-    begin(&mut whole)?;
-    begin(&mut parts)?;
-    let mut draws = Generator { seed: 7 };
-    let mut again = Generator { seed: 7 };
-    let mut plain = Plain::new();
-    let mut other = Plain::new();
+    let mut twins = Twins::new(&rt)?;
     let mut compared = 0_u32;
     for turn in 0..20_000_u32 {
-        let done = disturb(&mut whole, &mut plain, &mut draws)?;
-        assert_eq!(rt; disturb(&mut parts, &mut other, &mut again)?, done);
-        let access = draws.access()?;
-        again.access()?;
-        let reply = told(&mut whole, access.pid, access.call());
-        if ending(&reply) < 2 {
-            assert_eq!(rt; byte_by_byte(&mut parts, &access), reply, "turn {turn}");
-            compared = compared.wrapping_add(1);
-        }
+        twins.disturb(&rt)?;
+        compared = compared.wrapping_add(twins.access(&rt, turn)?);
         if turn % 64 == 0 {
-            check_alike(&rt, &whole, &parts)?;
+            check_alike(&rt, &twins.whole, &twins.parts)?;
         }
     }
-    check_alike(&rt, &whole, &parts)?;
+    check_alike(&rt, &twins.whole, &twins.parts)?;
     assert!(rt; compared >= 5_000);
     Ok(())
 }

@@ -338,28 +338,55 @@ fn loaded(core: &Core, pid: Pid, page: Page) -> Reply {
     core.decide(&Event { cpu: 0, pid, call }).reply
 }
 
-/// Whether a process has at each page what it would have as a copy of another.
+/// What a copy of a page is told, where the page itself is told this.
+fn told_of_copy(told: Reply) -> Reply {
+    match told {
+        Reply::Info { write, may, .. } => Reply::Info {
+            write,
+            may,
+            accessed: false,
+            dirty: false,
+            holders: 1,
+        },
+        none => none,
+    }
+}
+
+/// Whether a process is told of a page what it would be as a copy of another, and loads from it what that one does.
+fn is_copied(core: &Core, pid: Pid, copy: Pid, page: Page) -> bool {
+    let told = info(core, pid, page);
+    let is_mapped = matches!(told, Reply::Info { .. });
+    info(core, copy, page) == told_of_copy(told)
+        && (!is_mapped || loaded(core, copy, page) == loaded(core, pid, page))
+}
+
+/// The same at each page that events touch.
 fn is_copy(core: &Core, pid: Pid, copy: Pid) -> bool {
     let mut all = true;
     for n in 0..20 {
-        let page = page_touched(n);
-        let same = match info(core, pid, page) {
-            Reply::Info { write, may, .. } => {
-                let untouched = Reply::Info {
-                    write,
-                    may,
-                    accessed: false,
-                    dirty: false,
-                    holders: 1,
-                };
-                info(core, copy, page) == untouched
-                    && loaded(core, copy, page) == loaded(core, pid, page)
-            }
-            none => info(core, copy, page) == none,
-        };
-        all = all && same;
+        all = all && is_copied(core, pid, copy, page_touched(n));
     }
     all
+}
+
+/// Frames and charges agree.
+fn check_charges(rt: &impl Abort, core: &Core) -> Result<(), Fail> {
+    let held = frames_held(core).wrapping_add(lazy_pages(core));
+    assert_eq!(rt; charged(core)?, held);
+    Ok(())
+}
+
+/// Lets a process that was copied to another be compared with it, and the copy exit.
+fn check_copy(rt: &impl Abort, core: &mut Core, pid: Pid, copy: Pid) -> Result<(), Fail> {
+    check_charges(rt, core)?;
+    assert!(rt; is_copy(core, pid, copy));
+    let exit = Event {
+        cpu: 0,
+        pid: copy,
+        call: Call::Exit,
+    };
+    assert_eq!(rt; core.step(&exit), Reply::Done);
+    Ok(())
 }
 
 /// Copies each process that has room for it, and lets the copy exit. How many were copied.
@@ -374,18 +401,36 @@ fn copies_each_process(rt: &impl Abort, core: &mut Core) -> Result<u32, Fail> {
         let call = Call::Fork { quota };
         if let Reply::Child(copy) = core.step(&Event { cpu: 0, pid, call }) {
             copies = copies.wrapping_add(1);
-            let held = frames_held(core).wrapping_add(lazy_pages(core));
-            assert_eq!(rt; charged(core)?, held, "process {number}");
-            assert!(rt; is_copy(core, pid, copy), "process {number}");
-            let exit = Event {
-                cpu: 0,
-                pid: copy,
-                call: Call::Exit,
-            };
-            assert_eq!(rt; core.step(&exit), Reply::Done);
+            check_copy(rt, core, pid, copy)?;
         }
     }
     Ok(copies)
+}
+
+/// Makes 32 events, and checks what they leave.
+fn many_events(
+    rt: &impl Abort,
+    core: &mut Core,
+    generator: &mut Generator,
+    done: &mut [u32; 13],
+) -> Result<(), Fail> {
+    let blank = Event {
+        cpu: 0,
+        pid: process(0)?,
+        call: Call::Quota,
+    };
+    let mut events = [blank; 32];
+    let mut replies = [Reply::Done; 32];
+    for event in &mut events {
+        *event = generator.event()?;
+    }
+    core.run(&events, &mut replies);
+    count_done(&events, &replies, done);
+    assert!(rt; sides_agree(core, &events[31], replies[31]));
+    end_others(core)?;
+    check_charges(rt, core)?;
+    assert!(rt; flags_agree(core)?);
+    Ok(())
 }
 
 #[test]
@@ -398,28 +443,11 @@ fn flags_shares_and_counts_agree_after_many_events(rt: HostRuntime) -> Result<()
         page: Page(0x40000),
         target: root,
     };
-    let blank = Event {
-        cpu: 0,
-        pid: root,
-        call: Call::Quota,
-    };
     let mut generator = Generator { seed: 7, last };
     let mut done = [0_u32; 13];
     let mut copies = 0_u32;
     for round in 0..128 {
-        let mut events = [blank; 32];
-        let mut replies = [Reply::Done; 32];
-        for event in &mut events {
-            *event = generator.event()?;
-        }
-        core.run(&events, &mut replies);
-        count_done(&events, &replies, &mut done);
-        let agree = sides_agree(&core, &events[31], replies[31]);
-        assert!(rt; agree, "round {round}");
-        end_others(&mut core)?;
-        let held = frames_held(&core).wrapping_add(lazy_pages(&core));
-        assert_eq!(rt; charged(&core)?, held, "round {round}");
-        assert!(rt; flags_agree(&core)?, "round {round}");
+        many_events(&rt, &mut core, &mut generator, &mut done)?;
         if round % 16 == 15 {
             copies = copies.wrapping_add(copies_each_process(&rt, &mut core)?);
             assert!(rt; shares_agree(&core)?, "round {round}");

@@ -1,20 +1,19 @@
 //! What is decided of an event: its plan, its reply and the charge of its process afterwards.
 
 ghost use Rattle.std.specs.Prelude.{◌≡◌, true, false, Some};
-ghost use Rattle.address_space.specs.Spaces.{cost, cell_or_fresh, at_page};
-ghost use Rattle.process_table.specs.State.{is_live, is_mapped, container_of};
+ghost use Rattle.address_space.specs.Spaces.{cost};
+ghost use Rattle.process_table.specs.State.{is_live, container_of};
 ghost use Rattle.process_table.specs.Calls.{loaded};
 ghost use Rattle.fault_handler.specs.Plans.{plan_at, goes_on};
 ghost use Rattle.table_walk.specs.declared.Access.TheVariants as access;
 ghost use Rattle.kernel_calls.specs.declared.calls.Call.TheVariants as call;
 ghost use Rattle.kernel_calls.specs.declared.calls.Reply.TheVariants as reply;
-ghost use Rattle.page_words.specs.Addresses.{IsUserPage};
-ghost use Rattle.kernel_calls.specs.Machine.{info_of};
 ghost use Rattle.kernel_calls.specs.Decisions.{decision_of, refusal_of, reply_of, tested, spawned, planned, quota_told};
 
 use crate::calls::{Call, Decision, Event, Reply};
+use address_space::Cell;
 use fault_handler::{PageStep, Plan, plan_charged};
-use page_words::{Page, Pid, Size, Vaddr};
+use page_words::{Page, Pid, Size, Vaddr, in_user_range};
 use process_table::{Cause, Processes};
 use quota_tree::Container;
 use table_walk::{Access, PageFault};
@@ -153,13 +152,10 @@ fn decide_store(
     by_plan(event, &planned.plan, &Reply::Done, planned.charge)
 }
 
-/// The reply to a process that asks about a page that it has mapped.
-fn info_told(processes: &Processes, pid: Pid, page: Page) -> Reply
-    requires user { IsUserPage page }
-    requires mapped { is_mapped processes.now.state (at_page pid page) ≡ true }
-    ensures { result ≡ info_of (cell_or_fresh processes.now.state.spaces (at_page pid page)) }
+/// The reply to a process that asks about a page with this cell.
+fn info_told(cell: &Cell) -> Reply
+    ensures { result ≡ reply.Info cell.now.write cell.now.may cell.now.accessed cell.now.dirty cell.now.holders }
 {
-    let cell = processes.spaces().cell(pid, page).unwrap();
     Reply::Info {
         write: cell.write,
         may: cell.may,
@@ -176,9 +172,12 @@ fn decide_info(processes: &Processes, event: &Event, page: Page, used: u32) -> D
     requires used { used ≡ cost processes.now.state.spaces event.now.pid }
     ensures { result ≡ decision_of processes.now event.now }
 {
-    match processes.can_protect(event.pid, page, false) {
-        Ok(_) => answered(event, info_told(processes, event.pid, page), used),
-        Err(cause) => refusal(event, cause, used),
+    if !in_user_range(page) {
+        return refusal(event, Cause::BadPage, used);
+    }
+    match processes.spaces().cell(event.pid, page) {
+        Some(cell) => answered(event, info_told(&cell), used),
+        None => refusal(event, Cause::NotMapped, used),
     }
 }
 

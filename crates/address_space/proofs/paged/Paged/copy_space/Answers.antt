@@ -1,7 +1,5 @@
-use Rattle.std.proofs.Common.{◌≡◌, ◌+◌, ◌∙◌, ℕ, List, Option, None, ap, sym, subst, refl, true}
-use Rattle.std.specs.Prelude.{is_some}
+use Rattle.std.proofs.Common.{◌≡◌, ◌+◌, ◌∙◌, ℕ, List, Option, Some, None, ap, sym, subst, refl}
 use Rattle.page_words.specs.FiniteMap as map
-use Rattle.page_words.proofs.OptionLemmas.{some_value}
 use Rattle.address_space.specs.Spaces.{at_page}
 use Rattle.address_space.specs.View.{directory_of, entry_in, spaces_in}
 use Rattle.phys_memory.specs.Bytes.{frame_bytes}
@@ -10,7 +8,7 @@ use Rattle.address_space.proofs.standing.Standing.{same_lazy}
 use Rattle.address_space.specs.Changes.{CopiedBelow, PageCopied}
 use Rattle.address_space.proofs.costs.Costed.{Room}
 use Rattle.address_space.proofs.steps.Steps.{page_map_of}
-use Rattle.address_space.proofs.steps.FoundPages.{page_there}
+use Rattle.address_space.proofs.steps.Departures.{entry_mapped}
 use Rattle.address_space.proofs.steps.Copies.{copied_at_first, copied_next, copied_at_last, room_for_copy}
 use Rattle.address_space.proofs.paged.Paged.copy_space.Goals as goal
 
@@ -23,13 +21,14 @@ next_page-requires c = page_map_of c.args.self.now.directories c.loop-page.self.
 pub copy_page-requires-clause-kept : goal.copy_page-requires-clause-kept
 copy_page-requires-clause-kept c = c.loop-page.invariant.kept
 
-pub copy_page-requires-clause-mapped : goal.copy_page-requires-clause-mapped
-copy_page-requires-clause-mapped c =
-    subst (λ (l : List (Option ℕ)). is_some (map.get (spaces_in l c.loop-page.self.memory) (at_page c.args.from c.in-Some.page)) ≡ true) (sym c.loop-page.invariant.same)
-    (page_there c.args.self.now.directories c.loop-page.self.memory c.args.from c.home-source.result c.in-Some.page c.loop-page.invariant.so_far.after.sound.pids c.home-source.ensures c.in-Some.ensures.user c.in-Some.ensures.mapped)
+pub copy_page-requires-clause-source : goal.copy_page-requires-clause-source
+copy_page-requires-clause-source c = record { process = c.args.from; live = subst (λ (l : List (Option ℕ)). directory_of l c.args.from ≡ Some c.home-source.result) (sym c.loop-page.invariant.same) c.home-source.ensures }
 
-pub copy_page-requires-clause-live : goal.copy_page-requires-clause-live
-copy_page-requires-clause-live c = subst (λ (l : List (Option ℕ)). is_some (directory_of l c.args.to) ≡ true) (sym c.loop-page.invariant.same) c.requires.live
+pub copy_page-requires-clause-mapped : goal.copy_page-requires-clause-mapped
+copy_page-requires-clause-mapped c = entry_mapped (frame_bytes c.loop-page.self.memory) c.home-source.result c.in-Some.page c.in-Some.ensures.user c.in-Some.ensures.mapped
+
+pub copy_page-requires-clause-target : goal.copy_page-requires-clause-target
+copy_page-requires-clause-target c = subst (λ (l : List (Option ℕ)). directory_of l c.args.to ≡ Some c.home-target.result) (sym c.loop-page.invariant.same) c.home-target.ensures
 
 pub copy_page-requires-clause-unmapped : goal.copy_page-requires-clause-unmapped
 copy_page-requires-clause-unmapped c =
@@ -38,20 +37,19 @@ copy_page-requires-clause-unmapped c =
 
 pub copy_page-requires-clause-room : goal.copy_page-requires-clause-room
 copy_page-requires-clause-room c =
-    let target = some_value (directory_of c.args.self.now.directories c.args.to) c.requires.live in
     subst (λ (l : List (Option ℕ)). Room l (spaces_in l c.loop-page.self.memory) c.loop-page.self.frames c.args.to c.in-Some.page) (sym c.loop-page.invariant.same)
-    (room_for_copy c.args.self.now.directories c.args.self.now.memory c.loop-page.self.memory c.args.self.now.frames c.loop-page.self.frames c.args.from c.home-source.result c.args.to target.0 c.loop-page.next c.in-Some.page c.loop-page.invariant.so_far c.home-source.ensures target.1 c.in-Some.ensures.from c.in-Some.ensures.user c.in-Some.ensures.mapped
+    (room_for_copy c.args.self.now.directories c.args.self.now.memory c.loop-page.self.memory c.args.self.now.frames c.loop-page.self.frames c.args.from c.home-source.result c.args.to c.home-target.result c.loop-page.next c.in-Some.page c.loop-page.invariant.so_far c.home-source.ensures c.home-target.ensures c.in-Some.ensures.from c.in-Some.ensures.user c.in-Some.ensures.mapped
     c.requires.kept.spaces c.requires.empty c.requires.room)
 
 pub loop-page-preserved : goal.loop-page-preserved
 loop-page-preserved c =
-    let target = some_value (directory_of c.args.self.now.directories c.args.to) c.requires.live in
     record {
       so_far =
           subst (λ n. CopiedBelow c.args.self.now.directories c.args.from c.args.to (n + 1) c.args.self.now.memory c.args.self.now.frames c.copy_page.new.self.memory c.copy_page.new.self.frames) (sym c.page.view_is)
-          (copied_next c.args.self.now.directories c.args.self.now.memory c.loop-page.self.memory c.args.self.now.frames c.loop-page.self.frames c.args.from c.home-source.result c.args.to target.0 c.loop-page.next c.in-Some.page c.loop-page.invariant.so_far c.home-source.ensures target.1 c.in-Some.ensures.from c.in-Some.ensures.user c.in-Some.ensures.mapped
+          (copied_next c.args.self.now.directories c.args.self.now.memory c.loop-page.self.memory c.args.self.now.frames c.loop-page.self.frames c.args.from c.home-source.result c.args.to c.home-target.result c.loop-page.next c.in-Some.page c.loop-page.invariant.so_far c.home-source.ensures c.home-target.ensures c.in-Some.ensures.from c.in-Some.ensures.user c.in-Some.ensures.mapped
           c.copy_page.new.self.memory c.copy_page.new.self.frames c.in-Some.ensures.least
-          (subst (λ (l : List (Option ℕ)). PageCopied l c.args.from c.args.to c.in-Some.page c.loop-page.self.memory c.loop-page.self.frames c.copy_page.new.self.memory c.copy_page.new.self.frames) c.loop-page.invariant.same c.copy_page.ensures.copied));
+          (subst (λ (l : List (Option ℕ)). PageCopied l c.args.from c.args.to c.in-Some.page c.loop-page.self.memory c.loop-page.self.frames c.copy_page.new.self.memory c.copy_page.new.self.frames) c.loop-page.invariant.same
+          (c.copy_page.ensures.copied c.args.from (subst (λ (l : List (Option ℕ)). directory_of l c.args.from ≡ Some c.home-source.result) (sym c.loop-page.invariant.same) c.home-source.ensures))));
       kept = c.copy_page.ensures.kept;
       same = c.copy_page.ensures.directories ∙ c.loop-page.invariant.same;
     }
