@@ -197,37 +197,61 @@ fn copy_until_refused(rt: &impl Abort, core: &mut Core) -> Result<(), Fail> {
     Ok(())
 }
 
-#[test]
-fn copies_a_thousand_pages_until_refused(rt: HostRuntime) -> Result<(), Fail> {
-    let mut core = Core::boot(rt.alloc(), 4096)?;
-    let parent = process(1)?;
-    let quota = 4094;
-    let reply = told(&mut core, process(0)?, Call::Spawn { quota });
-    assert_eq!(rt; reply, Reply::Child(parent));
-    build(&rt, &mut core, parent);
-    check_charge(&rt, &core, parent);
-    let before = free_frames(&core);
-    copy_until_refused(&rt, &mut core)?;
+/// That three processes are untouched copies of another.
+fn check_copies(rt: &impl Abort, core: &Core, parent: Pid) -> Result<(), Fail> {
     for number in 2..5 {
         let copy = process(number)?;
         for n in 0..PAGES {
-            assert!(rt; same_bytes(&core, parent, copy, n));
-            assert!(rt; is_untouched_copy(&core, parent, copy, page_at(n)));
+            assert!(rt; same_bytes(core, parent, copy, n));
+            assert!(rt; is_untouched_copy(core, parent, copy, page_at(n)));
         }
     }
+    Ok(())
+}
+
+/// Lets all four store to every page, and checks then what each has and is charged.
+fn mark_and_check(rt: &impl Abort, core: &mut Core) -> Result<(), Fail> {
     for number in 1..5 {
-        mark_all(&rt, &mut core, process(number)?);
+        mark_all(rt, core, process(number)?);
     }
     // every page has a frame of its own now, and 78 of the quotas' frames are left beside frame 0
-    assert_eq!(rt; free_frames(&core), 4094 - 4 * COST);
+    assert_eq!(rt; free_frames(core), 4094 - 4 * COST);
     for number in 1..5 {
-        check_marks(&rt, &core, process(number)?);
-        check_charge(&rt, &core, process(number)?);
+        let pid = process(number)?;
+        check_marks(rt, core, pid);
+        check_charge(rt, core, pid);
     }
+    Ok(())
+}
+
+/// Lets the three copies exit.
+fn end_copies(rt: &impl Abort, core: &mut Core) -> Result<(), Fail> {
     for number in 2..5 {
-        let reply = told(&mut core, process(number)?, Call::Exit);
-        assert_eq!(rt; reply, Reply::Done);
+        assert_eq!(rt; told(core, process(number)?, Call::Exit), Reply::Done);
     }
+    Ok(())
+}
+
+/// A machine on which process 1 has all its pages.
+fn family<R: AllocGlobal + Abort>(rt: &R, parent: Pid) -> Result<Core, Fail> {
+    let mut core = Core::boot(rt.alloc(), 4096)?;
+    let quota = 4094;
+    let reply = told(&mut core, process(0)?, Call::Spawn { quota });
+    assert_eq!(rt; reply, Reply::Child(parent));
+    build(rt, &mut core, parent);
+    check_charge(rt, &core, parent);
+    Ok(core)
+}
+
+#[test]
+fn copies_a_thousand_pages_until_refused(rt: HostRuntime) -> Result<(), Fail> {
+    let parent = process(1)?;
+    let mut core = family(&rt, parent)?;
+    let before = free_frames(&core);
+    copy_until_refused(&rt, &mut core)?;
+    check_copies(&rt, &core, parent)?;
+    mark_and_check(&rt, &mut core)?;
+    end_copies(&rt, &mut core)?;
     check_marks(&rt, &core, parent);
     assert_eq!(rt; free_frames(&core), before.wrapping_sub(500));
     assert_eq!(rt; told(&mut core, parent, Call::Exit), Reply::Done);

@@ -51,49 +51,55 @@ fn maps_stores_loads_and_unmaps(rt: HostRuntime) -> Result<(), Fail> {
             Reply::Value(0)
         ]
     );
+    Ok(())
+}
+
+#[test]
+fn boots_with_a_directory_in_memory(rt: HostRuntime) -> Result<(), Fail> {
+    let core = Core::boot(rt.alloc(), 16)?;
+    let root = Pid::new(0).ok_or("no root")?;
     let directory = core.directory(root).ok_or("no directory")?;
+    assert!(rt; directory.0 != 0);
     assert_eq!(rt; core.memory().bytes().len(), 65536);
     assert_eq!(rt; core.memory().frames(), 16);
-    assert!(rt; directory.0 != 0);
     Ok(())
+}
+
+fn told(core: &mut Core, pid: Pid, call: Call) -> Reply {
+    core.step(&event(pid, call))
+}
+
+/// Maps a page by a decision and its commit: the reply, and the charge that was decided.
+fn mapped(core: &mut Core, pid: Pid, page: Page) -> (Reply, u32) {
+    let write = false;
+    let decision = core.decide(&event(pid, Call::Map { page, write }));
+    let used = decision.used_after;
+    (core.commit(decision), used)
 }
 
 #[test]
 fn counts_what_it_charges(rt: HostRuntime) -> Result<(), Fail> {
     let mut core = Core::boot(rt.alloc(), 16)?;
     let root = Pid::new(0).ok_or("no root")?;
-    let charges = [0x40000, 0x40001, 0x40400].map(|page| {
-        let decision = core.decide(&event(
-            root,
-            Call::Map {
-                page: Page(page),
-                write: false,
-            },
-        ));
-        let used = decision.used_after;
-        (core.commit(decision), used)
-    });
-    assert_eq!(rt;
-        charges,
-        [(Reply::Done, 3), (Reply::Done, 4), (Reply::Done, 6)]
-    );
-    let last = core.step(&event(
-        root,
-        Call::Unmap {
-            page: Page(0x40400),
-        },
-    ));
-    assert_eq!(rt; last, Reply::Done);
+    let page = Page(0x40000);
+    assert_eq!(rt; mapped(&mut core, root, page), (Reply::Done, 3));
+    assert_eq!(rt; mapped(&mut core, root, Page(0x40001)), (Reply::Done, 4));
+    assert_eq!(rt; mapped(&mut core, root, Page(0x40400)), (Reply::Done, 6));
+    let last = Call::Unmap {
+        page: Page(0x40400),
+    };
+    assert_eq!(rt; told(&mut core, root, last), Reply::Done);
     let other = Pid::new(1).ok_or("no process 1")?;
-    let refused = core.step(&event(
-        other,
-        Call::Unmap {
-            page: Page(0x40000),
-        },
-    ));
+    let refused = told(&mut core, other, Call::Unmap { page });
     assert_eq!(rt; refused, Reply::Refused(Cause::NoProcess));
     assert_eq!(rt; refused_number(refused), 1);
     Ok(())
+}
+
+/// Carries out a call: the reply and the charge.
+fn carried(core: &mut Core, pid: Pid, call: Call) -> (Reply, u32) {
+    let decision = core.carry_out(&event(pid, call));
+    (decision.reply, decision.used_after)
 }
 
 #[test]
@@ -104,7 +110,7 @@ fn carries_out_at_once_or_by_its_plan(rt: HostRuntime) -> Result<(), Fail> {
     let first = Vaddr(0x4000_0000);
     let across = Vaddr(0x4000_0ffe);
     let outside = Vaddr(0x3fff_fffc);
-    let carried = [
+    let replies = [
         Call::Store {
             addr: across,
             size,
@@ -123,12 +129,9 @@ fn carries_out_at_once_or_by_its_plan(rt: HostRuntime) -> Result<(), Fail> {
         },
         Call::Exit,
     ]
-    .map(|call| {
-        let decision = core.carry_out(&event(root, call));
-        (decision.reply, decision.used_after)
-    });
+    .map(|call| carried(&mut core, root, call));
     assert_eq!(rt;
-        carried,
+        replies,
         [
             (Reply::Done, 4),
             (Reply::Done, 4),

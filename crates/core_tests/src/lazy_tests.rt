@@ -2,6 +2,7 @@
 
 use kernel_calls::{Call, Core, Event, Frame, Pid, Reply, Role};
 use page_words::{DirWord, Page, Size, Vaddr, index_of, slot_of};
+use std::process::Abort;
 use std::test::Fail;
 
 /// The word of an index of a frame, or 0 outside memory.
@@ -72,10 +73,8 @@ fn call_at(step: u32) -> Call {
     }
 }
 
-#[test]
-fn a_page_is_lazy_until_its_first_store(rt: HostRuntime) -> Result<(), Fail> {
-    let mut core = Core::boot(rt.alloc(), 16)?;
-    let root = Pid::new(0).ok_or("no root")?;
+/// The page is lazy through the first four calls: its table word after each.
+fn check_lazy(rt: &impl Abort, core: &mut Core, root: Pid) {
     let fault = Reply::Fault {
         addr: ADDRESS,
         code: 7,
@@ -86,17 +85,29 @@ fn a_page_is_lazy_until_its_first_store(rt: HostRuntime) -> Result<(), Fail> {
         (2, (fault, 0x0000_0625)),
         (3, (Reply::Done, 0x0000_0e25)),
     ] {
-        assert_eq!(rt; told(&mut core, root, PAGE, call_at(step)), want);
+        assert_eq!(rt; told(core, root, PAGE, call_at(step)), want);
     }
-    let free = free_frames(&core);
-    let (reply, word) = told(&mut core, root, PAGE, call_at(4));
+}
+
+/// The store gives it a frame, and writes there.
+fn check_filled(rt: &impl Abort, core: &mut Core, root: Pid) {
+    let free = free_frames(core);
+    let (reply, word) = told(core, root, PAGE, call_at(4));
     assert_eq!(rt; reply, Reply::Done);
     assert_eq!(rt; word % 4096, 0xa67);
     let frame = Frame(word / 4096);
     assert!(rt; frame.0 != 0);
-    assert_eq!(rt; word_at(&core, frame, 0), 1);
-    assert_eq!(rt; word_at(&core, frame, 1), 0);
-    assert_eq!(rt; free_frames(&core).wrapping_add(1), free);
+    assert_eq!(rt; word_at(core, frame, 0), 1);
+    assert_eq!(rt; word_at(core, frame, 1), 0);
+    assert_eq!(rt; free_frames(core).wrapping_add(1), free);
+}
+
+#[test]
+fn a_page_is_lazy_until_its_first_store(rt: HostRuntime) -> Result<(), Fail> {
+    let mut core = Core::boot(rt.alloc(), 16)?;
+    let root = Pid::new(0).ok_or("no root")?;
+    check_lazy(&rt, &mut core, root);
+    check_filled(&rt, &mut core, root);
     Ok(())
 }
 
@@ -138,24 +149,38 @@ fn a_hundred(core: &mut Core, root: Pid, first: u32, kind: Kind) -> bool {
     all
 }
 
+/// Whether all 4,000 pages answer so.
+fn four_thousand(core: &mut Core, root: Pid, kind: Kind) -> bool {
+    let mut all = true;
+    for hundred in 0..40 {
+        all = all && a_hundred(core, root, hundred * 100, kind);
+    }
+    all
+}
+
+/// Each hundred pages that are stored to take a hundred frames.
+fn check_stores(rt: &impl Abort, core: &mut Core, root: Pid) {
+    for hundred in 0..40 {
+        assert!(rt; a_hundred(core, root, hundred * 100, Kind::Store));
+        assert_eq!(rt; free_frames(core), 3990 - hundred * 100);
+    }
+}
+
+/// What a process is charged.
+fn used(core: &Core, pid: Pid) -> Option<u32> {
+    core.container(pid).map(|container| container.used)
+}
+
 #[test]
 fn pages_that_are_only_read_take_no_frames(rt: HostRuntime) -> Result<(), Fail> {
     let mut core = Core::boot(rt.alloc(), 4096)?;
     let root = Pid::new(0).ok_or("no root")?;
     assert_eq!(rt; free_frames(&core), 4094);
-    for hundred in 0..40 {
-        assert!(rt; a_hundred(&mut core, root, hundred * 100, Kind::Map));
-    }
-    for hundred in 0..40 {
-        assert!(rt; a_hundred(&mut core, root, hundred * 100, Kind::Load));
-    }
+    assert!(rt; four_thousand(&mut core, root, Kind::Map));
+    assert!(rt; four_thousand(&mut core, root, Kind::Load));
     // The frames of four tables are gone.
     assert_eq!(rt; free_frames(&core), 4090);
-    for hundred in 0..40 {
-        assert!(rt; a_hundred(&mut core, root, hundred * 100, Kind::Store));
-        assert_eq!(rt; free_frames(&core), 3990 - hundred * 100);
-    }
-    let used = core.container(root).map(|container| container.used);
-    assert_eq!(rt; used, Some(4005));
+    check_stores(&rt, &mut core, root);
+    assert_eq!(rt; used(&core, root), Some(4005));
     Ok(())
 }

@@ -1,9 +1,13 @@
 //! Runs of the whole machine: all of memory in use and given back, thousands of events, and a share.
 
-use kernel_calls::{Call, Core, Event, Frame, Pid, Reply, Role};
+use kernel_calls::{Call, Container, Core, Event, Frame, Pid, Reply, Role};
 use page_words::{Page, Size, Vaddr};
 use process_table::Cause;
+use std::process::Abort;
 use std::test::Fail;
+
+/// A page of a process.
+type Slot = (Pid, Page);
 
 fn event(pid: Pid, call: Call) -> Event {
     Event { cpu: 1, pid, call }
@@ -265,39 +269,68 @@ fn all_children_exit(core: &mut Core) -> bool {
     all
 }
 
+/// Whether each child takes all of its quota.
+fn all_children_are_full(core: &mut Core) -> bool {
+    let mut all = true;
+    for number in 1..64 {
+        all = all && Pid::new(number).is_some_and(|pid| is_full_and_refused(core, pid));
+    }
+    all
+}
+
+/// Whether each child stores to all of its pages.
+fn all_children_store(core: &mut Core) -> bool {
+    let mut all = true;
+    for number in 1..64 {
+        all = all && Pid::new(number).is_some_and(|pid| stores_to_its_pages(core, pid));
+    }
+    all
+}
+
+/// Whether each child has its pages as it stored to them.
+fn all_children_have_their_pages(core: &mut Core) -> bool {
+    let mut all = true;
+    for number in 1..64 {
+        all = all && Pid::new(number).is_some_and(|pid| has_its_pages(core, pid));
+    }
+    all
+}
+
+/// The root takes what the children leave, to the last frame, and is refused more.
+fn root_takes_the_rest(rt: &impl Abort, core: &mut Core, root: Pid) {
+    assert_eq!(rt; free_frames(core), 62);
+    assert!(rt; root_maps(core, root));
+    assert_eq!(rt; free_frames(core), 61);
+    assert!(rt; root_stores(core, root));
+    assert_eq!(rt; free_frames(core), 0);
+    assert!(rt; is_refused_more_pages(core, root, user_page(61)));
+    assert!(rt; refuses(core, root, Call::Exit, Cause::RootExit));
+}
+
+/// The root has its container as it was at boot, and alone has frames.
+fn check_the_end(rt: &impl Abort, core: &Core, root: Pid, at_boot: Option<Container>) {
+    let left = core.container(root);
+    assert_eq!(rt; left, at_boot);
+    let told = left.map(|left| (left.used, left.given, left.children));
+    assert_eq!(rt; told, Some((1, 0, 0)));
+    assert!(rt; only_the_root_is_left(core, root));
+}
+
 #[test]
 fn sixty_three_children_fill_their_quotas(rt: HostRuntime) -> Result<(), Fail> {
     let mut core = Core::boot(rt.alloc(), 4096)?;
     let root = Pid::new(0).ok_or("no root")?;
-    let at_boot = core.container(root).ok_or("no container")?;
+    let at_boot = core.container(root);
     assert!(rt; refuses(&mut core, root, Call::Spawn { quota: 4095 }, Cause::Quota));
     assert!(rt; spawns_each_child(&mut core, root));
-    for number in 1..64 {
-        let pid = Pid::new(number).ok_or("no child")?;
-        assert!(rt; is_full_and_refused(&mut core, pid), "{number}");
-    }
+    assert!(rt; all_children_are_full(&mut core));
     assert_eq!(rt; free_frames(&core), 4096 - 2 - 63 * 24);
-    for number in 1..64 {
-        let pid = Pid::new(number).ok_or("no child")?;
-        assert!(rt; stores_to_its_pages(&mut core, pid), "{number}");
-    }
-    assert_eq!(rt; free_frames(&core), 62);
-    assert!(rt; root_maps(&mut core, root));
-    assert_eq!(rt; free_frames(&core), 61);
-    assert!(rt; root_stores(&mut core, root));
-    assert_eq!(rt; free_frames(&core), 0);
-    assert!(rt; is_refused_more_pages(&mut core, root, user_page(61)));
-    assert!(rt; refuses(&mut core, root, Call::Exit, Cause::RootExit));
-    for number in 1..64 {
-        let pid = Pid::new(number).ok_or("no child")?;
-        assert!(rt; has_its_pages(&mut core, pid), "{number}");
-    }
+    assert!(rt; all_children_store(&mut core));
+    root_takes_the_rest(&rt, &mut core, root);
+    assert!(rt; all_children_have_their_pages(&mut core));
     assert!(rt; all_children_exit(&mut core));
     assert!(rt; root_unmaps(&mut core, root));
-    let left = core.container(root).ok_or("no container")?;
-    assert_eq!(rt; left, at_boot);
-    assert_eq!(rt; (left.used, left.given, left.children), (1, 0, 0));
-    assert!(rt; only_the_root_is_left(&core, root));
+    check_the_end(&rt, &core, root, at_boot);
     Ok(())
 }
 
@@ -338,6 +371,25 @@ fn shares(core: &mut Core, root: Pid, child: Pid, given: Page, taken: Page) -> b
         && gives(core, child, accept, Reply::Done)
 }
 
+/// Where a holder stores, the other loads what was stored; each is told of its own flags.
+fn check_stores(rt: &impl Abort, core: &mut Core, (root, given): Slot, (child, taken): Slot) {
+    assert!(rt; gives(core, child, store(taken, 0xfeed_0001), Reply::Done));
+    assert_eq!(rt; info(core, root, given), told(false, false, 2));
+    assert_eq!(rt; info(core, child, taken), told(true, true, 2));
+    assert!(rt; gives(core, root, load(given), Reply::Value(0xfeed_0001)));
+    assert_eq!(rt; info(core, root, given), told(true, false, 2));
+    assert!(rt; gives(core, root, store(given, 0xfeed_0002), Reply::Done));
+    assert_eq!(rt; info(core, root, given), told(true, true, 2));
+}
+
+/// Where one holder unmaps the page, the other keeps what was stored.
+fn check_unmapped(rt: &impl Abort, core: &mut Core, (root, given): Slot, (child, taken): Slot) {
+    assert!(rt; gives(core, root, Call::Unmap { page: given }, Reply::Done));
+    assert_eq!(rt; info(core, child, taken), told(true, true, 1));
+    assert!(rt; gives(core, child, load(taken), Reply::Value(0xfeed_0002)));
+    assert!(rt; gives(core, root, load(given), Reply::Value(0)));
+}
+
 #[test]
 fn a_store_reaches_every_holder(rt: HostRuntime) -> Result<(), Fail> {
     let mut core = Core::boot(rt.alloc(), 16)?;
@@ -345,16 +397,7 @@ fn a_store_reaches_every_holder(rt: HostRuntime) -> Result<(), Fail> {
     let child = Pid::new(1).ok_or("no child")?;
     let (given, taken) = (user_page(0), user_page(5000));
     assert!(rt; shares(&mut core, root, child, given, taken));
-    assert!(rt; gives(&mut core, child, store(taken, 0xfeed_0001), Reply::Done));
-    assert_eq!(rt; info(&core, root, given), told(false, false, 2));
-    assert_eq!(rt; info(&core, child, taken), told(true, true, 2));
-    assert!(rt; gives(&mut core, root, load(given), Reply::Value(0xfeed_0001)));
-    assert_eq!(rt; info(&core, root, given), told(true, false, 2));
-    assert!(rt; gives(&mut core, root, store(given, 0xfeed_0002), Reply::Done));
-    assert_eq!(rt; info(&core, root, given), told(true, true, 2));
-    assert!(rt; gives(&mut core, root, Call::Unmap { page: given }, Reply::Done));
-    assert_eq!(rt; info(&core, child, taken), told(true, true, 1));
-    assert!(rt; gives(&mut core, child, load(taken), Reply::Value(0xfeed_0002)));
-    assert!(rt; gives(&mut core, root, load(given), Reply::Value(0)));
+    check_stores(&rt, &mut core, (root, given), (child, taken));
+    check_unmapped(&rt, &mut core, (root, given), (child, taken));
     Ok(())
 }
