@@ -91,22 +91,45 @@ fn stores_and_loads_within_its_turns(rt: HostRuntime) -> Result<(), Fail> {
     Ok(())
 }
 
+/// What a guest of the root comes to: how it ended, its counter, and what is in some of its registers.
+#[derive(Clone, Copy, Debug, PartialEq, Eq)]
+struct Outcome {
+    end: End,
+    counter: usize,
+    values: [u32; 2],
+}
+
+/// Runs a program on a core of 16 frames for so many turns, and looks at two registers.
+fn ran<R: AllocGlobal>(
+    rt: &R,
+    program: &[Instruction],
+    turns: u32,
+    looked_at: [Reg; 2],
+) -> Result<Outcome, Fail> {
+    let mut core = Core::boot(rt.alloc(), 16)?;
+    let mut guest = root_guest().ok_or("no root")?;
+    let end = run(&mut guest, program, turns, &mut core);
+    Ok(Outcome {
+        end,
+        counter: guest.counter(),
+        values: looked_at.map(|register| guest.register(register)),
+    })
+}
+
 #[test]
 fn stops_at_a_fault(rt: HostRuntime) -> Result<(), Fail> {
     let r = registers().ok_or("no registers")?;
     let program = stores_and_loads(0x3fff_fffc, &r);
-    let mut core = Core::boot(rt.alloc(), 16)?;
-    let mut guest = root_guest().ok_or("no root")?;
     let fault = Reply::Fault {
         addr: Vaddr(0x3fff_fffc),
         code: 6,
     };
-    assert_eq!(rt;
-        run(&mut guest, &program, 5, &mut core),
-        End::Stopped(fault)
-    );
-    assert_eq!(rt; guest.register(r[3]), 0);
-    assert_eq!(rt; guest.counter(), 2);
+    let want = Outcome {
+        end: End::Stopped(fault),
+        counter: 2,
+        values: [0, 0],
+    };
+    assert_eq!(rt; ran(&rt, &program, 5, [r[3], r[4]])?, want);
     Ok(())
 }
 
@@ -131,11 +154,12 @@ fn sees_what_is_left_of_its_quota(rt: HostRuntime) -> Result<(), Fail> {
 fn stops_at_a_refusal(rt: HostRuntime) -> Result<(), Fail> {
     let r = registers().ok_or("no registers")?;
     let program = [Instruction::Sys(r[1], Call::Exit)];
-    let mut core = Core::boot(rt.alloc(), 16)?;
-    let mut guest = root_guest().ok_or("no root")?;
-    let refusal = End::Stopped(Reply::Refused(Cause::RootExit));
-    assert_eq!(rt; run(&mut guest, &program, 1, &mut core), refusal);
-    assert_eq!(rt; guest.counter(), 0);
+    let want = Outcome {
+        end: End::Stopped(Reply::Refused(Cause::RootExit)),
+        counter: 0,
+        values: [0, 0],
+    };
+    assert_eq!(rt; ran(&rt, &program, 1, [r[1], r[2]])?, want);
     Ok(())
 }
 
@@ -158,17 +182,20 @@ fn ends_where_its_port_fails(rt: HostRuntime) -> Result<(), Fail> {
     Ok(())
 }
 
+/// How a guest ends that runs five turns, one at a time, with a run of none before the last.
+fn in_single_turns(core: &mut Core, guest: &mut Guest, program: &[Instruction]) -> [End; 6] {
+    [1, 1, 1, 1, 0, 1].map(|turns| run(guest, program, turns, core))
+}
+
 #[test]
 fn runs_on_where_it_ran_out(rt: HostRuntime) -> Result<(), Fail> {
     let r = registers().ok_or("no registers")?;
     let program = stores_and_loads(0x4000_0000, &r);
     let mut core = Core::boot(rt.alloc(), 16)?;
     let mut guest = root_guest().ok_or("no root")?;
-    for _ in 0..4 {
-        assert_eq!(rt; run(&mut guest, &program, 1, &mut core), End::OutOfTurns);
-    }
-    assert_eq!(rt; run(&mut guest, &program, 0, &mut core), End::OutOfTurns);
-    assert_eq!(rt; run(&mut guest, &program, 1, &mut core), End::Halted);
+    let mut want = [End::OutOfTurns; 6];
+    want[5] = End::Halted;
+    assert_eq!(rt; in_single_turns(&mut core, &mut guest, &program), want);
     assert_eq!(rt; guest.register(r[3]), 7);
     assert_eq!(rt; guest.counter(), 4);
     Ok(())
@@ -184,11 +211,12 @@ fn fills_its_quota(rt: HostRuntime) -> Result<(), Fail> {
         Instruction::Add(r[1], r[1], r[2]),
         Instruction::Jump(2),
     ];
-    let mut core = Core::boot(rt.alloc(), 16)?;
-    let mut guest = root_guest().ok_or("no root")?;
-    let refusal = End::Stopped(Reply::Refused(Cause::Quota));
-    assert_eq!(rt; run(&mut guest, &program, 1000, &mut core), refusal);
-    assert_eq!(rt; guest.register(r[1]), 0x4000_d000);
+    let want = Outcome {
+        end: End::Stopped(Reply::Refused(Cause::Quota)),
+        counter: 2,
+        values: [0x4000_d000, 0x1000],
+    };
+    assert_eq!(rt; ran(&rt, &program, 1000, [r[1], r[2]])?, want);
     Ok(())
 }
 
