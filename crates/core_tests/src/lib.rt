@@ -1,37 +1,23 @@
-//! Tests of the crates from page words to scripts, by their public calls. They stand here and not beside
+//! Tests of the crates from address spaces to scripts, by their public calls. They stand here and not beside
 //! what they test, so that each of those crates is proved once.
 #![tactic(auto)]
 
 #[cfg(test)]
 mod access_tests;
 #[cfg(test)]
-mod address_tests;
-#[cfg(test)]
 mod event_tests;
 #[cfg(test)]
 mod fork_tests;
-#[cfg(test)]
-mod frame_table_tests;
 #[cfg(test)]
 mod kernel_tests;
 #[cfg(test)]
 mod lazy_tests;
 #[cfg(test)]
-mod ledger_tests;
-#[cfg(test)]
 mod machine_tests;
-#[cfg(test)]
-mod memory_tests;
-#[cfg(test)]
-mod offer_tests;
-#[cfg(test)]
-mod page_map_tests;
 #[cfg(test)]
 mod plan_tests;
 #[cfg(test)]
 mod process_tests;
-#[cfg(test)]
-mod quota_tests;
 #[cfg(test)]
 mod report_tests;
 #[cfg(test)]
@@ -41,14 +27,8 @@ mod space_tests;
 #[cfg(test)]
 mod strange_tests;
 #[cfg(test)]
-mod text_tests;
-#[cfg(test)]
 mod two_page_tests;
 #[cfg(test)]
-mod walk_tests;
-#[cfg(test)]
 mod walked_tests;
-#[cfg(test)]
-mod word_tests;
 #[cfg(test)]
 mod worked_tests;

@@ -1,0 +1,25 @@
+//! Tests of the crates from page words to page maps, by their public calls. They stand here and not beside
+//! what they test, so that each of those crates is proved once; and not with the tests of the crates above, so
+//! that they are proved without these.
+#![tactic(auto)]
+
+#[cfg(test)]
+mod address_tests;
+#[cfg(test)]
+mod frame_table_tests;
+#[cfg(test)]
+mod ledger_tests;
+#[cfg(test)]
+mod memory_tests;
+#[cfg(test)]
+mod offer_tests;
+#[cfg(test)]
+mod page_map_tests;
+#[cfg(test)]
+mod quota_tests;
+#[cfg(test)]
+mod text_tests;
+#[cfg(test)]
+mod walk_tests;
+#[cfg(test)]
+mod word_tests;
