@@ -21,29 +21,57 @@ sources() {
 }
 
 is_proved() {
-    [ -x "$program" ] && [ -e "$program.stamp" ] && [ -e "$made_of" ] && sources | cmp -s - "$made_of"
+    [ -x "$program" ] && [ -e "$made_of" ] && sources | cmp -s - "$made_of"
 }
 
-wants_rt() {
-    command -v rt >/dev/null || refuse "$1, and no 'rt' is on PATH (README.md says what it is)"
+# Why the sources are run and not the program.
+why_unproved() {
+    changed=
+    if [ -x "$program" ] && [ -e "$made_of" ]; then
+        changed=$(sources | diff "$made_of" - | sed -n '/^[<>]/{s/^..[0-9a-f]*  //p;q;}')
+    fi
+    if [ -n "$changed" ]; then
+        echo ", since $changed has changed since the program was proved"
+    else
+        echo ", which takes about a minute to start"
+    fi
 }
 
-# Proves the program and runs it with the words given. rt leaves a stamp where the sources stayed as they
-# were while it proved them.
-prove_by() {
-    wants_rt "nothing can be proved"
-    mkdir -p "$root/crates/$name/out"
-    rm -f "$made_of"
-    (cd "$root/crates/$name" && rt run -- "$@" </dev/null)
-    [ -e "$program.stamp" ] || refuse "the sources changed while they were proved: run this again"
+# Notes what the program was made of. Only behind a proof of just these sources.
+note_sources() {
     sources >"$made_of.new"
     mv "$made_of.new" "$made_of"
 }
 
+# Proves each crate that the program stands on, the lowest first, with a line for each, and makes the program.
+# rt leaves a stamp beside the program where the sources stayed as they were while it proved them.
+prove() {
+    command -v rt >/dev/null || refuse "nothing can be proved, and no 'rt' is on PATH (README.md says what it is)"
+    mkdir -p "$root/crates/$name/out"
+    rm -f "$made_of"
+    log=$root/crates/$name/out/prove.log
+    for crate in $("$root/c/below" "$name" | tac); do
+        began=$(date +%s)
+        if [ "$crate" = "$name" ]; then set -- run -- --help; else set -- lib; fi
+        # A program that is asked for help ends with 2: whether it is proved, its stamp tells.
+        (cd "$root/crates/$crate" && rt "$@" </dev/null) >"$log" 2>&1 || [ "$crate" = "$name" ] ||
+            not_proved "$crate"
+        echo "$crate: proved ($(($(date +%s) - began)) s)"
+    done
+    [ -e "$program.stamp" ] || not_proved "$name"
+    note_sources
+    echo "$name: ./$name is proved now, and runs crates/$name/out/$name until a source changes"
+}
+
+not_proved() {
+    tail -n 30 "$log" >&2
+    refuse "$1 is not proved; all that the prover said is in crates/$name/out/prove.log"
+}
+
 # A folder for what an unproved run is given and gives, which goes with it.
 begin_unproved() {
-    wants_rt "there is no proved program"
-    say "this is an unproved run, which takes about a minute to start; './$name prove' makes the proved program"
+    command -v rt >/dev/null || refuse "there is no proved program, and no 'rt' is on PATH (README.md says what it is)"
+    say "this is an unproved run$(why_unproved); './$name prove' makes the proved program"
     work=$(mktemp -d)
     child=
     trap 'rm -rf "$work"' EXIT
@@ -52,17 +80,33 @@ begin_unproved() {
     : >"$work/script"
 }
 
-# Runs the sources with the words given, over the file script of that folder, and ends with the status.
+# Runs the sources with the words given, over the file script of that folder, and ends with the status. As the
+# proved program does, it ends with 1 where what it writes is not taken.
 run_unproved() {
     cd "$root/crates/$name"
     rt try --seconds 600 -- "$@" <"$work/script" >"$work/output" 2>"$work/messages" &
     child=$!
     status=0
     wait "$child" || status=$?
-    if [ "$status" -eq 6 ]; then
-        refuse "an unproved run gives at most 1 MiB of output, in 600 seconds; './$name prove' makes the program without these limits"
+    [ "$status" -ne 6 ] || refuse "an unproved run $limits"
+    if ! cat "$work/output" 2>/dev/null; then
+        echo "tower: write failed" >&2
+        exit 1
     fi
-    grep -a -v -e '^checked: ended ' -e '^run=' -e '^races: not looked for' -e '^$' "$work/messages" >&2 || true
-    cat "$work/output"
+    grep -a -v -e "^checked: ended " -e "^run=" -e "^races: not looked for" "$work/messages" |
+        sed "s,^Usage: program,Usage: $name," >&2 || true
     exit "$status"
+}
+limits="gives at most 1 MiB of output, in 600 seconds; './$name prove' makes the program without these limits"
+
+# Says which file can't be opened, in a line before the program's own, which names none.
+name_unread() {
+    [ -r "$1" ] && [ ! -d "$1" ] || say "the file $1 can't be read"
+}
+
+# Answers a call for help, or words that no command begins with, by the texts of tools/help, as the program
+# does: on standard error, with status 2.
+tell() {
+    cat "$root/tools/help/$1" >&2
+    exit 2
 }
