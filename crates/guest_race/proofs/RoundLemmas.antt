@@ -1,14 +1,15 @@
 -- A round, from what its parts came to.
-use Rattle.std.proofs.Common.{◌≡◌, ◌∙◌, ℕ, zero, suc, ◌<◌, List, [], ◌∷◌, ◌++◌, length, take, drop, Option, Some, None, refl, sym, ap, subst, arith, take-append-drop}
+use Rattle.std.proofs.Common.{◌≡◌, ◌∙◌, ℕ, zero, suc, ◌<◌, List, [], ◌∷◌, ◌++◌, length, take, drop, Option, Some, None, true, refl, sym, ap, subst, arith, take-append-drop}
 use Rattle.std.specs.Prelude.{Any, Result, Ok, Err, IfOk, slice_index_or}
 use Rattle.std.specs.Option.{IfNone, IfSome}
+use Rattle.image_check.specs.Told.{Told}
 use Rattle.std.proofs.lemmas.List.Elements.{All-weaker, recursion_from_All}
 use Rattle.locked_core.specs.Makers.{Maker, maker}
 use Rattle.locked_core.proofs.Prefixes.{same_entries}
 use Rattle.memory_report.specs.Histories.{calls_of, entries_of}
 use Rattle.memory_report.specs.declared.entries.LogEntry.{LogEntry}
 use Rattle.memory_report.specs.declared.rows.Row.{Row}
-use Rattle.guest_race.specs.Asked.{IsAsked}
+use Rattle.guest_race.specs.Asked.{IsAsked, Judges}
 use Rattle.guest_race.specs.Causes.{told_cause}
 use Rattle.guest_race.specs.Rounds.{Audited, BothHalt, Closes, IsReported, Reports}
 use Rattle.guest_race.specs.declared.faults.RoundFault.{RoundFault}
@@ -81,13 +82,20 @@ round_reports frames first second played audited cause reported report (Ok rows)
     let one = subst (λ (r : Option (List (Option Row))). IfSome r (λ rows. Reports frames first.seen second.seen rows)) ends.1 told in
     round_is frames first second rows number.0 number.1 halted one found ends.0
 
--- a referee who asked in a round that was played
-pub asked_both : {S : Type 0} (asks_report asks_verdict : S → S → Type 0) (before between after : S) (played audited cause : Option RoundFault) (report result : Result (List (Option Row)) RoundFault)
-    → asks_report before between → IfNone audited (asks_verdict between after) → cause ≡ told_cause played audited → IfOk result (λ rows. (cause ≡ None) × (report ≡ Ok rows))
-    → IfOk result (λ _. IsAsked asks_report asks_verdict before after)
-asked_both asks_report asks_verdict before between after played audited cause report (Err fault) reported sound is judged = tt
-asked_both asks_report asks_verdict before between after played audited cause report (Ok rows) reported sound is judged = record {
-  between = between;
-  report = reported;
-  verdict = subst (λ (c : Option RoundFault). IfNone c (asks_verdict between after)) (no_second played audited (sym is ∙ judged.0)) sound;
-}
+-- a referee who asked in a round that was played, and whose answers are the round's
+pub asked_both : {S : Type 0} (frames : ℕ) (cpus : List Maker) (asks_report : S → List (Option Row) → S → Type 0) (asks_verdict : S → Told → S → Type 0) (before between after : S)
+    (played audited cause : Option RoundFault) (reported : Option (List (Option Row))) (report result : Result (List (Option Row)) RoundFault)
+    → IfSome reported (λ rows. asks_report before rows between) → IfNone audited (Judges asks_verdict between true after) → cause ≡ told_cause played audited
+    → IfOk report (λ rows. Closes frames cpus rows × (reported ≡ Some rows)) → IfOk result (λ rows. (cause ≡ None) × (report ≡ Ok rows))
+    → IfOk result (λ rows. IsAsked asks_report asks_verdict before rows after)
+asked_both frames cpus asks_report asks_verdict before between after played audited cause reported report (Err fault) told sound is closed judged = tt
+asked_both frames cpus asks_report asks_verdict before between after played audited cause reported report (Ok rows) told sound is closed judged =
+    let ends = subst (λ (r : Result (List (Option Row)) RoundFault). IfOk r (λ rows. Closes frames cpus rows × (reported ≡ Some rows))) judged.1 closed in
+    let found = subst (λ (c : Option RoundFault). IfNone c (Judges asks_verdict between true after)) (no_second played audited (sym is ∙ judged.0)) sound in
+    record {
+      between = between;
+      report = subst (λ (r : Option (List (Option Row))). IfSome r (λ rows. asks_report before rows between)) ends.1 told;
+      verdict = found.0;
+      judged_so = found.1;
+      sound = sym found.2;
+    }

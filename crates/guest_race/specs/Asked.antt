@@ -1,15 +1,31 @@
--- Who was asked in a round, and in several.
---     IsAsked reported judged before after      that a referee asked a monitor once, and then an audit once
---     Times step n before after      n steps, one after another
-use Rattle.std.specs.Prelude.{ℕ, ◌+◌}
+-- Who was asked in a round, and in several, and what came.
+--     IsAsked      that a referee asked a monitor, whose rows are the round's, and then an audit, which found nothing
+--     Times step n before last after      n steps, one after another, and what came of the last
+use Rattle.std.specs.Prelude.{◌≡◌, ℕ, ◌+◌, Bool, true, List, Option}
+use Rattle.image_check.specs.Told.{Told, fails_nothing}
+use Rattle.integrity_checker.specs.Steps.{IsOf}
+use Rattle.integrity_checker.specs.declared.parts.Audit.{Audit}
+use Rattle.integrity_checker.specs.declared.parts.Helper.{Helper}
+use Rattle.memory_report.specs.declared.rows.Row.{Row}
 
--- a referee who has asked a monitor, and then an audit
-pub record IsAsked {S : Type 0} (reported judged : S → S → Type 0) (before after : S) : Type 0 where
+-- A referee who has asked a monitor, and then an audit: these rows came of the first, and of the second a verdict by which
+-- nothing fails.
+pub record IsAsked {S : Type 0} (reported : S → List (Option Row) → S → Type 0) (judged : S → Told → S → Type 0) (before : S) (rows : List (Option Row)) (after : S) : Type 0 where
   pub between : S
-  pub report : reported before between
-  pub verdict : judged between after
+  pub report : reported before rows between
+  pub verdict : Told
+  pub judged_so : judged between verdict after
+  pub sound : fails_nothing verdict ≡ true
 
--- So many steps, one after another.
-pub data Times {S : Type 0} (step : S → S → Type 0) : ℕ → S → S → Type 0 where
-  none : {s : S} → Times step 0 s s
-  more : {n : ℕ} {s t u : S} → Times step n s t → step t u → Times step (n + 1) s u
+-- such a verdict came of an audit: by it nothing fails, or something does
+abbrev pub Judges : {S : Type 0} → (S → Told → S → Type 0) → S → Bool → S → Type 0
+Judges {S} judged before sound after = (verdict : Told) × judged before verdict after × (sound ≡ fails_nothing verdict)
+
+-- a helper of this audit that has answered that no number is left
+abbrev pub IsDone : Audit → Helper → Type 0
+IsDone audit helper = IsOf audit helper × (helper.done ≡ true)
+
+-- So many steps, one after another, and what came of the last of them.
+pub data Times {S X : Type 0} (step : S → X → S → Type 0) : ℕ → S → X → S → Type 0 where
+  once : {s t : S} {x : X} → step s x t → Times step 1 s x t
+  more : {n : ℕ} {s t u : S} {x y : X} → Times step n s x t → step t y u → Times step (n + 1) s y u

@@ -1,9 +1,10 @@
 //! The audit of a kernel's memory by two helpers, each in a thread of its own.
 
-ghost use Rattle.std.specs.Prelude.{◌≡◌, ◌≤◌, ◌∷◌, [], IfNone, IfOk, true, vec_len};
+ghost use Rattle.std.specs.Prelude.{◌≡◌, ◌≤◌, ◌∷◌, [], IfNone, IfOk, IfSome, true, vec_len};
 ghost use Rattle.std.specs.Vec.{vec_capacity};
 ghost use Rattle.image_check.specs.Told.{fails_nothing, verdict_on};
 ghost use Rattle.integrity_checker.specs.Steps.{IsOf};
+ghost use Rattle.guest_race.specs.Asked.{IsDone, Judges};
 ghost use Rattle.guest_race.specs.Rounds.{Audited};
 
 use crate::faults::RoundFault;
@@ -19,17 +20,17 @@ use std::thread::Threads;
 /// Steps until a helper answers that no number is left: one for each of the 64 numbers, and one more.
 const STEPS: u32 = 65;
 
-/// All steps of a helper.
-fn all_steps(audit: &Audit, mut helper: Helper) -> Helper
+/// All steps of a helper, which then has answered that no number is left; None where it hasn't.
+fn all_steps(audit: &Audit, mut helper: Helper) -> Option<Helper>
     requires { IsOf audit.now helper }
-    ensures { IsOf audit.now result }
+    ensures { IfSome result (IsDone audit.now) }
 {
     for step in 0..STEPS {
         if let Step::NoneLeft = helper.step(audit) {
-            return helper;
+            return Some(helper);
         }
     }
-    helper
+    None
 }
 
 /// The steps of two helpers, in two threads.
@@ -38,19 +39,19 @@ fn steps_of_both<R: Threads + Sync>(
     audit: &Audit,
     first: Helper,
     second: Helper,
-) -> (Helper, Helper)
+) -> (Option<Helper>, Option<Helper>)
     requires { IsOf audit.now first × IsOf audit.now second }
-    ensures { IsOf audit.now result.0 × IsOf audit.now result.1 }
+    ensures { IfSome result.0 (IsDone audit.now) × IfSome result.1 (IsDone audit.now) }
 {
     thread::join(
         rt,
-        move || -> Helper
+        move || -> Option<Helper>
             requires { IsOf audit.now first }
-            ensures { IsOf audit.entry.now result }
+            ensures { IfSome result (IsDone audit.entry.now) }
         { all_steps(audit, first) },
-        move || -> Helper
+        move || -> Option<Helper>
             requires { IsOf audit.now second }
-            ensures { IsOf audit.entry.now result }
+            ensures { IfSome result (IsDone audit.entry.now) }
         { all_steps(audit, second) },
     )
 }
@@ -62,13 +63,15 @@ fn is_sound<R: Threads + Sync, F: Referee>(
     image: Image,
     referee: &mut F,
 ) -> Result<bool, RoundFault>
-    ensures asked { IfOk result (λ _. F.judged referee.old referee.new) }
+    ensures asked { IfOk result (λ sound. Judges F.judged referee.old sound referee.new) }
     ensures sound { IfOk result (λ sound. sound ≡ fails_nothing (verdict_on image)) }
 {
     let (audit, mut helpers) = Audit::new(alloc, image, 2)?;
     let second = helpers.pop().unwrap();
     let first = helpers.pop().unwrap();
-    let (first, second) = steps_of_both(rt, &audit, first, second);
+    let (Some(first), Some(second)) = steps_of_both(rt, &audit, first, second) else {
+        return Err(RoundFault::Failed);
+    };
     helpers.push(first).unwrap();
     helpers.push(second).unwrap();
     let verdict = referee.verdict(audit, helpers)?;
@@ -84,7 +87,7 @@ pub(crate) fn audit_memory<N: Name, R: Threads + Wait + Sync, F: Referee>(
     referee: &mut F,
 ) -> Option<RoundFault>
     ensures kept { cpu.new ≡ cpu.old }
-    ensures asked { IfNone result (F.judged referee.old referee.new) }
+    ensures asked { IfNone result (Judges F.judged referee.old true referee.new) }
     ensures sound { IfNone result (Audited N.frames cpu.old) }
 {
     let image = match kernel.snapshot(rt, cpu) {

@@ -25,7 +25,7 @@ fn report_told<N: Name, F: Referee>(
     first: &Cpu<N>,
     second: &Cpu<N>,
 ) -> Option<Report>
-    ensures asked { F.reported referee.old referee.new }
+    ensures asked { IfSome result (λ report. F.reported referee.old report referee.new) }
     ensures report { IfSome result (λ report. Reports N.frames first.now.seen second.now.seen report) }
 {
     monitor.learn(first.tell());
@@ -111,7 +111,7 @@ fn play_round<N: Name + Send + Sync, R: Threads + Wait + Sync, F: Referee>(
     requires name { (blank.frames ≡ N.frames) × (blank.book ≡ N.book) }
     requires seats { (blank.cpus ≡ 2) × (blank.monitors ≡ 1) }
     ensures round { IfOk result (IsReported blank.frames) }
-    ensures asked { IfOk result (λ _. IsAsked F.reported F.judged referee.old referee.new) }
+    ensures asked { IfOk result (λ rows. IsAsked F.reported F.judged referee.old rows referee.new) }
 {
     let Boot {
         kernel,
@@ -129,7 +129,8 @@ fn play_round<N: Name + Send + Sync, R: Threads + Wait + Sync, F: Referee>(
 }
 
 /// A round on a kernel of its own, of 16 to 4,096 frames, whose two questions a referee asks: a monitor for
-/// its report, and then an audit for its verdict, each once. The report on its memory at the end.
+/// its report, and then an audit for its verdict, each once. The report on its memory at the end, which is the
+/// one that came of the monitor; by the verdict that came nothing fails.
 ///
 /// NoMemory where there is not enough memory, else Turns where a guest ran out of turns, else Failed
 /// where anything else ended it early, as a number of frames that no kernel has.
@@ -140,7 +141,7 @@ pub fn round_by<R: Threads + Wait + Sync, F: Referee>(
     referee: &mut F,
 ) -> Result<Report, RoundFault>
     ensures round { IfOk result (IsReported frames) }
-    ensures asked { IfOk result (λ _. IsAsked F.reported F.judged referee.old referee.new) }
+    ensures asked { IfOk result (λ rows. IsAsked F.reported F.judged referee.old rows referee.new) }
 {
     let blank = Kernel::<Brand, OpenGate>::boot(rt, alloc, frames, 2, 1, OpenGate)?;
     play_round::<Brand, R, F>(rt, alloc, blank, referee)

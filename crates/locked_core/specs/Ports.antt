@@ -1,6 +1,9 @@
--- What a CPU does with a guest's call.
-use Rattle.std.specs.Prelude.{◌≡◌, ◌≢◌, ℕ, List, Result, Ok, Err}
+-- What a port does with a guest's call, and what that is of a CPU.
+--     IsPortStep      one call of whoever makes the port's calls, or 6 for an event of another CPU
+--     IsCpuCall, IsCpuStep      what a CPU makes of a call, and a port over it
+use Rattle.std.specs.Prelude.{◌≡◌, ◌≢◌, ℕ, ◌==◌, Bool, true, false, List, Result, Ok, Err}
 use Rattle.guest_cpu.specs.Ports.{Answer}
+use Rattle.kernel_calls.specs.declared.calls.Call.{Call}
 use Rattle.kernel_calls.specs.declared.calls.Event.{Event}
 use Rattle.kernel_calls.specs.declared.calls.Reply.{Reply}
 use Rattle.locked_core.specs.Faults.{another_cpu, number_of}
@@ -12,6 +15,21 @@ use Rattle.memory_report.specs.declared.entries.LogEntry.{LogEntry}
 abbrev pub by_number : Result Reply Fault → Answer
 by_number (Ok reply) = Ok reply
 by_number (Err fault) = Err (number_of fault)
+
+-- What a port does with an event of its CPU, and with one of another: the caller makes one call, and what came of that call is the answer, its fault by its
+-- number; or nothing is called, and the answer is 6.
+abbrev pub step_by : {S : Type 0} → (S → ℕ → Call → Result Reply Fault → S → Type 0) → Bool → S → Event → Answer → S → Type 0
+step_by called true before event answer after = (given : Result Reply Fault) × called before event.pid event.call given after × (answer ≡ by_number given)
+step_by called false before event answer after = (answer ≡ Err another_cpu) × (after ≡ before)
+
+-- a step of a port over whoever makes its calls, by the number of its CPU and what its calls do
+abbrev pub IsPortStep : {S : Type 0} → (S → ℕ) → (S → ℕ → Call → Result Reply Fault → S → Type 0) → S → Event → Answer → S → Type 0
+IsPortStep cpu_of called before event answer after = step_by called (event.cpu == cpu_of before) before event answer after
+
+-- What came of a call of a CPU: a reply is that of its entry, and a fault one that refused it, which leaves what the CPU has seen.
+abbrev pub IsCpuCall : ℕ → Maker → ℕ → Call → Result Reply Fault → Maker → Type 0
+IsCpuCall frames before pid call (Ok reply) after = (after.number ≡ before.number) × Makes frames before pid call after reply
+IsCpuCall frames before pid call (Err fault) after = (after ≡ before) × ((log : List LogEntry) × IsRefused frames log before fault)
 
 -- a number of a fault that refuses a call of the CPU
 abbrev pub IsNumberOfRefusal : ℕ → Maker → ℕ → Type 0

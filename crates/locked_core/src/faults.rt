@@ -32,8 +32,8 @@ pub enum Fault {
         /// How many entries the log has.
         front: usize,
     },
-    /// The kernel's history, as it was read under the lock, is not as long as the log.
-    #[error("the history is not as long as the log")]
+    /// The kernel's history, as it was read under the lock, is longer than the log.
+    #[error("the history is longer than the log")]
     Unread,
     /// Not every CPU was handed back once, or what they say is not what the log says.
     #[error("the CPUs do not agree with the log")]

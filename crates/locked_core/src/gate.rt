@@ -3,7 +3,7 @@
 /// Where a call is.
 #[derive(Clone, Copy, Debug, PartialEq, Eq)]
 pub enum Point {
-    /// The call is decided, and nothing has changed.
+    /// The call is judged, and nothing has changed: what it comes to is decided behind this point.
     Locked,
     /// The call is carried out, logged and published.
     Published,

@@ -1,7 +1,10 @@
 //! A CPU as what answers a guest's calls.
 
-ghost use Rattle.std.specs.Prelude.{◌≡◌};
+ghost use Rattle.std.specs.Prelude.{◌≡◌, ℕ, Result};
+ghost use Rattle.kernel_calls.specs.declared.calls.Call.{Call};
+ghost use Rattle.kernel_calls.specs.declared.calls.Reply.{Reply};
 ghost use Rattle.locked_core.specs.Ports.{by_number};
+ghost use Rattle.locked_core.specs.declared.faults.Fault.{Fault};
 
 use crate::book::Name;
 use crate::cpu::Cpu;
@@ -9,49 +12,94 @@ use crate::faults::Fault;
 use crate::gate::Gate;
 use crate::kernel::Kernel;
 use guest_cpu::{Port, PortFault};
-use kernel_calls::{Event, Reply};
+use kernel_calls::{Call, Event, Reply};
+use page_words::Pid;
 use std::sync::Wait;
 
-/// A port over one CPU of a kernel. A guest's run over it may wait, as each call of the CPU may.
+/// Who makes the calls of a port: a CPU of a kernel, or whoever stands in for one.
+pub trait Caller {
+    /// The number of its CPU.
+    ghost cpu_of: { Self → ℕ };
+
+    /// What a call does: the caller before it, the process, the call, what came of it, and the caller after it.
+    ghost called: { Self → ℕ → Call → Result Reply Fault → Self → Type 0 };
+
+    /// The number of its CPU.
+    fn number(&self) -> u8
+        ensures { result ≡ cpu_of self.now };
+
+    /// Makes a call of a process.
+    fn call(&mut self, pid: Pid, call: Call) -> Result<Reply, Fault>
+        ensures { called self.old pid call result self.new };
+}
+
+/// A CPU with its kernel, as the caller of a port. A call may wait.
 #[derive(Drop)]
-pub struct CpuPort<'a, N: Name, G: Gate + Drop, R: Wait> {
+pub struct OnCpu<'a, N: Name, G: Gate + Drop, R: Wait> {
     rt: &'a R,
     pub cpu: &'a mut Cpu<N>,
     kernel: &'a Kernel<N, G>,
 }
 
-impl<'a, N: Name, G: Gate + Drop, R: Wait> CpuPort<'a, N, G, R> {
-    /// The port over that CPU.
-    pub fn new(rt: &'a R, cpu: &'a mut Cpu<N>, kernel: &'a Kernel<N, G>) -> CpuPort<'a, N, G, R>
-        ensures cpu { result.cpu.now ≡ cpu.entry.now }
-        ensures same_reference { result.cpu.ghost_name ≡ cpu.entry.ghost_name }
-    {
-        CpuPort { rt, cpu, kernel }
+impl<'a, N: Name, G: Gate + Drop, R: Wait> Caller for OnCpu<'a, N, G, R> {
+    ghost use Rattle.std.specs.Prelude.{◌≡◌};
+    ghost use Rattle.locked_core.specs.Ports.{IsCpuCall};
+
+    ghost cpu_of = { λ caller. caller.cpu.now.number };
+
+    ghost called = { λ before pid call given after. IsCpuCall N.frames before.cpu.now pid call given after.cpu.now × (after.cpu.ghost_name ≡ before.cpu.ghost_name) };
+
+    fn number(&self) -> u8 {
+        self.cpu.number()
+    }
+
+    fn call(&mut self, pid: Pid, call: Call) -> Result<Reply, Fault> {
+        self.cpu.call(self.rt, self.kernel, pid, call)
     }
 }
 
-/// What the CPU answered, its fault by its number.
-fn by_number(answer: Result<Reply, Fault>) -> Result<Reply, PortFault>
-    ensures { result ≡ by_number answer }
+/// A port over whoever makes its calls.
+#[derive(Drop)]
+pub struct CallerPort<C: Caller + Drop> {
+    pub caller: C,
+}
+
+/// A port over one CPU of a kernel. A guest's run over it may wait, as each call of the CPU may.
+pub type CpuPort<'a, N, G, R> = CallerPort<OnCpu<'a, N, G, R>>;
+
+impl<'a, N: Name, G: Gate + Drop, R: Wait> CallerPort<OnCpu<'a, N, G, R>> {
+    /// The port over that CPU.
+    pub fn new(rt: &'a R, cpu: &'a mut Cpu<N>, kernel: &'a Kernel<N, G>) -> CpuPort<'a, N, G, R>
+        ensures cpu { result.caller.cpu.now ≡ cpu.entry.now }
+        ensures same_reference { result.caller.cpu.ghost_name ≡ cpu.entry.ghost_name }
+    {
+        CallerPort {
+            caller: OnCpu { rt, cpu, kernel },
+        }
+    }
+}
+
+/// What came of a call, its fault by its number.
+fn by_number(given: Result<Reply, Fault>) -> Result<Reply, PortFault>
+    ensures { result ≡ by_number given }
 {
-    match answer {
+    match given {
         Ok(reply) => Ok(reply),
         Err(fault) => Err(PortFault(fault.number())),
     }
 }
 
-/// Each call is one call of the CPU, whose fault is told by its number. An event of another CPU is
-/// answered by 6, and nothing is called.
-impl<'a, N: Name, G: Gate + Drop, R: Wait> Port for CpuPort<'a, N, G, R> {
-    ghost use Rattle.std.specs.Prelude.{◌≡◌};
-    ghost use Rattle.locked_core.specs.Ports.{IsCpuStep};
+/// Each call is one call of the caller, and its fault is told by its number, of whatever kind it is. An event
+/// of another CPU is answered by 6, and nothing is called.
+impl<C: Caller + Drop> Port for CallerPort<C> {
+    ghost use Rattle.locked_core.specs.Ports.{IsPortStep};
 
-    ghost step = { λ before event answer after. IsCpuStep N.frames before.cpu.now event answer after.cpu.now × (after.cpu.ghost_name ≡ before.cpu.ghost_name) };
+    ghost step = { λ before event answer after. IsPortStep C.cpu_of C.called before.caller event answer after.caller };
 
     fn call(&mut self, event: Event) -> Result<Reply, PortFault> {
-        if event.cpu != self.cpu.number() {
+        if event.cpu != self.caller.number() {
             return Err(PortFault(6));
         }
-        by_number(self.cpu.call(self.rt, self.kernel, event.pid, event.call))
+        by_number(self.caller.call(event.pid, event.call))
     }
 }

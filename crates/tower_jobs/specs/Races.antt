@@ -1,9 +1,11 @@
 -- Races: what is written of all rounds.
 --     Raced      that so many rounds were played
 --     race_text rounds rows      the text of so many rounds, with the report of the last one
+--     WritesAnswers      that it is the text of what came of a referee's last question to a monitor
 --     EndsRace      what a race that ended by a fault wrote
 use Rattle.std.specs.Prelude.{◌≡◌, ℕ, ◌+◌, List, [], ◌∷◌, ◌++◌, length, All, Option, codes, decimal}
 use Rattle.std.specs.Io.KnownBytes.{Appends, Keeps}
+use Rattle.guest_race.specs.Asked.{Times}
 use Rattle.guest_race.specs.Rounds.{IsReported}
 use Rattle.memory_report.specs.declared.rows.Row.{Row}
 use Rattle.memory_report.specs.Text.{report_text}
@@ -34,6 +36,10 @@ race_text rounds rows = race_heading rounds ++ report_text rows
 -- so many rounds were played, and then their text was written
 abbrev pub Writes : ℕ → ℕ → Option (List ℕ) → Option (List ℕ) → Type 0
 Writes frames rounds held holds = (rows : List (Option Row)) × Raced frames rounds rows × Appends held holds (race_text rounds rows)
+
+-- so many rounds left a referee so, and then the text of the rows that came of the last of them was written
+abbrev pub WritesAnswers : {S : Type 0} → (S → List (Option Row) → S → Type 0) → ℕ → S → S → Option (List ℕ) → Option (List ℕ) → Type 0
+WritesAnswers asks rounds before after held holds = (rows : List (Option Row)) × Times asks rounds before rows after × Appends held holds (race_text rounds rows)
 
 -- What a race that ended by this fault wrote: nothing, but for a write that failed, before which all rounds were played.
 abbrev pub EndsRace : ℕ → ℕ → ToolFault → Option (List ℕ) → Option (List ℕ) → Type 0

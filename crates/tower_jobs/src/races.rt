@@ -3,7 +3,7 @@
 ghost use Rattle.std.specs.Prelude.{◌≡◌, ◌≤◌, ◌↔◌, IfOk, IfErr, IsErrOf, OnOk, OnErr};
 ghost use Rattle.std.specs.Io.KnownBytes.{Appends};
 ghost use Rattle.guest_race.specs.Asked.{IsAsked, Times};
-ghost use Rattle.tower_jobs.specs.Races.{Raced, Writes, EndsRace, race_heading, race_text};
+ghost use Rattle.tower_jobs.specs.Races.{Raced, Writes, WritesAnswers, EndsRace, race_heading, race_text};
 ghost use Rattle.text_output.specs.Output.{AppendsFront};
 
 use crate::faults::ToolFault;
@@ -30,7 +30,7 @@ fn play<R: Threads + Wait + Sync, F: Referee>(
 ) -> Result<Report, RoundFault>
     requires { 1 ≤ rounds }
     ensures raced { IfOk result (Raced frames rounds) }
-    ensures asked { IfOk result (λ _. Times (IsAsked F.reported F.judged) rounds referee.old referee.new) }
+    ensures asked { IfOk result (λ rows. Times (IsAsked F.reported F.judged) rounds referee.old rows referee.new) }
 {
     let mut report = round_by(rt, alloc, frames, referee)?;
     for played in 1..rounds {
@@ -62,7 +62,8 @@ fn write_race<W: Write>(writer: &mut W, rounds: u32, report: &Report) -> Result<
 
 /// Plays so many rounds of a race, at least one, each on a freshly booted kernel of so many frames, and
 /// then writes that all histories were legal, all reports equal and all images sound, and the report of the
-/// last round. The referee asks in each round a monitor for its report, and then an audit for its verdict.
+/// last round. The referee asks in each round a monitor for its report, and then an audit for its verdict;
+/// the report that is written is the one that came of the last monitor.
 /// It may wait, as each round's threads do.
 ///
 /// `BadSize` comes where there are not 16 to 4,096 frames. Then the first round that ends early ends the
@@ -81,7 +82,7 @@ pub fn race_by<R: Threads + Wait + Sync, W: Write, F: Referee>(
     ensures size { IsErrOf result ToolFault.BadSize ↔ (16 ≤ frames → frames ≤ 4096 → ⊥) }
     ensures text { OnOk result (Writes frames rounds (W.contents writer.old) (W.contents writer.new)) }
     ensures fault { IfErr result (λ fault. EndsRace frames rounds fault (W.contents writer.old) (W.contents writer.new)) }
-    ensures asked { IfOk result (λ _. Times (IsAsked F.reported F.judged) rounds referee.old referee.new) }
+    ensures asked { OnOk result (WritesAnswers (IsAsked F.reported F.judged) rounds referee.old referee.new (W.contents writer.old) (W.contents writer.new)) }
 {
     if !(MIN_FRAMES..=MAX_FRAMES).contains(&frames) {
         return Err(ToolFault::BadSize);

@@ -9,4 +9,4 @@ returns-clause-round g c =
     (rw (c.put_both.ensures, c.audit_memory-audited.ensures.kept) at c.close_all-report.ensures) c.judged.ensures)
 
 pub returns-clause-asked : goal.returns-clause-asked
-returns-clause-asked g c = asked_both _ _ _ _ _ _ _ _ _ _ c.report_told-reported.ensures.asked c.audit_memory-audited.ensures.asked c.told_cause.ensures c.judged.ensures
+returns-clause-asked g c = asked_both _ _ _ _ _ _ _ _ _ _ _ _ _ c.report_told-reported.ensures.asked c.audit_memory-audited.ensures.asked c.told_cause.ensures c.close_all-report.ensures c.judged.ensures
