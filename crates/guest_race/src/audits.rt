@@ -69,11 +69,9 @@ fn is_sound<R: Threads + Sync, F: Referee>(
     let (audit, mut helpers) = Audit::new(alloc, image, 2)?;
     let second = helpers.pop().unwrap();
     let first = helpers.pop().unwrap();
-    let (Some(first), Some(second)) = steps_of_both(rt, &audit, first, second) else {
-        return Err(RoundFault::Failed);
-    };
-    helpers.push(first).unwrap();
-    helpers.push(second).unwrap();
+    let (first, second) = steps_of_both(rt, &audit, first, second);
+    helpers.push(first.ok_or(RoundFault::Failed)?).unwrap();
+    helpers.push(second.ok_or(RoundFault::Failed)?).unwrap();
     let verdict = referee.verdict(audit, helpers)?;
     Ok(verdict.sound())
 }

@@ -39,13 +39,3 @@ module _ (frames : ℕ) {S : Type 0} (shown : S → Maker) (called : S → ℕ �
   pub cpu_step : (before : S) (event : Event) (answer : Answer) (after : S) → IsPortStep (λ s. (shown s).number) called before event answer after
       → IsCpuStep frames (shown before) event answer (shown after)
   cpu_step before event answer after step = by_number_of (event.cpu == (shown before).number) before event answer after refl step
-
--- what each call keeps of the caller, a step keeps
-module _ {S X : Type 0} (kept : S → X) (cpu_of : S → ℕ) (called : S → ℕ → Call → Result Reply Fault → S → Type 0)
-    (keeps : (s : S) (pid : ℕ) (c : Call) (given : Result Reply Fault) (t : S) → called s pid c given t → kept t ≡ kept s) where
-  kept_by : (b : Bool) (before : S) (event : Event) (answer : Answer) (after : S) → step_by called b before event answer after → kept after ≡ kept before
-  kept_by true before event answer after step = keeps before event.pid event.call step.0 after step.1
-  kept_by false before event answer after step = ap kept step.1
-
-  pub port_keeps : (before : S) (event : Event) (answer : Answer) (after : S) → IsPortStep cpu_of called before event answer after → kept after ≡ kept before
-  port_keeps before event answer after step = kept_by (event.cpu == cpu_of before) before event answer after step

@@ -31,4 +31,4 @@ pub use memory_image::Image;
 pub use memory_report::{LogEntry, Report};
 pub use monitor::{Monitor, Seen};
 pub use page_words::Pid;
-pub use port::{Caller, CallerPort, CpuPort, OnCpu};
+pub use port::{Caller, CallerPort, CpuPort, OnKernel};

@@ -16,8 +16,8 @@ use kernel_calls::{Call, Event, Reply};
 use page_words::Pid;
 use std::sync::Wait;
 
-/// Who makes the calls of a port: a CPU of a kernel, or whoever stands in for one.
-pub trait Caller {
+/// Who makes the calls of a port, in some surroundings: a CPU on its kernel, or whoever stands in for one.
+pub trait Caller<K> {
     /// The number of its CPU.
     ghost cpu_of: { Self → ℕ };
 
@@ -29,52 +29,57 @@ pub trait Caller {
         ensures { result ≡ cpu_of self.now };
 
     /// Makes a call of a process.
-    fn call(&mut self, pid: Pid, call: Call) -> Result<Reply, Fault>
+    fn call_on(&mut self, surroundings: &K, pid: Pid, call: Call) -> Result<Reply, Fault>
         ensures { called self.old pid call result self.new };
 }
 
-/// A CPU with its kernel, as the caller of a port. A call may wait.
+/// What a CPU's calls are made on: its kernel, with the handle by which they may wait.
 #[derive(Drop)]
-pub struct OnCpu<'a, N: Name, G: Gate + Drop, R: Wait> {
+pub struct OnKernel<'a, N: Name, G: Gate + Drop, R: Wait> {
     rt: &'a R,
-    pub cpu: &'a mut Cpu<N>,
     kernel: &'a Kernel<N, G>,
 }
 
-impl<'a, N: Name, G: Gate + Drop, R: Wait> Caller for OnCpu<'a, N, G, R> {
-    ghost use Rattle.std.specs.Prelude.{◌≡◌};
+impl<'a, N: Name, G: Gate + Drop, R: Wait> Caller<OnKernel<'a, N, G, R>> for Cpu<N> {
     ghost use Rattle.locked_core.specs.Ports.{IsCpuCall};
 
-    ghost cpu_of = { λ caller. caller.cpu.now.number };
+    ghost cpu_of = { λ cpu. cpu.number };
 
-    ghost called = { λ before pid call given after. IsCpuCall N.frames before.cpu.now pid call given after.cpu.now × (after.cpu.ghost_name ≡ before.cpu.ghost_name) };
+    ghost called = { IsCpuCall N.frames };
 
     fn number(&self) -> u8 {
-        self.cpu.number()
+        self.number
     }
 
-    fn call(&mut self, pid: Pid, call: Call) -> Result<Reply, Fault> {
-        self.cpu.call(self.rt, self.kernel, pid, call)
+    fn call_on(
+        &mut self,
+        surroundings: &OnKernel<'a, N, G, R>,
+        pid: Pid,
+        call: Call,
+    ) -> Result<Reply, Fault> {
+        self.call(surroundings.rt, surroundings.kernel, pid, call)
     }
 }
 
 /// A port over whoever makes its calls.
 #[derive(Drop)]
-pub struct CallerPort<C: Caller + Drop> {
-    pub caller: C,
+pub struct CallerPort<'a, C: Caller<K>, K: Drop> {
+    pub caller: &'a mut C,
+    surroundings: K,
 }
 
 /// A port over one CPU of a kernel. A guest's run over it may wait, as each call of the CPU may.
-pub type CpuPort<'a, N, G, R> = CallerPort<OnCpu<'a, N, G, R>>;
+pub type CpuPort<'a, N, G, R> = CallerPort<'a, Cpu<N>, OnKernel<'a, N, G, R>>;
 
-impl<'a, N: Name, G: Gate + Drop, R: Wait> CallerPort<OnCpu<'a, N, G, R>> {
+impl<'a, N: Name, G: Gate + Drop, R: Wait> CallerPort<'a, Cpu<N>, OnKernel<'a, N, G, R>> {
     /// The port over that CPU.
     pub fn new(rt: &'a R, cpu: &'a mut Cpu<N>, kernel: &'a Kernel<N, G>) -> CpuPort<'a, N, G, R>
-        ensures cpu { result.caller.cpu.now ≡ cpu.entry.now }
-        ensures same_reference { result.caller.cpu.ghost_name ≡ cpu.entry.ghost_name }
+        ensures cpu { result.caller.now ≡ cpu.entry.now }
+        ensures same_reference { result.caller.ghost_name ≡ cpu.entry.ghost_name }
     {
         CallerPort {
-            caller: OnCpu { rt, cpu, kernel },
+            caller: cpu,
+            surroundings: OnKernel { rt, kernel },
         }
     }
 }
@@ -91,15 +96,19 @@ fn by_number(given: Result<Reply, Fault>) -> Result<Reply, PortFault>
 
 /// Each call is one call of the caller, and its fault is told by its number, of whatever kind it is. An event
 /// of another CPU is answered by 6, and nothing is called.
-impl<C: Caller + Drop> Port for CallerPort<C> {
+impl<'a, C: Caller<K>, K: Drop> Port for CallerPort<'a, C, K> {
+    ghost use Rattle.std.specs.Prelude.{◌≡◌};
     ghost use Rattle.locked_core.specs.Ports.{IsPortStep};
 
-    ghost step = { λ before event answer after. IsPortStep C.cpu_of C.called before.caller event answer after.caller };
+    ghost step = { λ before event answer after. IsPortStep C.cpu_of C.called before.caller.now event answer after.caller.now × (after.caller.ghost_name ≡ before.caller.ghost_name) };
 
     fn call(&mut self, event: Event) -> Result<Reply, PortFault> {
         if event.cpu != self.caller.number() {
             return Err(PortFault(6));
         }
-        by_number(self.caller.call(event.pid, event.call))
+        by_number(
+            self.caller
+                .call_on(&self.surroundings, event.pid, event.call),
+        )
     }
 }

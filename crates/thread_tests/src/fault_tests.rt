@@ -29,7 +29,7 @@ fn faults_of_a_call_have_texts(rt: HostRuntime) -> Result<(), Fail> {
             Fault::Stale { front: 3 },
             "the log of 3 entries is not what the CPU has seen",
         ),
-        (Fault::Unread, "the history is not as long as the log"),
+        (Fault::Unread, "the history is longer than the log"),
         (Fault::Disagree, "the CPUs do not agree with the log"),
     ];
     for (fault, expected) in texts {

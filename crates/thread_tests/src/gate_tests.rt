@@ -250,13 +250,23 @@ fn waited<N: Name + Send + Sync, R: Threads + Wait + Abort + Sync>(
     assert_eq!(rt; history.entries().len(), 2);
 }
 
-#[test]
-fn a_second_cpu_waits_while_a_call_is_held(rt: HostRuntime) -> Result<(), Fail> {
+/// Whether a second CPU waits while a call is held at that point.
+fn waits_at(rt: &HostRuntime, at: Point) -> Result<(), Fail> {
     let alloc = rt.alloc();
-    let (flags, gate) = gate_at(alloc, Point::Locked)?;
-    match Kernel::<Brand, HeldGate>::boot(&rt, alloc, 16, 2, 0, gate) {
-        Ok(blank) => waited::<Brand, HostRuntime>(&rt, blank, alloc, &flags),
+    let (flags, gate) = gate_at(alloc, at)?;
+    match Kernel::<Brand, HeldGate>::boot(rt, alloc, 16, 2, 0, gate) {
+        Ok(blank) => waited::<Brand, HostRuntime>(rt, blank, alloc, &flags),
         Err(_) => panic!(rt; "not booted"),
     }
     Ok(())
+}
+
+#[test]
+fn a_second_cpu_waits_while_a_call_is_held(rt: HostRuntime) -> Result<(), Fail> {
+    waits_at(&rt, Point::Locked)
+}
+
+#[test]
+fn a_second_cpu_waits_while_a_call_is_published(rt: HostRuntime) -> Result<(), Fail> {
+    waits_at(&rt, Point::Published)
 }

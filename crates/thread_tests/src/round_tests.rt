@@ -35,9 +35,9 @@ struct Counts {
 impl Referee for Counts {
     ghost use Rattle.std.specs.Prelude.{⊤};
 
-    ghost reported = { λ before after. ⊤ };
+    ghost reported = { λ before rows after. ⊤ };
 
-    ghost judged = { λ before after. ⊤ };
+    ghost judged = { λ before verdict after. ⊤ };
 
     fn report<N: Name>(&mut self, monitor: &mut Monitor<N>) -> Option<Seen> {
         self.reports = self.reports.wrapping_add(1);

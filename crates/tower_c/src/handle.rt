@@ -42,10 +42,7 @@ pub fn put(tower: &mut Tower, core: Box<Core>)
     tower.live = true;
 }
 
-/// Asks of a type that its values may pass to another thread.
-fn asks_send<T: Send>() {}
+/// What may pass to another thread: a type is this only where `Send` is proved of it.
+pub trait Passes: Send {}
 
-/// That a handle may pass to another thread. It computes nothing.
-pub fn handle_sends() {
-    asks_send::<Tower>();
-}
+impl Passes for Tower {}

@@ -18,7 +18,7 @@ mod loose;
 mod memory;
 mod numbers;
 
-pub use handle::{Tower, handle_sends};
+pub use handle::{Passes, Tower};
 use handle::{put, take};
 use kernel_calls::{BootFault, Core};
 pub use memory::{TowerMemory, tower_memory};

@@ -1,8 +1,8 @@
 use Rattle.std.proofs.Common.{◌≡◌, ◌∙◌, subst, sym}
 use Rattle.guest_cpu.specs.Ports.{Chain}
 use Rattle.locked_core.specs.Makers.{Maker}
-use Rattle.locked_core.specs.Ports.{IsCpuStep}
-use Rattle.locked_core.proofs.PortSteps.{cpu_step, port_keeps}
+use Rattle.locked_core.specs.Ports.{IsCpuCall, IsCpuStep}
+use Rattle.locked_core.proofs.PortSteps.{cpu_step}
 use Rattle.guest_race.proofs.ChainLemmas.{chain_through, chain_keeps}
 use Rattle.guest_race.proofs.guests.run_guest.Goals as goal
 
@@ -10,10 +10,10 @@ use Rattle.guest_race.proofs.guests.run_guest.Goals as goal
 pub returns : goal.returns
 returns g c =
     let made = c.run.ensures in
-    let last : Maker = c.run.new.port.caller.cpu.now in
-    let kept = chain_keeps (λ port. port.caller.cpu.ghost_name) (λ s e a t step. port_keeps (λ caller. caller.cpu.ghost_name) (λ caller. caller.cpu.now.number) _ (λ before pid call given after made. made.1) s.caller e a t.caller step) made.chain in
-    let shown = chain_through (λ port. port.caller.cpu.now) (IsCpuStep g.N.Name.frames)
-        (λ s e a t step. cpu_step g.N.Name.frames (λ caller. caller.cpu.now) _ (λ before pid call given after made. made.0) s.caller e a t.caller step) made.chain in
+    let last : Maker = c.run.new.port.caller.now in
+    let kept = chain_keeps (λ port. port.caller.ghost_name) (λ s e a t step. step.1) made.chain in
+    let shown = chain_through (λ port. port.caller.now) (IsCpuStep g.N.Name.frames)
+        (λ s e a t step. cpu_step g.N.Name.frames (λ cpu. cpu) (IsCpuCall g.N.Name.frames) (λ before pid call given after made. made) s.caller.now e a t.caller.now step.0) made.chain in
     let back : c.cpu-1.given.0 ≡ last = c.cpu-1.given.1 (sym (kept ∙ c.new-port.ensures.same_reference)) in (
       c.run.new.guest,
       record {
