@@ -8,3 +8,6 @@ TOWER_SOURCES := $(shell find $(TOWER_PARTS))
 $(LIB): $(TOWER)/crates.txt $(TOWER_SOURCES)
 	cd $(TOWER)/crates/tower_c && rt lib
 	touch $@
+
+# (no rule makes a source: make looks for none)
+$(TOWER)/crates.txt $(TOWER_SOURCES): ;
