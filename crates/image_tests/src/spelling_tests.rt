@@ -1,46 +1,14 @@
 //! The image of a core, its bytes, and what is refused of bytes that were changed.
 
-use arrayvec::ArrayVec;
+use crate::images::{put, word};
+use base_tests::streams::{BrokenWriter, Pieces};
 use kernel_calls::{Call, Core, Event, Role};
 use memory_image::{Image, ImageFault, NoMemory, WriteFailed, read_image, write_image};
 use page_words::{Frame, Pid, Size, Vaddr};
-use std::io;
-use std::io::Write;
 use std::test::Fail;
 
 /// How many bytes an image of 16 frames has.
 const LENGTH: usize = 67_340;
-
-/// Keeps what is written, and fails once it has taken so many bytes.
-#[derive(Drop)]
-struct BrokenWriter {
-    written: ArrayVec<u8, 64>,
-    left: usize,
-}
-
-impl Write for BrokenWriter {
-    ghost use Rattle.std.specs.Prelude.{Some};
-
-    ghost contents = { λ writer. Some writer.written.items };
-
-    fn write(&mut self, buf: &[u8]) -> io::Result<usize> {
-        if self.left == 0 {
-            return Err(io::Error::from(io::ErrorKind::BrokenPipe));
-        }
-        let count = buf.len().min(self.left);
-        match self.written.try_extend_from_slice(&buf[..count]) {
-            Ok(()) => {
-                self.left -= count;
-                Ok(count)
-            }
-            Err(_) => Err(io::Error::from(io::ErrorKind::WriteZero)),
-        }
-    }
-
-    fn flush(&mut self) -> io::Result<()> {
-        Ok(())
-    }
-}
 
 /// The bytes of the image of a freshly booted core of 16 frames.
 fn booted(rt: &HostRuntime) -> Result<Vec<u8>, Fail> {
@@ -49,23 +17,6 @@ fn booted(rt: &HostRuntime) -> Result<Vec<u8>, Fail> {
     let mut bytes = Vec::new(rt.alloc());
     write_image(&image, &mut bytes)?;
     Ok(bytes)
-}
-
-/// Puts a word at a place.
-fn put(bytes: &mut [u8], place: usize, word: u32) {
-    for (i, byte) in word.to_le_bytes().iter().enumerate() {
-        if let Some(old) = bytes.get_mut(place.wrapping_add(i)) {
-            *old = *byte;
-        }
-    }
-}
-
-/// The word at a place.
-fn word(bytes: &[u8], place: usize) -> u32 {
-    match bytes.get(place..) {
-        Some([a, b, c, d, ..]) => u32::from_le_bytes([*a, *b, *c, *d]),
-        _ => 0,
-    }
 }
 
 fn fault(rt: &HostRuntime, bytes: &[u8]) -> Option<ImageFault> {
@@ -210,10 +161,7 @@ fn tells_the_role_of_each_kind(rt: HostRuntime) -> Result<(), Fail> {
 fn stops_where_a_write_fails(rt: HostRuntime) -> Result<(), Fail> {
     let core = Core::boot(rt.alloc(), 16)?;
     let image = Image::of(rt.alloc(), &core)?;
-    let mut writer = BrokenWriter {
-        written: ArrayVec::new(),
-        left: 40,
-    };
+    let mut writer = BrokenWriter::new(40, Pieces::Whole);
     assert_eq!(rt; write_image(&image, &mut writer), Err(WriteFailed));
     assert_eq!(rt; Some(writer.written.as_slice()), booted(&rt)?.get(..40));
     Ok(())

@@ -2,7 +2,7 @@ use Rattle.std.proofs.Common.{◌≡◌, ℕ, ◌<◌, List, replicate, ap, ◌�
 use Rattle.phys_memory.specs.Bytes.{blank_bytes, frame_bytes}
 use Rattle.phys_memory.proofs.Frames.{frame-blank}
 use Rattle.page_map.proofs.LawProofs.{blank_frames_are_maps, blank_fresh}
-use Rattle.page_tests.proofs.page_map_tests.empty_map.Goals as goal
+use Rattle.base_tests.proofs.page_map_tests.empty_map.Goals as goal
 
 blank_directory : (bytes : List ℕ) (n d : ℕ) → bytes ≡ blank_bytes n → d < n → frame_bytes bytes d ≡ replicate 4096 0
 blank_directory bytes n d is below = ap (λ b. frame_bytes b d) is ∙ frame-blank n d below

@@ -1,63 +1,73 @@
 //! Roles of frames.
 use alloc_table::{FrameTable, Role, TableFault, weights_add_up};
-use page_words::Pid;
+use page_words::{Frame, Pid};
+use std::process::Abort;
 use std::test::Fail;
 
 const PAGE: Role = Role::Page { count: 1 };
 
-#[test]
-fn gives_each_frame_once(rt: HostRuntime) -> Result<(), Fail> {
-    let mut table = FrameTable::new(rt.alloc(), 16)?;
-    table.within();
-    assert_eq!(rt; table.free_count(), 15);
-    for _ in 0..15 {
-        let frame = table.take(PAGE).ok_or("a frame is free")?;
-        assert_eq!(rt; table.role(frame), PAGE);
-    }
-    assert_eq!(rt; table.free_count(), 0);
-    assert_eq!(rt; table.take(PAGE), None);
-    Ok(())
+/// A frame is taken for a directory, a table or a page of one holder, and has this role.
+fn take_page(rt: &impl Abort, table: &mut FrameTable) -> Frame {
+    let frame = table.take(PAGE).expect(rt, "a frame is free");
+    assert_eq!(rt; table.role(frame), PAGE);
+    frame
 }
 
 #[test]
 fn frees_a_page_with_its_last_holder(rt: HostRuntime) -> Result<(), Fail> {
     let mut table = FrameTable::new(rt.alloc(), 16)?;
     let frame = table.take(PAGE).ok_or("a frame is free")?;
-    assert_eq!(rt; table.role(frame), PAGE);
     table.hold(frame);
     assert_eq!(rt; table.role(frame), Role::Page { count: 2 });
     assert!(rt; !table.release(frame));
     assert_eq!(rt; table.role(frame), PAGE);
     assert!(rt; table.release(frame));
     assert_eq!(rt; table.role(frame), Role::Free);
-    assert_eq!(rt; table.free_count(), 15);
+    Ok(())
+}
+
+/// Takes all frames that are free.
+fn take_all(rt: &impl Abort, table: &mut FrameTable) {
+    for _ in 0..15 {
+        take_page(rt, table);
+    }
+}
+
+#[test]
+fn gives_each_frame_once(rt: HostRuntime) -> Result<(), Fail> {
+    let mut table = FrameTable::new(rt.alloc(), 16)?;
+    take_all(&rt, &mut table);
+    assert_eq!(rt; (table.free_count(), table.take(PAGE)), (0, None));
+    table.within();
     Ok(())
 }
 
 #[test]
-fn frees_a_directory_and_a_table(rt: HostRuntime) -> Result<(), Fail> {
+fn frees_a_table(rt: HostRuntime) -> Result<(), Fail> {
     let pid = Pid::new(1).ok_or("1 is below 64")?;
+    let role = Role::Table { pid, slot: 256 };
     let mut table = FrameTable::new(rt.alloc(), 16)?;
-    for role in [Role::Directory { pid }, Role::Table { pid, slot: 256 }] {
-        let frame = table.take(role).ok_or("a frame is free")?;
-        assert_eq!(rt; table.role(frame), role);
-        assert!(rt; table.release(frame));
-    }
+    let frame = table.take(role).ok_or("a frame is free")?;
+    assert_eq!(rt; table.role(frame), role);
+    assert!(rt; table.release(frame));
     assert_eq!(rt; table.free_count(), 15);
     weights_add_up();
     Ok(())
 }
 
 #[test]
-fn refuses_other_sizes(rt: HostRuntime) {
-    for (frames, fault) in [
-        (15, Some(TableFault::BadSize)),
-        (16, None),
-        (4096, None),
-        (4097, Some(TableFault::BadSize)),
-    ] {
-        assert_eq!(rt; FrameTable::new(rt.alloc(), frames).err(), fault);
-    }
+fn takes_16_to_4096_frames(rt: HostRuntime) {
+    let sizes = [15, 16, 4096, 4097]
+        .map(|frames| FrameTable::new(rt.alloc(), frames).map(|table| table.free_count()));
+    assert_eq!(rt;
+        sizes,
+        [
+            Err(TableFault::BadSize),
+            Ok(15),
+            Ok(4095),
+            Err(TableFault::BadSize)
+        ]
+    );
 }
 
 /// `rt try --test --fail-alloc N` refuses the Nth allocation of this test alone, and each is one of
