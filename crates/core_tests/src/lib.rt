@@ -6,6 +6,8 @@
 #[cfg(test)]
 mod kernel_tests;
 #[cfg(test)]
+mod lazy_tests;
+#[cfg(test)]
 mod plan_tests;
 #[cfg(test)]
 mod process_tests;
