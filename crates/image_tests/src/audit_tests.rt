@@ -3,12 +3,13 @@
 ghost use Rattle.std.specs.Prelude.{All, IfOk, IfSome};
 ghost use Rattle.integrity_checker.specs.Steps.{IsOf};
 
+use crate::check_tests::shared_both_ways;
 use crate::images::{UNCHANGED, changed_image, put};
 use image_check::{Verdict, check};
 use integrity_checker::{Audit, AuditFault, Helper, Step};
-use kernel_calls::{Call, Core, Event};
+use kernel_calls::Core;
 use memory_image::{Image, read_image};
-use page_words::{Frame, Page, Pid, Size, Vaddr};
+use page_words::{Frame, Pid};
 use std::alloc::Global;
 use std::process::Abort;
 use std::test::Fail;
@@ -378,65 +379,16 @@ fn is_sound<R: Threads + Abort + Sync>(
     Ok(())
 }
 
-fn store(addr: u32, value: u32) -> Call {
-    Call::Store {
-        addr: Vaddr(addr),
-        size: Size::Four,
-        value,
-    }
-}
-
-fn load(addr: u32) -> Call {
-    Call::Load {
-        addr: Vaddr(addr),
-        size: Size::Four,
-    }
-}
-
-/// Two processes come to share a page, and the second maps more, and goes.
-fn calls(root: Pid, child: Pid) -> [(Pid, Call); 12] {
-    let page = Page(0x40000);
-    [
-        (root, store(0x4000_0000, 7)),
-        (root, Call::Spawn { quota: 5 }),
-        (
-            root,
-            Call::Offer {
-                page,
-                target: child,
-                write: true,
-            },
-        ),
-        (
-            child,
-            Call::Accept {
-                giver: root,
-                giver_page: page,
-                page: Page(0x50000),
-            },
-        ),
-        (child, store(0x5000_0000, 9)),
-        (child, Call::Map { page, write: false }),
-        (child, Call::Protect { page, write: true }),
-        (child, load(0xefff_fffc)),
-        (root, Call::Unmap { page }),
-        (root, load(0x4000_0000)),
-        (child, Call::Exit),
-        (root, store(0x4000_0000, 1)),
-    ]
+#[test]
+fn helpers_find_a_core_sound(rt: HostRuntime) -> Result<(), Fail> {
+    let core = Core::boot(rt.alloc(), 16)?;
+    is_sound(&rt, rt.alloc(), &core, 16, &[1, 2, 3, 4, 5, 6, 7, 8])
 }
 
 #[test]
-fn helpers_find_a_core_sound_after_each_call(rt: HostRuntime) -> Result<(), Fail> {
-    let root = Pid::new(0).ok_or("no process")?;
-    let child = Pid::new(1).ok_or("no process")?;
-    let mut core = Core::boot(rt.alloc(), 16)?;
-    is_sound(&rt, rt.alloc(), &core, 16, &[1, 2, 3, 4, 5, 6, 7, 8])?;
-    for (pid, call) in calls(root, child) {
-        core.step(&Event { cpu: 0, pid, call });
-        is_sound(&rt, rt.alloc(), &core, 16, &[1, 2, 3, 4, 5, 6, 7, 8])?;
-    }
-    Ok(())
+fn helpers_find_a_core_of_a_shared_page_sound(rt: HostRuntime) -> Result<(), Fail> {
+    let core = shared_both_ways(&rt)?;
+    is_sound(&rt, rt.alloc(), &core, 16, &[1, 2, 3, 4, 5, 6, 7, 8])
 }
 
 #[test]

@@ -186,27 +186,50 @@ fn faults_have_their_texts(rt: HostRuntime) -> Result<(), Fail> {
     Ok(())
 }
 
+/// The image of a core. Where memory is refused it is asked for again, and a line is printed that says so.
+fn made_again(rt: &HostRuntime, core: &Core) -> Result<Image, Fail> {
+    match Image::of(rt.alloc(), core) {
+        Ok(image) => Ok(image),
+        Err(NoMemory) => {
+            println!(rt; "NoMemory, and then an image of a core")?;
+            let image = Image::of(rt.alloc(), core)?;
+            Ok(image)
+        }
+    }
+}
+
+/// The image that bytes spell, in the same way.
+fn read_again(rt: &HostRuntime, bytes: &[u8]) -> Result<Image, Fail> {
+    match read_image(rt.alloc(), bytes) {
+        Ok(image) => Ok(image),
+        Err(ImageFault::NoMemory) => {
+            println!(rt; "NoMemory, and then an image of bytes")?;
+            let image = read_image(rt.alloc(), bytes)?;
+            Ok(image)
+        }
+        Err(fault) => Err(fault.into()),
+    }
+}
+
 /// `rt try --test --fail-alloc N` refuses the Nth allocation of this test alone. The first four are those
-/// of the core; then come two of `Image::of`, one of the bytes, and two of `read_image`. Each of these calls
-/// that meets a refusal answers NoMemory, the same call with memory then succeeds, and a line is printed that
-/// says so.
+/// of the core; then come two of `Image::of`, which answers NoMemory where it meets a refusal, and then succeeds.
 #[test]
-fn goes_on_after_want_of_memory(rt: HostRuntime) -> Result<(), Fail> {
+fn an_image_is_made_after_want_of_memory(rt: HostRuntime) -> Result<(), Fail> {
     let core = Core::boot(rt.alloc(), 16)?;
-    let mut made = Image::of(rt.alloc(), &core);
-    if made.is_err() {
-        assert_eq!(rt; made.err(), Some(NoMemory));
-        made = Image::of(rt.alloc(), &core);
-        println!(rt; "NoMemory, and then an image of a core")?;
-    }
+    let image = made_again(&rt, &core)?;
+    assert_eq!(rt; image.frames(), 16);
+    Ok(())
+}
+
+/// The seventh allocation is that of the bytes; then come two of `read_image`, which answers NoMemory where it
+/// meets a refusal, and then reads the same bytes.
+#[test]
+fn an_image_is_read_after_want_of_memory(rt: HostRuntime) -> Result<(), Fail> {
+    let core = Core::boot(rt.alloc(), 16)?;
+    let image = Image::of(rt.alloc(), &core)?;
     let mut bytes = Vec::with_capacity(rt.alloc(), LENGTH)?;
-    write_image(&made?, &mut bytes)?;
-    let mut read = read_image(rt.alloc(), &bytes);
-    if read.is_err() {
-        assert_eq!(rt; read.err(), Some(ImageFault::NoMemory));
-        read = read_image(rt.alloc(), &bytes);
-        println!(rt; "NoMemory, and then an image of bytes")?;
-    }
-    assert_eq!(rt; read?.frames(), 16);
+    write_image(&image, &mut bytes)?;
+    let read = read_again(&rt, &bytes)?;
+    assert_eq!(rt; read.frames(), 16);
     Ok(())
 }
