@@ -1,28 +1,31 @@
 //! Roles of frames.
 use alloc_table::{FrameTable, Role, TableFault, weights_add_up};
-use page_words::{Frame, Pid};
+use page_words::Pid;
 use std::process::Abort;
 use std::test::Fail;
 
 const PAGE: Role = Role::Page { count: 1 };
 
-/// A frame is taken for a directory, a table or a page of one holder, and has this role.
-fn take_page(rt: &impl Abort, table: &mut FrameTable) -> Frame {
+/// Takes a frame for a page of one holder.
+fn take_page(rt: &impl Abort, table: &mut FrameTable) {
     let frame = table.take(PAGE).expect(rt, "a frame is free");
     assert_eq!(rt; table.role(frame), PAGE);
-    frame
 }
 
 #[test]
 fn frees_a_page_with_its_last_holder(rt: HostRuntime) -> Result<(), Fail> {
     let mut table = FrameTable::new(rt.alloc(), 16)?;
-    let frame = table.take(PAGE).ok_or("a frame is free")?;
+    let frame = table.take(PAGE).expect(&rt, "a frame is free");
     table.hold(frame);
-    assert_eq!(rt; table.role(frame), Role::Page { count: 2 });
-    assert!(rt; !table.release(frame));
-    assert_eq!(rt; table.role(frame), PAGE);
-    assert!(rt; table.release(frame));
-    assert_eq!(rt; table.role(frame), Role::Free);
+    let shared = table.role(frame);
+    let kept = !table.release(frame);
+    let alone = table.role(frame);
+    let freed = table.release(frame);
+    assert_eq!(rt;
+        [shared, alone, table.role(frame)],
+        [Role::Page { count: 2 }, PAGE, Role::Free]
+    );
+    assert!(rt; kept && freed);
     Ok(())
 }
 
@@ -42,15 +45,22 @@ fn gives_each_frame_once(rt: HostRuntime) -> Result<(), Fail> {
     Ok(())
 }
 
+/// A frame that is taken for this role has it until it is released.
+fn check_taken(rt: &impl Abort, table: &mut FrameTable, pid: Pid) {
+    let role = Role::Table { pid, slot: 256 };
+    let frame = table.take(role).expect(rt, "a frame is free");
+    let taken = table.role(frame);
+    let freed = table.release(frame);
+    assert_eq!(rt;
+        (taken, freed, table.role(frame)),
+        (role, true, Role::Free)
+    );
+}
+
 #[test]
 fn frees_a_table(rt: HostRuntime) -> Result<(), Fail> {
-    let pid = Pid::new(1).ok_or("1 is below 64")?;
-    let role = Role::Table { pid, slot: 256 };
     let mut table = FrameTable::new(rt.alloc(), 16)?;
-    let frame = table.take(role).ok_or("a frame is free")?;
-    assert_eq!(rt; table.role(frame), role);
-    assert!(rt; table.release(frame));
-    assert_eq!(rt; table.free_count(), 15);
+    check_taken(&rt, &mut table, Pid::new(1).expect(&rt, "1 is below 64"));
     weights_add_up();
     Ok(())
 }

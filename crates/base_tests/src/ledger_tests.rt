@@ -1,23 +1,25 @@
 //! Tests of the ledger, and of its list of free frames against a plain scan.
 
-ghost use Rattle.std.specs.Prelude.{◌≡◌, length};
+ghost use Rattle.std.specs.Prelude.{◌≡◌, ◌<◌, length};
 
 use frame_ledger::{Ledger, LedgerFault};
 use page_words::Frame;
-use std::alloc::Global;
 use std::process::Abort;
 use std::test::Fail;
+
+/// Takes all frames that are free.
+fn take_all(rt: &impl Abort, ledger: &mut Ledger) {
+    for _ in 0..15 {
+        let frame = ledger.take().expect(rt, "a frame is free");
+        assert!(rt; !ledger.is_free(frame));
+    }
+}
 
 #[test]
 fn takes_each_frame_once(rt: HostRuntime) -> Result<(), Fail> {
     let mut ledger = Ledger::new(rt.alloc(), 16)?;
-    assert_eq!(rt; ledger.free_count(), 15);
-    for _ in 0..15 {
-        let frame = ledger.take().ok_or("a frame is free")?;
-        assert!(rt; !ledger.is_free(frame));
-    }
-    assert_eq!(rt; ledger.free_count(), 0);
-    assert_eq!(rt; ledger.take(), None);
+    take_all(&rt, &mut ledger);
+    assert_eq!(rt; (ledger.free_count(), ledger.take()), (0, None));
     Ok(())
 }
 
@@ -33,15 +35,18 @@ fn takes_again_what_was_put_back(rt: HostRuntime) -> Result<(), Fail> {
 }
 
 #[test]
-fn refuses_other_sizes(rt: HostRuntime) {
-    for (frames, fault) in [
-        (15, Some(LedgerFault::BadSize)),
-        (16, None),
-        (4096, None),
-        (4097, Some(LedgerFault::BadSize)),
-    ] {
-        assert_eq!(rt; Ledger::new(rt.alloc(), frames).err(), fault);
-    }
+fn takes_16_to_4096_frames(rt: HostRuntime) {
+    let sizes = [15, 16, 4096, 4097]
+        .map(|frames| Ledger::new(rt.alloc(), frames).map(|ledger| ledger.free_count()));
+    assert_eq!(rt;
+        sizes,
+        [
+            Err(LedgerFault::BadSize),
+            Ok(15),
+            Ok(4095),
+            Err(LedgerFault::BadSize)
+        ]
+    );
 }
 
 /// The plain reference's count: a scan of one mark a frame, which says whether it is free.
@@ -81,40 +86,81 @@ fn put_one_back(rt: &impl Abort, ledger: &mut Ledger, marks: &mut [bool], frame:
     marks[place] = true;
 }
 
-/// Takes and returns many frames at random, in phases of mostly takes and mostly returns.
-fn agrees_with_a_scan(rt: &impl Abort, alloc: Global, frames: u32, phase: u32) -> Result<(), Fail> {
-    assert!(rt; phase > 0);
-    let mut ledger = Ledger::new(alloc, frames)?;
-    let mut marks = vec![in alloc; true; frames as usize]?;
-    marks[0] = false;
-    let mut taken = Vec::new(alloc);
+/// Takes or returns a frame at random. Whether one was asked for and none was free.
+fn step(
+    rt: &impl Abort,
+    ledger: &mut Ledger,
+    marks: &mut [bool],
+    taken: &mut Vec<Frame>,
+    seed: &mut u32,
+    takes: u32,
+) -> bool
+    requires { length marks.old ≡ ledger.old.frames }
+    ensures { ledger.new.frames ≡ ledger.old.frames }
+{
+    if next_number(seed) % 8 < takes {
+        return match take_one(rt, ledger, marks) {
+            Some(frame) => {
+                taken.push(frame).ok().expect(rt, "memory for a frame");
+                false
+            }
+            None => true,
+        };
+    }
+    if !taken.is_empty() {
+        let at = next_number(seed) as usize % taken.len();
+        put_one_back(rt, ledger, marks, taken.swap_remove(at));
+    }
+    false
+}
+
+fn check_count(rt: &impl Abort, ledger: &Ledger, marks: &[bool]) {
+    assert_eq!(rt; ledger.free_count() as usize, count_free(marks));
+}
+
+/// Takes and returns many frames at random, in phases of mostly takes and mostly returns. How often none was free.
+fn agrees_with_a_scan(
+    rt: &impl Abort,
+    ledger: &mut Ledger,
+    marks: &mut [bool],
+    taken: &mut Vec<Frame>,
+    phase: u32,
+) -> u32
+    requires frames { length marks.old ≡ ledger.old.frames }
+    requires phase { 0 < phase }
+{
     let mut seed = 17;
     let mut emptied = 0u32;
-    for step in 0..12_288u32 {
-        let takes = if step / phase % 2 == 0 { 7 } else { 1 };
-        if next_number(&mut seed) % 8 < takes {
-            match take_one(rt, &mut ledger, &mut marks) {
-                Some(frame) => taken.push(frame)?,
-                None => emptied = emptied.saturating_add(1),
-            }
-        } else if !taken.is_empty() {
-            let at = next_number(&mut seed) as usize % taken.len();
-            put_one_back(rt, &mut ledger, &mut marks, taken.swap_remove(at));
-        }
-        assert_eq!(rt; ledger.free_count() as usize, count_free(&marks));
+    for turn in 0..12_288u32 {
+        let takes = if turn / phase % 2 == 0 { 7 } else { 1 };
+        let none = step(rt, ledger, marks, taken, &mut seed, takes);
+        emptied = emptied.wrapping_add(none as u32);
+        check_count(rt, ledger, marks);
     }
+    emptied
+}
+
+/// A ledger of so many frames agrees with a scan, also where it is empty.
+fn check_scan<R: AllocGlobal + Abort>(rt: &R, frames: u32, phase: u32) -> Result<(), Fail>
+    requires { 0 < phase }
+{
+    let mut ledger = Ledger::new(rt.alloc(), frames)?;
+    let mut marks = vec![in rt.alloc(); true; frames as usize]?;
+    marks[0] = false;
+    let mut taken = Vec::new(rt.alloc());
+    let emptied = agrees_with_a_scan(rt, &mut ledger, &mut marks, &mut taken, phase);
     assert!(rt; emptied > 0);
     Ok(())
 }
 
 #[test]
 fn agrees_with_a_scan_of_16_frames(rt: HostRuntime) -> Result<(), Fail> {
-    agrees_with_a_scan(&rt, rt.alloc(), 16, 48)
+    check_scan(&rt, 16, 48)
 }
 
 #[test]
 fn agrees_with_a_scan_of_4096_frames(rt: HostRuntime) -> Result<(), Fail> {
-    agrees_with_a_scan(&rt, rt.alloc(), 4096, 6_144)
+    check_scan(&rt, 4096, 6_144)
 }
 
 /// `rt try --test --fail-alloc N` refuses the Nth allocation of this test alone, and each is one of

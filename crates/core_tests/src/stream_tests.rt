@@ -6,15 +6,19 @@ use script_run::{ScriptFault, run_script};
 use std::alloc::Global;
 use std::process::Abort;
 
-const SCRIPT: &str = SHARE_BOTH_WAYS.script;
+fn script() -> &'static [u8] {
+    SHARE_BOTH_WAYS.script.as_bytes()
+}
 
-const REPLIES: &str = SHARE_BOTH_WAYS.replies;
+fn replies() -> &'static [u8] {
+    SHARE_BOTH_WAYS.replies.as_bytes()
+}
 
 /// Where so many lines of the replies end.
 fn end_of_lines(lines: usize) -> usize {
     let mut left = lines;
     let mut end = 0usize;
-    for byte in REPLIES.as_bytes() {
+    for byte in replies() {
         if left == 0 {
             return end;
         }
@@ -26,14 +30,14 @@ fn end_of_lines(lines: usize) -> usize {
 
 /// The replies to the lines that end within the first bytes of the script, each of whose lines has one.
 fn replies_within(count: usize) -> Option<&'static [u8]> {
-    let lines = SCRIPT.as_bytes().iter().take(count).filter(|byte| **byte == b'\n').count();
-    REPLIES.as_bytes().get(..end_of_lines(lines))
+    let lines = script().iter().take(count).filter(|byte| **byte == b'\n').count();
+    replies().get(..end_of_lines(lines))
 }
 
 /// A read that fails after so many bytes leaves the replies to the lines that were complete.
 fn check_read(rt: &impl Abort, alloc: Global, left: usize, pieces: Pieces) {
     let mut reader = BrokenReader {
-        rest: SCRIPT.as_bytes(),
+        rest: script(),
         left,
         pieces,
     };
@@ -47,7 +51,7 @@ fn check_read(rt: &impl Abort, alloc: Global, left: usize, pieces: Pieces) {
 }
 
 fn check_reads(rt: &impl Abort, alloc: Global, pieces: Pieces) {
-    for left in 0..=SCRIPT.len() {
+    for left in 0..=script().len() {
         check_read(rt, alloc, left, pieces);
     }
 }
@@ -61,19 +65,19 @@ fn a_failed_read_leaves_the_replies_to_complete_lines(rt: HostRuntime) {
 
 /// A write that fails after so many bytes leaves just these of the replies.
 fn check_write(rt: &impl Abort, alloc: Global, left: usize, pieces: Pieces) {
-    let mut reader = SCRIPT.as_bytes();
+    let mut reader = script();
     let mut writer = BrokenWriter::new(left, pieces);
     let fault = run_script(alloc, &mut reader, &mut writer, 16).err();
-    let expected = (left < REPLIES.len()).then_some(ScriptFault::WriteFailed);
+    let expected = (left < replies().len()).then_some(ScriptFault::WriteFailed);
     assert_eq!(rt;
         (fault, Some(writer.written.as_slice())),
-        (expected, REPLIES.as_bytes().get(..left)),
+        (expected, replies().get(..left)),
         "at {left}"
     );
 }
 
 fn check_writes(rt: &impl Abort, alloc: Global, pieces: Pieces) {
-    for left in 0..=REPLIES.len() {
+    for left in 0..=replies().len() {
         check_write(rt, alloc, left, pieces);
     }
 }
@@ -87,7 +91,7 @@ fn a_failed_write_leaves_the_first_bytes(rt: HostRuntime) {
 
 #[test]
 fn fails_where_a_writer_takes_no_byte(rt: HostRuntime) {
-    let mut reader = SCRIPT.as_bytes();
+    let mut reader = script();
     let ended = run_script(rt.alloc(), &mut reader, &mut FullWriter::new(0), 16);
     assert_eq!(rt; ended.err(), Some(ScriptFault::WriteFailed));
 }
@@ -95,7 +99,7 @@ fn fails_where_a_writer_takes_no_byte(rt: HostRuntime) {
 /// What is read and written in such pieces is what is read and written whole.
 fn check_pieces(rt: &impl Abort, alloc: Global, reads: Pieces, writes: Pieces) {
     let mut reader = BrokenReader {
-        rest: SCRIPT.as_bytes(),
+        rest: script(),
         left: usize::MAX,
         pieces: reads,
     };
@@ -103,7 +107,7 @@ fn check_pieces(rt: &impl Abort, alloc: Global, reads: Pieces, writes: Pieces) {
     let fault = run_script(alloc, &mut reader, &mut writer, 16).err();
     assert_eq!(rt;
         (fault, writer.written.as_slice()),
-        (None, REPLIES.as_bytes())
+        (None, replies())
     );
 }
 
