@@ -4,7 +4,7 @@ import struct
 from dataclasses import dataclass, field
 from typing import NamedTuple
 
-from machine import PROCESSES, State, table_word
+from machine import State, table_word
 
 ZEROS = bytes(4096)
 # The flags of a directory word but accessed, and what they are.
@@ -52,26 +52,28 @@ class Comparison:
         return 0 < frame < self.state.frames and frame not in self.roles
 
     def compare(self):
-        for number in range(PROCESSES):
-            self.compare_process(number)
-        for frame in range(self.state.frames):
-            self.compare_role(frame)
+        live = [number for number, container in enumerate(self.seen.containers) if container]
+        with_directory = [number for number, frame in enumerate(self.seen.directories) if frame is not None]
+        wanted = sorted(self.state.live)
+        must(live == with_directory == wanted, lambda: f"{live} are live and {with_directory} have directories, not {wanted}")
+        for number in wanted:
+            self.compare_process(number, self.state.live[number], self.seen.directories[number])
+        self.compare_roles()
         must(self.seen.page(0) == ZEROS, lambda: "frame 0 is not zeros")
 
-    def compare_role(self, frame):
-        found, wanted = self.seen.roles[frame], self.roles.get(frame, FREE)
-        must(found == wanted, lambda: f"frame {frame} has the role {tuple(found)}, not {tuple(wanted)}")
+    def compare_roles(self):
+        wanted = [self.roles.get(frame, FREE) for frame in range(self.state.frames)]
+        if self.seen.roles != wanted:
+            frame = next(frame for frame in range(self.state.frames) if self.seen.roles[frame] != wanted[frame])
+            raise Differs(f"frame {frame} has the role {tuple(self.seen.roles[frame])}, not {tuple(wanted[frame])}")
 
-    def compare_process(self, number):
-        process, directory = self.state.live.get(number), self.seen.directories[number]
-        wanted = process and Container(process.parent, process.quota, process.cost(), self.state.given(number))
+    def compare_process(self, number, process, directory):
+        wanted = Container(process.parent, process.quota, process.cost(), self.state.given(number))
         found = self.seen.containers[number]
         must(found == wanted, lambda: f"process {number} is {wanted}, its container is {found}")
-        must((directory is None) == (process is None), lambda: f"process {number} has the directory {directory}")
-        if process:
-            must(self.serves_nothing_else(directory), lambda: f"process {number} has its directory in frame {directory}")
-            self.roles[directory] = Role(2, number)
-            self.compare_directory(number, directory)
+        must(self.serves_nothing_else(directory), lambda: f"process {number} has its directory in frame {directory}")
+        self.roles[directory] = Role(2, number)
+        self.compare_directory(number, directory)
 
     def compare_directory(self, number, directory):
         words = bytearray(4096)

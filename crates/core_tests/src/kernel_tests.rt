@@ -64,6 +64,7 @@ fn maps_stores_loads_and_unmaps(rt: HostRuntime) -> Result<(), Fail> {
 /// The role of the frame of the root's directory, of which there is one.
 fn role_of_directory(rt: &impl Abort, core: &Core) -> Role {
     let directory = core.directory(root(rt)).expect(rt, "a directory");
+    assert!(rt; directory.0 < core.frames());
     core.role(directory)
 }
 

@@ -54,21 +54,52 @@ fn check(
     );
 }
 
+fn map() -> Call {
+    Call::Map {
+        page: PAGE,
+        write: false,
+    }
+}
+
+fn load() -> Call {
+    Call::Load {
+        addr: ADDRESS,
+        size: Size::Four,
+    }
+}
+
+fn store() -> Call {
+    Call::Store {
+        addr: ADDRESS,
+        size: Size::Four,
+        value: 1,
+    }
+}
+
+fn protect() -> Call {
+    Call::Protect {
+        page: PAGE,
+        write: true,
+    }
+}
+
+/// What a store without the right is told.
+fn fault() -> Reply {
+    Reply::Fault {
+        addr: ADDRESS,
+        code: 7,
+    }
+}
+
 /// The first page of the user range is mapped read-only, loaded, stored to in vain, made writable, and
 /// stored to.
 #[test]
 fn a_page_is_lazy_until_its_first_store(rt: HostRuntime) -> Result<(), Fail> {
     let mut core = Core::boot(rt.alloc(), 16)?;
-    let (page, addr, size, value) = (PAGE, ADDRESS, Size::Four, 1);
-    let map = Call::Map { page, write: false };
-    let load = Call::Load { addr, size };
-    let store = Call::Store { addr, size, value };
-    let protect = Call::Protect { page, write: true };
-    let fault = Reply::Fault { addr, code: 7 };
-    check(&rt, &mut core, map, Reply::Done, 0x605, false);
-    check(&rt, &mut core, load, Reply::Value(0), 0x625, false);
-    check(&rt, &mut core, store, fault, 0x625, false);
-    check(&rt, &mut core, protect, Reply::Done, 0xe25, false);
-    check(&rt, &mut core, store, Reply::Done, 0xa67, true);
+    check(&rt, &mut core, map(), Reply::Done, 0x605, false);
+    check(&rt, &mut core, load(), Reply::Value(0), 0x625, false);
+    check(&rt, &mut core, store(), fault(), 0x625, false);
+    check(&rt, &mut core, protect(), Reply::Done, 0xe25, false);
+    check(&rt, &mut core, store(), Reply::Done, 0xa67, true);
     Ok(())
 }

@@ -24,19 +24,22 @@ fn check_plan(
     access: Access,
     expected: Plan,
 ) {
-    assert!(rt; processes.live(root(rt)));
-    let found = plan(processes, root(rt), address, Size::Four, access);
+    let pid = root(rt);
+    assert!(rt; processes.live(pid));
+    let found = plan(processes, pid, address, Size::Four, access);
     assert_eq!(rt; found, expected);
 }
 
 fn map_page(rt: &impl Abort, processes: &mut Processes, page: Page, write: bool) {
-    assert!(rt; processes.can_map(root(rt), page).is_ok());
-    processes.map(root(rt), page, write);
+    let pid = root(rt);
+    assert!(rt; processes.can_map(pid, page).is_ok());
+    processes.map(pid, page, write);
 }
 
 fn spawn(rt: &impl Abort, processes: &mut Processes, quota: u32) {
-    assert!(rt; processes.can_spawn(root(rt), quota).is_ok());
-    processes.spawn(root(rt), quota);
+    let pid = root(rt);
+    assert!(rt; processes.can_spawn(pid, quota).is_ok());
+    processes.spawn(pid, quota);
 }
 
 fn one(first: PageStep) -> Plan {

@@ -23,19 +23,28 @@ fn check_total(rt: &impl Abort, core: &Core, report: &Report, total: u64) {
     assert_eq!(rt; report.total(), total);
 }
 
-/// Carries out a call on a core, and absorbs the entry that is logged of it.
-fn absorb(core: &mut Core, report: &mut Report, nth: usize, pid: Pid, call: Call) {
-    let decision = core.decide(&Event { cpu: 0, pid, call });
-    let used_after = decision.used_after;
-    let reply = core.commit(decision);
-    report.absorb(&LogEntry {
-        cpu: 0,
+/// What is logged of an event, with that number of entries before it.
+fn entry_of(event: &Event, nth: usize, reply: Reply, used_after: u32) -> LogEntry {
+    LogEntry {
+        cpu: event.cpu,
         nth,
-        pid,
-        call,
+        pid: event.pid,
+        call: event.call,
         reply,
         used_after,
-    });
+    }
+}
+
+/// Carries out an event on a core: the entry that is logged of it.
+fn step(core: &mut Core, nth: usize, event: &Event) -> LogEntry {
+    let decision = core.decide(event);
+    let used_after = decision.used_after;
+    entry_of(event, nth, core.commit(decision), used_after)
+}
+
+/// Carries out a call on a core, and absorbs what is logged of it.
+fn absorb(core: &mut Core, report: &mut Report, nth: usize, pid: Pid, call: Call) {
+    report.absorb(&step(core, nth, &Event { cpu: 0, pid, call }));
 }
 
 /// Process 0 stores to its first page, makes a child with a quota of 5, and shares the page with it.

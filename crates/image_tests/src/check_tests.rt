@@ -1,6 +1,6 @@
 //! Verdicts on the images of cores, on images that were changed, and on those of another kernel.
 
-use crate::damaged_tests::{a_page_turned_to_a_table, frames_of, lines_of};
+use crate::damaged_tests::{Frames, a_page_turned_to_a_table, frames_of, image_bytes, lines_of};
 use crate::images::{PAGE_WORDS, UNCHANGED, changed_image, other_image, place_of, put, word};
 use base_tests::streams::{BrokenWriter, Pieces};
 use image_check::{
@@ -92,10 +92,17 @@ fn text_of(alloc: Global, core: &Core) -> Result<Vec<u8>, Fail> {
 #[test]
 fn a_booted_core_is_sound(rt: HostRuntime) -> Result<(), Fail> {
     let core = Core::boot(rt.alloc(), 16)?;
-    assert_eq!(rt; text_of(rt.alloc(), &core)?.as_slice(), SOUND);
-    let largest = Core::boot(rt.alloc(), 4096)?;
-    let image = Image::of(rt.alloc(), &largest)?;
-    assert!(rt; check(rt.alloc(), &image)?.sound());
+    let text = text_of(rt.alloc(), &core)?;
+    assert_eq!(rt; text.as_slice(), SOUND);
+    Ok(())
+}
+
+#[test]
+fn the_largest_core_is_sound(rt: HostRuntime) -> Result<(), Fail> {
+    let core = Core::boot(rt.alloc(), 4096)?;
+    let image = Image::of(rt.alloc(), &core)?;
+    let told = check(rt.alloc(), &image)?;
+    assert!(rt; told.sound());
     Ok(())
 }
 
@@ -118,34 +125,39 @@ fn check_frames(rt: &impl Abort, told: &Verdict, table: u32, page: u32) {
 
 /// An image that lacks its last byte is refused.
 fn check_cut<R: AllocGlobal + Abort>(rt: &R, bytes: &[u8]) {
-    let cut = bytes.split_last().map(|(_, front)| front);
-    let fault = cut.and_then(|front| read_image(rt.alloc(), front).err());
+    let (_, front) = bytes.split_last().expect(rt, "a byte");
+    let fault = read_image(rt.alloc(), front).err();
     assert_eq!(rt; fault, Some(ImageFault::BadLength));
+}
+
+/// The verdict on these bytes tells process 1 and two frames by their clauses.
+fn check_clauses<R: AllocGlobal + Abort>(rt: &R, bytes: &[u8], at: &Frames) {
+    let image = read_image(rt.alloc(), bytes).ok().expect(rt, "an image");
+    let told = check(rt.alloc(), &image).ok().expect(rt, "a verdict");
+    check_processes(rt, &told, ProcessClause::Pages);
+    check_frames(rt, &told, at.own_table, at.shared);
 }
 
 #[test]
 fn a_page_turned_to_a_table_is_told(rt: HostRuntime) -> Result<(), Fail> {
-    let core = shared_both_ways(&rt)?;
-    let mut bytes = bytes_of(rt.alloc(), &core)?;
+    let mut bytes = image_bytes(rt.alloc())?;
     let at = frames_of(&bytes);
     let damage = a_page_turned_to_a_table(&bytes, &at);
     put(&mut bytes, damage.place, damage.word);
-    let told = verdict(rt.alloc(), &bytes)?;
-    check_processes(&rt, &told, ProcessClause::Pages);
-    check_frames(&rt, &told, at.own_table, at.shared);
-    check_cut(&rt, &bytes);
     let lines = lines_of(rt.alloc(), &damage)?;
-    assert_eq!(rt; text(rt.alloc(), &told)?, lines);
+    check_clauses(&rt, &bytes, &at);
+    check_text(&rt, &bytes, &lines);
+    check_cut(&rt, &bytes);
     Ok(())
 }
 
 /// The verdict on an image that the bytes spell has this text.
-fn check_text<R: AllocGlobal + Abort>(rt: &R, bytes: &[u8], expected: &str) {
+fn check_text<R: AllocGlobal + Abort>(rt: &R, bytes: &[u8], expected: &[u8]) {
     let image = read_image(rt.alloc(), bytes).ok().expect(rt, "an image");
     let told = check(rt.alloc(), &image).ok().expect(rt, "a verdict");
     let mut text = Vec::new(rt.alloc());
     assert_eq!(rt; told.write_text(&mut text), Ok(()));
-    assert_eq!(rt; text.as_slice(), expected.as_bytes());
+    assert_eq!(rt; text.as_slice(), expected);
 }
 
 /// The other kernel's image of version 2, in which one word is changed, has a verdict of this text.
@@ -153,7 +165,7 @@ fn check_changed<R: AllocGlobal + Abort>(rt: &R, place: usize, word: u32, expect
     let bytes = changed_image(rt.alloc(), (place, word))
         .ok()
         .expect(rt, "memory for an image");
-    check_text(rt, &bytes, expected);
+    check_text(rt, &bytes, expected.as_bytes());
 }
 
 /// The other kernel's image of a version, with this word for a page, has a verdict of this text.
@@ -161,7 +173,7 @@ fn check_version<R: AllocGlobal + Abort>(rt: &R, version: u32, page: u32, expect
     let bytes = other_image(rt.alloc(), version, page)
         .ok()
         .expect(rt, "memory for an image");
-    check_text(rt, &bytes, expected);
+    check_text(rt, &bytes, expected.as_bytes());
 }
 
 #[test]
@@ -222,7 +234,7 @@ fn one_table_everywhere<R: AllocGlobal + Abort>(rt: &R) -> Vec<u8> {
 /// With this count of the shared frame the verdict has this text.
 fn check_count<R: AllocGlobal + Abort>(rt: &R, bytes: &mut [u8], count: u32, expected: &str) {
     put(bytes, 1736, count);
-    check_text(rt, bytes, expected);
+    check_text(rt, bytes, expected.as_bytes());
 }
 
 #[test]
@@ -242,7 +254,7 @@ fn check_lazy<R: AllocGlobal + Abort>(rt: &R, version: u32, page: u32, expected:
         .expect(rt, "memory for an image");
     put(&mut bytes, 50_960, 0x0405);
     put(&mut bytes, 24, 4);
-    check_text(rt, &bytes, expected);
+    check_text(rt, &bytes, expected.as_bytes());
 }
 
 #[test]
