@@ -127,9 +127,8 @@ fn check_cost(rt: &impl Abort, spaces: &Spaces, pid: Pid, cost: u32) {
 
 /// All frames are free but frame 0, and so many more.
 fn check_frames(rt: &impl Abort, spaces: &Spaces, used: u32) {
-    assert_eq!(rt; spaces.role(Frame(0)), Role::Reserved);
     let mut free = 0_u32;
-    for frame in 1..spaces.frames() {
+    for frame in 0..spaces.frames() {
         free = free.wrapping_add((spaces.role(Frame(frame)) == Role::Free) as u32);
     }
     assert_eq!(rt; free.wrapping_add(used).wrapping_add(1), spaces.frames());
