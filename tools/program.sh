@@ -14,9 +14,11 @@ refuse() {
 
 # The sums of all sources and definitions that the program stands on, and of the program.
 sources() {
-    folders=$("$root/c/below" "$name" | sed 's,.*,crates/&/src crates/&/specs,')
-    # Each folder is a word; a crate may have no specs.
-    (cd "$root" && sha256sum crates.txt "crates/$name/out/$name" &&
+    crates=$("$root/c/below" "$name")
+    folders=$(echo "$crates" | sed 's,.*,crates/&/src crates/&/specs,')
+    # Of crates.txt the lines of these crates. Each folder is a word; a crate may have no specs.
+    (cd "$root" && echo "$crates" | sed 's,.*,^&[: ],' | grep -f - crates.txt | sha256sum | sed 's,-$,crates.txt,' &&
+        sha256sum "crates/$name/out/$name" &&
         { find $folders -type f -exec sha256sum {} + 2>/dev/null || true; } | sort -k 2)
 }
 

@@ -6,7 +6,9 @@ import sys
 HINTS = {
     "rt": "'rt' of the Rattle kit on PATH (README.md)",
     "tower": "the proved program ('./tower prove' makes it)",
+    "libtower_c.a": "the proved archive ('make -C c' makes it)",
     "valgrind": "'valgrind' on PATH",
+    "gcc": "'gcc' on PATH",
     "cc": "a C compiler, 'cc' on PATH",
 }
 

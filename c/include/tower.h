@@ -215,8 +215,9 @@ bool tower_walk(const struct tower *tower, uint32_t pid, uint32_t address, bool 
 bool tower_copy_frame(const struct tower *tower, uint32_t frame, uint8_t *bytes, size_t byte_count);
 
 /* Where the core's memory lies, from the boot until tower_free: frame f is the 4,096 bytes from place
- * 4,096 f on. It begins where rattle_alloc put the block. False where the handle has no core: nothing is
- * written then. */
+ * 4,096 f on. It begins where rattle_alloc put the block. Between two calls a processor that walks the
+ * core's directories may write there, as docs/C-LIBRARY.md says, and nobody else. False where the handle
+ * has no core: nothing is written then. */
 struct tower_memory {
     void *begins;
     size_t length;

@@ -8,7 +8,7 @@ enum { PROCESSES = 64, LIVE = 6 };
 /* Two cores: the processor makes accesses over the tables of the first, the second is told each as an event. */
 static struct tower *walked, mirror = TOWER_NONE;
 static uint8_t *walked_memory, *mirror_memory;
-static uint32_t frame_count, calls, alone, mended, faulted, refused, split, early;
+static uint32_t calls, alone, mended, faulted, refused, split, early;
 static bool has_stub[PROCESSES];
 
 static struct tower_reply on(struct tower *core, uint32_t pid, struct tower_event event) {
@@ -33,7 +33,7 @@ static struct tower_reply both(uint32_t pid, struct tower_event event) {
 static struct tower_reply mend(uint32_t pid, uint32_t directory) {
     uint32_t at = svm_fault_address(probe()), code = svm_fault_code(probe());
     bool writes = code & 2;
-    struct walk walk = walk_of(walked_memory, frame_count, directory, at, writes);
+    struct walk walk = walk_of(walked_memory, FRAMES, directory, at, writes);
     need(walk.kind == WALK_FAULT && walk.code == code, "the processor faults as the walk does");
     struct tower_reply reply =
         on(walked, pid, (struct tower_event){.call = writes ? TOWER_STORE : TOWER_LOAD, .flag = 1, .first = at});
@@ -125,7 +125,7 @@ static void compare_words(uint32_t frame, bool is_directory) {
 
 /* Directories and tables, or all frames, roles and containers. */
 static void compare(bool all) {
-    for (uint32_t frame = 0; frame < frame_count; frame++) {
+    for (uint32_t frame = 0; frame < FRAMES; frame++) {
         struct tower_role role, other;
         need(tower_role(walked, frame, &role) && tower_role(&mirror, frame, &other), "a frame has a role");
         need(role.kind == other.kind && role.pid == other.pid && role.slot == other.slot && role.count == other.count,
@@ -184,15 +184,14 @@ static void other_call(uint32_t pid) {
     }
 }
 
-static void begin_cores(uint32_t frames, struct tower *tower) {
+static void begin_cores(struct tower *tower) {
     walked = tower;
-    frame_count = frames;
-    need(tower_boot(frames, walked) == TOWER_BOOTED, "a core boots");
+    boot(walked);
     walked_memory = memory_of(walked);
-    need(tower_boot(frames, &mirror) == TOWER_BOOTED, "another boots");
+    boot(&mirror);
     mirror_memory = memory_of(&mirror);
     need(walked_memory != mirror_memory, "they have their own memories");
-    svm_memory(walked_memory, frames, false);
+    svm_memory(walked_memory, FRAMES, false);
     for (uint32_t i = 0; i < (uint32_t)(stub_end - stub); i++) {
         both(0, (struct tower_event){.call = TOWER_STORE, .flag = 1, .first = STUB_AT + i, .second = stub[i]});
     }
@@ -200,8 +199,8 @@ static void begin_cores(uint32_t frames, struct tower *tower) {
     has_stub[0] = true;
 }
 
-void try_events(uint32_t frames, uint32_t rounds, struct tower *tower) {
-    begin_cores(frames, tower);
+void try_events(uint32_t rounds, struct tower *tower) {
+    begin_cores(tower);
     for (uint32_t round = 0; round < rounds; round++) {
         uint32_t pid = random(LIVE);
         if (has_stub[pid] && random(8)) {

@@ -7,7 +7,7 @@
 #include "trial.h"
 #include "walk.h"
 
-enum { FRAMES = 64, RUNNING_MAX = 16, NOBODY = 255, NO_CALL = 255 };
+enum { RUNNING_MAX = 16, NOBODY = 255, NO_CALL = 255 };
 enum { SLICES = 5, EXITS = 1000, WALKS = 10000, EVENTS = 10000 };
 
 static struct tower tower = TOWER_NONE;
@@ -267,7 +267,7 @@ static void turn(uint32_t pid) {
 }
 
 static void run_guests(void) {
-    need(tower_boot(FRAMES, &tower) == TOWER_BOOTED, "the core boots");
+    boot(&tower);
     memory = memory_of(&tower);
     svm_memory(memory, FRAMES, false);
     say("core: %u frames\n", tower_frames(&tower));
@@ -290,7 +290,7 @@ void begin(void) {
     run_guests();
     try_instructions();
     try_walks(WALKS);
-    try_events(FRAMES, EVENTS, &tower);
+    try_events(EVENTS, &tower);
     write_image(&tower);
     say("all is well\n");
     leave(0);

@@ -74,6 +74,7 @@ static void put_instruction(uint32_t i) {
 
 void try_instructions(void) {
     begin_raw();
+    let_slice_pass(); /* an interrupt is pending, as it may be behind any guest */
     for (uint32_t i = 0; i < COUNT; i++) {
         put_instruction(i);
         open_probe(RAW_DIRECTORY, 0, STUB_AT + FRAME + 8, 0);

@@ -74,7 +74,8 @@ void need(bool holds, const char *what) {
     }
 }
 
-/* The first interrupt controller with the timer's line alone, and one countdown of the timer. */
+/* The first interrupt controller with the timer's line alone, and one countdown of the timer. An interrupt of a
+ * countdown before is taken once the new one counts, so that none is left. */
 void start_slice(void) {
     static bool is_set;
     if (!is_set) {
@@ -89,6 +90,14 @@ void start_slice(void) {
     out8(0x43, 0x30);
     out8(0x40, 11932 & 255);
     out8(0x40, 11932 >> 8);
+    take_interrupt();
+}
+
+void let_slice_pass(void) {
+    start_slice();
+    out8(0x20, 0x0a); /* reads tell what is pending from here on */
+    while (!(in8(0x20) & 1)) {
+    }
 }
 
 void take_interrupt(void) {
@@ -104,7 +113,9 @@ struct tried {
     void *block;
 };
 
-static _Alignas(FRAME) uint8_t pool[3 << 20];
+/* Of two cores' memory and tables. A core asks for 16 bytes a frame beside the frame, and for its own words, some
+ * pages. */
+static _Alignas(FRAME) uint8_t pool[2 * (FRAMES * (FRAME + 16) + 16 * FRAME)];
 static size_t used, blocks;
 
 /* Blocks lie one behind another, and those of a page or more begin at a page, so that a core's memory does.
@@ -124,6 +135,15 @@ void rattle_dealloc(void *block) {
     (void)block;
     if (--blocks == 0) {
         used = 0;
+    }
+}
+
+void boot(struct tower *tower) {
+    static const char *const statuses[] = {"booted", "bad size", "no memory", "has a core"};
+    uint32_t status = tower_boot(FRAMES, tower);
+    if (status != TOWER_BOOTED) {
+        say("FAILED: a core of %u frames boots: status %u, %s\n", FRAMES, status, statuses[status]);
+        leave(1);
     }
 }
 

@@ -4,6 +4,7 @@
 
 #include "tower.h"
 
+/* The bytes of a frame. FRAMES, how many a core has, is the Makefile's. */
 enum { FRAME = 4096 };
 
 /* Text on the first serial port: %u decimal, %x hexadecimal of 8 digits, %c a byte, %s text. */
@@ -16,10 +17,15 @@ _Noreturn void fail(const char *what);
 /* Ends the run with that text, where it does not hold. */
 void need(bool holds, const char *what);
 
-/* The timer interrupts 10 ms from now. The interrupt ends a guest's run; it is taken by asking the
+/* The timer interrupts 10 ms from now, and not before. The interrupt ends a guest's run; it is taken by asking the
  * controller, and never delivered. */
 void start_slice(void);
 void take_interrupt(void);
+/* Until the timer's interrupt is pending. */
+void let_slice_pass(void);
+
+/* Boots a core, or ends the run and tells why there is none. */
+void boot(struct tower *tower);
 
 /* Where a core's memory lies, by tower_memory: it begins at a page, since rattle_alloc aligns large blocks so. */
 uint8_t *memory_of(struct tower *tower);

@@ -4,8 +4,24 @@ use std::path::PathBuf;
 use std::process::Command;
 use std::{env, path::Path};
 
+/// Each folder whose files the archive is made of, and the list of crates.
+fn sources(root: &Path) -> Vec<PathBuf> {
+    let below = Command::new(root.join("c/below")).arg("tower_c").output();
+    let names = String::from_utf8(below.expect("c/below runs").stdout).expect("names of crates");
+    assert!(!names.is_empty(), "c/below names no crate");
+    let crates = names.lines().map(|name| root.join("crates").join(name));
+    let parts = crates.flat_map(|at| ["src", "specs", "proofs"].map(|part| at.join(part)));
+    parts
+        .filter(|part| part.exists())
+        .chain([root.join("crates.txt")])
+        .collect()
+}
+
 fn built() -> PathBuf {
     let root = Path::new(&env::var("CARGO_MANIFEST_DIR").expect("cargo sets it")).join("../..");
+    for source in sources(&root) {
+        println!("cargo::rerun-if-changed={}", source.display());
+    }
     let made = Command::new("make")
         .arg("-s")
         .arg("-C")

@@ -1,36 +1,48 @@
-//! Whole runs of the core.
-use kernel_calls::{BootFault, Call, Core, Event, Pid, Reply};
+//! A core by its calls.
+use kernel_calls::{BootFault, Call, Core, Event, Frame, Pid, Reply, Role};
 use page_words::{Page, Size, Vaddr};
 use process_table::Cause;
+use std::process::Abort;
 use std::test::Fail;
 
-fn event(root: Pid, call: Call) -> Event {
-    Event {
-        cpu: 0,
-        pid: root,
-        call,
-    }
+const PAGE: Page = Page(0x40000);
+
+const SIZE: Size = Size::Four;
+
+fn root(rt: &impl Abort) -> Pid {
+    Pid::new(0).expect(rt, "0 is below 64")
+}
+
+fn event(pid: Pid, call: Call) -> Event {
+    Event { cpu: 0, pid, call }
+}
+
+/// The root's quota on a core of so many frames.
+fn booted<R: AllocGlobal + Abort>(rt: &R, frames: u32) -> Result<u32, BootFault> {
+    let core = Core::boot(rt.alloc(), frames)?;
+    let container = core.container(root(rt));
+    Ok(container.map(|container| container.quota).unwrap_or(0))
 }
 
 #[test]
 fn boots_16_to_4096_frames(rt: HostRuntime) {
-    for frames in [0, 15, 4097] {
-        let refused = matches!(Core::boot(rt.alloc(), frames), Err(BootFault::BadSize));
-        assert!(rt; refused);
-    }
-    for frames in [16, 4096] {
-        let booted = Core::boot(rt.alloc(), frames).map(|core| core.frames());
-        assert_eq!(rt; booted, Ok(frames));
-    }
+    assert_eq!(rt;
+        [0, 15, 16, 4096, 4097].map(|frames| booted(&rt, frames)),
+        [
+            Err(BootFault::BadSize),
+            Err(BootFault::BadSize),
+            Ok(15),
+            Ok(4095),
+            Err(BootFault::BadSize)
+        ]
+    );
 }
 
 #[test]
 fn maps_stores_loads_and_unmaps(rt: HostRuntime) -> Result<(), Fail> {
     let mut core = Core::boot(rt.alloc(), 16)?;
-    let root = Pid::new(0).ok_or("no root")?;
-    let page = Page(0x40000);
-    let addr = Vaddr(0x4000_0ffc);
-    let size = Size::Four;
+    let root = root(&rt);
+    let (page, addr, size) = (PAGE, Vaddr(0x4000_0ffc), SIZE);
     let value = 0xdead_beef;
     let events = [
         event(root, Call::Map { page, write: true }),
@@ -41,120 +53,79 @@ fn maps_stores_loads_and_unmaps(rt: HostRuntime) -> Result<(), Fail> {
     ];
     let mut replies = [Reply::Done; 5];
     core.run(&events, &mut replies);
+    let value = Reply::Value(0xdead_beef);
     assert_eq!(rt;
         replies,
-        [
-            Reply::Done,
-            Reply::Done,
-            Reply::Value(0xdead_beef),
-            Reply::Done,
-            Reply::Value(0)
-        ]
+        [Reply::Done, Reply::Done, value, Reply::Done, Reply::Value(0)]
     );
     Ok(())
+}
+
+/// The role of the frame of the root's directory, of which there is one.
+fn role_of_directory(rt: &impl Abort, core: &Core) -> Role {
+    let directory = core.directory(root(rt)).expect(rt, "a directory");
+    assert!(rt; directory.0 < core.frames());
+    core.role(directory)
 }
 
 #[test]
 fn boots_with_a_directory_in_memory(rt: HostRuntime) -> Result<(), Fail> {
     let core = Core::boot(rt.alloc(), 16)?;
-    let root = Pid::new(0).ok_or("no root")?;
-    let directory = core.directory(root).ok_or("no directory")?;
-    assert!(rt; directory.0 != 0);
+    let pid = root(&rt);
+    assert_eq!(rt; role_of_directory(&rt, &core), Role::Directory { pid });
+    assert_eq!(rt; core.role(Frame(0)), Role::Reserved);
     assert_eq!(rt; core.memory().bytes().len(), 65536);
-    assert_eq!(rt; core.memory().frames(), 16);
     Ok(())
 }
 
-fn told(core: &mut Core, pid: Pid, call: Call) -> Reply {
-    core.step(&event(pid, call))
+/// A call of the root is decided with this charge, and committed with this reply.
+fn decide(rt: &impl Abort, core: &mut Core, call: Call, used: u32, reply: Reply) {
+    let decision = core.decide(&event(root(rt), call));
+    assert_eq!(rt; decision.used_after, used);
+    assert_eq!(rt; core.commit(decision), reply);
 }
 
-/// Maps a page by a decision and its commit: the reply, and the charge that was decided.
-fn mapped(core: &mut Core, pid: Pid, page: Page) -> (Reply, u32) {
-    let write = false;
-    let decision = core.decide(&event(pid, Call::Map { page, write }));
-    let used = decision.used_after;
-    (core.commit(decision), used)
+/// A call of the root is carried out with this charge and this reply.
+fn carry_out(rt: &impl Abort, core: &mut Core, call: Call, used: u32, reply: Reply) {
+    let decision = core.carry_out(&event(root(rt), call));
+    assert_eq!(rt; decision.used_after, used);
+    assert_eq!(rt; decision.reply, reply);
+}
+
+fn store(addr: Vaddr, value: u32) -> Call {
+    let size = SIZE;
+    Call::Store { addr, size, value }
+}
+
+fn load(addr: Vaddr) -> Call {
+    Call::Load { addr, size: SIZE }
 }
 
 #[test]
 fn counts_what_it_charges(rt: HostRuntime) -> Result<(), Fail> {
     let mut core = Core::boot(rt.alloc(), 16)?;
-    let root = Pid::new(0).ok_or("no root")?;
-    let page = Page(0x40000);
-    assert_eq!(rt; mapped(&mut core, root, page), (Reply::Done, 3));
-    assert_eq!(rt; mapped(&mut core, root, Page(0x40001)), (Reply::Done, 4));
-    assert_eq!(rt; mapped(&mut core, root, Page(0x40400)), (Reply::Done, 6));
-    let last = Call::Unmap {
-        page: Page(0x40400),
-    };
-    assert_eq!(rt; told(&mut core, root, last), Reply::Done);
-    let other = Pid::new(1).ok_or("no process 1")?;
-    let refused = told(&mut core, other, Call::Unmap { page });
-    assert_eq!(rt; refused, Reply::Refused(Cause::NoProcess));
-    assert_eq!(rt; refused_number(refused), 1);
+    let (page, write) = (PAGE, false);
+    decide(&rt, &mut core, Call::Map { page, write }, 3, Reply::Done);
+    let page = Page(0x40400);
+    decide(&rt, &mut core, Call::Map { page, write }, 5, Reply::Done);
+    decide(&rt, &mut core, Call::Unmap { page }, 3, Reply::Done);
+    let refused = Reply::Refused(Cause::RootExit);
+    decide(&rt, &mut core, Call::Exit, 3, refused);
     Ok(())
-}
-
-/// Carries out a call: the reply and the charge.
-fn carried(core: &mut Core, pid: Pid, call: Call) -> (Reply, u32) {
-    let decision = core.carry_out(&event(pid, call));
-    (decision.reply, decision.used_after)
 }
 
 #[test]
 fn carries_out_at_once_or_by_its_plan(rt: HostRuntime) -> Result<(), Fail> {
     let mut core = Core::boot(rt.alloc(), 16)?;
-    let root = Pid::new(0).ok_or("no root")?;
-    let size = Size::Four;
-    let first = Vaddr(0x4000_0000);
-    let across = Vaddr(0x4000_0ffe);
-    let outside = Vaddr(0x3fff_fffc);
-    let replies = [
-        Call::Store {
-            addr: across,
-            size,
-            value: 0xdead_beef,
-        },
-        Call::Store {
-            addr: first,
-            size,
-            value: 7,
-        },
-        Call::Load { addr: across, size },
-        Call::Load { addr: first, size },
-        Call::Load {
-            addr: outside,
-            size,
-        },
-        Call::Exit,
-    ]
-    .map(|call| carried(&mut core, root, call));
-    assert_eq!(rt;
-        replies,
-        [
-            (Reply::Done, 4),
-            (Reply::Done, 4),
-            (Reply::Value(0xdead_beef), 4),
-            (Reply::Value(7), 4),
-            (
-                Reply::Fault {
-                    addr: outside,
-                    code: 4
-                },
-                4
-            ),
-            (Reply::Refused(Cause::RootExit), 4)
-        ]
-    );
+    let (first, across) = (Vaddr(0x4000_0000), Vaddr(0x4000_0ffe));
+    let addr = Vaddr(0x3fff_fffc);
+    let fault = Reply::Fault { addr, code: 4 };
+    carry_out(&rt, &mut core, store(across, 0xdead_beef), 4, Reply::Done);
+    carry_out(&rt, &mut core, store(first, 7), 4, Reply::Done);
+    carry_out(&rt, &mut core, load(across), 4, Reply::Value(0xdead_beef));
+    carry_out(&rt, &mut core, load(first), 4, Reply::Value(7));
+    carry_out(&rt, &mut core, load(addr), 4, fault);
     Ok(())
-}
-
-fn refused_number(reply: Reply) -> u8 {
-    match reply {
-        Reply::Refused(cause) => cause as u8,
-        _ => 0,
-    }
 }
 
 /// `rt try --test --fail-alloc N` refuses the Nth allocation of this test alone, and each is one

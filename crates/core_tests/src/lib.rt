@@ -1,19 +1,12 @@
-//! Tests of the crates from address spaces to scripts, by their public calls. They stand here and not beside
-//! what they test, so that each of those crates is proved once.
+//! Tests of the crates from address spaces to scripts: an example of each call, and readers, writers and
+//! allocators that fail. They stand here and not beside what they test, so that each of those crates is proved
+//! once. What their calls answer in long runs is compared by the scripts of `checks/`.
 #![tactic(auto)]
 
-#[cfg(test)]
-mod access_tests;
-#[cfg(test)]
-mod event_tests;
-#[cfg(test)]
-mod fork_tests;
 #[cfg(test)]
 mod kernel_tests;
 #[cfg(test)]
 mod lazy_tests;
-#[cfg(test)]
-mod machine_tests;
 #[cfg(test)]
 mod plan_tests;
 #[cfg(test)]
@@ -25,10 +18,6 @@ mod script_tests;
 #[cfg(test)]
 mod space_tests;
 #[cfg(test)]
-mod strange_tests;
+mod stream_tests;
 #[cfg(test)]
-mod two_page_tests;
-#[cfg(test)]
-mod walked_tests;
-#[cfg(test)]
-mod worked_tests;
+mod walk_tests;

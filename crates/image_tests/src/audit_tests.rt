@@ -3,57 +3,18 @@
 ghost use Rattle.std.specs.Prelude.{All, IfOk, IfSome};
 ghost use Rattle.integrity_checker.specs.Steps.{IsOf};
 
+use crate::check_tests::shared_both_ways;
+use crate::images::{UNCHANGED, changed_image, put};
 use image_check::{Verdict, check};
 use integrity_checker::{Audit, AuditFault, Helper, Step};
-use kernel_calls::{Call, Core, Event};
+use kernel_calls::Core;
 use memory_image::{Image, read_image};
-use page_words::{Frame, Page, Pid, Size, Vaddr};
+use page_words::{Frame, Pid};
 use std::alloc::Global;
 use std::process::Abort;
 use std::test::Fail;
 use std::thread;
 use std::thread::Threads;
-
-/// The words, other than 0, of an image of 16 frames in which two processes share a page.
-const SHARED: [(usize, u32); 37] = [
-    (0, 0x4932_436d),
-    (4, 2),
-    (8, 0x10),
-    (12, 1),
-    (20, 0xf),
-    (24, 3),
-    (28, 5),
-    (32, 0xa),
-    (36, 1),
-    (44, 5),
-    (48, 3),
-    (56, 5),
-    (1564, 1),
-    (1580, 1),
-    (1596, 1),
-    (1612, 1),
-    (1628, 2),
-    (1632, 1),
-    (1644, 3),
-    (1648, 1),
-    (1652, 0x140),
-    (1660, 1),
-    (1676, 1),
-    (1692, 1),
-    (1708, 2),
-    (1724, 4),
-    (1736, 2),
-    (1740, 3),
-    (1748, 0x100),
-    (1756, 1),
-    (1772, 1),
-    (1788, 1),
-    (23564, 0x6027),
-    (26380, 0xba67),
-    (43788, 0xc027),
-    (46860, 9),
-    (50956, 0xba67),
-];
 
 /// Words that are put into the image, so that it is sound or not: whether it is.
 const CASES: [(&[(usize, u32)], bool); 25] = [
@@ -104,21 +65,9 @@ const CASES: [(&[(usize, u32)], bool); 25] = [
     (&[(50960, 0x0405), (24, 4)], true),
 ];
 
-/// Puts a word at a place.
-fn put(bytes: &mut [u8], place: usize, word: u32) {
-    for (i, byte) in word.to_le_bytes().iter().enumerate() {
-        if let Some(old) = bytes.get_mut(place.wrapping_add(i)) {
-            *old = *byte;
-        }
-    }
-}
-
 /// The image with these words put to it.
 fn image_with(alloc: Global, changes: &[(usize, u32)]) -> Result<Image, Fail> {
-    let mut bytes = vec![in alloc; 0u8; 67_340]?;
-    for (place, word) in SHARED {
-        put(&mut bytes, place, word);
-    }
+    let mut bytes = changed_image(alloc, UNCHANGED)?;
     for (place, word) in changes {
         put(&mut bytes, *place, *word);
     }
@@ -430,65 +379,16 @@ fn is_sound<R: Threads + Abort + Sync>(
     Ok(())
 }
 
-fn store(addr: u32, value: u32) -> Call {
-    Call::Store {
-        addr: Vaddr(addr),
-        size: Size::Four,
-        value,
-    }
-}
-
-fn load(addr: u32) -> Call {
-    Call::Load {
-        addr: Vaddr(addr),
-        size: Size::Four,
-    }
-}
-
-/// Two processes come to share a page, and the second maps more, and goes.
-fn calls(root: Pid, child: Pid) -> [(Pid, Call); 12] {
-    let page = Page(0x40000);
-    [
-        (root, store(0x4000_0000, 7)),
-        (root, Call::Spawn { quota: 5 }),
-        (
-            root,
-            Call::Offer {
-                page,
-                target: child,
-                write: true,
-            },
-        ),
-        (
-            child,
-            Call::Accept {
-                giver: root,
-                giver_page: page,
-                page: Page(0x50000),
-            },
-        ),
-        (child, store(0x5000_0000, 9)),
-        (child, Call::Map { page, write: false }),
-        (child, Call::Protect { page, write: true }),
-        (child, load(0xefff_fffc)),
-        (root, Call::Unmap { page }),
-        (root, load(0x4000_0000)),
-        (child, Call::Exit),
-        (root, store(0x4000_0000, 1)),
-    ]
+#[test]
+fn helpers_find_a_core_sound(rt: HostRuntime) -> Result<(), Fail> {
+    let core = Core::boot(rt.alloc(), 16)?;
+    is_sound(&rt, rt.alloc(), &core, 16, &[1, 2, 3, 4, 5, 6, 7, 8])
 }
 
 #[test]
-fn helpers_find_a_core_sound_after_each_call(rt: HostRuntime) -> Result<(), Fail> {
-    let root = Pid::new(0).ok_or("no process")?;
-    let child = Pid::new(1).ok_or("no process")?;
-    let mut core = Core::boot(rt.alloc(), 16)?;
-    is_sound(&rt, rt.alloc(), &core, 16, &[1, 2, 3, 4, 5, 6, 7, 8])?;
-    for (pid, call) in calls(root, child) {
-        core.step(&Event { cpu: 0, pid, call });
-        is_sound(&rt, rt.alloc(), &core, 16, &[1, 2, 3, 4, 5, 6, 7, 8])?;
-    }
-    Ok(())
+fn helpers_find_a_core_of_a_shared_page_sound(rt: HostRuntime) -> Result<(), Fail> {
+    let core = shared_both_ways(&rt)?;
+    is_sound(&rt, rt.alloc(), &core, 16, &[1, 2, 3, 4, 5, 6, 7, 8])
 }
 
 #[test]

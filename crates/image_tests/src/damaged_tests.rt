@@ -1,14 +1,12 @@
 //! Images that were damaged in one word, and images that were cut off: what the check and the command that
 //! checks a file find.
 
+use crate::images::{place_of, put, record_of, word};
 use integrity_checker::{ImageFault, check, read_image};
 use script_run::worked::sharing::SHARE_BOTH_WAYS;
 use std::alloc::Global;
 use std::test::Fail;
 use tower_jobs::{ToolFault, check_bytes, write_script_image};
-
-/// Where the image's frames begin, of 16.
-const BODY: usize = 1804;
 
 /// No frame, and no clause.
 const NONE: (u32, u32) = (u32::MAX, 0);
@@ -34,34 +32,6 @@ pub(crate) struct Damage {
     processes: &'static str,
     /// Each frame that fails, and the number of its clause.
     frames: [(u32, u32); 3],
-}
-
-/// The word at a place.
-pub(crate) fn word(bytes: &[u8], place: usize) -> u32 {
-    match bytes.get(place..) {
-        Some([a, b, c, d, ..]) => u32::from_le_bytes([*a, *b, *c, *d]),
-        _ => 0,
-    }
-}
-
-/// Puts a word at a place.
-pub(crate) fn put(bytes: &mut [u8], place: usize, word: u32) {
-    for (i, byte) in word.to_le_bytes().iter().enumerate() {
-        if let Some(old) = bytes.get_mut(place.wrapping_add(i)) {
-            *old = *byte;
-        }
-    }
-}
-
-/// Where the word of an index of a frame stands.
-pub(crate) fn place_of(frame: u32, index: u32) -> usize {
-    let within = frame.wrapping_mul(4096).wrapping_add(index.wrapping_mul(4));
-    BODY.wrapping_add(within as usize)
-}
-
-/// Where the record of a frame stands.
-pub(crate) fn record_of(frame: u32) -> usize {
-    1548_usize.wrapping_add(frame.wrapping_mul(16) as usize)
 }
 
 /// The least frame whose role is Free.
@@ -143,6 +113,17 @@ pub(crate) fn damages(at: &Frames) -> [Damage; 11] {
             frames: [(at.free, 5), NONE, NONE],
         },
     ]
+}
+
+/// The change by which a page of process 1 names a table of process 0: the row of process 1's table for page 50000.
+pub(crate) fn a_page_turned_to_a_table(bytes: &[u8], at: &Frames) -> Damage {
+    let place = place_of(at.other_table, 0);
+    Damage {
+        place,
+        word: at.own_table.wrapping_mul(4096) | word(bytes, place) % 4096,
+        processes: "process 1 P4\n",
+        frames: [(at.own_table, 3), (at.shared, 4), NONE],
+    }
 }
 
 /// The lines of what fails: processes first, then frames in ascending order.

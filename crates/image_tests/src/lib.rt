@@ -15,6 +15,8 @@ mod command_tests;
 #[cfg(test)]
 mod damaged_tests;
 #[cfg(test)]
+mod images;
+#[cfg(test)]
 mod map_status_tests;
 #[cfg(test)]
 mod map_tests;
@@ -22,6 +24,8 @@ mod map_tests;
 mod race_tests;
 #[cfg(test)]
 mod spelling_tests;
+#[cfg(test)]
+mod state_tests;
 #[cfg(test)]
 mod status_tests;
 #[cfg(test)]

@@ -1,11 +1,11 @@
 //! The exit statuses of the program that draws maps, what it writes, and what it tells on standard error.
 
+use base_tests::streams::FullWriter;
 use image_map::draw;
 use std::alloc::Global;
 use std::fs::Files;
-use std::io::Write;
 use std::test::Fail;
-use std::{fs, io};
+use std::fs;
 use tower_jobs::{Answer, status_of, tell, write_script_image};
 
 /// What an answer is told with on standard error.
@@ -85,20 +85,6 @@ fn a_map_that_is_not_drawn_has_its_status(rt: HostRuntime) -> Result<(), Fail> {
     Ok(())
 }
 
-/// Takes no byte.
-#[derive(Drop)]
-struct Full;
-
-impl Write for Full {
-    fn write(&mut self, _buf: &[u8]) -> io::Result<usize> {
-        Ok(0)
-    }
-
-    fn flush(&mut self) -> io::Result<()> {
-        Ok(())
-    }
-}
-
 #[test]
 fn a_map_that_can_not_be_written_ends_with_status_1(rt: HostRuntime) -> Result<(), Fail> {
     let name = "unwritten.by.a.test.image";
@@ -108,7 +94,7 @@ fn a_map_that_can_not_be_written_ends_with_status_1(rt: HostRuntime) -> Result<(
         ["memory_map", "--svg", name].as_slice(),
     ] {
         fs::write(&rt, name, &bytes)?;
-        let answer = draw(&rt, words, &mut Full);
+        let answer = draw(&rt, words, &mut FullWriter::new(0));
         fs::remove_file(&rt, name)?;
         assert_eq!(rt; status_of(&answer), 1, "{words:?}");
         let errors = told(rt.alloc(), &answer)?;

@@ -1,8 +1,7 @@
 //! Maps of images, as text and as pictures: of small ones, of damaged ones, and of 4,096 frames.
 
-use crate::damaged_tests::{
-    Damage, damages, frames_of, image_bytes, lines_of, place_of, put, record_of, word,
-};
+use crate::damaged_tests::{Damage, damages, frames_of, image_bytes, lines_of};
+use crate::images::{place_of, put, record_of, word};
 use image_map::{Form, draw_bytes};
 use script_run::worked::{alone, forks, processes, sharing};
 use std::alloc::Global;

@@ -1,8 +1,6 @@
 //! Races of few rounds, and races that are refused or cut short.
 
-use arrayvec::ArrayVec;
-use std::io;
-use std::io::Write;
+use base_tests::streams::FullWriter;
 use std::test::Fail;
 use tower_jobs::{ToolFault, race};
 
@@ -41,41 +39,10 @@ fn refuses_sizes_before_it_writes(rt: HostRuntime) -> Result<(), Fail> {
     Ok(())
 }
 
-/// Takes so many bytes, and then none.
-#[derive(Drop)]
-struct FullAfter {
-    written: ArrayVec<u8, 256>,
-    left: usize,
-}
-
-impl Write for FullAfter {
-    ghost use Rattle.std.specs.Prelude.{Some};
-
-    ghost contents = { λ writer. Some writer.written.items };
-
-    fn write(&mut self, buf: &[u8]) -> io::Result<usize> {
-        let count = buf.len().min(self.left);
-        match self.written.try_extend_from_slice(&buf[..count]) {
-            Ok(()) => {
-                self.left -= count;
-                Ok(count)
-            }
-            Err(_) => Err(io::Error::from(io::ErrorKind::WriteZero)),
-        }
-    }
-
-    fn flush(&mut self) -> io::Result<()> {
-        Ok(())
-    }
-}
-
 #[test]
 fn writes_a_front_before_a_write_fails(rt: HostRuntime) -> Result<(), Fail> {
     for left in [0, 8, 22, 35, 49, 94, 142, 143] {
-        let mut writer = FullAfter {
-            written: ArrayVec::new(),
-            left,
-        };
+        let mut writer = FullWriter::new(left);
         let ended = race(&rt, rt.alloc(), &mut writer, 16, 3);
         let want = (left < THREE_ROUNDS.len()).then_some(ToolFault::WriteFailed);
         assert_eq!(rt; ended.err(), want, "after {left} bytes");

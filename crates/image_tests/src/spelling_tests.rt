@@ -1,46 +1,14 @@
 //! The image of a core, its bytes, and what is refused of bytes that were changed.
 
-use arrayvec::ArrayVec;
+use crate::images::{put, word};
+use base_tests::streams::{BrokenWriter, Pieces};
 use kernel_calls::{Call, Core, Event, Role};
 use memory_image::{Image, ImageFault, NoMemory, WriteFailed, read_image, write_image};
 use page_words::{Frame, Pid, Size, Vaddr};
-use std::io;
-use std::io::Write;
 use std::test::Fail;
 
 /// How many bytes an image of 16 frames has.
 const LENGTH: usize = 67_340;
-
-/// Keeps what is written, and fails once it has taken so many bytes.
-#[derive(Drop)]
-struct BrokenWriter {
-    written: ArrayVec<u8, 64>,
-    left: usize,
-}
-
-impl Write for BrokenWriter {
-    ghost use Rattle.std.specs.Prelude.{Some};
-
-    ghost contents = { λ writer. Some writer.written.items };
-
-    fn write(&mut self, buf: &[u8]) -> io::Result<usize> {
-        if self.left == 0 {
-            return Err(io::Error::from(io::ErrorKind::BrokenPipe));
-        }
-        let count = buf.len().min(self.left);
-        match self.written.try_extend_from_slice(&buf[..count]) {
-            Ok(()) => {
-                self.left -= count;
-                Ok(count)
-            }
-            Err(_) => Err(io::Error::from(io::ErrorKind::WriteZero)),
-        }
-    }
-
-    fn flush(&mut self) -> io::Result<()> {
-        Ok(())
-    }
-}
 
 /// The bytes of the image of a freshly booted core of 16 frames.
 fn booted(rt: &HostRuntime) -> Result<Vec<u8>, Fail> {
@@ -49,23 +17,6 @@ fn booted(rt: &HostRuntime) -> Result<Vec<u8>, Fail> {
     let mut bytes = Vec::new(rt.alloc());
     write_image(&image, &mut bytes)?;
     Ok(bytes)
-}
-
-/// Puts a word at a place.
-fn put(bytes: &mut [u8], place: usize, word: u32) {
-    for (i, byte) in word.to_le_bytes().iter().enumerate() {
-        if let Some(old) = bytes.get_mut(place.wrapping_add(i)) {
-            *old = *byte;
-        }
-    }
-}
-
-/// The word at a place.
-fn word(bytes: &[u8], place: usize) -> u32 {
-    match bytes.get(place..) {
-        Some([a, b, c, d, ..]) => u32::from_le_bytes([*a, *b, *c, *d]),
-        _ => 0,
-    }
 }
 
 fn fault(rt: &HostRuntime, bytes: &[u8]) -> Option<ImageFault> {
@@ -210,10 +161,7 @@ fn tells_the_role_of_each_kind(rt: HostRuntime) -> Result<(), Fail> {
 fn stops_where_a_write_fails(rt: HostRuntime) -> Result<(), Fail> {
     let core = Core::boot(rt.alloc(), 16)?;
     let image = Image::of(rt.alloc(), &core)?;
-    let mut writer = BrokenWriter {
-        written: ArrayVec::new(),
-        left: 40,
-    };
+    let mut writer = BrokenWriter::new(40, Pieces::Whole);
     assert_eq!(rt; write_image(&image, &mut writer), Err(WriteFailed));
     assert_eq!(rt; Some(writer.written.as_slice()), booted(&rt)?.get(..40));
     Ok(())
@@ -238,27 +186,50 @@ fn faults_have_their_texts(rt: HostRuntime) -> Result<(), Fail> {
     Ok(())
 }
 
+/// The image of a core. Where memory is refused it is asked for again, and a line is printed that says so.
+fn made_again(rt: &HostRuntime, core: &Core) -> Result<Image, Fail> {
+    match Image::of(rt.alloc(), core) {
+        Ok(image) => Ok(image),
+        Err(NoMemory) => {
+            println!(rt; "NoMemory, and then an image of a core")?;
+            let image = Image::of(rt.alloc(), core)?;
+            Ok(image)
+        }
+    }
+}
+
+/// The image that bytes spell, in the same way.
+fn read_again(rt: &HostRuntime, bytes: &[u8]) -> Result<Image, Fail> {
+    match read_image(rt.alloc(), bytes) {
+        Ok(image) => Ok(image),
+        Err(ImageFault::NoMemory) => {
+            println!(rt; "NoMemory, and then an image of bytes")?;
+            let image = read_image(rt.alloc(), bytes)?;
+            Ok(image)
+        }
+        Err(fault) => Err(fault.into()),
+    }
+}
+
 /// `rt try --test --fail-alloc N` refuses the Nth allocation of this test alone. The first four are those
-/// of the core; then come two of `Image::of`, one of the bytes, and two of `read_image`. Each of these calls
-/// that meets a refusal answers NoMemory, the same call with memory then succeeds, and a line is printed that
-/// says so.
+/// of the core; then come two of `Image::of`, which answers NoMemory where it meets a refusal, and then succeeds.
 #[test]
-fn goes_on_after_want_of_memory(rt: HostRuntime) -> Result<(), Fail> {
+fn an_image_is_made_after_want_of_memory(rt: HostRuntime) -> Result<(), Fail> {
     let core = Core::boot(rt.alloc(), 16)?;
-    let mut made = Image::of(rt.alloc(), &core);
-    if made.is_err() {
-        assert_eq!(rt; made.err(), Some(NoMemory));
-        made = Image::of(rt.alloc(), &core);
-        println!(rt; "NoMemory, and then an image of a core")?;
-    }
+    let image = made_again(&rt, &core)?;
+    assert_eq!(rt; image.frames(), 16);
+    Ok(())
+}
+
+/// The seventh allocation is that of the bytes; then come two of `read_image`, which answers NoMemory where it
+/// meets a refusal, and then reads the same bytes.
+#[test]
+fn an_image_is_read_after_want_of_memory(rt: HostRuntime) -> Result<(), Fail> {
+    let core = Core::boot(rt.alloc(), 16)?;
+    let image = Image::of(rt.alloc(), &core)?;
     let mut bytes = Vec::with_capacity(rt.alloc(), LENGTH)?;
-    write_image(&made?, &mut bytes)?;
-    let mut read = read_image(rt.alloc(), &bytes);
-    if read.is_err() {
-        assert_eq!(rt; read.err(), Some(ImageFault::NoMemory));
-        read = read_image(rt.alloc(), &bytes);
-        println!(rt; "NoMemory, and then an image of bytes")?;
-    }
-    assert_eq!(rt; read?.frames(), 16);
+    write_image(&image, &mut bytes)?;
+    let read = read_again(&rt, &bytes)?;
+    assert_eq!(rt; read.frames(), 16);
     Ok(())
 }

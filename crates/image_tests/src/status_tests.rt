@@ -1,12 +1,12 @@
 //! The four exit statuses, what goes to standard output, and what is told on standard error.
 
+use base_tests::streams::FullWriter;
 use std::alloc::Global;
 use std::fs::Files;
-use std::io::Write;
 use std::sync::Wait;
 use std::test::Fail;
 use std::thread::Threads;
-use std::{fs, io};
+use std::fs;
 use tower_jobs::{Answer, ToolFault, answer, status_of, tell, write_script_image};
 
 /// What came of a command line: its status, and the bytes of standard output and standard error.
@@ -45,20 +45,6 @@ fn unsound_image(alloc: Global) -> Result<Vec<u8>, Fail> {
     write_script_image(alloc, &mut "".as_bytes(), &mut bytes, 16)?;
     *bytes.get_mut(20).ok_or("a quota")? = 16;
     Ok(bytes)
-}
-
-/// Takes no byte.
-#[derive(Drop)]
-struct Full;
-
-impl Write for Full {
-    fn write(&mut self, _buf: &[u8]) -> io::Result<usize> {
-        Ok(0)
-    }
-
-    fn flush(&mut self) -> io::Result<()> {
-        Ok(())
-    }
 }
 
 #[test]
@@ -163,7 +149,7 @@ fn a_write_that_fails_ends_with_status_1(rt: HostRuntime) -> Result<(), Fail> {
         ["tower", "image"].as_slice(),
         ["tower", "race", "--rounds=1"].as_slice(),
     ] {
-        let answer = answer(&rt, words, &mut map.as_bytes(), &mut Full);
+        let answer = answer(&rt, words, &mut map.as_bytes(), &mut FullWriter::new(0));
         let ended = end_of(alloc, &answer, Vec::new(alloc))?;
         assert_eq!(rt; ended.status, 1, "{words:?}");
         assert_eq!(rt;

@@ -1,0 +1,205 @@
+"""The C library by ctypes: its structs (c/include/tower.h), a core of it, and its events and replies as machine.py has
+them."""
+import ctypes
+import os
+import subprocess
+import sys
+from pathlib import Path
+
+import machine
+import memory
+from machine import Reply
+
+ROOT = Path(__file__).resolve().parent.parent
+sys.path.append(str(ROOT / "tools"))
+from wants import wants  # noqa: E402
+
+PROVED = ROOT / "crates" / "tower_c" / "out" / "libtower_c.a"
+HEADER = ROOT / "c" / "include" / "tower.h"
+NUMBERS = {"load": 0, "store": 1, "map": 2, "unmap": 3, "protect": 4, "info": 5, "offer": 6, "withdraw": 7,
+           "accept": 8, "spawn": 9, "exit": 10, "quota": 11, "fork": 12}
+CAUSES = {1: "NoProcess", 2: "BadPage", 4: "NotMapped", 5: "Mapped", 6: "Quota", 7: "Rights", 8: "SelfOffer",
+          9: "NoTarget", 10: "OfferPending", 11: "TooManyOffers", 12: "NoOffer", 13: "TableFull", 14: "BadQuota",
+          15: "HasChildren", 16: "RootExit", 17: "TooSmall"}
+KINDS = ["done", "value", "child", "info", "quota", "fault", "refused", "no event"]
+# How many numbers a reply of each kind tells.
+TELLS = [0, 1, 1, 1, 3, 2, 1, 0]
+NO_DIRECTORY = 0xFFFFFFFF
+
+
+class Tower(ctypes.Structure):
+    _fields_ = [("live", ctypes.c_bool), ("core", ctypes.c_void_p)]
+
+
+class Numbers(ctypes.Structure):
+    """An event's."""
+    _fields_ = [(name, ctypes.c_uint8) for name in ("cpu", "pid", "call", "flag")] + \
+               [(name, ctypes.c_uint32) for name in ("first", "second", "third")]
+
+
+class Answer(ctypes.Structure):
+    _fields_ = [(name, ctypes.c_uint32) for name in ("kind", "first", "second", "third")] + \
+               [(name, ctypes.c_bool) for name in ("write", "may", "accessed", "dirty")]
+
+
+class End(ctypes.Structure):
+    """How a walk ends."""
+    _fields_ = [(name, ctypes.c_uint32) for name in ("kind", "frame", "code")]
+
+
+class Block(ctypes.Structure):
+    _fields_ = [("begins", ctypes.c_void_p), ("length", ctypes.c_size_t)]
+
+
+def built(archive, folder):
+    """The archive, c/heap.c and look.c as one shared object, loaded."""
+    made, c = os.path.join(folder, "library.so"), ROOT / "c"
+    subprocess.run(["gcc", "-shared", "-fPIC", "-O2", f"-I{c}/include", "-o", made, ROOT / "checks" / "look.c", c / "heap.c",
+                    "-Wl,--whole-archive", archive, "-Wl,--no-whole-archive"], check=True)
+    library = ctypes.CDLL(made)
+    for name in ("step", "run", "directory", "container", "role", "walk", "copy_frame", "memory"):
+        getattr(library, "tower_" + name).restype = ctypes.c_bool
+    return library
+
+
+def numbers_of(event):
+    """The numbers of an event; its operands stand in the order of a script's line."""
+    flag, rest = 0, list(event.operands)
+    if event.call in ("load", "store"):
+        flag = rest.pop(1)
+    elif event.call in ("map", "protect", "offer"):
+        flag = int(rest.pop())
+    elif event.call == "accept":
+        rest = [rest[1], rest[0], rest[2]]
+    return Numbers(event.cpu, event.process, NUMBERS[event.call], flag, *rest)
+
+
+def operands_of(call, flag, first, second, third):
+    """The operands that these numbers stand for, or None where they are no event."""
+    if call in ("load", "store"):
+        return [first, flag, second][:2 + (call == "store")] if flag in (1, 2, 4) else None
+    if call in ("offer", "accept", "withdraw") and second >= machine.PROCESSES:
+        return None
+    if call in ("map", "protect", "offer"):
+        return [first, *[second] * (call == "offer"), flag == 1] if flag < 2 else None
+    return {"accept": [second, first, third], "withdraw": [first, second], "exit": [], "quota": []}.get(call, [first])
+
+
+def event_of(cpu, process, number, *numbers):
+    """The event of these numbers, or None. Which CPU it is makes no difference."""
+    call = next((call for call, of in NUMBERS.items() if of == number), None)
+    operands = operands_of(call, *numbers) if call and process < machine.PROCESSES else None
+    return None if operands is None else machine.Event(cpu, process, call, operands)
+
+
+def reply_of(answer):
+    """An answer as machine.py has it; what its kind does not tell has to be 0."""
+    numbers = [answer.first, answer.second, answer.third]
+    flags = [answer.write, answer.may, answer.accessed, answer.dirty]
+    kind = KINDS[answer.kind] if answer.kind < len(KINDS) else None
+    if kind is None or any(numbers[TELLS[answer.kind]:]) or kind != "info" and any(flags):
+        return Reply("no reply", (answer.kind, *numbers, *flags))
+    if kind == "info":
+        return Reply(kind, (*flags, numbers[0]))
+    if kind == "refused":
+        return Reply(kind, (CAUSES.get(numbers[0], numbers[0]),))
+    return Reply(kind, tuple(numbers[:TELLS[answer.kind]]))
+
+
+def listed(array):
+    return memoryview(array).cast("B").cast("I").tolist()
+
+
+def by(count, numbers):
+    """The numbers, so many at a time."""
+    return zip(*[iter(numbers)] * count)
+
+
+class Core:
+    """A core of the library, as memory.Comparison looks at one."""
+
+    def __init__(self, library, frames):
+        self.library, self.frames, self.handle = library, frames, Tower(False, None)
+        status = library.tower_boot(ctypes.c_uint32(frames), ctypes.byref(self.handle))
+        if status:
+            raise RuntimeError(f"a boot of {frames} frames answers {status}")
+        block = Block()
+        library.tower_memory(ctypes.byref(self.handle), ctypes.byref(block))
+        if block.length != 4096 * frames:
+            raise RuntimeError(f"memory has {block.length} bytes")
+        self.memory = memoryview((ctypes.c_uint8 * block.length).from_address(block.begins)).cast("B")
+        self.words = self.memory.cast("I")
+        self.raw = [(ctypes.c_uint32 * count)() for count in (4 * frames, 6 * machine.PROCESSES, machine.PROCESSES)]
+
+    def free(self):
+        self.library.tower_free(ctypes.byref(self.handle))
+
+    def look(self):
+        """Reads all roles, containers and directories."""
+        self.library.look(ctypes.byref(self.handle), *self.raw)
+        roles, containers, directories = map(listed, self.raw)
+        self.roles = list(by(4, roles))
+        records = list(by(6, containers))
+        self.containers = [memory.Container(*record[1:5]) if record[0] else None for record in records]
+        self.children = [record[5] for record in records]
+        self.directories = [None if frame == NO_DIRECTORY else frame for frame in directories]
+
+    def directory(self, number):
+        found = ctypes.c_uint32(0)
+        live = self.library.tower_directory(ctypes.byref(self.handle), ctypes.c_uint32(number), ctypes.byref(found))
+        return found.value if live else None
+
+    def word(self, frame, index):
+        return self.words[1024 * frame + index]
+
+    def page(self, frame):
+        return self.memory[4096 * frame:4096 * frame + 4096].tobytes()
+
+    def step(self, numbers):
+        answer = Answer(99, 99, 99, 99, True, True, True, True)
+        if not self.library.tower_step(ctypes.byref(self.handle), ctypes.byref(numbers), ctypes.byref(answer)):
+            return Reply("none")
+        return reply_of(answer)
+
+    def run(self, events):
+        count = ctypes.c_size_t(len(events))
+        asked, answers = (Numbers * len(events))(*map(numbers_of, events)), (Answer * len(events))()
+        self.library.tower_run(ctypes.byref(self.handle), asked, count, answers, count)
+        return [reply_of(answer) for answer in answers]
+
+    def walk(self, number, address, write):
+        """The library's walk of a process, or None where it answers none."""
+        found = End(99, 99, 99)
+        asked = ctypes.c_uint32(number), ctypes.c_uint32(address), ctypes.c_bool(write)
+        if not self.library.tower_walk(ctypes.byref(self.handle), *asked, ctypes.byref(found)):
+            return None
+        ends = [machine.Walk("frame", found.frame), machine.Walk("fault", found.code), machine.Walk("outside")]
+        return ends[found.kind] if found.kind < 3 else None
+
+    def finds(self, directory, places, write):
+        """Whether a processor's own walk finds a frame for each of these bytes."""
+        walks = (machine.walk(self.word, self.frames, directory, place, write) for place in places)
+        return directory is not None and all(found.kind == "frame" for found in walks)
+
+    def processor(self, event):
+        """What a processor does by itself (docs/MACHINE.md, "Accesses by the walk"): the reply, or None where its walk finds
+        no frame for a page of the access."""
+        address, size, *value = event.operands
+        directory, places = self.directory(event.process), range(address, address + size)
+        if places[-1] >= 1 << 32 or not self.finds(directory, places, bool(value)):
+            return None
+        read = 0
+        for n, place in enumerate(places):
+            byte = self.marked(directory, place, bool(value)) * 4096 + place % 4096
+            if value:
+                self.memory[byte] = value[0] >> 8 * n & 255
+            read |= self.memory[byte] << 8 * n
+        return machine.DONE if value else Reply("value", (read,))
+
+    def marked(self, directory, place, write):
+        """Sets accessed, and for a write dirty, and answers the frame of the page."""
+        first = 1024 * directory + (place >> 22)
+        second = (self.words[first] >> 12) * 1024 + (place >> 12 & 1023)
+        self.words[first] |= 1 << 5
+        self.words[second] |= 1 << 5 | write << 6
+        return self.words[second] >> 12

@@ -1,0 +1,36 @@
+/* Reads all roles, containers and directories of a core at once, for against_library. */
+#include "tower.h"
+
+static void look_at_roles(const struct tower *tower, uint32_t *roles) {
+    for (uint32_t frame = 0; frame < tower_frames(tower); frame++) {
+        struct tower_role role = {99, 99, 99, 99};
+        tower_role(tower, frame, &role);
+        *roles++ = role.kind;
+        *roles++ = role.pid;
+        *roles++ = role.slot;
+        *roles++ = role.count;
+    }
+}
+
+static void look_at_containers(const struct tower *tower, uint32_t *containers) {
+    for (uint32_t pid = 0; pid < TOWER_PROCESSES; pid++) {
+        struct tower_container found = {0, 0, 0, 0, 0};
+        *containers++ = tower_container(tower, pid, &found);
+        *containers++ = found.parent;
+        *containers++ = found.quota;
+        *containers++ = found.used;
+        *containers++ = found.given;
+        *containers++ = found.children;
+    }
+}
+
+/* Four numbers for each frame; six for each process: live, parent, quota, used, given, children; a directory for
+ * each process, UINT32_MAX where there is none. */
+void look(const struct tower *tower, uint32_t *roles, uint32_t *containers, uint32_t *directories) {
+    look_at_roles(tower, roles);
+    look_at_containers(tower, containers);
+    for (uint32_t pid = 0; pid < TOWER_PROCESSES; pid++) {
+        directories[pid] = UINT32_MAX;
+        tower_directory(tower, pid, &directories[pid]);
+    }
+}

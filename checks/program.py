@@ -1,0 +1,80 @@
+"""The program beside the machine: a script's replies, its line on standard error and its status, and its image."""
+import struct
+import subprocess
+import sys
+import tempfile
+from pathlib import Path
+
+import machine
+import memory
+
+ROOT = Path(__file__).resolve().parent.parent
+sys.path.append(str(ROOT / "tools"))
+from wants import wants  # noqa: E402
+
+PROVED = ROOT / "crates" / "tower" / "out" / "tower"
+RECORDS, HEAD = 12, 1548
+
+
+class Image:
+    """What an image of version 2 says (docs/IMAGES.md, "Layout"), as memory.Comparison wants it."""
+
+    def __init__(self, image):
+        letters, version, self.frames = struct.unpack_from("<4sII", image)
+        if (letters, version, len(image)) != (b"mC2I", 2, HEAD + 4112 * self.frames):
+            raise ValueError("no image of version 2")
+        records = [struct.unpack_from("<6I", image, RECORDS + 24 * number) for number in range(machine.PROCESSES)]
+        self.containers = [memory.Container(*record[1:5]) if record[0] else None for record in records]
+        self.directories = [record[5] if record[0] else None for record in records]
+        self.roles = [memory.Role(*struct.unpack_from("<4I", image, HEAD + 16 * frame)) for frame in range(self.frames)]
+        self.image, self.begins = image, HEAD + 16 * self.frames
+
+    def word(self, frame, index):
+        return struct.unpack_from("<I", self.image, self.begins + 4096 * frame + 4 * index)[0]
+
+    def page(self, frame):
+        place = self.begins + 4096 * frame
+        return self.image[place:place + 4096]
+
+
+def ran(program, words, script=b""):
+    """What came of a command: standard output, and the line on standard error with the status."""
+    end = subprocess.run([program, *words], input=script, capture_output=True, timeout=60)
+    return end.stdout, (end.stderr.decode("latin-1").rstrip("\n"), end.returncode)
+
+
+def first_other(got, wanted):
+    """The first reply that is otherwise."""
+    got, wanted = got.split(b"\n"), wanted.split(b"\n")
+    place = next((n for n, pair in enumerate(zip(got, wanted)) if pair[0] != pair[1]), min(len(got), len(wanted)))
+    return f"reply {place + 1} is {got[place:place + 1]}, not {wanted[place:place + 1]}"
+
+
+def replies_differ(program, frames, script, run):
+    """How `tower run` answers a script otherwise than this run of it, or None."""
+    written, ended = ran(program, ["run", "--frames", str(frames)], script)
+    if written != run.written:
+        return first_other(written, run.written)
+    return None if ended == (run.told, run.status) else f"it ends with {ended}, not with {(run.told, run.status)}"
+
+
+def image_differs(program, frames, script, run):
+    """How `tower image` gives another image than the run's last state has, or `tower check` finds fault with it."""
+    image, ended = ran(program, ["image", "--frames", str(frames)], script)
+    if ended != (run.told, run.status) or run.status and image:
+        return f"image ends with {ended} and {len(image)} bytes, not with {(run.told, run.status)}"
+    if run.status:
+        return None
+    try:
+        found = memory.difference(run.state, Image(image))
+    except (ValueError, struct.error) as fault:
+        found = str(fault)
+    return f"in the image {found}" if found else check_differs(program, image)
+
+
+def check_differs(program, image):
+    with tempfile.NamedTemporaryFile() as file:
+        file.write(image)
+        file.flush()
+        verdict, ended = ran(program, ["check", file.name])
+    return None if (verdict, ended) == (b"sound\n", ("", 0)) else f"the check of the image answers {verdict} and {ended}"

@@ -1,0 +1,93 @@
+//! Roles of frames.
+use alloc_table::{FrameTable, Role, TableFault, weights_add_up};
+use page_words::Pid;
+use std::process::Abort;
+use std::test::Fail;
+
+const PAGE: Role = Role::Page { count: 1 };
+
+/// Takes a frame for a page of one holder.
+fn take_page(rt: &impl Abort, table: &mut FrameTable) {
+    let frame = table.take(PAGE).expect(rt, "a frame is free");
+    assert_eq!(rt; table.role(frame), PAGE);
+}
+
+#[test]
+fn frees_a_page_with_its_last_holder(rt: HostRuntime) -> Result<(), Fail> {
+    let mut table = FrameTable::new(rt.alloc(), 16)?;
+    let frame = table.take(PAGE).expect(&rt, "a frame is free");
+    table.hold(frame);
+    let shared = table.role(frame);
+    let kept = !table.release(frame);
+    let alone = table.role(frame);
+    let freed = table.release(frame);
+    assert_eq!(rt;
+        [shared, alone, table.role(frame)],
+        [Role::Page { count: 2 }, PAGE, Role::Free]
+    );
+    assert!(rt; kept && freed);
+    Ok(())
+}
+
+/// Takes all frames that are free.
+fn take_all(rt: &impl Abort, table: &mut FrameTable) {
+    for _ in 0..15 {
+        take_page(rt, table);
+    }
+}
+
+#[test]
+fn gives_each_frame_once(rt: HostRuntime) -> Result<(), Fail> {
+    let mut table = FrameTable::new(rt.alloc(), 16)?;
+    take_all(&rt, &mut table);
+    assert_eq!(rt; (table.free_count(), table.take(PAGE)), (0, None));
+    table.within();
+    Ok(())
+}
+
+/// A frame that is taken for this role has it until it is released.
+fn check_taken(rt: &impl Abort, table: &mut FrameTable, pid: Pid) {
+    let role = Role::Table { pid, slot: 256 };
+    let frame = table.take(role).expect(rt, "a frame is free");
+    assert!(rt; table.role(frame) == role);
+    assert!(rt; table.release(frame));
+    assert!(rt; table.role(frame) == Role::Free);
+}
+
+#[test]
+fn frees_a_table(rt: HostRuntime) -> Result<(), Fail> {
+    let mut table = FrameTable::new(rt.alloc(), 16)?;
+    check_taken(&rt, &mut table, Pid::new(1).expect(&rt, "1 is below 64"));
+    weights_add_up();
+    Ok(())
+}
+
+#[test]
+fn takes_16_to_4096_frames(rt: HostRuntime) {
+    let sizes = [15, 16, 4096, 4097]
+        .map(|frames| FrameTable::new(rt.alloc(), frames).map(|table| table.free_count()));
+    assert_eq!(rt;
+        sizes,
+        [
+            Err(TableFault::BadSize),
+            Ok(15),
+            Ok(4095),
+            Err(TableFault::BadSize)
+        ]
+    );
+}
+
+/// `rt try --test --fail-alloc N` refuses the Nth allocation of this test alone, and each is one of
+/// `new`. A call that meets it answers NoMemory, the same call with memory then succeeds, and a line
+/// is printed that says so.
+#[test]
+fn goes_on_after_want_of_memory(rt: HostRuntime) -> Result<(), Fail> {
+    let first = FrameTable::new(rt.alloc(), 16).map(|table| table.free_count());
+    if first.is_err() {
+        assert_eq!(rt; first, Err(TableFault::NoMemory));
+        let again = FrameTable::new(rt.alloc(), 16).map(|table| table.free_count());
+        assert_eq!(rt; again, Ok(15));
+        println!(rt; "NoMemory, and then a table")?;
+    }
+    Ok(())
+}

@@ -1,0 +1,28 @@
+//! Tests of the crates from page words to page maps: an example of each call, and allocators that fail. They
+//! stand here and not beside what they test, so that each of those crates is proved once; and not with the tests
+//! of the crates above, so that they are proved without these. The readers and writers that fail are those of
+//! the other crates of tests too.
+#![tactic(auto)]
+
+pub mod streams;
+
+#[cfg(test)]
+mod address_tests;
+#[cfg(test)]
+mod frame_table_tests;
+#[cfg(test)]
+mod ledger_tests;
+#[cfg(test)]
+mod memory_tests;
+#[cfg(test)]
+mod offer_tests;
+#[cfg(test)]
+mod page_map_tests;
+#[cfg(test)]
+mod quota_tests;
+#[cfg(test)]
+mod text_tests;
+#[cfg(test)]
+mod walk_tests;
+#[cfg(test)]
+mod word_tests;

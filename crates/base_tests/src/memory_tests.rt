@@ -1,0 +1,57 @@
+//! Physical memory, byte by byte.
+use page_words::Frame;
+use phys_memory::{FRAME_BYTES, Memory, MemoryFault};
+use std::alloc::Global;
+use std::test::Fail;
+
+#[test]
+fn writes_and_copies(rt: HostRuntime) -> Result<(), Fail> {
+    let mut memory = Memory::new(rt.alloc(), 16)?;
+    memory.write_word(0x3ffe, 0x3267);
+    memory.write_byte(0x4000, 0xab);
+    assert_eq!(rt; memory.read_word(0x3ffe), 0x00ab_3267);
+    memory.copy_frame(Frame(4), Frame(15));
+    memory.zero_frame(Frame(4));
+    let bytes = [0x3ffe, 0x3fff, 0x4000, 0xf000].map(|place| memory.read_byte(place));
+    assert_eq!(rt; bytes, [0x67, 0x32, 0x00, 0xab]);
+    Ok(())
+}
+
+/// How many frames a memory has, where all its bytes are there and 0.
+fn blank(alloc: Global, frames: u32) -> Result<u32, MemoryFault> {
+    let memory = Memory::new(alloc, frames)?;
+    let bytes = memory.bytes();
+    let whole = bytes.len() == memory.frames() as usize * FRAME_BYTES;
+    let blank = whole && bytes.iter().all(|byte| *byte == 0);
+    Ok(if blank { memory.frames() } else { 0 })
+}
+
+#[test]
+fn has_16_to_4096_frames(rt: HostRuntime) {
+    let sizes = [0, 15, 16, 4096, 4097].map(|frames| blank(rt.alloc(), frames));
+    assert_eq!(rt;
+        sizes,
+        [
+            Err(MemoryFault::BadSize),
+            Err(MemoryFault::BadSize),
+            Ok(16),
+            Ok(4096),
+            Err(MemoryFault::BadSize)
+        ]
+    );
+}
+
+/// `rt try --test --fail-alloc N` refuses the Nth allocation of this test alone, and each is one of
+/// `new`. A call that meets it answers NoMemory, the same call with memory then succeeds, and a line
+/// is printed that says so.
+#[test]
+fn goes_on_after_want_of_memory(rt: HostRuntime) -> Result<(), Fail> {
+    let first = Memory::new(rt.alloc(), 16).map(|memory| memory.frames());
+    if first.is_err() {
+        assert_eq!(rt; first, Err(MemoryFault::NoMemory));
+        let again = Memory::new(rt.alloc(), 16).map(|memory| memory.frames());
+        assert_eq!(rt; again, Ok(16));
+        println!(rt; "NoMemory, and then a memory")?;
+    }
+    Ok(())
+}

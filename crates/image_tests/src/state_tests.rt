@@ -1,0 +1,241 @@
+//! What an image stands for: one pair of spaces and book at most. So what is compared is the processes with what
+//! they have, and the mapped pages with their flags, bytes and groups.
+
+use crate::check_tests::shared_both_ways;
+use crate::images::{PAGE_WORDS, UNCHANGED, other_image, put};
+use image_check::{Image, read_image};
+use page_words::{DirWord, Frame, Pid, TableWord};
+use std::alloc::{AllocError, Global};
+use std::process::Abort;
+use std::test::Fail;
+
+/// What an image says of one mapped page of a process.
+#[derive(Clone, Copy, Debug, PartialEq, Eq)]
+struct Mapped {
+    pid: u8,
+    page: u32,
+    /// Whether the process may write to it now, and whether it may be given that right.
+    write: bool,
+    may: bool,
+    accessed: bool,
+    dirty: bool,
+    lazy: bool,
+}
+
+/// What the word of a page says, in an image of this version.
+fn mapped_by(version: u32, pid: u8, page: u32, word: u32) -> Mapped {
+    let entry = TableWord::read(word);
+    Mapped {
+        pid,
+        page,
+        write: if version == 2 {
+            entry.granted()
+        } else {
+            entry.writable()
+        },
+        may: entry.may(),
+        accessed: entry.accessed(),
+        dirty: entry.dirty(),
+        lazy: version == 2 && entry.lazy(),
+    }
+}
+
+/// Adds the mapped pages of a table of a process, each with its frame.
+fn add_pages(
+    image: &Image,
+    pid: u8,
+    slot: u32,
+    table: Frame,
+    pages: &mut Vec<(Mapped, Frame)>,
+) -> Result<(), AllocError> {
+    for index in 0..1024 {
+        let word = image.word(table, index);
+        let entry = TableWord::read(word);
+        if entry.present() {
+            let page = slot.wrapping_mul(1024).wrapping_add(index);
+            pages.push((mapped_by(image.version(), pid, page, word), entry.frame()))?;
+        }
+    }
+    Ok(())
+}
+
+/// Adds the mapped pages of the table that a directory word links.
+fn add_table(
+    image: &Image,
+    pid: u8,
+    slot: u32,
+    word: DirWord,
+    pages: &mut Vec<(Mapped, Frame)>,
+) -> Result<(), AllocError> {
+    if word.present() {
+        add_pages(image, pid, slot, word.frame(), pages)
+    } else {
+        Ok(())
+    }
+}
+
+/// Adds the mapped pages of a directory.
+fn add_directory(
+    image: &Image,
+    pid: u8,
+    directory: Frame,
+    pages: &mut Vec<(Mapped, Frame)>,
+) -> Result<(), AllocError> {
+    for slot in 256..960 {
+        let word = DirWord::read(image.word(directory, slot));
+        add_table(image, pid, slot, word, pages)?;
+    }
+    Ok(())
+}
+
+/// Adds the mapped pages of a process, where it is live.
+fn add_process(
+    image: &Image,
+    pid: Pid,
+    pages: &mut Vec<(Mapped, Frame)>,
+) -> Result<(), AllocError> {
+    match image.process(pid) {
+        Some(process) => add_directory(image, pid.number(), process.directory, pages),
+        None => Ok(()),
+    }
+}
+
+/// The mapped pages of processes 0 and 1 of an image, each with its frame, in ascending order.
+fn pages_of(
+    rt: &impl Abort,
+    alloc: Global,
+    image: &Image,
+) -> Result<Vec<(Mapped, Frame)>, AllocError> {
+    let mut pages = Vec::new(alloc);
+    add_process(image, process(rt, 0), &mut pages)?;
+    add_process(image, process(rt, 1), &mut pages)?;
+    Ok(pages)
+}
+
+fn process(rt: &impl Abort, number: u8) -> Pid {
+    Pid::new(number).expect(rt, "a number below 64")
+}
+
+/// The bytes of a frame of an image.
+fn bytes_in(image: &Image, frame: Frame) -> Option<&[u8]> {
+    let start = (frame.0 as usize).wrapping_mul(4096);
+    image.bytes().get(start..start.wrapping_add(4096))
+}
+
+/// What an image says of a process, but for the frame of its directory.
+fn record_of(image: &Image, pid: Pid) -> Option<(Pid, [u32; 3])> {
+    let process = image.process(pid)?;
+    Some((process.parent, [process.quota, process.used, process.given]))
+}
+
+/// Whether two images say the same of all processes.
+fn have_same_processes(rt: &impl Abort, one: &Image, other: &Image) -> bool {
+    for number in 0..64 {
+        let pid = process(rt, number);
+        if record_of(one, pid) != record_of(other, pid) {
+            return false;
+        }
+    }
+    true
+}
+
+/// Whether these frames are one where the others are.
+fn has_same_group(
+    mine: &[(Mapped, Frame)],
+    theirs: &[(Mapped, Frame)],
+    frame: Frame,
+    same: Frame,
+) -> bool {
+    for ((_, next), (_, same_next)) in mine.iter().zip(theirs.iter()) {
+        if (frame == *next) != (same == *same_next) {
+            return false;
+        }
+    }
+    true
+}
+
+/// Whether two images say the same of all pages: which are mapped, with which flags and bytes, and which
+/// of them are one frame.
+fn have_same_pages(
+    one: &Image,
+    other: &Image,
+    mine: &[(Mapped, Frame)],
+    theirs: &[(Mapped, Frame)],
+) -> bool {
+    for ((page, frame), (same_page, same)) in mine.iter().zip(theirs.iter()) {
+        let same_bytes = bytes_in(one, *frame) == bytes_in(other, *same);
+        if page != same_page || !same_bytes || !has_same_group(mine, theirs, *frame, *same) {
+            return false;
+        }
+    }
+    mine.len() == theirs.len()
+}
+
+/// The other kernel's image of a version, in which one word is changed.
+fn changed(
+    rt: &impl Abort,
+    alloc: Global,
+    version: u32,
+    page: u32,
+    change: (usize, u32),
+) -> Image {
+    let mut bytes = other_image(alloc, version, page)
+        .ok()
+        .expect(rt, "memory for an image");
+    put(&mut bytes, change.0, change.1);
+    read_image(alloc, &bytes).ok().expect(rt, "an image")
+}
+
+/// Whether it says the same of processes, and of pages, as an image of ours.
+fn check_same(
+    rt: &impl Abort,
+    alloc: Global,
+    own: &Image,
+    other: &Image,
+    processes: bool,
+    pages: bool,
+) {
+    let mine = pages_of(rt, alloc, own).ok().expect(rt, "memory for pages");
+    let theirs = pages_of(rt, alloc, other)
+        .ok()
+        .expect(rt, "memory for pages");
+    let same = have_same_pages(own, other, &mine, &theirs);
+    assert_eq!(rt;
+        (mine.len(), have_same_processes(rt, own, other), same),
+        (2, processes, pages)
+    );
+}
+
+/// The other kernel's image of version 1, with one word changed, says the same of processes, and of pages or not.
+fn check_pages(rt: &impl Abort, alloc: Global, own: &Image, change: (usize, u32), pages: bool) {
+    let other = changed(rt, alloc, 1, PAGE_WORDS[1], change);
+    check_same(rt, alloc, own, &other, true, pages);
+}
+
+/// The same of version 2, and of processes or not.
+fn check_processes(rt: &impl Abort, alloc: Global, own: &Image, change: (usize, u32), same: bool) {
+    let other = changed(rt, alloc, 2, PAGE_WORDS[2], change);
+    check_same(rt, alloc, own, &other, same, true);
+}
+
+#[test]
+fn another_kernels_images_stand_for_the_same_state(rt: HostRuntime) -> Result<(), Fail> {
+    let core = shared_both_ways(&rt)?;
+    let own = Image::of(rt.alloc(), &core)?;
+    check_pages(&rt, rt.alloc(), &own, UNCHANGED, true);
+    check_processes(&rt, rt.alloc(), &own, UNCHANGED, true);
+    Ok(())
+}
+
+/// One byte of the shared page, one flag, one page moved, or one number of a process: another state.
+#[test]
+fn a_changed_image_stands_for_another_state(rt: HostRuntime) -> Result<(), Fail> {
+    let core = shared_both_ways(&rt)?;
+    let own = Image::of(rt.alloc(), &core)?;
+    check_pages(&rt, rt.alloc(), &own, (46_860, 8), false);
+    check_pages(&rt, rt.alloc(), &own, (50_956, 0xb265), false);
+    check_pages(&rt, rt.alloc(), &own, (50_956, 0xb227), false);
+    check_pages(&rt, rt.alloc(), &own, (50_956, 0), false);
+    check_processes(&rt, rt.alloc(), &own, (44, 6), false);
+    Ok(())
+}

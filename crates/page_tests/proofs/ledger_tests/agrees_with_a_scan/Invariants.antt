@@ -1,6 +1,0 @@
-use Rattle.std.proofs.Common.{◌≡◌, vec_len}
-use Rattle.page_tests.proofs.ledger_tests.agrees_with_a_scan.Given as goal
-
--- a mark for each frame
-abbrev pub invariant-loop-step : goal.invariant-loop-step
-invariant-loop-step g l = vec_len l.marks ≡ l.ledger.frames
