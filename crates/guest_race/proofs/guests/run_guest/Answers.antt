@@ -13,7 +13,7 @@ returns g c =
     let last : Maker = c.run.new.port.caller.now in
     let kept = chain_keeps (λ port. port.caller.ghost_name) (λ s e a t step. step.1) made.chain in
     let shown = chain_through (λ port. port.caller.now) (IsCpuStep g.N.Name.frames)
-        (λ s e a t step. cpu_step g.N.Name.frames (λ cpu. cpu) (IsCpuCall g.N.Name.frames) (λ before pid call given after made. made) s.caller.now e a t.caller.now step.0) made.chain in
+    (λ s e a t step. cpu_step g.N.Name.frames (λ cpu. cpu) (IsCpuCall g.N.Name.frames) (λ before pid call given after made. made) s.caller.now e a t.caller.now step.0) made.chain in
     let back : c.cpu-1.given.0 ≡ last = c.cpu-1.given.1 (sym (kept ∙ c.new-port.ensures.same_reference)) in (
       c.run.new.guest,
       record {
