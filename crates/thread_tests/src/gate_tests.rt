@@ -251,11 +251,11 @@ fn waited<N: Name + Send + Sync, R: Threads + Wait + Abort + Sync>(
 }
 
 /// Whether a second CPU waits while a call is held at that point.
-fn waits_at(rt: &HostRuntime, at: Point) -> Result<(), Fail> {
+fn waits_at<R: AllocGlobal + Threads + Wait + Abort + Sync>(rt: &R, at: Point) -> Result<(), Fail> {
     let alloc = rt.alloc();
     let (flags, gate) = gate_at(alloc, at)?;
     match Kernel::<Brand, HeldGate>::boot(rt, alloc, 16, 2, 0, gate) {
-        Ok(blank) => waited::<Brand, HostRuntime>(rt, blank, alloc, &flags),
+        Ok(blank) => waited::<Brand, R>(rt, blank, alloc, &flags),
         Err(_) => panic!(rt; "not booted"),
     }
     Ok(())
