@@ -1,0 +1,36 @@
+"""The wrong bodies that the prover must refuse: where each stands, and which public functions it turns.
+
+Those in crates/NAME/must-fail are tried by the gate, those in wrong-bodies/NAME by checks/wrong-bodies. The file
+wrong-bodies/functions.txt has a line for each of both.
+"""
+import pathlib
+
+ROOT = pathlib.Path(__file__).resolve().parent.parent
+SECOND = ROOT / "wrong-bodies"
+INDEX = SECOND / "functions.txt"
+
+
+def gate_folder(crate):
+    return ROOT / "crates" / crate / "must-fail"
+
+
+def edits_in(folder):
+    return {file.stem: file for file in sorted(folder.glob("*.edit"))}
+
+
+def edits_of(crate):
+    """The crate's edits of both suites: the file of each by its name."""
+    return {**edits_in(gate_folder(crate)), **edits_in(SECOND / crate)}
+
+
+def crates_with_edits():
+    return sorted(crate.name for crate in (ROOT / "crates").iterdir() if edits_of(crate.name))
+
+
+def functions():
+    """The functions that each edit turns, by CRATE/EDIT, in the order of the file's lines."""
+    index = {}
+    for line in INDEX.read_text(encoding="utf-8").splitlines():
+        name, _, turned = line.partition(": ")
+        index[name] = [it.strip() for it in turned.split(",")]
+    return index
