@@ -36,8 +36,9 @@ fn takes_again_what_was_put_back(rt: HostRuntime) -> Result<(), Fail> {
 
 #[test]
 fn takes_16_to_4096_frames(rt: HostRuntime) {
-    let sizes = [15, 16, 4096, 4097]
-        .map(|frames| Ledger::new(rt.alloc(), frames).map(|ledger| ledger.free_count()));
+    let sizes = [15, 16, 4096, 4097].map(|frames| Ledger::new(rt.alloc(), frames).map(
+        |ledger| ledger.free_count(),
+    ));
     assert_eq!(rt;
         sizes,
         [
