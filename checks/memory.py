@@ -55,7 +55,8 @@ class Comparison:
         live = [number for number, container in enumerate(self.seen.containers) if container]
         with_directory = [number for number, frame in enumerate(self.seen.directories) if frame is not None]
         wanted = sorted(self.state.live)
-        must(live == with_directory == wanted, lambda: f"{live} are live and {with_directory} have directories, not {wanted}")
+        same = live == with_directory == wanted
+        must(same, lambda: f"{live} are live and {with_directory} have directories, not {wanted}")
         for number in wanted:
             self.compare_process(number, self.state.live[number], self.seen.directories[number])
         self.compare_roles()

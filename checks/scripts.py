@@ -128,16 +128,18 @@ def a_thousand_pages_are_copied():
 def pages_are_read_and_then_stored_to():
     """4,000 pages are read, which takes no frame for them, and then stored to; more are mapped, and half go."""
     pages = range(0x40000, 0x40000 + 4000)
-    return [*(f"0 0 load {page:x}000 4" for page in pages), *(f"0 0 store {page:x}abc 4 {page:x}" for page in pages),
-            *(f"0 0 map {page:x} rw" for page in range(0xE0000, 0xE0060)), *(f"0 0 unmap {page:x}" for page in pages[::2])]
+    return [*(f"0 0 load {page:x}000 4" for page in pages),
+            *(f"0 0 store {page:x}abc 4 {page:x}" for page in pages),
+            *(f"0 0 map {page:x} rw" for page in range(0xE0000, 0xE0060)),
+            *(f"0 0 unmap {page:x}" for page in pages[::2])]
 
 
 def a_full_table_and_a_sparse_one_go():
     """A process maps all 1,024 pages of a region and two of the next, stores to one of each, and exits: all frames but
     the root's directory are free."""
     pages = [*range(0x40000, 0x40400), 0x40401, 0x407FE]
-    return ["0 0 spawn 4000", *(f"0 1 map {page:x} rw" for page in pages), "0 1 store 403ff000 4 1", "0 1 store 407fe000 4 1",
-            "0 1 quota", "0 1 exit", "0 0 quota"]
+    return ["0 0 spawn 4000", *(f"0 1 map {page:x} rw" for page in pages),
+            "0 1 store 403ff000 4 1", "0 1 store 407fe000 4 1", "0 1 quota", "0 1 exit", "0 0 quota"]
 
 
 def whole_runs():

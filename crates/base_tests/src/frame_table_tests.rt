@@ -64,8 +64,9 @@ fn frees_a_table(rt: HostRuntime) -> Result<(), Fail> {
 
 #[test]
 fn takes_16_to_4096_frames(rt: HostRuntime) {
-    let sizes = [15, 16, 4096, 4097]
-        .map(|frames| FrameTable::new(rt.alloc(), frames).map(|table| table.free_count()));
+    let sizes = [15, 16, 4096, 4097].map(|frames| FrameTable::new(rt.alloc(), frames).map(
+        |table| table.free_count(),
+    ));
     assert_eq!(rt;
         sizes,
         [

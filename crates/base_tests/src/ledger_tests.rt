@@ -1,6 +1,6 @@
 //! Tests of the ledger, and of its list of free frames against a plain scan.
 
-ghost use Rattle.std.specs.Prelude.{◌≡◌, ◌<◌, length};
+ghost use Rattle.std.specs.Prelude.{◌≡◌, length};
 
 use frame_ledger::{Ledger, LedgerFault};
 use page_words::Frame;
@@ -36,8 +36,9 @@ fn takes_again_what_was_put_back(rt: HostRuntime) -> Result<(), Fail> {
 
 #[test]
 fn takes_16_to_4096_frames(rt: HostRuntime) {
-    let sizes = [15, 16, 4096, 4097]
-        .map(|frames| Ledger::new(rt.alloc(), frames).map(|ledger| ledger.free_count()));
+    let sizes = [15, 16, 4096, 4097].map(|frames| Ledger::new(rt.alloc(), frames).map(
+        |ledger| ledger.free_count(),
+    ));
     assert_eq!(rt;
         sizes,
         [
@@ -87,7 +88,7 @@ fn put_one_back(rt: &impl Abort, ledger: &mut Ledger, marks: &mut [bool], frame:
 }
 
 /// Takes or returns a frame at random. Whether one was asked for and none was free.
-fn step(
+fn take_or_return(
     rt: &impl Abort,
     ledger: &mut Ledger,
     marks: &mut [bool],
@@ -118,49 +119,33 @@ fn check_count(rt: &impl Abort, ledger: &Ledger, marks: &[bool]) {
     assert_eq!(rt; ledger.free_count() as usize, count_free(marks));
 }
 
-/// Takes and returns many frames at random, in phases of mostly takes and mostly returns. How often none was free.
-fn agrees_with_a_scan(
-    rt: &impl Abort,
-    ledger: &mut Ledger,
-    marks: &mut [bool],
-    taken: &mut Vec<Frame>,
-    phase: u32,
-) -> u32
-    requires frames { length marks.old ≡ ledger.old.frames }
-    requires phase { 0 < phase }
-{
-    let mut seed = 17;
-    let mut emptied = 0u32;
-    for turn in 0..12_288u32 {
-        let takes = if turn / phase % 2 == 0 { 7 } else { 1 };
-        let none = step(rt, ledger, marks, taken, &mut seed, takes);
-        emptied = emptied.wrapping_add(none as u32);
-        check_count(rt, ledger, marks);
-    }
-    emptied
-}
-
-/// A ledger of so many frames agrees with a scan, also where it is empty.
-fn check_scan<R: AllocGlobal + Abort>(rt: &R, frames: u32, phase: u32) -> Result<(), Fail>
-    requires { 0 < phase }
-{
+/// Takes and returns many frames at random, in phases of mostly takes and mostly returns.
+fn agrees_with_a_scan<R: AllocGlobal + Abort>(rt: &R, frames: u32, phase: u32) -> Result<(), Fail> {
+    assert!(rt; phase > 0);
     let mut ledger = Ledger::new(rt.alloc(), frames)?;
     let mut marks = vec![in rt.alloc(); true; frames as usize]?;
     marks[0] = false;
     let mut taken = Vec::new(rt.alloc());
-    let emptied = agrees_with_a_scan(rt, &mut ledger, &mut marks, &mut taken, phase);
+    let mut seed = 17;
+    let mut emptied = 0u32;
+    for step in 0..12_288u32 {
+        let takes = if step / phase % 2 == 0 { 7 } else { 1 };
+        let none = take_or_return(rt, &mut ledger, &mut marks, &mut taken, &mut seed, takes);
+        emptied = emptied.wrapping_add(none as u32);
+        check_count(rt, &ledger, &marks);
+    }
     assert!(rt; emptied > 0);
     Ok(())
 }
 
 #[test]
 fn agrees_with_a_scan_of_16_frames(rt: HostRuntime) -> Result<(), Fail> {
-    check_scan(&rt, 16, 48)
+    agrees_with_a_scan(&rt, 16, 48)
 }
 
 #[test]
 fn agrees_with_a_scan_of_4096_frames(rt: HostRuntime) -> Result<(), Fail> {
-    check_scan(&rt, 4096, 6_144)
+    agrees_with_a_scan(&rt, 4096, 6_144)
 }
 
 /// `rt try --test --fail-alloc N` refuses the Nth allocation of this test alone, and each is one of

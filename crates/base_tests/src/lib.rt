@@ -4,8 +4,6 @@
 //! the other crates of tests too.
 #![tactic(auto)]
 
-pub mod streams;
-
 #[cfg(test)]
 mod address_tests;
 #[cfg(test)]
@@ -20,6 +18,7 @@ mod offer_tests;
 mod page_map_tests;
 #[cfg(test)]
 mod quota_tests;
+pub mod streams;
 #[cfg(test)]
 mod text_tests;
 #[cfg(test)]

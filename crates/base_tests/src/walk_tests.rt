@@ -30,13 +30,7 @@ fn memory_of(rt: &impl Abort, alloc: Global, dir_word: u32, table_word: u32) -> 
 }
 
 /// With these two words a walk for a read ends so, and one for a write so.
-fn check<R: AllocGlobal + Abort>(
-    rt: &R,
-    dir_word: u32,
-    table_word: u32,
-    read: End,
-    write: End,
-) {
+fn check<R: AllocGlobal + Abort>(rt: &R, dir_word: u32, table_word: u32, read: End, write: End) {
     let memory = memory_of(rt, rt.alloc(), dir_word, table_word);
     assert_eq!(rt;
         [Access::Read, Access::Write].map(|access| walk(&memory, Frame(1), ADDRESS, access)),

@@ -56,7 +56,13 @@ fn maps_stores_loads_and_unmaps(rt: HostRuntime) -> Result<(), Fail> {
     let value = Reply::Value(0xdead_beef);
     assert_eq!(rt;
         replies,
-        [Reply::Done, Reply::Done, value, Reply::Done, Reply::Value(0)]
+        [
+            Reply::Done,
+            Reply::Done,
+            value,
+            Reply::Done,
+            Reply::Value(0)
+        ]
     );
     Ok(())
 }

@@ -37,14 +37,7 @@ fn table_word(core: &Core, root: Pid) -> u32 {
 
 /// A call of the root has this reply, and leaves these flags in the page's table word: whether it names a frame
 /// of its own then.
-fn check(
-    rt: &impl Abort,
-    core: &mut Core,
-    call: Call,
-    reply: Reply,
-    flags: u32,
-    has_frame: bool,
-) {
+fn check(rt: &impl Abort, core: &mut Core, call: Call, reply: Reply, flags: u32, has_frame: bool) {
     let pid = root(rt);
     let told = core.step(&Event { cpu: 0, pid, call });
     let word = table_word(core, pid);

@@ -58,13 +58,31 @@ fn plans_by_the_first_line_that_applies(rt: HostRuntime) -> Result<(), Fail> {
     let mut processes = Processes::new(rt.alloc(), 16)?;
     check_plan(&rt, &processes, BELOW, Access::Read, fault(BELOW, 4));
     check_plan(&rt, &processes, BELOW, Access::Write, fault(BELOW, 6));
-    check_plan(&rt, &processes, ADDRESS, Access::Write, one(PageStep::MapZero));
+    check_plan(
+        &rt,
+        &processes,
+        ADDRESS,
+        Access::Write,
+        one(PageStep::MapZero),
+    );
     map_page(&rt, &mut processes, PAGE, false);
     check_plan(&rt, &processes, ADDRESS, Access::Write, fault(ADDRESS, 7));
-    check_plan(&rt, &processes, ADDRESS, Access::Read, one(PageStep::Complete));
+    check_plan(
+        &rt,
+        &processes,
+        ADDRESS,
+        Access::Read,
+        one(PageStep::Complete),
+    );
     spawn(&rt, &mut processes, 12);
     let elsewhere = Vaddr(0x4000_1000);
-    check_plan(&rt, &processes, elsewhere, Access::Read, Plan::Refused(Cause::Quota));
+    check_plan(
+        &rt,
+        &processes,
+        elsewhere,
+        Access::Read,
+        Plan::Refused(Cause::Quota),
+    );
     Ok(())
 }
 

@@ -84,7 +84,6 @@ fn exit(rt: &impl Abort, processes: &mut Processes, pid: Pid) {
     assert!(rt; !processes.live(pid));
 }
 
-
 /// Loads four bytes of one page that is mapped.
 fn load(rt: &impl Abort, processes: &mut Processes, pid: Pid, address: Vaddr, value: u32) {
     let page = page_of(address);
@@ -152,8 +151,9 @@ fn check_lazy(rt: &impl Abort, processes: &Processes, pid: Pid, page: Page, lazy
 
 #[test]
 fn takes_16_to_4096_frames(rt: HostRuntime) {
-    let sizes = [15, 4096, 4097]
-        .map(|frames| Processes::new(rt.alloc(), frames).map(|processes| processes.spaces().frames()));
+    let sizes = [15, 4096, 4097].map(|frames| Processes::new(rt.alloc(), frames).map(
+        |processes| processes.spaces().frames(),
+    ));
     assert_eq!(rt;
         sizes,
         [
@@ -316,10 +316,12 @@ fn check_charge(rt: &impl Abort, processes: &Processes, address: Vaddr, size: Si
     let root = process(rt, 0);
     assert!(rt; processes.live(root));
     assert!(rt; in_user_range(page_of(address)));
-    assert!(rt; match second_page(address, size) {
-        Some(page) => in_user_range(page),
-        None => true,
-    });
+    assert!(rt;
+        match second_page(address, size) {
+            Some(page) => in_user_range(page),
+            None => true,
+        }
+    );
     assert_eq!(rt; processes.access_charge(root, address, size), charge);
     assert!(rt; !processes.lacks_room(root, address, size));
 }

@@ -107,10 +107,12 @@ fn load_word(rt: &impl Abort, spaces: &mut Spaces, pid: Pid, address: Vaddr, val
 /// Looks at four bytes, none of whose pages has to be mapped.
 fn peek_word(rt: &impl Abort, spaces: &Spaces, pid: Pid, address: Vaddr, value: u32) {
     assert!(rt; in_user_range(page_of(address)));
-    assert!(rt; match second_page(address, Size::Four) {
-        Some(page) => in_user_range(page),
-        None => true,
-    });
+    assert!(rt;
+        match second_page(address, Size::Four) {
+            Some(page) => in_user_range(page),
+            None => true,
+        }
+    );
     assert_eq!(rt; spaces.peek(pid, address, Size::Four), value);
 }
 
@@ -136,7 +138,9 @@ fn check_frames(rt: &impl Abort, spaces: &Spaces, used: u32) {
 
 #[test]
 fn takes_16_to_4096_frames(rt: HostRuntime) {
-    let sizes = [15, 4096, 4097].map(|frames| Spaces::new(rt.alloc(), frames).map(|spaces| spaces.frames()));
+    let sizes = [15, 4096, 4097].map(|frames| Spaces::new(rt.alloc(), frames).map(
+        |spaces| spaces.frames(),
+    ));
     assert_eq!(rt;
         sizes,
         [
@@ -294,10 +298,12 @@ fn stores_at_once_where_a_page_has_a_frame_and_the_right(rt: HostRuntime) -> Res
 fn check_need(rt: &impl Abort, spaces: &Spaces, pid: Pid, address: Vaddr, need: u32) {
     assert!(rt; spaces.directory(pid).is_some());
     assert!(rt; in_user_range(page_of(address)));
-    assert!(rt; match second_page(address, Size::Two) {
-        Some(page) => in_user_range(page),
-        None => true,
-    });
+    assert!(rt;
+        match second_page(address, Size::Two) {
+            Some(page) => in_user_range(page),
+            None => true,
+        }
+    );
     assert_eq!(rt; spaces.access_need(pid, address, Size::Two), need);
 }
 

@@ -30,7 +30,11 @@ fn end_of_lines(lines: usize) -> usize {
 
 /// The replies to the lines that end within the first bytes of the script, each of whose lines has one.
 fn replies_within(count: usize) -> Option<&'static [u8]> {
-    let lines = script().iter().take(count).filter(|byte| **byte == b'\n').count();
+    let lines = script()
+        .iter()
+        .take(count)
+        .filter(|byte| **byte == b'\n')
+        .count();
     replies().get(..end_of_lines(lines))
 }
 
@@ -105,10 +109,7 @@ fn check_pieces(rt: &impl Abort, alloc: Global, reads: Pieces, writes: Pieces) {
     };
     let mut writer = BrokenWriter::new(usize::MAX, writes);
     let fault = run_script(alloc, &mut reader, &mut writer, 16).err();
-    assert_eq!(rt;
-        (fault, writer.written.as_slice()),
-        (None, replies())
-    );
+    assert_eq!(rt; (fault, writer.written.as_slice()), (None, replies()));
 }
 
 /// By 64 seeds.

@@ -3,9 +3,9 @@
 use base_tests::streams::FullWriter;
 use image_map::draw;
 use std::alloc::Global;
+use std::fs;
 use std::fs::Files;
 use std::test::Fail;
-use std::fs;
 use tower_jobs::{Answer, status_of, tell, write_script_image};
 
 /// What an answer is told with on standard error.

@@ -172,13 +172,7 @@ fn have_same_pages(
 }
 
 /// The other kernel's image of a version, in which one word is changed.
-fn changed(
-    rt: &impl Abort,
-    alloc: Global,
-    version: u32,
-    page: u32,
-    change: (usize, u32),
-) -> Image {
+fn changed(rt: &impl Abort, alloc: Global, version: u32, page: u32, change: (usize, u32)) -> Image {
     let mut bytes = other_image(alloc, version, page)
         .ok()
         .expect(rt, "memory for an image");

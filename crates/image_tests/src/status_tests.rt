@@ -2,11 +2,11 @@
 
 use base_tests::streams::FullWriter;
 use std::alloc::Global;
+use std::fs;
 use std::fs::Files;
 use std::sync::Wait;
 use std::test::Fail;
 use std::thread::Threads;
-use std::fs;
 use tower_jobs::{Answer, ToolFault, answer, status_of, tell, write_script_image};
 
 /// What came of a command line: its status, and the bytes of standard output and standard error.
