@@ -19,35 +19,37 @@ fn empty_map(alloc: Global) -> Result<Memory, MemoryFault>
     Ok(memory)
 }
 
-const MAPPED: PageEntry = PageEntry {
-    frame: Frame(3),
-    write: true,
-    may: true,
-    accessed: false,
-    dirty: false,
-    lazy: false,
-};
-
 #[test]
 fn maps_and_clears_a_page(rt: HostRuntime) -> Result<(), Fail> {
     let mut memory = empty_map(rt.alloc())?;
-    let (directory, page) = (Frame(1), Page(0x40000));
-    let before = has_table(&memory, directory, 256);
+    let directory = Frame(1);
+    let page = Page(0x40000);
+    assert!(rt; !has_table(&memory, directory, 256));
     link_table(&mut memory, directory, 256, Frame(2));
-    let link = memory.read_word(0x1400);
-    set_entry(&mut memory, directory, page, MAPPED);
-    let word = memory.read_word(0x2000);
-    let found = entry(&memory, directory, page).map(|entry| entry.frame);
-    let next = next_page(&memory, directory, Page(0));
-    let count = pages(&memory, directory);
-    let freed = clear_entry(&mut memory, directory, page);
-    assert_eq!(rt;
-        [before as u32, link, word, count, pages(&memory, directory)],
-        [0, 0x2007, 0x3a07, 1, 0]
-    );
-    assert_eq!(rt;
-        (found, next, freed),
-        (Some(Frame(3)), Some(page), Some(Frame(2)))
-    );
+    assert_eq!(rt; memory.read_word(0x1400), 0x2007);
+    assert!(rt; has_table(&memory, directory, 256));
+    let mapped = PageEntry {
+        frame: Frame(3),
+        write: true,
+        may: true,
+        accessed: false,
+        dirty: false,
+        lazy: false,
+    };
+    set_entry(&mut memory, directory, page, mapped);
+    assert_eq!(rt; memory.read_word(0x2000), 0x3a07);
+    match entry(&memory, directory, page) {
+        Some(PageEntry { frame, write, .. }) => {
+            assert_eq!(rt; frame, Frame(3));
+            assert!(rt; write);
+        }
+        None => assert!(rt; false, "the page is mapped"),
+    }
+    assert_eq!(rt; pages(&memory, directory), 1);
+    assert_eq!(rt; next_page(&memory, directory, Page(0)), Some(page));
+    assert_eq!(rt; next_page(&memory, directory, Page(0x40001)), None);
+    assert!(rt; has_table(&memory, directory, 256));
+    assert_eq!(rt; clear_entry(&mut memory, directory, page), Some(Frame(2)));
+    assert_eq!(rt; pages(&memory, directory), 0);
     Ok(())
 }

@@ -50,6 +50,7 @@ fn walks_sixteen_frames(rt: HostRuntime) {
 
 /// Marks an access whose walk finds a frame that is none of the tables.
 fn mark_one(rt: &impl Abort, memory: &mut Memory, access: Access) {
+    assert_eq!(rt; memory.frames(), 16);
     let table = DirWord::read(memory.read_word(5120)).frame();
     let end = walk(memory, Frame(1), ADDRESS, access);
     assert!(rt; matches!(end, Ok(frame) if frame != Frame(1) && frame != table));
@@ -60,6 +61,7 @@ fn mark_one(rt: &impl Abort, memory: &mut Memory, access: Access) {
 fn marked<R: AllocGlobal + Abort>(rt: &R, access: Access) -> [u32; 2] {
     let mut memory = memory_of(rt, rt.alloc(), 0x2007, 0x3207);
     mark_one(rt, &mut memory, access);
+    assert_eq!(rt; memory.frames(), 16);
     [memory.read_word(5120), memory.read_word(8192)]
 }
 

@@ -40,13 +40,13 @@ fn lazy_word() -> u32 {
     word.word()
 }
 
-/// The word of a directory for the table in this frame.
-fn link_word(frame: Frame) -> u32 {
+/// The word of a directory for the table in frame 2.
+fn link_word() -> u32 {
     let mut word = DirWord::read(0);
     word.set_present(true);
     word.set_writable(true);
     word.set_user(true);
-    word.set_frame(frame);
+    word.set_frame(Frame(2));
     word.word()
 }
 
@@ -55,7 +55,7 @@ fn sets_each_field(rt: HostRuntime) {
     let mut stored = TableWord::read(0x3a27);
     stored.set_dirty(true);
     assert_eq!(rt;
-        [lazy_word(), link_word(Frame(2)), stored.word()],
+        [lazy_word(), link_word(), stored.word()],
         [0xe25, 0x2007, 0x3a67]
     );
 }
