@@ -1,4 +1,4 @@
-use Rattle.thread_tests.proofs.gate_tests.a_second_cpu_waits_while_a_call_is_held.Given as goal
+use Rattle.thread_tests.proofs.gate_tests.waits_at.Given as goal
 
 -- the kernel that was just booted
 abbrev pub ghosts-waited : goal.ghosts-waited
