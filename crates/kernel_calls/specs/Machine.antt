@@ -1,5 +1,5 @@
 -- The machine: the answer to an event, the next state, and runs.
-use Rattle.std.proofs.Common.{ℕ, Bool, true, false, if◌then◌else◌, List, [], ◌∷◌, Option, Some, None}
+use Rattle.std.proofs.Common.{ℕ, Bool, true, false, not, ◌&&◌, if◌then◌else◌, List, [], ◌∷◌, Option, Some, None}
 use Rattle.page_words.specs.FiniteSet as set
 use Rattle.address_space.specs.Spaces.{Cell, cell_or_fresh, cost, at_page}
 use Rattle.quota_tree.specs.Book.{given, quota_of}
@@ -89,3 +89,8 @@ answers s (e ∷ events) = answer s e ∷ answers (next s e) events
 abbrev pub end_of : State → List Event → State
 end_of s [] = s
 end_of s (e ∷ events) = end_of (next s e) events
+
+-- each reply is a refusal or a fault
+abbrev pub none_completes : List Reply → Bool
+none_completes [] = true
+none_completes (r ∷ replies) = not (completes r) && none_completes replies

@@ -1,5 +1,5 @@
 -- Events and replies as numbers.
-use Rattle.std.specs.Prelude.{ℕ, Bool, true, false, ◌==◌, ◌&&◌, nat_lt, Option, None, Some, Result, Ok, Err, if◌then◌else◌, List, [], ◌∷◌, length, slice_get}
+use Rattle.std.specs.Prelude.{ℕ, Bool, true, false, not, ◌==◌, ◌&&◌, nat_lt, Option, None, Some, Result, Ok, Err, if◌then◌else◌, List, [], ◌∷◌, length, slice_get}
 use Rattle.std.specs.Option.{option_map}
 use Rattle.page_words.specs.declared.addresses.Size.{Size}
 use Rattle.page_words.specs.declared.addresses.Size.TheVariants.{One, Two, Four}
@@ -143,7 +143,7 @@ state_after s (Some event) = next s event
 state_after s None = s
 
 -- whether they are carried out: they are an event, and neither refused nor a fault
-abbrev pub is_carried_out : State → Option Event → Bool
+unfoldable pub is_carried_out : State → Option Event → Bool
 is_carried_out s (Some event) = completes (answer s event)
 is_carried_out s None = false
 
@@ -156,6 +156,11 @@ replies_in s (e ∷ events) = reply_in s (event_in e) ∷ replies_in (state_afte
 abbrev pub end_after : State → List TowerEvent → State
 end_after s [] = s
 end_after s (e ∷ events) = end_after (state_after s (event_in e)) events
+
+-- whether none of a list is carried out
+abbrev pub none_is_carried_out : State → List TowerEvent → Bool
+none_is_carried_out s [] = true
+none_is_carried_out s (e ∷ events) = not (is_carried_out s (event_in e)) && none_is_carried_out (state_after s (event_in e)) events
 
 -- ---- Queries
 

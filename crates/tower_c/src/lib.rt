@@ -9,7 +9,7 @@ ghost use Rattle.std.specs.Prelude.{◌≡◌, ◌≢◌, ◌↔◌, ◌≤◌, 
 ghost use Rattle.process_table.specs.State.{open_with};
 ghost use Rattle.process_table.specs.Image.{StandsFor, image_of};
 ghost use Rattle.phys_memory.specs.Bytes.{frame_bytes};
-ghost use Rattle.tower_c.specs.Border.{event_in, reply_in, state_after, is_carried_out, replies_in, end_after, given, frames_in, directory_in, container_in, role_in, copy_in, walk_in, version};
+ghost use Rattle.tower_c.specs.Border.{event_in, reply_in, state_after, is_carried_out, none_is_carried_out, replies_in, end_after, given, frames_in, directory_in, container_in, role_in, copy_in, walk_in, version};
 ghost use Rattle.tower_c.specs.Handle.{IsTower};
 
 mod handle;
@@ -72,6 +72,7 @@ pub extern "C" fn tower_boot(alloc: Global, frames: u32, tower: &mut Tower) -> u
 }
 
 /// What an event comes to on a core.
+#[tactic(auto, unfolding(crate::specs::Border::is_carried_out))]
 fn step(core: &mut Core, event: &TowerEvent) -> TowerReply
     ensures reply { result ≡ reply_in core.old.state (event_in event.now) }
     ensures state { core.new.state ≡ state_after core.old.state (event_in event.now) }
@@ -121,6 +122,7 @@ fn run(core: &mut Core, events: &[TowerEvent], replies: &mut [TowerReply])
     ensures replies { replies.new ≡ replies_in core.old.state events.now }
     ensures state { core.new.state ≡ end_after core.old.state events.now }
     ensures stands { StandsFor (image_of core.new) core.new.state }
+    ensures refused { none_is_carried_out core.old.state events.now ≡ true → core.new ≡ core.old }
 {
     for (i, event) in events.iter().enumerate() {
         replies[i] = step(core, event);
@@ -129,7 +131,8 @@ fn run(core: &mut Core, events: &[TowerEvent], replies: &mut [TowerReply])
 }
 
 /// Carries out events in order, and writes the reply to each in its place: false where the handle has no
-/// core or the two lengths differ, and then nothing changes.
+/// core or the two lengths differ, and then nothing changes. Where none of them is carried out, no byte of the
+/// core changes either.
 #[unsafe(no_mangle)]
 pub extern "C" fn tower_run(
     alloc: Global,
@@ -144,6 +147,7 @@ pub extern "C" fn tower_run(
     ensures replies { result ≡ true → IfSome tower.old.hold.core (λ core. replies.new ≡ replies_in core.state events.now) }
     ensures state { result ≡ true → IfSome tower.old.hold.core (λ core. IfSome tower.new.hold.core (λ next. next.state ≡ end_after core.state events.now)) }
     ensures stands { result ≡ true → IfSome tower.new.hold.core (λ core. StandsFor (image_of core) core.state) }
+    ensures refused { IfSome tower.old.hold.core (λ core. none_is_carried_out core.state events.now ≡ true → tower.new.hold.core ≡ Some core) }
     ensures none { result ≡ false → replies.new ≡ replies.old }
     ensures same { result ≡ false → tower.new.hold.core ≡ tower.old.hold.core }
 {

@@ -1,5 +1,5 @@
-use Rattle.std.proofs.Common.{◌≡◌, ◌++◌, take, drop}
-use Rattle.kernel_calls.specs.Machine.{answers, end_of}
+use Rattle.std.proofs.Common.{◌≡◌, ◌++◌, take, drop, true}
+use Rattle.kernel_calls.specs.Machine.{answers, end_of, none_completes}
 use Rattle.kernel_calls.proofs.cores.Core.run_all.Given as goal
 
 -- the replies so far and those to what is left are those to all
@@ -7,4 +7,6 @@ abbrev pub invariant-loop-i : goal.invariant-loop-i
 invariant-loop-i l = record {
   told : take l.i l.replies ++ answers l.self.state (drop l.i l.events) ≡ answers l.fn.self.state l.events;
   rest : end_of l.self.state (drop l.i l.events) ≡ end_of l.fn.self.state l.events;
+  still : none_completes (answers l.fn.self.state l.events) ≡ true → l.self ≡ l.fn.self;
+  refused : none_completes (answers l.fn.self.state l.events) ≡ true → none_completes (answers l.self.state (drop l.i l.events)) ≡ true;
 }
