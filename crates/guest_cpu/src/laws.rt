@@ -22,8 +22,8 @@ pub fn runs_are_determined()
 
 /// A guest of a process that keeps to itself ends as it would alone. Where its calls and the answers to them
 /// begin what a new process asks and is told in a run of the machine, from a well formed state, and that part
-/// makes and takes no offer and makes no child, the guest ends, with its registers and its counter, as it
-/// does over a core where it is process 1, alone with the quota and the pages that the process was given.
+/// asks for no offer, no accept and no child, the guest ends, with its registers and its counter, as it does
+/// over a core where it is process 1, alone with the quota and the pages that the process was given.
 /// The replies of a kernel's history are those of such a run, so it holds of guests over its CPUs. It
 /// computes nothing.
 pub fn guests_are_isolated()

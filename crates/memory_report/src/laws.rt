@@ -12,9 +12,9 @@ pub fn runs_are_legal()
 
 /// In every legal history, what a new process is told behind the entry that made it, up to its first Exit,
 /// is what it would be told as process 1 of a machine where it is alone with its quota and the pages that
-/// it got from a fork, as long as it makes and takes no offer and makes no child. It is what the machine
-/// tells it where the later events of all others are left out. So in the history of a kernel neither
-/// other processes nor the order in which their threads' calls come have an effect on it. It computes
+/// it got from a fork, as long as it asks for no offer, no accept and no child, refused ones too. It is what
+/// the machine tells it where the later events of all others are left out. So in the history of a kernel
+/// neither other processes nor the order in which their threads' calls come have an effect on it. It computes
 /// nothing.
 pub fn histories_are_isolated()
     ensures alone { HistoriesAreIsolated }
