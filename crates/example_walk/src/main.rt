@@ -2,13 +2,18 @@
 //! a processor does.
 #![tactic(auto)]
 
-ghost use Rattle.std.specs.Prelude.{◌≡◌};
+ghost use Rattle.std.specs.Prelude.{◌≡◌, ◌++◌, ◌∷◌, [], OnOk};
+ghost use Rattle.std.specs.Io.KnownBytes.{Appends};
 ghost use Rattle.std.specs.Option.{option_map};
 ghost use Rattle.address_space.specs.View.{directory_of};
 ghost use Rattle.table_walk.specs.Walk.{walk_of};
+ghost use Rattle.table_walk.specs.declared.Access.TheVariants as access;
+ghost use Rattle.example_walk.specs.Text.{walk_text};
 
 use kernel_calls::{Call, Core, Event, Frame, Page, Pid, Size, Vaddr};
+use std::fmt;
 use std::io;
+use std::io::Write;
 use std::process::ExitCode;
 use table_walk::{Access, WalkEnd, walk};
 
@@ -43,23 +48,50 @@ fn events(pid: Pid) -> [Event; 3] {
     calls.map(|call| Event { cpu: 0, pid, call })
 }
 
-/// Prints how the processor's walk for a store ends.
-fn show(rt: &impl Print, core: &Core, pid: Pid) -> io::Result<()> {
-    match walked(core, pid, ADDRESS, Access::Write) {
-        Some(Ok(frame)) => println!(rt; "walk: frame {}", frame.0),
-        Some(Err(WalkEnd::Fault(fault))) => println!(rt; "walk: page fault, code {}", fault.code),
-        Some(Err(WalkEnd::Outside)) => println!(rt; "walk: outside memory"),
-        None => println!(rt; "walk: no such process"),
+/// How a walk ends, to be written.
+#[derive(Clone, Copy)]
+struct Told {
+    end: Option<Result<Frame, WalkEnd>>,
+}
+
+impl fmt::Display for Told {
+    ghost use Rattle.std.specs.Prelude.{Some};
+    ghost use Rattle.example_walk.specs.Text.{walk_text};
+
+    ghost output = { λ told. Some (walk_text told.end) };
+
+    fn fmt<W: fmt::Write>(&self, f: &mut fmt::Formatter<W>) -> fmt::Result {
+        match self.end {
+            Some(Ok(frame)) => write!(f, "walk: frame {}", frame.0),
+            Some(Err(WalkEnd::Fault(fault))) => write!(f, "walk: page fault, code {}", fault.code),
+            Some(Err(WalkEnd::Outside)) => write!(f, "walk: outside memory"),
+            None => write!(f, "walk: no such process"),
+        }
     }
 }
 
+/// Writes how the processor's walk for a store of a process at an address ends, as a line.
+///
+/// An error is that of a write.
+fn show<W: Write>(writer: &mut W, core: &Core, pid: Pid, address: Vaddr) -> io::Result<()>
+    ensures { OnOk result (Appends (W.contents writer.old) (W.contents writer.new) (walk_text (option_map (λ d. walk_of core.now.bytes d address access.Write) (directory_of core.now.directories pid)) ++ 10 ∷ [])) }
+{
+    let end = walked(core, pid, address, Access::Write);
+    writer.writeln(Told { end })
+}
+
 /// Runs the events one by one, and prints each reply and how the walk ends then.
-fn play(rt: &impl Print, core: &mut Core, pid: Pid) -> io::Result<()> {
-    show(rt, core, pid)?;
+fn play<W: Write>(
+    rt: &impl Print,
+    writer: &mut W,
+    core: &mut Core,
+    pid: Pid,
+) -> io::Result<()> {
+    show(writer, core, pid, ADDRESS)?;
     for event in events(pid) {
         let reply = core.step(&event);
         println!(rt; "{:?}", reply)?;
-        show(rt, core, pid)?;
+        show(writer, core, pid, ADDRESS)?;
     }
     Ok(())
 }
@@ -68,7 +100,7 @@ fn main(rt: HostRuntime) -> ExitCode {
     let (Ok(mut core), Some(root)) = (Core::boot(rt.alloc(), 16), Pid::new(0)) else {
         return ExitCode::FAILURE;
     };
-    match play(&rt, &mut core, root) {
+    match play(&rt, &mut io::writer(&rt), &mut core, root) {
         Ok(()) => ExitCode::SUCCESS,
         Err(_) => ExitCode::FAILURE,
     }
