@@ -4,9 +4,11 @@ Those in crates/NAME/must-fail are tried by the gate, those in wrong-bodies/NAME
 wrong-bodies/functions.txt has a line for each of both.
 """
 import pathlib
+import re
 
 ROOT = pathlib.Path(__file__).resolve().parent.parent
 SECOND = ROOT / "wrong-bodies"
+VERDICTS = SECOND / "verdicts.txt"
 INDEX = SECOND / "functions.txt"
 
 
@@ -34,3 +36,9 @@ def functions():
         name, _, turned = line.partition(": ")
         index[name] = [it.strip() for it in turned.split(",")]
     return index
+
+
+def kept_verdicts():
+    """The last verdict of each wrong body, with the checksum of what it was tried on."""
+    text = VERDICTS.read_text(encoding="utf-8") if VERDICTS.is_file() else ""
+    return {name: {"of": of, "verdict": verdict} for name, verdict, of in re.findall(r"^(\w+/[\w.-]+): (.*) of (\w+)$", text, re.M)}
