@@ -11,10 +11,9 @@ ghost use Rattle.table_walk.specs.declared.Access.TheVariants as access;
 ghost use Rattle.example_walk.specs.Text.{walk_text};
 
 use kernel_calls::{Call, Core, Event, Frame, Page, Pid, Size, Vaddr};
-use std::fmt;
-use std::io;
 use std::io::Write;
 use std::process::ExitCode;
+use std::{fmt, io};
 use table_walk::{Access, WalkEnd, walk};
 
 /// Where the example's process stores: in the first page of the user range.
@@ -81,12 +80,7 @@ fn show<W: Write>(writer: &mut W, core: &Core, pid: Pid, address: Vaddr) -> io::
 }
 
 /// Runs the events one by one, and prints each reply and how the walk ends then.
-fn play<W: Write>(
-    rt: &impl Print,
-    writer: &mut W,
-    core: &mut Core,
-    pid: Pid,
-) -> io::Result<()> {
+fn play<W: Write>(rt: &impl Print, writer: &mut W, core: &mut Core, pid: Pid) -> io::Result<()> {
     show(writer, core, pid, ADDRESS)?;
     for event in events(pid) {
         let reply = core.step(&event);
