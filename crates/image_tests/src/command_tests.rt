@@ -16,10 +16,8 @@ fn asked<'a>(alloc: Global, words: &'a [&'a str]) -> Result<Job<'a>, ErrorKind> 
 }
 
 #[test]
-fn reads_command_lines_as_clap_does(rt: HostRuntime) -> Result<(), Fail> {
+fn reads_numbers_of_frames_as_clap_does(rt: HostRuntime) -> Result<(), Fail> {
     let run = |frames| Job::Run { frames };
-    let race = |frames, rounds| Job::Race { frames, rounds };
-    let image = |frames| Job::Image { frames };
     for (words, want) in [
         (["tower", "run"].as_slice(), Ok(run(16))),
         (["tower", "run", "--frames", "64"].as_slice(), Ok(run(64))),
@@ -42,6 +40,15 @@ fn reads_command_lines_as_clap_does(rt: HostRuntime) -> Result<(), Fail> {
             ["tower", "run", "--frames", "abc"].as_slice(),
             Err(ErrorKind::ValueValidation),
         ),
+    ] {
+        assert_eq!(rt; asked(rt.alloc(), words), want, "{words:?}");
+    }
+    Ok(())
+}
+
+#[test]
+fn refuses_other_words_as_clap_does(rt: HostRuntime) -> Result<(), Fail> {
+    for (words, want) in [
         (
             ["tower", "run", "--frames", "-0"].as_slice(),
             Err(ErrorKind::UnknownArgument),
@@ -63,6 +70,21 @@ fn reads_command_lines_as_clap_does(rt: HostRuntime) -> Result<(), Fail> {
             ["tower", "walk"].as_slice(),
             Err(ErrorKind::InvalidSubcommand),
         ),
+        (
+            ["tower", "run", "--rounds", "2"].as_slice(),
+            Err(ErrorKind::UnknownArgument),
+        ),
+        (["tower"].as_slice(), Err(ErrorKind::MissingSubcommand)),
+    ] {
+        assert_eq!(rt; asked(rt.alloc(), words), want, "{words:?}");
+    }
+    Ok(())
+}
+
+#[test]
+fn reads_races_as_clap_does(rt: HostRuntime) -> Result<(), Fail> {
+    let race = |frames, rounds| Job::Race { frames, rounds };
+    for (words, want) in [
         (["tower", "race"].as_slice(), Ok(race(16, 100))),
         (
             ["tower", "race", "--rounds", "1"].as_slice(),
@@ -94,13 +116,19 @@ fn reads_command_lines_as_clap_does(rt: HostRuntime) -> Result<(), Fail> {
             Err(ErrorKind::ArgumentConflict),
         ),
         (
-            ["tower", "run", "--rounds", "2"].as_slice(),
-            Err(ErrorKind::UnknownArgument),
-        ),
-        (
             ["tower", "race", "--help"].as_slice(),
             Err(ErrorKind::DisplayHelp),
         ),
+    ] {
+        assert_eq!(rt; asked(rt.alloc(), words), want, "{words:?}");
+    }
+    Ok(())
+}
+
+#[test]
+fn reads_images_and_checks_as_clap_does(rt: HostRuntime) -> Result<(), Fail> {
+    let image = |frames| Job::Image { frames };
+    for (words, want) in [
         (["tower", "image"].as_slice(), Ok(image(16))),
         (["tower", "image", "--frames=64"].as_slice(), Ok(image(64))),
         (
@@ -119,7 +147,6 @@ fn reads_command_lines_as_clap_does(rt: HostRuntime) -> Result<(), Fail> {
             ["tower", "check", "one", "two"].as_slice(),
             Err(ErrorKind::UnknownArgument),
         ),
-        (["tower"].as_slice(), Err(ErrorKind::MissingSubcommand)),
     ] {
         assert_eq!(rt; asked(rt.alloc(), words), want, "{words:?}");
     }
