@@ -3,4 +3,5 @@ pub mod EntrySteps
 pub mod Readings
 pub mod Refinement
 pub mod Removal
+pub mod Staying
 pub mod UserSlots

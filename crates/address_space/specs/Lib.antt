@@ -10,5 +10,6 @@ pub mod Shown
 pub mod Slots
 pub mod Sound
 pub mod Spaces
+pub mod Stays
 pub mod View
 pub mod Walks

@@ -7,6 +7,7 @@ ghost use Rattle.page_words.specs.FiniteMap as map;
 ghost use Rattle.address_space.specs.ByWalk.{finds, finds_at, number_found, after_walked_load, after_walked_store, with_walked};
 ghost use Rattle.address_space.specs.Image.{image_of, takes_stores};
 ghost use Rattle.address_space.specs.Spaces.{at_page, accessed, all_accessed, all_stored, bytes_of, number_of};
+ghost use Rattle.address_space.specs.Stays.{FramesStay, none_goes};
 ghost use Rattle.address_space.specs.View.{directory_of};
 
 use crate::{Spaces, space_of};
@@ -53,6 +54,7 @@ impl Spaces {
         ensures value { result ≡ number_of self.old.spaces pid (covered address size) }
         ensures mapped { EachTouched address size (λ page. is_some (map.get self.old.spaces (at_page pid page)) ≡ true) }
         ensures spaces { self.new.spaces ≡ all_accessed self.old.spaces pid (touched address size) }
+        ensures stay { FramesStay none_goes (image_of self.old) (image_of self.new) }
         ensures directories { self.new.directories ≡ self.old.directories }
         ensures roles { self.new.roles ≡ self.old.roles }
         ensures bytes { (directory : ℕ) → directory_of self.old.directories pid ≡ Some directory → self.new.bytes ≡ after_walked_load self.old.bytes directory address (second_page address size) }
@@ -66,6 +68,7 @@ impl Spaces {
         requires { finds (image_of self.old) pid address size Access.Write ≡ true }
         ensures takes { EachTouched address size (λ page. takes_stores self.old.spaces (image_of self.old) (at_page pid page) ≡ true) }
         ensures spaces { self.new.spaces ≡ all_stored self.old.spaces pid address (bytes_of (byte_count size) value) }
+        ensures stay { FramesStay none_goes (image_of self.old) (image_of self.new) }
         ensures directories { self.new.directories ≡ self.old.directories }
         ensures roles { self.new.roles ≡ self.old.roles }
         ensures bytes { (directory : ℕ) → directory_of self.old.directories pid ≡ Some directory → self.new.bytes ≡ after_walked_store self.old.bytes directory address (bytes_of (byte_count size) value) }
@@ -79,6 +82,7 @@ impl Spaces {
         requires live { is_some (directory_of self.old.directories pid) ≡ true }
         requires user { IsUserPage page }
         ensures spaces { self.new.spaces ≡ self.old.spaces }
+        ensures stay { FramesStay none_goes (image_of self.old) (image_of self.new) }
         ensures directories { self.new.directories ≡ self.old.directories }
         ensures roles { self.new.roles ≡ self.old.roles }
         ensures bytes { (directory : ℕ) → directory_of self.old.directories pid ≡ Some directory → self.new.bytes ≡ with_walked self.old.bytes directory page walked }

@@ -11,6 +11,7 @@ ghost use Rattle.address_space.specs.View.{directory_of, total_cost};
 ghost use Rattle.address_space.specs.Sound.{Inside};
 ghost use Rattle.address_space.specs.Changes.{IsDirectory, IsEmptySpace, PageCopied};
 ghost use Rattle.address_space.specs.Image.{is_lazy_at};
+ghost use Rattle.address_space.specs.Stays.{FramesStay, none_goes};
 ghost use Rattle.address_space.specs.Finds.{IsKeptPaged, spaces_at, image_at, EntryCopied};
 
 use crate::new_pages::give_table;
@@ -81,6 +82,7 @@ impl Paged {
         requires empty { IsEmptySpace (spaces_at self.old) to }
         requires room { cost (spaces_at self.old) from + total_cost self.old.directories (spaces_at self.old) ≤ length self.old.frames }
         ensures spaces { spaces_at self.new ≡ copied (spaces_at self.old) from to }
+        ensures stay { FramesStay none_goes (image_at self.old) (image_at self.new) }
         ensures lazy { (page : ℕ) → is_lazy_at (image_at self.new) (at_page to page) ≡ is_lazy_at (image_at self.old) (at_page from page) }
         ensures kept { IsKeptPaged self.new }
         ensures directories { self.new.directories ≡ self.old.directories }

@@ -3,7 +3,8 @@
 ghost use Rattle.std.specs.Prelude.{◌≡◌, true, Some, None, is_some, slice_set};
 ghost use Rattle.address_space.specs.View.{directory_of};
 ghost use Rattle.address_space.specs.Changes.{IsEmptySpace, PagesDropped, DirectoryDropped, SpaceDropped};
-ghost use Rattle.address_space.specs.Finds.{IsKeptPaged, spaces_at};
+ghost use Rattle.address_space.specs.Stays.{FramesStay, of_process};
+ghost use Rattle.address_space.specs.Finds.{IsKeptPaged, spaces_at, image_at};
 
 use crate::paged::Paged;
 use crate::{Directories, home};
@@ -51,6 +52,7 @@ impl Paged {
         requires kept { IsKeptPaged self.old }
         requires live { is_some (directory_of self.old.directories pid) ≡ true }
         ensures dropped { SpaceDropped self.old.directories pid self.old.memory self.old.frames self.new.directories self.new.memory self.new.frames }
+        ensures stay { FramesStay (of_process pid) (image_at self.old) (image_at self.new) }
         ensures kept { IsKeptPaged self.new }
     {
         let directory = home(&self.directories, pid);

@@ -13,6 +13,7 @@ ghost use Rattle.alloc_table.specs.Roles.{free_frames, CanBeTaken, IsTaken, open
 ghost use Rattle.page_words.specs.FiniteMap as map;
 ghost use Rattle.address_space.specs.Spaces.{Slot, need, page_need, access_need, with_page, fresh, joined, byte_at, number_of, all_accessed, all_stored, stored, bytes_of, without, slot_at, cell_or_fresh, accessed, protected, cost, is_slot, is_of, at_page, copied};
 ghost use Rattle.address_space.specs.Image.{StandsFor, StandsForOne, LeavesRoom, image_of, is_lazy_at, takes_stores};
+ghost use Rattle.address_space.specs.Stays.{FramesStay, WaysAgree, none_goes, of_page, of_process, of_lazy};
 ghost use Rattle.address_space.specs.Walks.{WalksAgree};
 ghost use Rattle.address_space.specs.Shown.{shown};
 ghost use Rattle.address_space.specs.Seen.{cell_seen, lazy_seen, need_seen};
@@ -170,6 +171,7 @@ impl Spaces {
         requires none { directory_of self.old.directories pid ≡ None }
         requires room { 2 + total_cost self.old.directories self.old.spaces ≤ length self.old.roles }
         ensures spaces { self.new.spaces ≡ self.old.spaces }
+        ensures stay { FramesStay none_goes (image_of self.old) (image_of self.new) }
         ensures costs { total_cost self.new.directories self.new.spaces ≡ total_cost self.old.directories self.old.spaces + 1 }
         ensures live { is_some (directory_of self.new.directories pid) ≡ true }
         ensures others { (other : ℕ) → other ≢ pid → directory_of self.new.directories other ≡ directory_of self.old.directories other }
@@ -185,6 +187,7 @@ impl Spaces {
         requires unmapped { map.get self.old.spaces (at_page pid page) ≡ None }
         requires room { 1 + total_cost self.old.directories self.old.spaces + need self.old.spaces pid page ≤ length self.old.roles }
         ensures spaces { self.new.spaces ≡ map.insert self.old.spaces (at_page pid page) (fresh (at_page pid page) write) }
+        ensures stay { FramesStay none_goes (image_of self.old) (image_of self.new) }
         ensures lazy { is_lazy_at (image_of self.new) (at_page pid page) ≡ true }
         ensures directories { self.new.directories ≡ self.old.directories }
         ensures frames { length self.new.roles ≡ length self.old.roles }
@@ -201,6 +204,7 @@ impl Spaces {
         requires unmapped { map.get self.old.spaces (slot_at pid address) ≡ None }
         requires room { 1 + total_cost self.old.directories self.old.spaces + need self.old.spaces pid (page_number address) ≤ length self.old.roles }
         ensures spaces { self.new.spaces ≡ stored (map.insert self.old.spaces (slot_at pid address) (fresh (slot_at pid address) true)) (slot_at pid address) (offset_number address) (bytes_of (byte_count size) value) }
+        ensures stay { FramesStay none_goes (image_of self.old) (image_of self.new) }
         ensures real { is_lazy_at (image_of self.new) (slot_at pid address) ≡ false }
         ensures directories { self.new.directories ≡ self.old.directories }
         ensures frames { length self.new.roles ≡ length self.old.roles }
@@ -219,6 +223,7 @@ impl Spaces {
         requires real { is_lazy_at (image_of self.old) (at_page giver giver_page) ≡ false }
         requires room { 1 + total_cost self.old.directories self.old.spaces + need self.old.spaces pid page ≤ length self.old.roles }
         ensures spaces { self.new.spaces ≡ joined self.old.spaces (at_page giver giver_page) (at_page pid page) right }
+        ensures stay { FramesStay none_goes (image_of self.old) (image_of self.new) }
         ensures directories { self.new.directories ≡ self.old.directories }
         ensures frames { length self.new.roles ≡ length self.old.roles }
     {
@@ -233,6 +238,7 @@ impl Spaces {
         requires empty { (page : ℕ) → map.get self.old.spaces (at_page to page) ≡ None }
         requires room { cost self.old.spaces from + total_cost self.old.directories self.old.spaces ≤ length self.old.roles }
         ensures spaces { self.new.spaces ≡ copied self.old.spaces from to }
+        ensures stay { FramesStay none_goes (image_of self.old) (image_of self.new) }
         ensures lazy { (page : ℕ) → is_lazy_at (image_of self.new) (at_page to page) ≡ is_lazy_at (image_of self.old) (at_page from page) }
         ensures directories { self.new.directories ≡ self.old.directories }
         ensures frames { length self.new.roles ≡ length self.old.roles }
@@ -254,6 +260,7 @@ impl Spaces {
         requires mapped { is_some (map.get self.old.spaces (at_page pid page)) ≡ true }
         requires user { IsUserPage page }
         ensures spaces { self.new.spaces ≡ self.old.spaces }
+        ensures stay { FramesStay (of_lazy pid page) (image_of self.old) (image_of self.new) }
         ensures directories { self.new.directories ≡ self.old.directories }
         ensures real { is_lazy_at (image_of self.new) (at_page pid page) ≡ false }
         ensures others { (slot : Slot) → is_lazy_at (image_of self.old) slot ≡ false → is_lazy_at (image_of self.new) slot ≡ false }
@@ -269,6 +276,7 @@ impl Spaces {
         requires user { IsUserPage (page_number address) }
         requires real { is_lazy_at (image_of self.old) (slot_at pid address) ≡ false }
         ensures spaces { self.new.spaces ≡ stored self.old.spaces (slot_at pid address) (offset_number address) (bytes_of (byte_count size) value) }
+        ensures stay { FramesStay none_goes (image_of self.old) (image_of self.new) }
         ensures directories { self.new.directories ≡ self.old.directories }
         ensures roles { self.new.roles ≡ self.old.roles }
         ensures lazy { (slot : Slot) → is_lazy_at (image_of self.new) slot ≡ is_lazy_at (image_of self.old) slot }
@@ -285,6 +293,7 @@ impl Spaces {
         ensures address { result.0 ≡ address + 1 }
         ensures value { result.1 ≡ value / 256 }
         ensures spaces { self.new.spaces ≡ stored self.old.spaces (slot_at pid address) (offset_number address) (value % 256 ∷ []) }
+        ensures stay { FramesStay none_goes (image_of self.old) (image_of self.new) }
         ensures directories { self.new.directories ≡ self.old.directories }
         ensures roles { self.new.roles ≡ self.old.roles }
         ensures mapped { (slot : Slot) → map.contains_key self.new.spaces slot ≡ map.contains_key self.old.spaces slot }
@@ -301,6 +310,7 @@ impl Spaces {
         requires user { EachTouched address size IsUserPage }
         requires real { EachTouched address size (λ page. is_lazy_at (image_of self.old) (at_page pid page) ≡ false) }
         ensures spaces { self.new.spaces ≡ all_stored self.old.spaces pid address (bytes_of (byte_count size) value) }
+        ensures stay { FramesStay none_goes (image_of self.old) (image_of self.new) }
         ensures directories { self.new.directories ≡ self.old.directories }
         ensures roles { self.new.roles ≡ self.old.roles }
     {
@@ -316,6 +326,7 @@ impl Spaces {
         requires user { EachTouched address size IsUserPage }
         requires real { EachTouched address size (λ page. is_lazy_at (image_of self.old) (at_page pid page) ≡ false) }
         ensures spaces { self.new.spaces ≡ all_stored self.old.spaces pid address (bytes_of (byte_count size) value) }
+        ensures stay { FramesStay none_goes (image_of self.old) (image_of self.new) }
         ensures directories { self.new.directories ≡ self.old.directories }
         ensures roles { self.new.roles ≡ self.old.roles }
     {
@@ -343,6 +354,7 @@ impl Spaces {
         requires within { second_page address size ≡ None }
         ensures done { result ≡ takes_stores self.old.spaces (image_of self.old) (slot_at pid address) }
         ensures spaces { result ≡ true → self.new.spaces ≡ stored self.old.spaces (slot_at pid address) (offset_number address) (bytes_of (byte_count size) value) }
+        ensures stay { FramesStay none_goes (image_of self.old) (image_of self.new) }
         ensures directories { self.new.directories ≡ self.old.directories }
         ensures roles { self.new.roles ≡ self.old.roles }
         ensures none { result ≡ false → self.new ≡ self.old }
@@ -484,6 +496,7 @@ impl Spaces {
         requires user { EachTouched address size IsUserPage }
         ensures value { result ≡ number_of self.old.spaces pid (covered address size) }
         ensures spaces { self.new.spaces ≡ all_accessed self.old.spaces pid (touched address size) }
+        ensures stay { FramesStay none_goes (image_of self.old) (image_of self.new) }
         ensures directories { self.new.directories ≡ self.old.directories }
         ensures roles { self.new.roles ≡ self.old.roles }
     {
@@ -506,6 +519,7 @@ impl Spaces {
         ensures mapped { is_some result ≡ map.contains_key self.old.spaces (slot_at pid address) }
         ensures value { IfSome result (λ value. value ≡ number_of self.old.spaces pid (covered address size)) }
         ensures spaces { IsSome result → self.new.spaces ≡ accessed self.old.spaces (slot_at pid address) }
+        ensures stay { FramesStay none_goes (image_of self.old) (image_of self.new) }
         ensures directories { self.new.directories ≡ self.old.directories }
         ensures roles { self.new.roles ≡ self.old.roles }
         ensures none { IsNone result → self.new ≡ self.old }
@@ -520,6 +534,7 @@ impl Spaces {
         requires user { IsUserPage page }
         requires right { write ≡ true → (cell_or_fresh self.old.spaces (at_page pid page)).may ≡ true }
         ensures spaces { self.new.spaces ≡ protected self.old.spaces (at_page pid page) write }
+        ensures stay { FramesStay none_goes (image_of self.old) (image_of self.new) }
         ensures directories { self.new.directories ≡ self.old.directories }
         ensures roles { self.new.roles ≡ self.old.roles }
     {
@@ -531,6 +546,7 @@ impl Spaces {
         requires mapped { is_some (map.get self.old.spaces (at_page pid page)) ≡ true }
         requires user { IsUserPage page }
         ensures spaces { self.new.spaces ≡ without self.old.spaces (is_slot pid page) }
+        ensures stay { FramesStay (of_page pid page) (image_of self.old) (image_of self.new) }
         ensures directories { self.new.directories ≡ self.old.directories }
         ensures frames { length self.new.roles ≡ length self.old.roles }
     {
@@ -542,6 +558,7 @@ impl Spaces {
     pub fn drop_space(&mut self, pid: Pid)
         requires live { is_some (directory_of self.old.directories pid) ≡ true }
         ensures spaces { self.new.spaces ≡ without self.old.spaces (is_of pid) }
+        ensures stay { FramesStay (of_process pid) (image_of self.old) (image_of self.new) }
         ensures none { directory_of self.new.directories pid ≡ None }
         ensures others { (other : ℕ) → other ≢ pid → directory_of self.new.directories other ≡ directory_of self.old.directories other }
         ensures frames { length self.new.roles ≡ length self.old.roles }
@@ -586,6 +603,7 @@ impl Spaces {
     pub fn stands(&self)
         ensures image { StandsFor (image_of self.now) self.now.spaces }
         ensures walks { WalksAgree (image_of self.now) self.now.spaces }
+        ensures ways { WaysAgree (image_of self.now) }
         ensures costs { 1 + total_cost self.now.directories self.now.spaces ≤ length self.now.roles }
         ensures each { (p : ℕ) → is_some (directory_of self.now.directories p) ≡ true → 1 + cost self.now.spaces p ≤ length self.now.roles }
         ensures few { length self.now.roles ≤ 4096 }

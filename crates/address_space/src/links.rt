@@ -7,7 +7,8 @@ ghost use Rattle.page_words.specs.FiniteMap as map;
 ghost use Rattle.address_space.specs.Spaces.{without, is_slot, at_page};
 ghost use Rattle.address_space.specs.View.{directory_of, total_cost};
 ghost use Rattle.address_space.specs.Changes.{TableFreed, EntryLeft, SlotRemoved, SpaceAdded};
-ghost use Rattle.address_space.specs.Finds.{IsKeptPaged, spaces_at};
+ghost use Rattle.address_space.specs.Stays.{FramesStay, none_goes, of_page};
+ghost use Rattle.address_space.specs.Finds.{IsKeptPaged, spaces_at, image_at};
 
 use crate::paged::Paged;
 use crate::region_counts::uncount_page;
@@ -44,6 +45,7 @@ impl Paged {
         requires user { IsUserPage page }
         ensures removed { SlotRemoved self.old.directories pid page self.old.memory self.old.frames self.new.memory self.new.frames }
         ensures spaces { spaces_at self.new ≡ without (spaces_at self.old) (is_slot pid page) }
+        ensures stay { FramesStay (of_page pid page) (image_at self.old) (image_at self.new) }
         ensures kept { IsKeptPaged self.new }
         ensures directories { self.new.directories ≡ self.old.directories }
         ensures frames { length self.new.frames ≡ length self.old.frames }
@@ -68,6 +70,7 @@ impl Paged {
         requires none { directory_of self.old.directories pid ≡ None }
         requires room { 2 + total_cost self.old.directories (spaces_at self.old) ≤ length self.old.frames }
         ensures added { SpaceAdded self.old.directories pid self.old.memory self.old.frames self.new.directories self.new.memory self.new.frames }
+        ensures stay { FramesStay none_goes (image_at self.old) (image_at self.new) }
         ensures kept { IsKeptPaged self.new }
     {
         let directory = take(&mut self.frames, Role::Directory { pid });

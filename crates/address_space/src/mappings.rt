@@ -6,6 +6,7 @@ ghost use Rattle.page_words.specs.FiniteMap as map;
 ghost use Rattle.address_space.specs.Spaces.{need, fresh, joined, stored, bytes_of, at_page};
 ghost use Rattle.address_space.specs.View.{directory_of, total_cost};
 ghost use Rattle.address_space.specs.Image.{is_lazy_at};
+ghost use Rattle.address_space.specs.Stays.{FramesStay, none_goes};
 ghost use Rattle.address_space.specs.Finds.{IsKeptPaged, spaces_at, image_at, found_at};
 
 use crate::lookup::Found;
@@ -24,6 +25,7 @@ impl Paged {
         requires unmapped { map.get (spaces_at self.old) (at_page pid page) ≡ None }
         requires room { 1 + total_cost self.old.directories (spaces_at self.old) + need (spaces_at self.old) pid page ≤ length self.old.frames }
         ensures spaces { spaces_at self.new ≡ map.insert (spaces_at self.old) (at_page pid page) (fresh (at_page pid page) write) }
+        ensures stay { FramesStay none_goes (image_at self.old) (image_at self.new) }
         ensures lazy { is_lazy_at (image_at self.new) (at_page pid page) ≡ true }
         ensures found { found_at self.new pid page ≡ Some result }
         ensures entry { result.entry.lazy ≡ true }
@@ -47,6 +49,7 @@ impl Paged {
         requires unmapped { map.get (spaces_at self.old) (at_page pid page) ≡ None }
         requires room { 1 + total_cost self.old.directories (spaces_at self.old) + need (spaces_at self.old) pid page ≤ length self.old.frames }
         ensures spaces { spaces_at self.new ≡ map.insert (spaces_at self.old) (at_page pid page) (fresh (at_page pid page) write) }
+        ensures stay { FramesStay none_goes (image_at self.old) (image_at self.new) }
         ensures lazy { is_lazy_at (image_at self.new) (at_page pid page) ≡ true }
         ensures kept { IsKeptPaged self.new }
         ensures directories { self.new.directories ≡ self.old.directories }
@@ -65,6 +68,7 @@ impl Paged {
         requires room { 1 + total_cost self.old.directories (spaces_at self.old) + need (spaces_at self.old) pid page ≤ length self.old.frames }
         requires inside { at + byte_count size ≤ 4096 }
         ensures spaces { spaces_at self.new ≡ stored (map.insert (spaces_at self.old) (at_page pid page) (fresh (at_page pid page) true)) (at_page pid page) at (bytes_of (byte_count size) value) }
+        ensures stay { FramesStay none_goes (image_at self.old) (image_at self.new) }
         ensures real { is_lazy_at (image_at self.new) (at_page pid page) ≡ false }
         ensures kept { IsKeptPaged self.new }
         ensures directories { self.new.directories ≡ self.old.directories }
@@ -93,6 +97,7 @@ impl Paged {
         requires real { is_lazy_at (image_at self.old) (at_page giver giver_page) ≡ false }
         requires room { 1 + total_cost self.old.directories (spaces_at self.old) + need (spaces_at self.old) pid page ≤ length self.old.frames }
         ensures spaces { spaces_at self.new ≡ joined (spaces_at self.old) (at_page giver giver_page) (at_page pid page) right }
+        ensures stay { FramesStay none_goes (image_at self.old) (image_at self.new) }
         ensures kept { IsKeptPaged self.new }
         ensures directories { self.new.directories ≡ self.old.directories }
         ensures frames { length self.new.frames ≡ length self.old.frames }

@@ -9,6 +9,7 @@ ghost use Rattle.address_space.specs.Shown.{shown};
 ghost use Rattle.address_space.specs.Seen.{cell_seen, lazy_seen, need_seen};
 ghost use Rattle.address_space.specs.Spaces.{Slot, need, stored, bytes_of, value_of, bytes_at, cell_or_fresh, accessed, protected, at_page};
 ghost use Rattle.address_space.specs.Image.{is_lazy_at, takes_stores};
+ghost use Rattle.address_space.specs.Stays.{FramesStay, none_goes, of_lazy};
 ghost use Rattle.address_space.specs.Finds.{IsKeptPaged, spaces_at, image_at, table_at, found_at, MemoryAlone};
 
 use crate::group_sizes::group_size;
@@ -132,6 +133,7 @@ impl Paged {
         ensures mapped { is_some result ≡ is_some (map.get (spaces_at self.old) (at_page pid page)) }
         ensures value { IfSome result (λ value. value ≡ value_of (bytes_at (cell_or_fresh (spaces_at self.old) (at_page pid page)).bytes at (byte_count size))) }
         ensures spaces { IsSome result → spaces_at self.new ≡ accessed (spaces_at self.old) (at_page pid page) }
+        ensures stay { FramesStay none_goes (image_at self.old) (image_at self.new) }
         ensures kept { IsKeptPaged self.new }
         ensures alone { MemoryAlone self.old self.new }
         ensures none { IsNone result → self.new ≡ self.old }
@@ -148,6 +150,7 @@ impl Paged {
         requires real { is_lazy_at (image_at self.old) (at_page pid page) ≡ false }
         requires inside { at + byte_count size ≤ 4096 }
         ensures spaces { spaces_at self.new ≡ stored (spaces_at self.old) (at_page pid page) at (bytes_of (byte_count size) value) }
+        ensures stay { FramesStay none_goes (image_at self.old) (image_at self.new) }
         ensures lazy { (slot : Slot) → is_lazy_at (image_at self.new) slot ≡ is_lazy_at (image_at self.old) slot }
         ensures kept { IsKeptPaged self.new }
         ensures alone { MemoryAlone self.old self.new }
@@ -164,6 +167,7 @@ impl Paged {
         requires inside { at + byte_count size ≤ 4096 }
         ensures done { result ≡ takes_stores (spaces_at self.old) (image_at self.old) (at_page pid page) }
         ensures spaces { result ≡ true → spaces_at self.new ≡ stored (spaces_at self.old) (at_page pid page) at (bytes_of (byte_count size) value) }
+        ensures stay { FramesStay none_goes (image_at self.old) (image_at self.new) }
         ensures kept { IsKeptPaged self.new }
         ensures alone { MemoryAlone self.old self.new }
         ensures none { result ≡ false → self.new ≡ self.old }
@@ -186,6 +190,7 @@ impl Paged {
         requires user { IsUserPage page }
         requires mapped { is_some (map.get (spaces_at self.old) (at_page pid page)) ≡ true }
         ensures spaces { spaces_at self.new ≡ spaces_at self.old }
+        ensures stay { FramesStay (of_lazy pid page) (image_at self.old) (image_at self.new) }
         ensures kept { IsKeptPaged self.new }
         ensures directories { self.new.directories ≡ self.old.directories }
         ensures real { is_lazy_at (image_at self.new) (at_page pid page) ≡ false }
@@ -206,6 +211,7 @@ impl Paged {
         requires mapped { is_some (map.get (spaces_at self.old) (at_page pid page)) ≡ true }
         requires right { write ≡ true → (cell_or_fresh (spaces_at self.old) (at_page pid page)).may ≡ true }
         ensures spaces { spaces_at self.new ≡ protected (spaces_at self.old) (at_page pid page) write }
+        ensures stay { FramesStay none_goes (image_at self.old) (image_at self.new) }
         ensures kept { IsKeptPaged self.new }
         ensures alone { MemoryAlone self.old self.new }
     {

@@ -10,6 +10,7 @@ ghost use Rattle.address_space.specs.ByWalk.{finds, finds_at, byte_place, number
 ghost use Rattle.address_space.specs.Spaces.{all_accessed, stored, all_stored, bytes_of, number_of, at_page, slot_at};
 ghost use Rattle.address_space.specs.Image.{takes_stores};
 ghost use Rattle.address_space.specs.View.{directory_of};
+ghost use Rattle.address_space.specs.Stays.{FramesStay, none_goes};
 ghost use Rattle.address_space.specs.Finds.{IsKeptPaged, MemoryAlone, spaces_at, image_at};
 
 use crate::accesses::of_two;
@@ -127,6 +128,7 @@ impl Paged {
         requires live { is_some (directory_of self.old.directories pid) ≡ true }
         requires user { IsUserPage page }
         ensures spaces { spaces_at self.new ≡ spaces_at self.old }
+        ensures stay { FramesStay none_goes (image_at self.old) (image_at self.new) }
         ensures bytes { (directory : ℕ) → directory_of self.old.directories pid ≡ Some directory → self.new.memory ≡ with_walked self.old.memory directory page walked }
         ensures kept { IsKeptPaged self.new }
         ensures alone { MemoryAlone self.old self.new }
@@ -143,6 +145,7 @@ impl Paged {
         ensures value { result ≡ number_of (spaces_at self.old) pid (covered address size) }
         ensures mapped { EachTouched address size (λ page. is_some (map.get (spaces_at self.old) (at_page pid page)) ≡ true) }
         ensures spaces { spaces_at self.new ≡ all_accessed (spaces_at self.old) pid (touched address size) }
+        ensures stay { FramesStay none_goes (image_at self.old) (image_at self.new) }
         ensures bytes { (directory : ℕ) → directory_of self.old.directories pid ≡ Some directory → self.new.memory ≡ after_walked_load self.old.memory directory address (second_page address size) }
         ensures kept { IsKeptPaged self.new }
         ensures alone { MemoryAlone self.old self.new }
@@ -166,6 +169,7 @@ impl Paged {
         ensures address { result.0 ≡ address + 1 }
         ensures value { result.1 ≡ value / 256 }
         ensures spaces { spaces_at self.new ≡ stored (spaces_at self.old) (slot_at pid address) (offset_number address) (value % 256 ∷ []) }
+        ensures stay { FramesStay none_goes (image_at self.old) (image_at self.new) }
         ensures bytes { (directory : ℕ) → directory_of self.old.directories pid ≡ Some directory → self.new.memory ≡ slice_set (marked self.old.memory directory address Access.Write) (byte_place self.old.memory directory address) (value % 256) }
         ensures finds { (kind : Access) (at : ℕ) → finds_at (image_at self.new) pid kind at ≡ finds_at (image_at self.old) pid kind at }
         ensures kept { IsKeptPaged self.new }
@@ -182,6 +186,7 @@ impl Paged {
         requires finds { (i : ℕ) → i < byte_count size → finds_at (image_at self.old) pid Access.Write (address + i) ≡ true }
         requires fits { address + byte_count size < 2 ^ 32 }
         ensures spaces { spaces_at self.new ≡ all_stored (spaces_at self.old) pid address (bytes_of (byte_count size) value) }
+        ensures stay { FramesStay none_goes (image_at self.old) (image_at self.new) }
         ensures bytes { (directory : ℕ) → directory_of self.old.directories pid ≡ Some directory → self.new.memory ≡ after_walked_store self.old.memory directory address (bytes_of (byte_count size) value) }
         ensures kept { IsKeptPaged self.new }
         ensures alone { MemoryAlone self.old self.new }
@@ -209,6 +214,7 @@ impl Paged {
         requires finds { finds (image_at self.old) pid address size Access.Write ≡ true }
         ensures takes { EachTouched address size (λ page. takes_stores (spaces_at self.old) (image_at self.old) (at_page pid page) ≡ true) }
         ensures spaces { spaces_at self.new ≡ all_stored (spaces_at self.old) pid address (bytes_of (byte_count size) value) }
+        ensures stay { FramesStay none_goes (image_at self.old) (image_at self.new) }
         ensures bytes { (directory : ℕ) → directory_of self.old.directories pid ≡ Some directory → self.new.memory ≡ after_walked_store self.old.memory directory address (bytes_of (byte_count size) value) }
         ensures kept { IsKeptPaged self.new }
         ensures alone { MemoryAlone self.old self.new }

@@ -1,3 +1,4 @@
+pub mod Filled
 pub mod Looked
 pub mod Settled
 pub mod Walked

@@ -1,2 +1,3 @@
+pub mod Fills
 pub mod Looks
 pub mod Plans

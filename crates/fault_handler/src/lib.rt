@@ -12,9 +12,11 @@ ghost use Rattle.address_space.specs.Spaces.{at_page, page_need, with_page, with
 ghost use Rattle.process_table.specs.State.{container_of, is_live, is_mapped, lacks_room, room};
 ghost use Rattle.process_table.specs.Calls.{loaded, access_value, after_access, after_load, after_store};
 ghost use Rattle.address_space.specs.Image.{is_lazy_at};
+ghost use Rattle.address_space.specs.Stays.{FramesStay, none_goes};
 ghost use Rattle.address_space.specs.View.{directory_of};
 ghost use Rattle.address_space.specs.ByWalk.{finds, value_found, after_walked};
 ghost use Rattle.process_table.specs.Image.{memory_of};
+ghost use Rattle.fault_handler.specs.Fills.{lazy_touched, lazy_written};
 ghost use Rattle.fault_handler.specs.Plans.{maps_page, plan_at, goes_on, at_once, new_page, takes_no_frame};
 ghost use Rattle.process_table.specs.View.{View};
 ghost use Rattle.table_walk.specs.declared.Access.{Access};
@@ -48,7 +50,8 @@ fn map_by_step(processes: &mut Processes, pid: Pid, page: Page, how: PageStep)
     requires user { IsUserPage page }
     requires how { is_mapped processes.old.state (at_page pid page) ≡ not (maps_page how) }
     requires room { page_need processes.old.state.spaces pid page ≤ room processes.old.state pid }
-    ensures { processes.new.state ≡ record processes.old.state { spaces = with_page processes.old.state.spaces pid page } }
+    ensures state { processes.new.state ≡ record processes.old.state { spaces = with_page processes.old.state.spaces pid page } }
+    ensures stay { FramesStay none_goes (memory_of processes.old) (memory_of processes.new) }
 {
     match how {
         PageStep::MapZero => processes.map(pid, page, true),
@@ -70,7 +73,8 @@ fn map_pages(
     requires room { lacks_room processes.old.state pid address size ≡ false }
     requires first { is_mapped processes.old.state (at_page pid (page_number address)) ≡ not (maps_page first) }
     requires second { option_map (λ page. is_mapped processes.old.state (at_page pid page)) (second_page address size) ≡ option_map (λ how. not (maps_page how)) second }
-    ensures { processes.new.state ≡ record processes.old.state { spaces = with_pages processes.old.state.spaces pid (touched address size) } }
+    ensures state { processes.new.state ≡ record processes.old.state { spaces = with_pages processes.old.state.spaces pid (touched address size) } }
+    ensures stay { FramesStay none_goes (memory_of processes.old) (memory_of processes.new) }
 {
     map_by_step(processes, pid, page_of(address), first);
     match second_page(address, size) {
@@ -83,6 +87,7 @@ fn map_pages(
 fn fill_pages(processes: &mut Processes, pid: Pid, address: Vaddr, size: Size)
     requires mapped { EachTouched address size (λ page. is_mapped processes.old.state (at_page pid page) ≡ true) }
     ensures state { processes.new.state ≡ processes.old.state }
+    ensures stay { FramesStay (lazy_touched pid address size) (memory_of processes.old) (memory_of processes.new) }
     ensures real { EachTouched address size (λ page. is_lazy_at (memory_of processes.new) (at_page pid page) ≡ false) }
 {
     processes.fill(pid, page_of(address));
@@ -104,6 +109,7 @@ fn make_ready(
     requires plan { plan.now ≡ plan_at processes.old pid address size access }
     requires ready { goes_on plan.now ≡ true }
     ensures state { processes.new.state ≡ record processes.old.state { spaces = with_pages processes.old.state.spaces pid (touched address size) } }
+    ensures stay { FramesStay (lazy_written access pid address size) (memory_of processes.old) (memory_of processes.new) }
     ensures real { access ≡ Access.Write → EachTouched address size (λ page. is_lazy_at (memory_of processes.new) (at_page pid page) ≡ false) }
     ensures at_once { takes_no_frame plan.now ≡ true → processes.new ≡ processes.old }
 {
@@ -140,7 +146,8 @@ fn stores_in_new_page(plan: &Plan, access: Access) -> bool
 /// Maps the one page of a store that is not mapped, and stores into it.
 fn store_in_new_page(processes: &mut Processes, pid: Pid, address: Vaddr, size: Size, value: u32)
     requires { plan_at processes.old pid address size Access.Write ≡ new_page }
-    ensures { processes.new.state ≡ after_store processes.old.state pid address size value }
+    ensures state { processes.new.state ≡ after_store processes.old.state pid address size value }
+    ensures stay { FramesStay none_goes (memory_of processes.old) (memory_of processes.new) }
 {
     processes.map_stored(pid, address, size, value);
 }
@@ -160,6 +167,7 @@ pub fn settle(
     requires ready { goes_on plan ≡ true }
     ensures value { result ≡ access_value processes.old.state pid address size access }
     ensures state { processes.new.state ≡ after_access processes.old.state pid address size access value }
+    ensures stay { FramesStay (lazy_written access pid address size) (memory_of processes.old) (memory_of processes.new) }
     ensures frames { takes_no_frame plan ≡ true → processes.new.roles ≡ processes.old.roles }
 {
     if stores_in_new_page(&plan, access) {
@@ -185,6 +193,7 @@ pub fn complete_by_walk(
     ensures plan { takes_no_frame (plan_at processes.old pid address size access) ≡ true }
     ensures value { result ≡ access_value processes.old.state pid address size access }
     ensures state { processes.new.state ≡ after_access processes.old.state pid address size access value }
+    ensures stay { FramesStay none_goes (memory_of processes.old) (memory_of processes.new) }
     ensures directories { processes.new.directories ≡ processes.old.directories }
     ensures roles { processes.new.roles ≡ processes.old.roles }
     ensures bytes { (directory : ℕ) → directory_of processes.old.directories pid ≡ Some directory → processes.new.bytes ≡ after_walked processes.old.bytes directory address size access value }
@@ -210,6 +219,7 @@ pub fn try_load(processes: &mut Processes, pid: Pid, address: Vaddr, size: Size)
     ensures plan { IsSome result ↔ plan_at processes.old pid address size Access.Read ≡ at_once }
     ensures value { IfSome result (λ value. value ≡ loaded processes.old.state pid address size) }
     ensures state { IsSome result → processes.new.state ≡ after_load processes.old.state pid address size }
+    ensures stay { FramesStay none_goes (memory_of processes.old) (memory_of processes.new) }
     ensures roles { processes.new.roles ≡ processes.old.roles }
     ensures none { IsNone result → processes.new ≡ processes.old }
 {
@@ -232,6 +242,7 @@ pub fn try_store(
     ensures live { result ≡ true → is_live processes.old.state pid ≡ true }
     ensures plan { (result ≡ true) ↔ plan_at processes.old pid address size Access.Write ≡ at_once }
     ensures state { result ≡ true → processes.new.state ≡ after_store processes.old.state pid address size value }
+    ensures stay { FramesStay none_goes (memory_of processes.old) (memory_of processes.new) }
     ensures roles { processes.new.roles ≡ processes.old.roles }
     ensures none { result ≡ false → processes.new ≡ processes.old }
 {

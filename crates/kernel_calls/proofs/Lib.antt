@@ -1,5 +1,16 @@
 pub mod Charges
+pub mod Consent
 pub mod Decided
+pub mod Ends
+pub mod Flags
 pub mod Isolated
 pub mod Planned
+pub mod Private
 pub mod Runs
+pub mod Seen
+pub mod SeenSpaces
+pub mod Stays
+pub mod Translated
+pub mod Untouched
+pub mod UntouchedSlots
+pub mod Views

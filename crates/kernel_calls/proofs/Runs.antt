@@ -43,7 +43,7 @@ not-refused None r h = refl
 not-refused (Some k) r h = cc
 
 -- an access that completes goes on
-went-on : (x : Plan) (r : Reply) → completes (planned_or x r) ≡ true → goes_on x ≡ true
+pub went-on : (x : Plan) (r : Reply) → completes (planned_or x r) ≡ true → goes_on x ≡ true
 went-on (plan.Refused k) r h = h
 went-on (plan.Fault f) r h = h
 went-on (plan.Ready first second) r h = refl

@@ -1,9 +1,13 @@
+pub mod Authority
 pub mod Decisions
+pub mod Gone
 pub mod Isolation
 pub mod Laws
 pub mod Machine
+pub mod Translations
 pub mod Walked
 pub mod WorkedAccesses
+pub mod WorkedAuthority
 pub mod WorkedForks
 pub mod WorkedIsolation
 pub mod WorkedProcesses

@@ -3,6 +3,7 @@
 ghost use Rattle.std.specs.Prelude.{◌≡◌, ◌↔◌, ℕ, ◌*◌, ◌<◌, ◌≤◌, true, false, Some, IfOk, IfSome, IsSome, IsNone, IsErrOf, length, slice_get};
 ghost use Rattle.address_space.specs.View.{directory_of};
 ghost use Rattle.page_words.specs.Addresses.{IsUserPage};
+ghost use Rattle.address_space.specs.Stays.{FramesStay, WaysAgree, none_goes};
 ghost use Rattle.address_space.specs.Walks.{WalksAgree};
 ghost use Rattle.address_space.specs.ByWalk.{with_walked};
 ghost use Rattle.process_table.specs.State.{open_with, container_of, is_live};
@@ -18,10 +19,14 @@ ghost use Rattle.fault_handler.specs.Plans.{at_once, goes_on, plan_of, takes_no_
 ghost use Rattle.kernel_calls.specs.Isolation.{IsIsolated};
 ghost use Rattle.kernel_calls.specs.Machine.{answer, after, next, answers, end_of, completes, none_completes};
 ghost use Rattle.kernel_calls.specs.Decisions.{decision_of, charge_in, charge_after, plan_of_event};
+ghost use Rattle.kernel_calls.specs.declared.translations.Ended.TheVariants as end;
+ghost use Rattle.kernel_calls.specs.Gone.{gone_of_call, gone_by};
+ghost use Rattle.kernel_calls.specs.Translations.{ended_by, TranslationsStay, EndsNoMore, FlagsStay};
 ghost use Rattle.kernel_calls.specs.Walked.{finds_event, reply_found, bytes_accessed};
 
 use crate::calls::{Call, Decision, Event, Reply};
 use crate::decisions::{answered, decide_on};
+use crate::translations::{self, Ended};
 use crate::walked;
 use alloc_table::Role;
 use fault_handler::{Plan, settle, try_load, try_store};
@@ -63,7 +68,8 @@ impl Model for Core {
 fn complete(processes: &mut Processes, decision: &Decision)
     requires decided { decision.now ≡ decision_of processes.old decision.now.event }
     requires completes { goes_on decision.now.plan ≡ true }
-    ensures { processes.new.state ≡ after processes.old.state decision.now.event.pid decision.now.event.call }
+    ensures state { processes.new.state ≡ after processes.old.state decision.now.event.pid decision.now.event.call }
+    ensures stay { FramesStay (gone_of_call decision.now.event.pid decision.now.event.call) (memory_of processes.old) (memory_of processes.new) }
 {
     let pid = decision.event.pid;
     match decision.event.call {
@@ -114,6 +120,7 @@ fn at_once(processes: &mut Processes, event: &Event) -> Option<Reply>
     ensures completes { IfSome result (λ reply. completes reply ≡ true) }
     ensures plan { IsSome result → plan_of_event processes.old event.now ≡ at_once }
     ensures state { IsSome result → processes.new.state ≡ next processes.old.state event.now }
+    ensures stay { FramesStay none_goes (memory_of processes.old) (memory_of processes.new) }
     ensures none { IsNone result → processes.new ≡ processes.old }
 {
     match event.call {
@@ -147,6 +154,7 @@ fn charge_now(processes: &Processes, pid: Pid) -> u32
 fn carry_out(processes: &mut Processes, decision: &Decision)
     requires decided { decision.now ≡ decision_of processes.old decision.now.event }
     ensures state { processes.new.state ≡ next processes.old.state decision.now.event }
+    ensures stay { FramesStay (gone_by processes.old.state decision.now.event) (memory_of processes.old) (memory_of processes.new) }
     ensures kept { completes decision.now.reply ≡ false → processes.new ≡ processes.old }
 {
     match decision.plan {
@@ -185,12 +193,25 @@ impl Core {
         decide_on(&self.processes, event)
     }
 
+    /// Which cached translations an event ends: a processor that keeps what its walks gave has to invalidate these
+    /// once the event is carried out, and no others.
+    pub fn ends(&self, event: &Event) -> Ended
+        ensures { result ≡ ended_by self.now event.now }
+    {
+        self.stands();
+        let decision = self.decide(event);
+        translations::ended_by(&self.processes, &decision)
+    }
+
     /// Carries out what was decided on this state.
     pub fn commit(&mut self, decision: Decision) -> Reply
         requires { decision ≡ decision_of self.old decision.event }
         ensures reply { result ≡ decision.reply }
         ensures state { self.new.state ≡ next self.old.state decision.event }
         ensures stands { StandsFor (image_of self.new) self.new.state }
+        ensures translations { TranslationsStay (ended_by self.old decision.event) (memory_of self.old) (memory_of self.new) }
+        ensures no_more { EndsNoMore (ended_by self.old decision.event) (memory_of self.old) (memory_of self.new) }
+        ensures flags { FlagsStay (ended_by self.old decision.event) self.old.state self.new.state }
         ensures kept { completes decision.reply ≡ false → self.new ≡ self.old }
     {
         self.follow(&decision);
@@ -203,8 +224,12 @@ impl Core {
         requires { decision.now ≡ decision_of self.old decision.now.event }
         ensures state { self.new.state ≡ next self.old.state decision.now.event }
         ensures stands { StandsFor (image_of self.new) self.new.state }
+        ensures translations { TranslationsStay (ended_by self.old decision.now.event) (memory_of self.old) (memory_of self.new) }
+        ensures no_more { EndsNoMore (ended_by self.old decision.now.event) (memory_of self.old) (memory_of self.new) }
+        ensures flags { FlagsStay (ended_by self.old decision.now.event) self.old.state self.new.state }
         ensures kept { completes decision.now.reply ≡ false → self.new ≡ self.old }
     {
+        self.stands();
         carry_out(&mut self.processes, decision);
         self.stands();
     }
@@ -216,8 +241,12 @@ impl Core {
         ensures reply { result ≡ answer self.old.state event.now }
         ensures state { self.new.state ≡ next self.old.state event.now }
         ensures stands { StandsFor (image_of self.new) self.new.state }
+        ensures translations { TranslationsStay (ended_by self.old event.now) (memory_of self.old) (memory_of self.new) }
+        ensures no_more { EndsNoMore (ended_by self.old event.now) (memory_of self.old) (memory_of self.new) }
+        ensures flags { FlagsStay (ended_by self.old event.now) self.old.state self.new.state }
         ensures kept { completes result ≡ false → self.new ≡ self.old }
     {
+        self.stands();
         let decision = decide_on(&self.processes, event);
         carry_out(&mut self.processes, &decision);
         self.stands();
@@ -231,8 +260,12 @@ impl Core {
         ensures charge { result.used_after ≡ charge_after self.old.state event.now }
         ensures state { self.new.state ≡ next self.old.state event.now }
         ensures stands { StandsFor (image_of self.new) self.new.state }
+        ensures translations { TranslationsStay (ended_by self.old event.now) (memory_of self.old) (memory_of self.new) }
+        ensures no_more { EndsNoMore (ended_by self.old event.now) (memory_of self.old) (memory_of self.new) }
+        ensures flags { FlagsStay (ended_by self.old event.now) self.old.state self.new.state }
         ensures kept { completes result.reply ≡ false → self.new ≡ self.old }
     {
+        self.stands();
         if let Some(reply) = at_once(&mut self.processes, event) {
             self.stands();
             return answered(event, reply, charge_now(&self.processes, event.pid));
@@ -247,8 +280,12 @@ impl Core {
         ensures reply { result ≡ answer self.old.state event.now }
         ensures state { self.new.state ≡ next self.old.state event.now }
         ensures stands { StandsFor (image_of self.new) self.new.state }
+        ensures translations { TranslationsStay (ended_by self.old event.now) (memory_of self.old) (memory_of self.new) }
+        ensures no_more { EndsNoMore (ended_by self.old event.now) (memory_of self.old) (memory_of self.new) }
+        ensures flags { FlagsStay (ended_by self.old event.now) self.old.state self.new.state }
         ensures kept { completes result ≡ false → self.new ≡ self.old }
     {
+        self.stands();
         if let Some(reply) = at_once(&mut self.processes, event) {
             self.stands();
             return reply;
@@ -300,6 +337,8 @@ impl Core {
         ensures reply { result ≡ answer self.old.state event.now }
         ensures found { (directory : ℕ) → directory_of self.old.directories event.now.pid ≡ Some directory → result ≡ reply_found self.old.bytes directory event.now.call }
         ensures state { self.new.state ≡ next self.old.state event.now }
+        ensures translations { TranslationsStay end.Nothing (memory_of self.old) (memory_of self.new) }
+        ensures flags { FlagsStay end.Nothing self.old.state self.new.state }
         ensures directories { self.new.directories ≡ self.old.directories }
         ensures roles { self.new.roles ≡ self.old.roles }
         ensures containers { (p : ℕ) → container_of self.new.state p ≡ container_of self.old.state p }
@@ -307,6 +346,7 @@ impl Core {
         ensures stands { StandsFor (image_of self.new) self.new.state }
         ensures walks { WalksAgree (memory_of self.new) self.new.state.spaces }
     {
+        self.stands();
         let reply = walked::access_by_walk(&mut self.processes, event);
         self.stands();
         reply
@@ -335,6 +375,7 @@ impl Core {
     pub fn stands(&self)
         ensures image { StandsFor (image_of self.now) self.now.state }
         ensures walks { WalksAgree (image_of self.now).memory self.now.state.spaces }
+        ensures ways { WaysAgree (memory_of self.now) }
         ensures used { LeavesRoom (memory_of self.now) (total self.now.state) }
         ensures zeros { frame_bytes self.now.bytes 0 ≡ zeros }
         ensures well_formed { IsWellFormed self.now.state }

@@ -9,6 +9,7 @@ mod calls;
 mod cores;
 mod decisions;
 mod laws;
+mod translations;
 mod walked;
 mod worked;
 
@@ -16,12 +17,17 @@ pub use alloc_table::Role;
 pub use calls::{Call, Decision, Event, Reply};
 pub use cores::{BootFault, Core};
 pub use fault_handler::{PageStep, Plan};
-pub use laws::{processes_are_isolated, runs_stay_well_formed};
+pub use laws::{
+    authority_spreads_by_consent, kept_translations_are_given, private_processes_stay_private,
+    processes_are_isolated, processes_keep_their_integrity, processes_see_their_own,
+    runs_stay_well_formed,
+};
 pub use page_words::{Frame, Page, Pid, Size, Vaddr};
 pub use phys_memory::Memory;
 pub use process_table::Cause;
 pub use quota_tree::Container;
+pub use translations::Ended;
 pub use worked::{
-    worked_runs, worked_runs_of_accesses, worked_runs_of_forks, worked_runs_of_isolation,
-    worked_runs_of_processes, worked_runs_of_sharing,
+    worked_runs, worked_runs_of_accesses, worked_runs_of_authority, worked_runs_of_forks,
+    worked_runs_of_isolation, worked_runs_of_processes, worked_runs_of_sharing,
 };

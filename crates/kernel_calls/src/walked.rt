@@ -2,6 +2,8 @@
 
 ghost use Rattle.std.specs.Prelude.{◌≡◌, ℕ, Some, true};
 ghost use Rattle.address_space.specs.View.{directory_of};
+ghost use Rattle.address_space.specs.Stays.{FramesStay, none_goes};
+ghost use Rattle.process_table.specs.Image.{memory_of};
 ghost use Rattle.process_table.specs.State.{container_of};
 ghost use Rattle.fault_handler.specs.Plans.{takes_no_frame};
 ghost use Rattle.kernel_calls.specs.Machine.{answer, next};
@@ -32,6 +34,7 @@ pub fn access_by_walk(processes: &mut Processes, event: &Event) -> Reply
     ensures reply { result ≡ answer processes.old.state event.now }
     ensures found { (directory : ℕ) → directory_of processes.old.directories event.now.pid ≡ Some directory → result ≡ reply_found processes.old.bytes directory event.now.call }
     ensures state { processes.new.state ≡ next processes.old.state event.now }
+    ensures stay { FramesStay none_goes (memory_of processes.old) (memory_of processes.new) }
     ensures directories { processes.new.directories ≡ processes.old.directories }
     ensures roles { processes.new.roles ≡ processes.old.roles }
     ensures containers { (p : ℕ) → container_of processes.new.state p ≡ container_of processes.old.state p }

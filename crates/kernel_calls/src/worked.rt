@@ -1,5 +1,6 @@
 //! Worked runs, as theorems on the definitions of the machine: they are computed from them.
 
+ghost use Rattle.kernel_calls.specs.WorkedAuthority.{PassedOn, MoreThanTheGiverHas, OfferedPageShows, TwoSlotsOnePage, TwoSlotsTwoPages};
 ghost use Rattle.kernel_calls.specs.WorkedRuns.{Empty, MapStoreLoad, OneProcessIsFull, FramesComeBack, UserRangeEdges, DemandZero, TableIsCharged, UnmapReturnsTable, LazyPage};
 ghost use Rattle.kernel_calls.specs.WorkedAccesses.{AcrossTwoPages, BothPagesOrNeither, FaultsAtTheFirstByte, AcrossTwoRegions, AcrossOneGroup};
 ghost use Rattle.kernel_calls.specs.WorkedForks.{ForkCopies, ForkOfShared};
@@ -64,4 +65,14 @@ pub fn worked_runs_of_isolation()
     ensures part { OwnOfNoise }
     ensures copy_alone { CopyToldAlone }
     ensures copy_beside { CopyToldBeside 16 × CopyToldBeside 64 }
+{}
+
+/// Runs in which processes share pages, pass them on and see each other's stores give the answers that they
+/// must. It computes nothing.
+pub fn worked_runs_of_authority()
+    ensures passed_on { PassedOn }
+    ensures more_than_the_giver_has { MoreThanTheGiverHas }
+    ensures offered_page_shows { OfferedPageShows }
+    ensures two_slots_one_page { TwoSlotsOnePage }
+    ensures two_slots_two_pages { TwoSlotsTwoPages }
 {}

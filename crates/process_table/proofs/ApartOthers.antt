@@ -308,7 +308,7 @@ module _ (s : State) (k : ℕ) (w : IsWellFormed s) (free : is_live s k ≡ fals
 -- ---- Forks
 
 -- where a fork is not refused, the child's number is not live
-fork_free : (s : State) (p quota : ℕ) → fork_refusal s p quota ≡ None → is_live s (child_of s) ≡ false
+pub fork_free : (s : State) (p quota : ℕ) → fork_refusal s p quota ≡ None → is_live s (child_of s) ≡ false
 fork_free s p quota allowed = child_free s p quota (may_fork s p quota allowed).spawn
 
 pub fork_leaves : (s : State) (p q quota : ℕ) → IsApart s p → q ≢ p → fork_refusal s q quota ≡ None → AreAlike s p (after_fork s q quota) p

@@ -20,6 +20,7 @@ ghost use Rattle.address_space.specs.Image.{LeavesRoom, is_lazy_at, takes_stores
 ghost use Rattle.address_space.specs.Seen.{cell_seen, lazy_seen, need_seen};
 ghost use Rattle.address_space.specs.Shown.{shown};
 ghost use Rattle.process_table.specs.WellFormed.{IsWellFormed, total};
+ghost use Rattle.address_space.specs.Stays.{FramesStay, WaysAgree, none_goes, of_page, of_process, of_lazy};
 ghost use Rattle.address_space.specs.Walks.{WalksAgree};
 ghost use Rattle.address_space.specs.ByWalk.{finds, value_found, after_walked, with_walked};
 ghost use Rattle.quota_tree.specs.Book.{number_of_children};
@@ -98,6 +99,7 @@ fn add_page(spaces: &mut Spaces, quotas: &mut Quotas, pid: Pid, page: Page, writ
     requires unmapped { map.get spaces.old.spaces (at_page pid page) ≡ None }
     requires room { need spaces.old.spaces pid page ≤ room_of quotas.old pid }
     ensures kept { IsProcesses spaces.new quotas.new }
+    ensures stay { FramesStay none_goes (memory.image_of spaces.old) (memory.image_of spaces.new) }
     ensures spaces { spaces.new.spaces ≡ map.insert spaces.old.spaces (at_page pid page) (fresh (at_page pid page) write) }
     ensures book { quotas.new.book ≡ quotas.old.book }
 {
@@ -122,6 +124,7 @@ fn add_stored(
     requires unmapped { map.get spaces.old.spaces (slot_at pid address) ≡ None }
     requires room { need spaces.old.spaces pid (page_number address) ≤ room_of quotas.old pid }
     ensures kept { IsProcesses spaces.new quotas.new }
+    ensures stay { FramesStay none_goes (memory.image_of spaces.old) (memory.image_of spaces.new) }
     ensures spaces { spaces.new.spaces ≡ all_stored (with_pages (map.insert spaces.old.spaces (slot_at pid address) (fresh (slot_at pid address) true)) pid (touched address size)) pid address (bytes_of (byte_count size) value) }
     ensures book { quotas.new.book ≡ quotas.old.book }
 {
@@ -137,6 +140,7 @@ fn remove_page(spaces: &mut Spaces, quotas: &mut Quotas, pid: Pid, page: Page)
     requires user { IsUserPage page }
     requires mapped { is_some (map.get spaces.old.spaces (at_page pid page)) ≡ true }
     ensures kept { IsProcesses spaces.new quotas.new }
+    ensures stay { FramesStay (of_page pid page) (memory.image_of spaces.old) (memory.image_of spaces.new) }
     ensures spaces { spaces.new.spaces ≡ without spaces.old.spaces (is_slot pid page) }
     ensures book { quotas.new.book ≡ quotas.old.book }
 {
@@ -151,6 +155,7 @@ fn set_right(spaces: &mut Spaces, pid: Pid, page: Page, write: bool)
     requires mapped { is_some (map.get spaces.old.spaces (at_page pid page)) ≡ true }
     requires right { write ≡ true → (cell_or_fresh spaces.old.spaces (at_page pid page)).may ≡ true }
     ensures kept { (quotas : Containers) → IsProcesses spaces.old quotas → IsProcesses spaces.new quotas }
+    ensures stay { FramesStay none_goes (memory.image_of spaces.old) (memory.image_of spaces.new) }
     ensures spaces { spaces.new.spaces ≡ protected spaces.old.spaces (at_page pid page) write }
 {
     spaces.protect(pid, page, write);
@@ -182,6 +187,7 @@ fn join_page(spaces: &mut Spaces, quotas: &mut Quotas, giver: &Place, own: &Plac
     requires unmapped { map.get spaces.old.spaces (at_page own.now.pid own.now.page) ≡ None }
     requires room { need spaces.old.spaces own.now.pid own.now.page ≤ room_of quotas.old own.now.pid }
     ensures kept { IsProcesses spaces.new quotas.new }
+    ensures stay { FramesStay (of_lazy giver.now.pid giver.now.page) (memory.image_of spaces.old) (memory.image_of spaces.new) }
     ensures spaces { spaces.new.spaces ≡ joined spaces.old.spaces (at_page giver.now.pid giver.now.page) (at_page own.now.pid own.now.page) right }
     ensures book { quotas.new.book ≡ quotas.old.book }
 {
@@ -210,6 +216,7 @@ fn add_process(spaces: &mut Spaces, quotas: &mut Quotas, pid: Pid, quota: u32) -
     requires live { IsLive quotas.old pid }
     requires can { IsOk (split_answer quotas.old pid quota) }
     ensures kept { IsProcesses spaces.new quotas.new }
+    ensures stay { FramesStay none_goes (memory.image_of spaces.old) (memory.image_of spaces.new) }
     ensures child { split_answer quotas.old pid quota ≡ Ok result }
     ensures spaces { spaces.new.spaces ≡ spaces.old.spaces }
     ensures quotas { quotas.new ≡ after_split quotas.old pid quota result }
@@ -239,6 +246,7 @@ fn add_copy(spaces: &mut Spaces, quotas: &mut Quotas, pid: Pid, quota: u32) -> P
     requires can { IsOk (split_answer quotas.old pid quota) }
     requires large { cost spaces.old.spaces pid ≤ quota }
     ensures kept { IsProcesses spaces.new quotas.new }
+    ensures stay { FramesStay none_goes (memory.image_of spaces.old) (memory.image_of spaces.new) }
     ensures child { split_answer quotas.old pid quota ≡ Ok result }
     ensures spaces { spaces.new.spaces ≡ copied spaces.old.spaces pid result }
     ensures book { quotas.new.book ≡ map.insert quotas.old.book result (record { parent = pid; quota = quota }) }
@@ -259,6 +267,7 @@ fn remove_process(spaces: &mut Spaces, quotas: &mut Quotas, pid: Pid)
     requires not_root { pid ≢ 0 }
     requires childless { number_of_children quotas.old.book pid ≡ 0 }
     ensures kept { IsProcesses spaces.new quotas.new }
+    ensures stay { FramesStay (of_process pid) (memory.image_of spaces.old) (memory.image_of spaces.new) }
     ensures spaces { spaces.new.spaces ≡ without spaces.old.spaces (is_of pid) }
     ensures book { quotas.new.book ≡ map.remove quotas.old.book pid }
 {
@@ -279,6 +288,7 @@ fn complete_access(
     requires mapped { EachTouched address size (λ page. is_some (map.get spaces.old.spaces (at_page pid page)) ≡ true) }
     requires real { access ≡ Access.Write → EachTouched address size (λ page. is_lazy_at (memory.image_of spaces.old) (at_page pid page) ≡ false) }
     ensures kept { (quotas : Containers) → IsProcesses spaces.old quotas → IsProcesses spaces.new quotas }
+    ensures stay { FramesStay none_goes (memory.image_of spaces.old) (memory.image_of spaces.new) }
     ensures value { (s : State) → s.spaces ≡ spaces.old.spaces → result ≡ access_value s pid address size access }
     ensures state { (s : State) → s.spaces ≡ spaces.old.spaces → record s { spaces = spaces.new.spaces } ≡ after_access s pid address size access value }
     ensures roles { spaces.new.roles ≡ spaces.old.roles }
@@ -303,6 +313,7 @@ fn walk_access(
 ) -> u32
     requires finds { finds (memory.image_of spaces.old) pid address size access ≡ true }
     ensures kept { (quotas : Containers) → IsProcesses spaces.old quotas → IsProcesses spaces.new quotas }
+    ensures stay { FramesStay none_goes (memory.image_of spaces.old) (memory.image_of spaces.new) }
     ensures mapped { EachTouched address size (λ page. is_some (map.get spaces.old.spaces (at_page pid page)) ≡ true) }
     ensures takes { access ≡ Access.Write → EachTouched address size (λ page. takes_stores spaces.old.spaces (memory.image_of spaces.old) (at_page pid page) ≡ true) }
     ensures value { (s : State) → s.spaces ≡ spaces.old.spaces → result ≡ access_value s pid address size access }
@@ -327,6 +338,7 @@ fn fill_page(spaces: &mut Spaces, pid: Pid, page: Page)
     requires user { IsUserPage page }
     requires mapped { is_some (map.get spaces.old.spaces (at_page pid page)) ≡ true }
     ensures kept { (quotas : Containers) → IsProcesses spaces.old quotas → IsProcesses spaces.new quotas }
+    ensures stay { FramesStay (of_lazy pid page) (memory.image_of spaces.old) (memory.image_of spaces.new) }
     ensures spaces { spaces.new.spaces ≡ spaces.old.spaces }
     ensures real { is_lazy_at (memory.image_of spaces.new) (at_page pid page) ≡ false }
     ensures others { (slot : Slot) → is_lazy_at (memory.image_of spaces.old) slot ≡ false → is_lazy_at (memory.image_of spaces.new) slot ≡ false }
@@ -402,7 +414,8 @@ impl Processes {
     /// Maps a page of zeros that the process may map, with the right to write as asked.
     pub fn map(&mut self, pid: Pid, page: Page, write: bool)
         requires { IsOk (map_answer self.old.state pid page) }
-        ensures { self.new.state ≡ after_map self.old.state pid page write }
+        ensures state { self.new.state ≡ after_map self.old.state pid page write }
+        ensures stay { FramesStay none_goes (memory_of self.old) (memory_of self.new) }
     {
         add_page(&mut self.spaces, &mut self.quotas, pid, page, write);
     }
@@ -412,7 +425,8 @@ impl Processes {
     pub fn map_stored(&mut self, pid: Pid, address: Vaddr, size: Size, value: u32)
         requires may { IsOk (map_answer self.old.state pid (page_number address)) }
         requires within { second_page address size ≡ None }
-        ensures { self.new.state ≡ after_store (after_map self.old.state pid (page_number address) true) pid address size value }
+        ensures state { self.new.state ≡ after_store (after_map self.old.state pid (page_number address) true) pid address size value }
+        ensures stay { FramesStay none_goes (memory_of self.old) (memory_of self.new) }
     {
         add_stored(
             &mut self.spaces,
@@ -441,7 +455,8 @@ impl Processes {
     /// Takes a page away that the process may unmap; the offers of it go.
     pub fn unmap(&mut self, pid: Pid, page: Page)
         requires { IsOk (unmap_answer self.old.state pid page) }
-        ensures { self.new.state ≡ after_unmap self.old.state pid page }
+        ensures state { self.new.state ≡ after_unmap self.old.state pid page }
+        ensures stay { FramesStay (of_page pid page) (memory_of self.old) (memory_of self.new) }
     {
         remove_page(&mut self.spaces, &mut self.quotas, pid, page);
         self.offers.drop_page(pid, page);
@@ -465,7 +480,8 @@ impl Processes {
     /// Sets or clears the right to write to a page, which the process may.
     pub fn protect(&mut self, pid: Pid, page: Page, write: bool)
         requires { IsOk (protect_answer self.old.state pid page write) }
-        ensures { self.new.state ≡ after_protect self.old.state pid page write }
+        ensures state { self.new.state ≡ after_protect self.old.state pid page write }
+        ensures stay { FramesStay none_goes (memory_of self.old) (memory_of self.new) }
     {
         set_right(&mut self.spaces, pid, page, write);
     }
@@ -488,7 +504,8 @@ impl Processes {
     /// Makes an offer that the process may make, with the right to write or without it.
     pub fn offer(&mut self, pid: Pid, page: Page, target: Pid, write: bool)
         requires { IsOk (offer_answer self.old.state pid page target write) }
-        ensures { self.new.state ≡ after_offer self.old.state pid page target write }
+        ensures state { self.new.state ≡ after_offer self.old.state pid page target write }
+        ensures stay { FramesStay none_goes (memory_of self.old) (memory_of self.new) }
     {
         self.offers.offer(pid, page, target, write);
     }
@@ -510,7 +527,8 @@ impl Processes {
     /// Takes back an offer that is pending.
     pub fn withdraw(&mut self, pid: Pid, page: Page, target: Pid)
         requires { IsOk (withdraw_answer self.old.state pid page target) }
-        ensures { self.new.state ≡ after_withdraw self.old.state pid page target }
+        ensures state { self.new.state ≡ after_withdraw self.old.state pid page target }
+        ensures stay { FramesStay none_goes (memory_of self.old) (memory_of self.new) }
     {
         take_offer(&mut self.offers, pid, page, target);
     }
@@ -536,7 +554,8 @@ impl Processes {
     /// the right that was offered, and the offer goes.
     pub fn accept(&mut self, pid: Pid, giver: Pid, giver_page: Page, page: Page)
         requires { IsOk (accept_answer self.old.state pid giver giver_page page) }
-        ensures { self.new.state ≡ after_accept self.old.state pid giver giver_page page }
+        ensures state { self.new.state ≡ after_accept self.old.state pid giver giver_page page }
+        ensures stay { FramesStay (of_lazy giver giver_page) (memory_of self.old) (memory_of self.new) }
     {
         let right = take_offer(&mut self.offers, giver, giver_page, pid);
         let giver = Place {
@@ -571,6 +590,7 @@ impl Processes {
         requires { IsOk (spawn_answer self.old.state pid quota) }
         ensures child { spawn_answer self.old.state pid quota ≡ Ok result }
         ensures state { self.new.state ≡ after_spawn self.old.state pid quota }
+        ensures stay { FramesStay none_goes (memory_of self.old) (memory_of self.new) }
     {
         add_process(&mut self.spaces, &mut self.quotas, pid, quota)
     }
@@ -593,6 +613,7 @@ impl Processes {
         requires { IsOk (fork_answer self.old.state pid quota) }
         ensures child { fork_answer self.old.state pid quota ≡ Ok result }
         ensures state { self.new.state ≡ after_fork self.old.state pid quota }
+        ensures stay { FramesStay none_goes (memory_of self.old) (memory_of self.new) }
     {
         add_copy(&mut self.spaces, &mut self.quotas, pid, quota)
     }
@@ -612,7 +633,8 @@ impl Processes {
     /// returns to its parent.
     pub fn exit(&mut self, pid: Pid)
         requires { IsOk (exit_answer self.old.state pid) }
-        ensures { self.new.state ≡ after_exit self.old.state pid }
+        ensures state { self.new.state ≡ after_exit self.old.state pid }
+        ensures stay { FramesStay (of_process pid) (memory_of self.old) (memory_of self.new) }
     {
         remove_process(&mut self.spaces, &mut self.quotas, pid);
         self.offers.drop_process(pid);
@@ -667,6 +689,7 @@ impl Processes {
         requires real { access ≡ Access.Write → EachTouched address size (λ page. is_lazy_at (memory_of self.old) (at_page pid page) ≡ false) }
         ensures value { result ≡ access_value self.old.state pid address size access }
         ensures state { self.new.state ≡ after_access self.old.state pid address size access value }
+        ensures stay { FramesStay none_goes (memory_of self.old) (memory_of self.new) }
         ensures roles { self.new.roles ≡ self.old.roles }
     {
         complete_access(&mut self.spaces, pid, address, size, access, value)
@@ -698,6 +721,7 @@ impl Processes {
         ensures takes { access ≡ Access.Write → EachTouched address size (λ page. takes_stores self.old.state.spaces (memory_of self.old) (at_page pid page) ≡ true) }
         ensures value { result ≡ access_value self.old.state pid address size access }
         ensures state { self.new.state ≡ after_access self.old.state pid address size access value }
+        ensures stay { FramesStay none_goes (memory_of self.old) (memory_of self.new) }
         ensures directories { self.new.directories ≡ self.old.directories }
         ensures roles { self.new.roles ≡ self.old.roles }
         ensures bytes { (directory : ℕ) → directory_of self.old.directories pid ≡ Some directory → self.new.bytes ≡ after_walked self.old.bytes directory address size access value }
@@ -713,6 +737,7 @@ impl Processes {
         requires live { is_live self.old.state pid ≡ true }
         requires user { IsUserPage page }
         ensures state { self.new.state ≡ self.old.state }
+        ensures stay { FramesStay none_goes (memory_of self.old) (memory_of self.new) }
         ensures directories { self.new.directories ≡ self.old.directories }
         ensures roles { self.new.roles ≡ self.old.roles }
         ensures bytes { (directory : ℕ) → directory_of self.old.directories pid ≡ Some directory → self.new.bytes ≡ with_walked self.old.bytes directory page walked }
@@ -729,6 +754,7 @@ impl Processes {
         ensures live { IsSome result → is_live self.old.state pid ≡ true }
         ensures value { IfSome result (λ value. value ≡ loaded self.old.state pid address size) }
         ensures state { IsSome result → self.new.state ≡ after_load self.old.state pid address size }
+        ensures stay { FramesStay none_goes (memory_of self.old) (memory_of self.new) }
         ensures roles { self.new.roles ≡ self.old.roles }
         ensures none { IsNone result → self.new ≡ self.old }
     {
@@ -744,6 +770,7 @@ impl Processes {
         ensures done { result ≡ takes_stores self.old.state.spaces (memory_of self.old) (slot_at pid address) }
         ensures live { result ≡ true → is_live self.old.state pid ≡ true }
         ensures state { result ≡ true → self.new.state ≡ after_store self.old.state pid address size value }
+        ensures stay { FramesStay none_goes (memory_of self.old) (memory_of self.new) }
         ensures roles { self.new.roles ≡ self.old.roles }
         ensures none { result ≡ false → self.new ≡ self.old }
     {
@@ -762,6 +789,7 @@ impl Processes {
     pub fn fill(&mut self, pid: Pid, page: Page)
         requires mapped { is_mapped self.old.state (at_page pid page) ≡ true }
         ensures state { self.new.state ≡ self.old.state }
+        ensures stay { FramesStay (of_lazy pid page) (memory_of self.old) (memory_of self.new) }
         ensures real { is_lazy_at (memory_of self.new) (at_page pid page) ≡ false }
         ensures others { (slot : Slot) → is_lazy_at (memory_of self.old) slot ≡ false → is_lazy_at (memory_of self.new) slot ≡ false }
     {
@@ -773,6 +801,7 @@ impl Processes {
     pub fn stands(&self)
         ensures image { StandsFor (image_of self.now) self.now.state }
         ensures walks { WalksAgree (memory_of self.now) self.now.state.spaces }
+        ensures ways { WaysAgree (memory_of self.now) }
         ensures total { 1 + total self.now.state ≤ length self.now.roles }
         ensures few { length self.now.roles ≤ 4096 }
         ensures used { LeavesRoom (memory_of self.now) (total self.now.state) }

@@ -209,7 +209,7 @@ module _ (directories : List (Option ℕ)) (bytes : List ℕ) (roles : List Role
       by (Some word) is = ap (λ b. cond b (Some (entry_from word)) None) (user_page slot word is)
 
   -- a slot's present word is one that the kernel writes
-  word_names : (slot : Slot) (word : ℕ) → page_word image slot ≡ Some word → NamesPage word
+  pub word_names : (slot : Slot) (word : ℕ) → page_word image slot ≡ Some word → NamesPage word
   word_names slot word h = by (table_at image slot.pid (slot_number slot.page)) refl h
     where
       by : (x : Option ℕ) → table_at image slot.pid (slot_number slot.page) ≡ x → option_and_then (λ t. present_word image t (word_of image t (index_number slot.page))) x ≡ Some word → NamesPage word

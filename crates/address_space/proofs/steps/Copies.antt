@@ -46,6 +46,8 @@ use borrow.Author.Tests.{eq-eqb}
 use Rattle.page_words.specs.Addresses.{IsUserPage}
 use Rattle.std.specs.Cmp.{nat_eq_equiv}
 use Rattle.std.proofs.lemmas.Bool.{ne_eqb}
+use Rattle.address_space.specs.Stays.{none_goes, entry_frame}
+use Rattle.address_space.proofs.entries.Staying.{stay_same, stay_then, stay_new}
 
 -- ---- One page
 
@@ -118,6 +120,9 @@ entry_copied directories bytes one two roles roles' from source p d page t f e s
         length = ready.length;
         own = subst (λ x. InUseAt D x p (slot_number page)) (sym is) (use_own D m1 R' Tb p d page t (entry_word e') live there_one (entry_word-lt e' ready.small) (entry_word-present e'));
         others = λ q r n use_at. subst (λ x. InUseAt D x q r) (sym is) (use_kept D m1 R' Tb p d page t (entry_word e') live there_one (entry_word-lt e' ready.small) (entry_word-present e') q r (ready.used q r use_at));
+        stay = stay_then none_goes E (map.insert E slot e') (entries_in D (frame_bytes two))
+            (stay_new none_goes E slot e' none) (stay_same none_goes (map.insert E slot e')
+            (entries_in D (frame_bytes two)) E2);
       };
       spaces =
           (λ i. spaces_of (E2 i) (is i)) ∙ lone_refines E m2 slot e' none ready.alone ready.apart
@@ -264,6 +269,9 @@ page_copied directories bytes bytes1 bytes2 roles roles1 roles2 from source to p
         made.entries.1 ∙ ap (λ x. map.insert x slot made.entries.0) given.entries,
         made.entries.2 ∙ ap is_lazy_entry (ap (option_and_then (λ x. entry_at (frame_bytes bytes1) x page)) home ∙ stays ∙ sym (ap (option_and_then (λ x. entry_at (frame_bytes bytes) x page)) home)),
       );
+      stay = stay_then none_goes (entries_in D (frame_bytes bytes)) (entries_in D (frame_bytes bytes1))
+          (entries_in D (frame_bytes bytes2)) (stay_same none_goes (entries_in D (frame_bytes bytes))
+          (entries_in D (frame_bytes bytes1)) given.entries) made.slot.stay;
       length = made.slot.length ∙ given.length;
     }
 
@@ -431,6 +439,7 @@ copied_at_last directories bytes one roles roles1 from source to next s empty so
       ap is_lazy_entry (same_entry directories one roles1 so_far.after.sound (at_page to page) ∙ sym (read_entry directories one roles1 so_far.after.sound (at_page to page)))
       ∙ lazy_at page
       ∙ ap is_lazy_entry (read_entry directories bytes roles s.sound (at_page from page) ∙ sym (same_entry directories bytes roles s.sound (at_page from page)));
+  stay = λ q f stays names. stay_at q f names (cases_eq q.pid to);
   length = so_far.length;
 }
   where
@@ -467,6 +476,14 @@ copied_at_last directories bytes one roles roles1 from source to next s empty so
       | inl less ↦ so_far.lazy page less
       | inr above ↦ ap is_lazy_entry (no_entry directories one (at_page to page) (so_far.rest page above)) ∙ sym (ap is_lazy_entry (no_entry directories bytes (at_page from page) (unmapped page above)))
     ]
+
+    stay_at : (q : Slot) (f : ℕ) → entry_frame E q ≡ Some f → (q.pid ≡ to) ⊎ (q.pid ≢ to) → entry_frame E1 q ≡ Some f
+    stay_at q f names (inl same) =
+        let here : q ≡ at_page to q.page = (λ i. record { pid = same i; page = q.page }) in
+        absurd (let k : None ≡ Some f = sym (ap (option_map (λ (x : PageEntry). x.frame))
+        (ap (map.get E) here ∙ no_entry directories bytes (at_page to q.page) (empty q.page))) ∙ names in cc)
+    stay_at q f names (inr differ) = ap (option_map (λ (x : PageEntry). x.frame)) (so_far.other_entries q differ)
+        ∙ names
 
     at : (q : Slot) → (q.pid ≡ to) ⊎ (q.pid ≢ to) → map.get S1 q ≡ copied_at S from to q
     at q (inl same) =

@@ -36,6 +36,8 @@ use Rattle.address_space.proofs.standing.Standing.{past_end}
 use Rattle.address_space.proofs.steps.Steps.{live_small, none_before, role_own, role_other}
 use borrow.Author.Tests.{eqb-true, eq-eqb}
 use Rattle.page_words.proofs.OptionLemmas.{no_value}
+use Rattle.address_space.specs.Stays.{none_goes, of_process}
+use Rattle.address_space.proofs.entries.Staying.{stay_same, stay_then}
 
 -- ---- Slots that leave
 
@@ -167,6 +169,8 @@ pub dropped_at_first : (directories : List (Option ℕ)) (bytes : List ℕ) (rol
 dropped_at_first directories bytes roles p s = record {
   after = s;
   spaces = refl;
+  stay = stay_same (of_process p) (entries_in (directory_of directories) (frame_bytes bytes))
+      (entries_in (directory_of directories) (frame_bytes bytes)) refl;
   below = λ page l. no_cell_outside directories bytes roles p page s.sound (inl l);
   length = refl;
   low = omega arith;
@@ -182,6 +186,10 @@ dropped_next directories bytes one two roles roles1 roles2 p d from page so_far 
     record {
       after = gone.after;
       spaces = ap (λ x. without x (is_of p)) gone.spaces ∙ without-without S (is_slot p page) (is_of p) (slot_of_process p page) ∙ so_far.spaces;
+      stay = stay_then (of_process p) (entries_in (directory_of directories) (frame_bytes bytes))
+          (entries_in (directory_of directories) (frame_bytes one))
+          (entries_in (directory_of directories) (frame_bytes two)) so_far.stay
+          (λ q f stays names. gone.stay q f (slot_of_process p page q stays) names);
       below = λ other l. ap (λ x. map.get x (at_page p other)) gone.spaces ∙ get-without S (is_slot p page) (at_page p other) ∙ elim (cases_eq other page) [
         | inl same_page ↦ ap (λ b. cond (not b) (option_map (left (is_slot p page)) (map.get S (at_page p other))) None) (ap (λ n. same slot_order (at_page p page) (at_page p n)) same_page ∙ same_itself slot_order (at_page p page))
         | inr differ ↦ nothing_if (not (is_slot p page (at_page p other))) (left (is_slot p page)) (map.get S (at_page p other)) (elim (cases_lt other from) [
@@ -208,6 +216,7 @@ dropped_at_last directories bytes one roles roles1 p d from so_far live none =
     record {
       after = so_far.after;
       spaces = sym (nothing_leaves directories one p empty) ∙ so_far.spaces;
+      stay = so_far.stay;
       empty = empty;
       length = so_far.length;
     }
@@ -354,5 +363,6 @@ directory_removed directories bytes roles roles' p d s live empty rel =
       spaces = spaces;
       none = none;
       others = others;
+      stay = stay_same none_goes (entries_in D m) (entries_in D' m) E;
       length = same_length;
     }

@@ -24,6 +24,8 @@ use Rattle.address_space.proofs.entries.EntrySteps.{same_entries, entry_by_table
 use Rattle.address_space.proofs.frames.PageSteps.{same_bytes, no_directory}
 use Rattle.address_space.proofs.standing.Standing.{past_end}
 use Rattle.address_space.proofs.steps.Steps.{inside}
+use Rattle.address_space.specs.Stays.{none_goes}
+use Rattle.address_space.proofs.entries.Staying.{stay_same}
 
 -- a directory word that names the same table, and is one of the kernel's where the first is
 pub record Alike (w w' : ℕ) : Type 0 where
@@ -191,6 +193,7 @@ dirs_touched directories bytes bytes' roles sound alike long =
       cost = ap (total_cost directories) S;
       in_use = use_dirs D m m' R T alike;
       lazy = ap (λ x. holders_of x 0) E;
+      stay = stay_same none_goes (entries_in D m) (entries_in D m') E;
     }
 
 -- one word of a directory was written

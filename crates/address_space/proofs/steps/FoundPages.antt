@@ -15,6 +15,8 @@ use Rattle.address_space.proofs.entries.EntrySteps.{tables_kept}
 use Rattle.address_space.specs.declared.lookup.Found.{Found}
 use Rattle.address_space.specs.declared.paged.Paged.{Paged}
 use Rattle.address_space.specs.Spaces.{need, Slot, Spaces, Cell, cell_or_fresh, bytes_of, stored, accessed, protected, at_page}
+use Rattle.address_space.specs.Stays.{FramesStay, none_goes, of_lazy}
+use Rattle.address_space.proofs.standing.FramesStand.{frames_stay}
 use Rattle.address_space.specs.Cells.{cell_of}
 use Rattle.address_space.specs.View.{Directories, directory_of, entry_in, entries_in, spaces_in}
 use Rattle.address_space.specs.Changes.{PageFilled, EntryPut, Touched, takes_stores_through}
@@ -127,6 +129,9 @@ pub record Left (paged : Paged) (S : Spaces) (bytes' : List ℕ) : Type 0 where
   pub kept : IsKept paged.directories bytes' paged.frames paged.counts.items
   -- the same slots are lazy
   pub lazy : (q : Slot) → is_lazy_at (record { directories = paged.directories; bytes = bytes'; roles = paged.frames }) q ≡ is_lazy_at (image_at paged) q
+  -- and each names its frame
+  pub stay : FramesStay none_goes (image_at paged)
+      (record { directories = paged.directories; bytes = bytes'; roles = paged.frames })
 
 -- ---- What stands at a page
 
@@ -248,6 +253,8 @@ module _ (paged : Paged) (p page : ℕ) (f : Found) (before : IsKeptPaged paged)
     spaces = touched.spaces;
     kept = kept_touched paged.directories paged.memory two paged.frames paged.counts.items S before touched keys;
     lazy = lazy_kept paged.directories paged.memory two paged.frames before.spaces.sound touched.sound touched.lazy;
+    stay = frames_stay none_goes paged.directories paged.memory two paged.frames paged.frames before.spaces.sound
+        touched.sound touched.stay;
   }
 
   -- a load
@@ -299,6 +306,14 @@ module _ (paged : Paged) (p page : ℕ) (f : Found) (before : IsKeptPaged paged)
     spaces = filled.after;
     counted = counts_kept (spaces_at paged) (spaces_in paged.directories two) paged.frames roles' filled.spaces (alike_taken (spaces_at paged) paged.frames roles' g.frame (Page 1) g.taken refl) paged.counts.items before.counted;
   }
+
+  -- each slot but that one names its frame
+  pub filled_stay : (two : List ℕ) (roles' : List Role)
+      → PageFilled paged.directories p page paged.memory paged.frames two roles'
+      → FramesStay (of_lazy p page) (image_at paged)
+      (record { directories = paged.directories; bytes = two; roles = roles' })
+  filled_stay two roles' filled = frames_stay (of_lazy p page) paged.directories paged.memory two paged.frames roles'
+      before.spaces.sound filled.after.sound filled.stay
 
   -- and it is found there
   pub filled_found : (e' : PageEntry) (two : List ℕ) (roles' : List Role) → FrameGiven paged.memory paged.frames f e' two roles'

@@ -30,6 +30,8 @@ use Rattle.address_space.proofs.entries.Refinement.{get-spaces_of, join_refines}
 use Rattle.address_space.proofs.steps.Steps.{inside, live_small, page_loose, none_before, table_by_word, role_own, role_other}
 use Rattle.page_words.proofs.OptionLemmas.{some_value}
 use Rattle.std.proofs.lemmas.Bool.{ne_eqb}
+use Rattle.address_space.specs.Stays.{none_goes}
+use Rattle.address_space.proofs.entries.Staying.{stay_same, stay_then, stay_new}
 
 pub slot_joined : (directories : List (Option ℕ)) (bytes two : List ℕ) (roles roles' : List Role) (giver giver_page p d page f c : ℕ) (right : Bool) → IsSound directories bytes roles → directory_of directories p ≡ Some d
     → 0x40000 ≤ page → page < 0xf0000 → map.get (spaces_in directories bytes) (at_page p page) ≡ None → is_some (table_of (frame_bytes bytes) d (slot_number page)) ≡ true
@@ -80,6 +82,9 @@ slot_joined directories bytes two roles roles' giver giver_page p d page f c rig
         length = same_length;
         own = subst (λ x. InUseAt D x p (slot_number page)) (sym is) (use_own D m R' Tb p d page t (entry_word e) live at.1 (entry_word-lt e in_memory.small) (entry_word-present e));
         others = λ q r n use_at. subst (λ x. InUseAt D x q r) (sym is) (use_kept D m R' Tb p d page t (entry_word e) live at.1 (entry_word-lt e in_memory.small) (entry_word-present e) q r use_at);
+        stay = stay_then none_goes E (map.insert E slot e) (entries_in D (frame_bytes two))
+            (stay_new none_goes E slot e none) (stay_same none_goes (map.insert E slot e)
+            (entries_in D (frame_bytes two)) E2);
       };
       spaces = (λ i. spaces_of (E2 i) (is i)) ∙ (λ i. spaces_of (map.insert E slot (named i)) m2) ∙ join_refines E m2 (at_page giver giver_page) slot given.0 right given.1 (ne_eqb given.0.frame 0 (λ z. let s = given.2 in omega (arith, z, s, up))) none ∙ ap (λ x. joined x (at_page giver giver_page) slot right) (same_bytes E m m2 page_kept);
     }

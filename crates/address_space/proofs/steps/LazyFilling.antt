@@ -29,6 +29,8 @@ use Rattle.address_space.proofs.entries.Refinement.{fill_refines}
 use Rattle.address_space.proofs.steps.Steps.{inside, live_small, table_by_word, role_own, role_other, free_loose, page_loose}
 use Rattle.address_space.proofs.steps.Stores.{found, get_user, entry_rules, frame_written}
 use Rattle.std.proofs.lemmas.Bool.{ne_eqb}
+use Rattle.address_space.proofs.entries.Staying.{stay_same, stay_then, stay_filled}
+use Rattle.address_space.specs.Stays.{of_lazy}
 
 -- a lazy page leaves room for its frame
 pub room_to_fill : (directories : List (Option ℕ)) (bytes : List ℕ) (roles : List Role) (p d page : ℕ) (e : PageEntry) → IsSpaces directories bytes roles → directory_of directories p ≡ Some d
@@ -113,6 +115,9 @@ page_filled directories bytes one two roles roles' p d page f e s live low high 
       spaces = spaces;
       real = (e', ap (λ x. entry_in D x slot) is ∙ entry_own D m1 R' Tb p d page t (entry_word e') live here.there (entry_word-lt e' small) ∙ word_entry-entry_word e' small, refl);
       fewer = λ q was. ap (λ x. set.contains (holders_of x 0) q) E2 ∙ lazy-fewer E slot e' (λ z. omega (arith, z, up)) q was;
+      stay = stay_then (of_lazy p page) E (map.insert E slot e') (entries_in D (frame_bytes two))
+          (stay_filled E p page e e' there zero) (stay_same (of_lazy p page) (map.insert E slot e')
+          (entries_in D (frame_bytes two)) E2);
       length = same_length;
     }
   where

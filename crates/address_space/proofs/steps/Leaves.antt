@@ -33,6 +33,8 @@ use Rattle.address_space.proofs.steps.Steps.{live_small, page_loose, free_loose,
 use Rattle.address_space.proofs.steps.Stores.{Found, found, get_user, named_entry, page_of_name, page_held, entry_rules}
 use Rattle.address_space.proofs.entries.Removal.{put_back, removed, kept_other}
 use Rattle.address_space.proofs.entries.EntrySteps.{same_entries}
+use Rattle.address_space.proofs.entries.Staying.{stay_same, stay_then, stay_removed}
+use Rattle.address_space.specs.Stays.{of_page}
 
 -- the role after one holder less
 after_page : (c : ℕ) → (nat_lt 1 c ≡ true) ⊎ (nat_lt 1 c ≡ false)
@@ -267,6 +269,9 @@ slot_removed directories bytes two roles one last p d page e freed spaces live l
         let within = spaces.within in
         record {
           length = same_length;
+          stay = stay_then (of_page p page) E (map.remove E slot) (entries_in D (frame_bytes two))
+              (stay_removed E p page) (stay_same (of_page p page) (map.remove E slot) (entries_in D (frame_bytes two))
+              E2);
           after = record {
             sound = record {
               size = same_bytes_length ∙ sound.size ∙ ap (λ n. 4096 * n) (sym same_length);
@@ -319,6 +324,9 @@ slot_removed directories bytes two roles one last p d page e freed spaces live l
         let within = spaces.within in
         record {
           length = same_length;
+          stay = stay_then (of_page p page) E (map.remove E slot) (entries_in D (frame_bytes two))
+              (stay_removed E p page) (stay_same (of_page p page) (map.remove E slot) (entries_in D (frame_bytes two))
+              E2);
           after = record {
             sound = record {
               size = same_bytes_length ∙ sound.size ∙ ap (λ n. 4096 * n) (sym same_length);

@@ -36,6 +36,8 @@ use Rattle.address_space.proofs.frames.PageSteps.{pages-role, same_bytes, no_fre
 use Rattle.address_space.proofs.entries.Refinement.{get-spaces_of}
 use Rattle.address_space.proofs.steps.Steps.{free_loose, live_small, role_own, role_other}
 use Rattle.phys_memory.proofs.Frames.{frame-blank}
+use Rattle.address_space.specs.Stays.{none_goes}
+use Rattle.address_space.proofs.entries.Staying.{stay_same}
 
 zero_byte : (n k : ℕ) → ◌≡◌ {A = ℕ} (get_or (replicate n 0) k 0) 0
 zero_byte zero k = refl
@@ -190,6 +192,7 @@ space_added directories bytes one roles roles' p f s few none room taken is long
       cost = total;
       live = ap is_some own;
       others = others;
+      stay = stay_same none_goes E (entries_in D' (frame_bytes one)) E2;
       length = same_length;
     }
 

@@ -27,6 +27,8 @@ use Rattle.address_space.proofs.costs.CostSteps.{total-entry}
 use Rattle.address_space.proofs.entries.EntrySteps.{Loose, entries-insert, entry_own, tables-entry, use_own, use_kept}
 use Rattle.address_space.proofs.frames.FrameSteps.{tables-linked, linked-entries, linked-own, linked-others, linked-other, kept_table, loose-directory, tables-loose}
 use Rattle.address_space.proofs.frames.PageSteps.{same_bytes, pages-role, pages-lazy, lazy-more, no_free, no_table, no_directory}
+use Rattle.address_space.specs.Stays.{none_goes}
+use Rattle.address_space.proofs.entries.Staying.{stay_same, stay_then, stay_new}
 
 -- a frame with a role lies in memory
 inside_by : (bytes : List ℕ) (roles : List Role) (f : ℕ) (r : Role) → length bytes ≡ 4096 * length roles → length roles ≤ 4096 → slice_get roles f ≡ Some r → Inside bytes f
@@ -187,6 +189,9 @@ page_added directories bytes two roles p d page t write sound live low high unma
         length = refl;
         own = subst (λ x. InUseAt D x p (slot_number page)) (sym is) (use_own D m R T p d page t (entry_word e) live there (entry_word-lt e small) (entry_word-present e));
         others = λ q r n use_at. subst (λ x. InUseAt D x q r) (sym is) (use_kept D m R T p d page t (entry_word e) live there (entry_word-lt e small) (entry_word-present e) q r use_at);
+        stay = stay_then none_goes E (map.insert E slot e) (entries_in D (frame_bytes two))
+            (stay_new none_goes E slot e none) (stay_same none_goes (map.insert E slot e)
+            (entries_in D (frame_bytes two)) E2);
       };
       lazy = (e, ap (λ x. entry_in D x slot) is ∙ entry_own D m R T p d page t (entry_word e) live there (entry_word-lt e small) ∙ word_entry-entry_word e small, refl);
       spaces = (λ i. spaces_of (E2 i) (is i)) ∙ lazy_refines E m2 slot write none zero ∙ ap (λ x. map.insert x slot (fresh slot write)) (same_bytes E m m2 page_kept);

@@ -31,6 +31,8 @@ use Rattle.address_space.proofs.frames.PageSteps.{same_bytes, pages-same, no_tab
 use Rattle.address_space.proofs.entries.Refinement.{insert_there, store_refines, flags_refine, cell_at}
 use Rattle.address_space.proofs.steps.Steps.{inside, holds_inside, live_small, page_loose, table_by_word}
 use Rattle.std.proofs.lemmas.Bool.{ne_eqb}
+use Rattle.address_space.specs.Stays.{none_goes}
+use Rattle.address_space.proofs.entries.Staying.{stay_same, stay_then, stay_put}
 
 -- ---- Bytes
 
@@ -222,6 +224,9 @@ page_stored directories bytes one two roles p d page at written e sound live low
       cost = (λ i. total_cost directories (spaces_of (E2 i) (frame_bytes two))) ∙ total-kept directories E m (frame_bytes two) slot e e' there;
       in_use = λ before. h.in_use (w.in_use before);
       lazy = ap (λ x. holders_of x 0) E2 ∙ lazy-same E slot e e' there refl;
+      stay = stay_then none_goes E (map.insert E slot e') (entries_in D (frame_bytes two))
+          (stay_put none_goes E slot e e' there refl) (stay_same none_goes (map.insert E slot e')
+          (entries_in D (frame_bytes two)) E2);
     }
 
 -- flags of a slot's own cell set as in its entry
@@ -253,6 +258,10 @@ flags_set directories bytes two roles p d page e write accessed sound live low h
       cost = (λ i. total_cost directories (spaces_of (h.entries i) (frame_bytes two))) ∙ total-kept directories E m (frame_bytes two) slot e e' h.named;
       in_use = h.in_use;
       lazy = ap (λ x. holders_of x 0) h.entries ∙ lazy-same E slot e e' h.named refl;
+      stay = stay_then none_goes E (map.insert E slot e') (entries_in (directory_of directories) (frame_bytes two))
+          (stay_put none_goes E slot e e' h.named refl)
+          (stay_same none_goes (map.insert E slot e') (entries_in (directory_of directories) (frame_bytes two))
+          h.entries);
     }
 
 pub length-bytes_of : (k v : ℕ) → length (bytes_of k v) ≡ k

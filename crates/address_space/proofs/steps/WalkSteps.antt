@@ -28,7 +28,7 @@ use Rattle.page_map.proofs.MarkProofs.{touched_names, entry_from-touched}
 use Rattle.page_map.proofs.WordLaws.{entry_word-names, entry_from-entry_word, with_flag_lt}
 use Rattle.address_space.specs.ByWalk.{byte_place}
 use Rattle.address_space.specs.Spaces.{Slot, Spaces, Cell, cell_or_fresh, accessed as accessed_in, stored, write_at, byte_at, at_page, slot_at}
-use Rattle.address_space.specs.View.{Directories, Roles, directory_of, table_in, spaces_in}
+use Rattle.address_space.specs.View.{Directories, Roles, directory_of, table_in, entries_in, spaces_in}
 use Rattle.address_space.specs.Sound.{Tables, IsSound, Inside}
 use Rattle.address_space.specs.Changes.{Touched}
 use Rattle.address_space.proofs.entries.EntrySteps.{entry_by_table}
@@ -38,6 +38,8 @@ use Rattle.address_space.proofs.steps.Stores.{found, get_user, entry_rules, page
 use Rattle.address_space.proofs.steps.Bytes.{write_at-nothing, stored-none, stored-flags}
 use Rattle.address_space.proofs.steps.Departures.{no_table_outside}
 use Rattle.address_space.proofs.steps.DirWords.{DirsAlike, flagged_alike, dirs_touched, one_dir_word, dirs-entry, dirs-table, dirs-tables}
+use Rattle.address_space.specs.Stays.{none_goes}
+use Rattle.address_space.proofs.entries.Staying.{stay_then}
 
 -- ---- What a walk finds
 
@@ -181,6 +183,9 @@ touched_then directories S1 S2 bytes half two roles a b = record {
   cost = b.cost ∙ a.cost;
   in_use = λ before. b.in_use (a.in_use before);
   lazy = b.lazy ∙ a.lazy;
+  stay = stay_then none_goes (entries_in (directory_of directories) (frame_bytes bytes))
+      (entries_in (directory_of directories) (frame_bytes half))
+      (entries_in (directory_of directories) (frame_bytes two)) a.stay b.stay;
 }
 
 -- a marked word is that of the entry with its flags set

@@ -25,6 +25,8 @@ use Rattle.address_space.proofs.steps.Touches.{kept_touched}
 use Rattle.address_space.proofs.steps.Finding.{found_at, found_mapped}
 use Rattle.address_space.proofs.steps.FoundPages.{Left}
 use Rattle.address_space.proofs.steps.WalkSteps.{found_entry, load_marked, byte_written}
+use Rattle.address_space.specs.Stays.{FramesStay, none_goes}
+use Rattle.address_space.proofs.standing.FramesStand.{frames_stay}
 
 -- the walk of the first page, and that of the second where there is one
 pub finds_first : (image : Image) (p address : ℕ) (size : Size) (access : Access) → finds image p address size access ≡ true → finds_at image p access address ≡ true
@@ -46,6 +48,8 @@ marked_left paged p d address two before live small ok is =
       kept = kept_touched paged.directories paged.memory two paged.frames paged.counts.items (accessed (spaces_at paged) (slot_at p address)) before touched
           (kept (spaces_at paged) (slot_at p address) _ (found_mapped paged.directories paged.memory paged.frames p d address Read sound live small ok));
       lazy = lazy_kept paged.directories paged.memory two paged.frames sound touched.sound touched.lazy;
+      stay = frames_stay none_goes paged.directories paged.memory two paged.frames paged.frames sound touched.sound
+          touched.stay;
     }
 
 -- ---- A byte stored
@@ -54,6 +58,8 @@ marked_left paged p d address two before live small ok is =
 pub record ByteLeft (paged : Paged) (p address v : ℕ) (two : List ℕ) : Type 0 where
   pub spaces : spaces_at (record paged { memory = two }) ≡ stored (spaces_at paged) (slot_at p address) (offset_number address) (v % 256 ∷ [])
   pub kept : IsKept paged.directories two paged.frames paged.counts.items
+  pub stay : FramesStay none_goes (image_at paged)
+      (record { directories = paged.directories; bytes = two; roles = paged.frames })
   -- each walk finds a frame as before
   pub finds : (kind : Access) (at : ℕ) → finds_at (record { directories = paged.directories; bytes = two; roles = paged.frames }) p kind at ≡ finds_at (image_at paged) p kind at
 
@@ -84,6 +90,8 @@ byte_left paged p d address v two before live test walks is long =
     let S = spaces_at paged in
     record {
       spaces = parts.touched.spaces;
+      stay = frames_stay none_goes paged.directories paged.memory two paged.frames paged.frames sound
+          parts.touched.sound parts.touched.stay;
       kept = kept_touched paged.directories paged.memory two paged.frames paged.counts.items (stored S slot (offset_number address) (v % 256 ∷ [])) before parts.touched
           (λ q. key-stored S slot (offset_number address) (v % 256 ∷ []) (cell_or_fresh S slot) q
           ∙ kept S slot (cell_or_fresh S slot) (found_mapped paged.directories paged.memory paged.frames p d address Write sound live found.0 found.1) q);

@@ -1,4 +1,4 @@
-use Rattle.std.proofs.Common.{◌≡◌, sym, subst, ◌∙◌, true}
+use Rattle.std.proofs.Common.{◌≡◌, refl, sym, subst, ◌∙◌, true}
 use Rattle.page_words.specs.Addresses.{EachTouched}
 use Rattle.address_space.specs.Spaces.{at_page}
 use Rattle.address_space.proofs.costs.MapFirst.{touched-there}
@@ -8,9 +8,15 @@ use Rattle.fault_handler.proofs.make_ready.Goals as goal
 
 pub fill_pages-requires : goal.fill_pages-requires
 fill_pages-requires c = record {
-  mapped = subst (λ (t : State). EachTouched c.args.address c.args.size (λ page. is_mapped t (at_page c.args.pid page) ≡ true)) (sym c.map_pages.ensures) (touched-there c.args.processes.now.state.spaces c.args.pid c.args.address c.args.size);
+  mapped = subst (λ (t : State). EachTouched c.args.address c.args.size
+      (λ page. is_mapped t (at_page c.args.pid page) ≡ true)) (sym c.map_pages.ensures.state)
+      (touched-there c.args.processes.now.state.spaces c.args.pid c.args.address c.args.size);
 }
 
 pub map_pages-requires-clause-second : goal.map_pages-requires-clause-second
 map_pages-requires-clause-second c =
     second_mapped c.args.processes.now c.args.pid c.args.address c.args.size c.args.access c.in-Ready.first c.in-Ready.second (sym c.in-Ready.is ∙ c.requires.plan)
+
+pub returns-in-Write-clause-stay : goal.returns-in-Write-clause-stay
+returns-in-Write-clause-stay c = rw c.in-Write.is
+    (λ slot d f stays way. c.fill_pages.ensures.stay slot d f stays (c.map_pages.ensures.stay slot d f refl way))

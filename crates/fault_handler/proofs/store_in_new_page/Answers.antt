@@ -9,5 +9,7 @@ map_stored-requires-clause-may c = (maps_one c.args.processes.now c.args.pid c.a
 pub map_stored-requires-clause-within : goal.map_stored-requires-clause-within
 map_stored-requires-clause-within c = (maps_one c.args.processes.now c.args.pid c.args.address c.args.size Write c.requires).within
 
-pub returns : goal.returns
-returns c = c.map_stored.ensures ∙ stored_new c.args.processes.now.state c.args.pid c.args.address c.args.size c.args.value (maps_one c.args.processes.now c.args.pid c.args.address c.args.size Write c.requires)
+pub returns-clause-state : goal.returns-clause-state
+returns-clause-state c = c.map_stored.ensures.state
+    ∙ stored_new c.args.processes.now.state c.args.pid c.args.address c.args.size c.args.value
+    (maps_one c.args.processes.now c.args.pid c.args.address c.args.size Write c.requires)

@@ -11,6 +11,8 @@ use Rattle.address_space.specs.Walks.{WalksAgree}
 use Rattle.address_space.proofs.standing.WalkEnds.{walks_agree}
 use Rattle.address_space.proofs.standing.Standing.{image_stands, lazy_slots}
 use Rattle.address_space.proofs.Spaces.stands.Goals as goal
+use Rattle.address_space.specs.Stays.{WaysAgree}
+use Rattle.address_space.proofs.standing.WaysStand.{ways_agree}
 
 pub returns-clause-image : goal.returns-clause-image
 returns-clause-image c =
@@ -45,3 +47,10 @@ returns-clause-used c =
       counted = record { members = holders_of E 0; are = lazy_slots c.self.inside.paged.directories c.self.inside.paged.memory c.self.inside.paged.frames kept.sound; count = refl };
       fit = omega (arith, n, w);
     })
+
+pub returns-clause-ways : goal.returns-clause-ways
+returns-clause-ways c =
+    subst (λ (v : View). WaysAgree (record { directories = v.directories; bytes = v.bytes; roles = v.roles }))
+    c.self.view_is
+    (ways_agree c.self.inside.paged.directories c.self.inside.paged.memory c.self.inside.paged.frames
+    c.self.invariant.spaces.sound)

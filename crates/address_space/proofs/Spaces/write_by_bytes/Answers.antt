@@ -56,3 +56,12 @@ returns-in-Four-clause-spaces c =
     c.write_byte-third.ensures.spaces c.write_byte-third.ensures.address c.write_byte-third.ensures.value
     c.write_byte-fourth.ensures.spaces c.write_byte-fourth.ensures.address c.write_byte-fourth.ensures.value
     c.write_byte-in-Four.ensures.spaces)
+
+pub returns-in-Two-clause-stay : goal.returns-in-Two-clause-stay
+returns-in-Two-clause-stay c = λ q d f stays way.
+    c.write_byte-in-Two.ensures.stay q d f stays (c.write_byte-second.ensures.stay q d f stays way)
+
+pub returns-in-Four-clause-stay : goal.returns-in-Four-clause-stay
+returns-in-Four-clause-stay c = λ q d f stays way.
+    c.write_byte-in-Four.ensures.stay q d f stays (c.write_byte-fourth.ensures.stay q d f stays
+    (c.write_byte-third.ensures.stay q d f stays (c.write_byte-second-in-Four.ensures.stay q d f stays way)))

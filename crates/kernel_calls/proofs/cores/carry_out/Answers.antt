@@ -1,5 +1,7 @@
 use Rattle.std.proofs.Common.{◌≡◌, ap, sym, ◌∙◌, true, false}
 use Rattle.fault_handler.specs.Plans.{goes_on}
+use Rattle.std.specs.Prelude.{if◌then◌else◌}
+use Rattle.kernel_calls.specs.Gone.{gone_of_call}
 use Rattle.kernel_calls.specs.Machine.{answer, completes}
 use Rattle.kernel_calls.specs.declared.calls.Decision.{Decision}
 use Rattle.kernel_calls.proofs.Decided.{goes-decided, next-stays, next-goes}
@@ -21,7 +23,8 @@ pub returns-in-Ready-clause-state : goal.returns-in-Ready-clause-state
 returns-in-Ready-clause-state c =
     let s = c.args.processes.now.state in
     let d = c.args.decision.now in
-    c.complete.ensures ∙ sym (next-goes s d.event (goes-decided c.args.processes.now d true c.requires.decided (ap goes_on c.in-Ready.is)))
+    c.complete.ensures.state ∙ sym (next-goes s d.event
+    (goes-decided c.args.processes.now d true c.requires.decided (ap goes_on c.in-Ready.is)))
 
 pub returns-in-Ready-clause-kept : goal.returns-in-Ready-clause-kept
 returns-in-Ready-clause-kept c = λ stops.
@@ -30,3 +33,12 @@ returns-in-Ready-clause-kept c = λ stops.
     let goes : completes (answer s d.event) ≡ true = goes-decided c.args.processes.now d true c.requires.decided (ap goes_on c.in-Ready.is) in
     let same : false ≡ true = sym stops ∙ ap (λ (x : Decision). completes x.reply) c.requires.decided ∙ goes in
     cc
+
+pub returns-in-Ready-clause-stay : goal.returns-in-Ready-clause-stay
+returns-in-Ready-clause-stay c = λ slot d f stays way.
+    let s = c.args.processes.now.state in
+    let e = c.args.decision.now.event in
+    let goes = goes-decided c.args.processes.now c.args.decision.now true c.requires.decided (ap goes_on c.in-Ready.is)
+    in
+    c.complete.ensures.stay slot d f (sym (ap (λ b. if b then gone_of_call e.pid e.call slot f else false) goes)
+    ∙ stays) way

@@ -67,3 +67,7 @@ returns-clause-kept c =
     (charged-one v w q child (used_of q child + (c.cost-cost.result - 1)) c.add_process-child.ensures.kept c.copy_space.ensures.directories c.copy_space.ensures.frames
     (omega (arith, used, costs, is))
     (λ other n. ap (λ S. cost S other) c.copy_space.ensures.spaces ∙ cost-copied_other v.spaces p child other n))
+
+pub returns-clause-stay : goal.returns-clause-stay
+returns-clause-stay c = λ q d f stays way. c.copy_space.ensures.stay q d f stays
+    (c.add_process-child.ensures.stay q d f stays way)

@@ -1,4 +1,4 @@
-use Rattle.std.proofs.Common.{◌+◌, ap, sym, subst, ◌∙◌}
+use Rattle.std.proofs.Common.{◌+◌, ap, sym, subst, ◌∙◌, refl}
 use Rattle.address_space.specs.Spaces.{Slot, cost, joined, at_page}
 use Rattle.address_space.proofs.costs.Totals.{cost-joined, cost-joined_other}
 use Rattle.quota_tree.specs.Containers.{used_of}
@@ -19,3 +19,6 @@ returns-clause-kept c =
     (charged-one v c.join.new.self q p used c.requires.kept (c.join.ensures.directories ∙ c.fill.ensures.directories) (c.join.ensures.frames ∙ c.fill.ensures.frames)
     ((λ i. c.requires.kept.charged p c.requires.live i + c.need-need.ensures.value i) ∙ sym (cost-joined v.spaces giver slot c.args.right c.requires.unmapped) ∙ sym (ap (λ S. cost S p) spaces))
     (λ other n. ap (λ S. cost S other) spaces ∙ cost-joined_other v.spaces giver slot c.args.right other n))
+
+pub returns-clause-stay : goal.returns-clause-stay
+returns-clause-stay c = λ q d f stays way. c.join.ensures.stay q d f refl (c.fill.ensures.stay q d f stays way)

@@ -11,6 +11,8 @@ use Rattle.address_space.proofs.steps.Steps.{page_map_of}
 use Rattle.address_space.proofs.steps.Departures.{entry_mapped}
 use Rattle.address_space.proofs.steps.Copies.{copied_at_first, copied_next, copied_at_last, room_for_copy}
 use Rattle.address_space.proofs.paged.Paged.copy_space.Goals as goal
+use Rattle.address_space.specs.Stays.{none_goes, way_of}
+use Rattle.address_space.proofs.standing.FramesStand.{frames_stay}
 
 pub loop-page-init : goal.loop-page-init
 loop-page-init c = record { so_far = copied_at_first c.args.self.now.directories c.args.self.now.memory c.args.self.now.frames c.args.from c.args.to c.requires.kept.spaces c.requires.empty; kept = c.requires.kept; same = refl }
@@ -73,3 +75,20 @@ returns-clause-frames c =
     let copied = copied_at_last c.args.self.now.directories c.args.self.now.memory c.loop-page.self.memory c.args.self.now.frames c.loop-page.self.frames c.args.from c.home-source.result c.args.to c.loop-page.next
     c.requires.kept.spaces c.requires.empty c.loop-page.invariant.so_far c.home-source.ensures c.in_default.ensures.none in
     copied.length
+
+pub returns-clause-stay : goal.returns-clause-stay
+returns-clause-stay c =
+    let copied = copied_at_last c.args.self.now.directories c.args.self.now.memory c.loop-page.self.memory
+    c.args.self.now.frames c.loop-page.self.frames c.args.from c.home-source.result c.args.to c.loop-page.next
+    c.requires.kept.spaces c.requires.empty c.loop-page.invariant.so_far c.home-source.ensures c.in_default.ensures.none
+    in
+    λ q d f stays way.
+    ap (λ (l : List (Option ℕ)). way_of (record {
+      directories = l;
+      bytes = c.loop-page.self.memory;
+      roles =
+          c.loop-page.self.frames;
+    }) q) c.loop-page.invariant.same
+    ∙ frames_stay none_goes c.args.self.now.directories c.args.self.now.memory c.loop-page.self.memory
+    c.args.self.now.frames c.loop-page.self.frames c.requires.kept.spaces.sound copied.after.sound copied.stay q d f
+    stays way

@@ -22,3 +22,8 @@ returns-clause-spaces c = λ _. (found_loaded c.args.self.now c.args.pid c.args.
 
 pub returns-clause-kept : goal.returns-clause-kept
 returns-clause-kept c = (found_loaded c.args.self.now c.args.pid c.args.page c.in_ok-found.found c.requires.kept c.requires.user (sym c.find.ensures ∙ c.in_ok-found.was) c.load.new.memory c.load.ensures.entry c.load.ensures.length).kept
+
+pub returns-clause-stay : goal.returns-clause-stay
+returns-clause-stay c = (found_loaded c.args.self.now c.args.pid c.args.page c.in_ok-found.found c.requires.kept
+    c.requires.user (sym c.find.ensures ∙ c.in_ok-found.was) c.load.new.memory c.load.ensures.entry
+    c.load.ensures.length).stay

@@ -103,3 +103,39 @@ returns-clause-kept c =
     let ok = ap is_ok (c.mark.ensures.walks c.home-directory.result c.start_of.result Read) ∙ two.1 in
     let second = marked_left middle c.args.pid c.home-directory.result c.start_of.result c.mark-2.new.memory first.kept c.home-directory.ensures two.0 ok c.mark-2.ensures.words in
     second.kept
+
+pub returns-in_default-clause-stay : goal.returns-in_default-clause-stay
+returns-in_default-clause-stay c =
+    let one = found_at (image_at c.args.self.now) c.args.pid c.home-directory.result c.args.address Read
+    c.home-directory.ensures (finds_first (image_at c.args.self.now) c.args.pid c.args.address c.args.size Read
+    c.requires.finds) in
+    let first = marked_left c.args.self.now c.args.pid c.home-directory.result c.args.address c.mark.new.memory
+    c.requires.kept c.home-directory.ensures one.0 one.1 c.mark.ensures.words in
+    first.stay
+
+pub returns-clause-stay : goal.returns-clause-stay
+returns-clause-stay c =
+    let one = found_at (image_at c.args.self.now) c.args.pid c.home-directory.result c.args.address Read
+    c.home-directory.ensures (finds_first (image_at c.args.self.now) c.args.pid c.args.address c.args.size Read
+    c.requires.finds) in
+    let first = marked_left c.args.self.now c.args.pid c.home-directory.result c.args.address c.mark.new.memory
+    c.requires.kept c.home-directory.ensures one.0 one.1 c.mark.ensures.words in
+    let is : second_page c.args.address c.args.size ≡ Some c.in-Some.second = sym c.second_page.ensures
+    ∙ c.in-Some.is in
+    let two = subst (λ a. (a < 2 ^ 32) × IsOk (walk_of c.args.self.now.memory c.home-directory.result a Read))
+    (sym c.start_of.ensures)
+    (found_at (image_at c.args.self.now) c.args.pid c.home-directory.result (start_number c.in-Some.second) Read
+    c.home-directory.ensures
+    (finds_second (image_at c.args.self.now) c.args.pid c.args.address c.args.size Read c.in-Some.second is
+    c.requires.finds)) in
+    let middle : Paged = record {
+      memory = c.mark.new.memory;
+      frames = c.args.self.now.frames;
+      directories =
+          c.args.self.now.directories;
+      counts = c.args.self.now.counts;
+    } in
+    let ok = ap is_ok (c.mark.ensures.walks c.home-directory.result c.start_of.result Read) ∙ two.1 in
+    let second = marked_left middle c.args.pid c.home-directory.result c.start_of.result c.mark-2.new.memory first.kept
+    c.home-directory.ensures two.0 ok c.mark-2.ensures.words in
+    λ q d f stays way. second.stay q d f stays (first.stay q d f stays way)

@@ -9,6 +9,10 @@ use Rattle.address_space.proofs.steps.Steps.{page_map_of}
 use Rattle.address_space.proofs.steps.NewPages.{table_room, ready_given, ready_table, ready_inside, ready_count, ready_fits, zero_added, zero_more, added_kept}
 use Rattle.address_space.proofs.steps.FoundPages.{found_written}
 use Rattle.address_space.proofs.paged.Paged.map_found.Goals as goal
+use Rattle.address_space.specs.Stays.{none_goes}
+use Rattle.address_space.proofs.standing.FramesStand.{frames_stay}
+use Rattle.address_space.specs.View.{directory_of, entries_in}
+use Rattle.address_space.proofs.entries.Staying.{stay_same, stay_then}
 
 pub give_table-table-requires-clause-map : goal.give_table-table-requires-clause-map
 give_table-table-requires-clause-map c = page_map_of c.args.self.now.directories c.args.self.now.memory c.args.self.now.frames c.args.pid c.home-directory.result c.requires.kept.spaces.sound c.home-directory.ensures
@@ -66,3 +70,26 @@ returns-clause-found c =
     let there = ready_table c.args.self.now.directories c.args.self.now.memory c.args.self.now.frames c.args.pid c.home-directory.result c.args.page c.give_table-table.result c.give_table-table.new.memory c.give_table-table.new.frames c.requires.kept.spaces c.requires.user c.home-directory.ensures c.give_table-table.ensures in
     found_written c.args.self.now.directories c.give_table-table.new.memory c.put_entry.new.memory c.give_table-table.new.frames c.args.pid c.home-directory.result c.args.page c.give_table-table.result c.fresh_entry-entry.result given.sound c.home-directory.ensures there
     (subst (λ (e : PageEntry). e.frame < 2 ^ 20) (sym c.fresh_entry-entry.ensures) (omega arith)) (c.put_entry.ensures.frames ∙ ap (with_entry (frame_bytes c.give_table-table.new.memory) c.give_table-table.result c.args.page) (c.fresh_entry.ensures ∙ sym c.fresh_entry-entry.ensures))
+
+pub returns-clause-stay : goal.returns-clause-stay
+returns-clause-stay c =
+    let written = c.put_entry.ensures.frames ∙ ap (with_entry (frame_bytes c.give_table-table.new.memory)
+    c.give_table-table.result c.args.page) c.fresh_entry.ensures in
+    let added =
+    zero_added c.args.self.now.directories c.args.self.now.memory c.args.self.now.frames c.args.pid
+    c.home-directory.result c.args.page c.give_table-table.result c.give_table-table.new.memory
+    c.give_table-table.new.frames c.requires.kept.spaces c.requires.user c.home-directory.ensures
+    c.give_table-table.ensures c.args.write c.put_entry.new.memory c.requires.unmapped written
+    c.put_entry.ensures.length in
+    let given = ready_given c.args.self.now.directories c.args.self.now.memory c.args.self.now.frames c.args.pid
+    c.home-directory.result c.args.page c.give_table-table.result c.give_table-table.new.memory
+    c.give_table-table.new.frames c.requires.kept.spaces c.requires.user c.home-directory.ensures
+    c.give_table-table.ensures in
+    frames_stay none_goes c.args.self.now.directories c.args.self.now.memory c.put_entry.new.memory
+    c.args.self.now.frames c.give_table-table.new.frames c.requires.kept.spaces.sound added.slot.sound
+    (stay_then none_goes (entries_in (directory_of c.args.self.now.directories) (frame_bytes c.args.self.now.memory))
+    (entries_in (directory_of c.args.self.now.directories) (frame_bytes c.give_table-table.new.memory))
+    (entries_in (directory_of c.args.self.now.directories) (frame_bytes c.put_entry.new.memory))
+    (stay_same none_goes (entries_in (directory_of c.args.self.now.directories)
+    (frame_bytes c.args.self.now.memory)) (entries_in (directory_of c.args.self.now.directories)
+    (frame_bytes c.give_table-table.new.memory)) given.entries) added.slot.stay)

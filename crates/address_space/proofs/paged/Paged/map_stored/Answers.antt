@@ -1,9 +1,12 @@
-use Rattle.std.proofs.Common.{ap, ◌∙◌}
+use Rattle.std.proofs.Common.{ap, ◌∙◌, refl}
 use Rattle.page_words.specs.Addresses.{byte_count}
 use Rattle.page_map.specs.declared.PageEntry.{PageEntry}
 use Rattle.address_space.specs.Spaces.{Spaces, stored, bytes_of, at_page}
 use Rattle.address_space.proofs.steps.FoundPages.{found_lies, room_found, found_filled, filled_kept, filled_found, filled_real, found_stored}
 use Rattle.address_space.proofs.paged.Paged.map_stored.Goals as goal
+use Rattle.address_space.specs.Finds.{image_at}
+use Rattle.address_space.specs.Stays.{of_lazy}
+use Rattle.address_space.proofs.standing.FramesStand.{frames_stay, stays_from_none, no_way}
 
 pub give_frame-entry-requires-clause-lies : goal.give_frame-entry-requires-clause-lies
 give_frame-entry-requires-clause-lies c = found_lies c.map_found-found.new.self c.args.pid c.args.page c.map_found-found.result c.map_found-found.ensures.kept c.requires.user c.map_found-found.ensures.found
@@ -49,3 +52,36 @@ pub returns-clause-frames : goal.returns-clause-frames
 returns-clause-frames c =
     let filled = found_filled c.map_found-found.new.self c.args.pid c.args.page c.map_found-found.result c.map_found-found.ensures.kept c.requires.user c.map_found-found.ensures.found c.give_frame-entry.result c.give_frame-entry.new.memory c.give_frame-entry.new.frames c.map_found-found.ensures.entry c.give_frame-entry.ensures in
     filled.length ∙ c.map_found-found.ensures.frames
+
+pub returns-clause-stay : goal.returns-clause-stay
+returns-clause-stay c =
+    let filled = found_filled c.map_found-found.new.self c.args.pid c.args.page c.map_found-found.result
+    c.map_found-found.ensures.kept c.requires.user c.map_found-found.ensures.found c.give_frame-entry.result
+    c.give_frame-entry.new.memory c.give_frame-entry.new.frames c.map_found-found.ensures.entry
+    c.give_frame-entry.ensures in
+    let left = found_stored (record c.map_found-found.new.self
+    { memory = c.give_frame-entry.new.memory; frames = c.give_frame-entry.new.frames }) c.args.pid c.args.page
+    (record { page = c.args.page; table = c.map_found-found.result.table; entry = c.give_frame-entry.result })
+    (filled_kept c.map_found-found.new.self c.args.pid c.args.page c.map_found-found.result
+    c.map_found-found.ensures.kept c.requires.user c.map_found-found.ensures.found c.give_frame-entry.result
+    c.give_frame-entry.new.memory c.give_frame-entry.new.frames c.give_frame-entry.ensures filled) c.requires.user
+    (filled_found c.map_found-found.new.self c.args.pid c.args.page c.map_found-found.result
+    c.map_found-found.ensures.kept c.requires.user c.map_found-found.ensures.found c.give_frame-entry.result
+    c.give_frame-entry.new.memory c.give_frame-entry.new.frames c.give_frame-entry.ensures)
+    c.store.new.memory c.args.at c.args.size c.args.value
+    (ap (λ (e : PageEntry). e.lazy) c.give_frame-entry.ensures.same) c.requires.inside c.store.ensures in
+    stays_from_none c.args.pid c.args.page (image_at c.args.self.now)
+    (record {
+      directories = c.map_found-found.new.self.directories;
+      bytes = c.store.new.memory;
+      roles =
+          c.give_frame-entry.new.frames;
+    })
+    (no_way c.args.self.now.directories c.args.self.now.memory c.args.self.now.frames (at_page c.args.pid c.args.page)
+    c.requires.kept.spaces.sound c.requires.unmapped)
+    (λ q d f stays way. left.stay q d f refl
+    (frames_stay (of_lazy c.args.pid c.args.page) c.map_found-found.new.self.directories
+    c.map_found-found.new.self.memory c.give_frame-entry.new.memory c.map_found-found.new.self.frames
+    c.give_frame-entry.new.frames c.map_found-found.ensures.kept.spaces.sound filled.after.sound filled.stay q d f
+    stays
+    (c.map_found-found.ensures.stay q d f refl way)))

@@ -6,6 +6,8 @@ use Rattle.address_space.proofs.steps.Steps.{inside}
 use Rattle.address_space.proofs.steps.Touches.{kept_touched}
 use Rattle.address_space.proofs.steps.DirWords.{dir_word_walked}
 use Rattle.address_space.proofs.paged.Paged.set_walked.Goals as goal
+use Rattle.address_space.specs.Stays.{none_goes}
+use Rattle.address_space.proofs.standing.FramesStand.{frames_stay}
 
 pub set_word_walked-requires-clause-inside : goal.set_word_walked-requires-clause-inside
 set_word_walked-requires-clause-inside c =
@@ -24,3 +26,11 @@ pub returns-clause-kept : goal.returns-clause-kept
 returns-clause-kept c =
     kept_touched c.args.self.now.directories c.args.self.now.memory c.set_word_walked.new.memory c.args.self.now.frames c.args.self.now.counts.items (spaces_at c.args.self.now) c.requires.kept
     (dir_word_walked c.args.self.now.directories c.args.self.now.memory c.set_word_walked.new.memory c.args.self.now.frames c.args.pid c.home-directory.result c.args.page c.args.walked c.requires.kept.spaces.sound c.home-directory.ensures c.requires.user.1 c.set_word_walked.ensures.bytes c.set_word_walked.ensures.length) (λ q. refl)
+
+pub returns-clause-stay : goal.returns-clause-stay
+returns-clause-stay c =
+    let touched = dir_word_walked c.args.self.now.directories c.args.self.now.memory c.set_word_walked.new.memory
+    c.args.self.now.frames c.args.pid c.home-directory.result c.args.page c.args.walked c.requires.kept.spaces.sound
+    c.home-directory.ensures c.requires.user.1 c.set_word_walked.ensures.bytes c.set_word_walked.ensures.length in
+    frames_stay none_goes c.args.self.now.directories c.args.self.now.memory c.set_word_walked.new.memory
+    c.args.self.now.frames c.args.self.now.frames c.requires.kept.spaces.sound touched.sound touched.stay

@@ -13,3 +13,9 @@ returns-clause-kept c = (found_stored c.args.self.now c.args.pid c.args.page c.p
 
 pub returns-clause-lazy : goal.returns-clause-lazy
 returns-clause-lazy c = (found_stored c.args.self.now c.args.pid c.args.page c.place-found.result c.requires.kept c.requires.user c.place-found.ensures c.store.new.memory c.args.at c.args.size c.args.value (sym (found_real c.args.self.now c.args.pid c.args.page c.place-found.result c.requires.kept c.requires.user c.place-found.ensures) ∙ c.requires.real) c.requires.inside c.store.ensures).lazy
+
+pub returns-clause-stay : goal.returns-clause-stay
+returns-clause-stay c = (found_stored c.args.self.now c.args.pid c.args.page c.place-found.result c.requires.kept
+    c.requires.user c.place-found.ensures c.store.new.memory c.args.at c.args.size c.args.value
+    (sym (found_real c.args.self.now c.args.pid c.args.page c.place-found.result c.requires.kept c.requires.user
+    c.place-found.ensures) ∙ c.requires.real) c.requires.inside c.store.ensures).stay

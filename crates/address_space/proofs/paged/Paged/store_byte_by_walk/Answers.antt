@@ -30,3 +30,9 @@ pub returns-clause-kept : goal.returns-clause-kept
 returns-clause-kept c =
     (byte_left c.args.self.now c.args.pid c.home-directory.result c.args.address c.args.value c.put_byte_found.new.memory c.requires.kept c.home-directory.ensures c.requires.finds
     c.put_byte_found.ensures.walks c.put_byte_found.ensures.bytes c.put_byte_found.ensures.length).kept
+
+pub returns-clause-stay : goal.returns-clause-stay
+returns-clause-stay c =
+    (byte_left c.args.self.now c.args.pid c.home-directory.result c.args.address c.args.value
+    c.put_byte_found.new.memory c.requires.kept c.home-directory.ensures c.requires.finds
+    c.put_byte_found.ensures.walks c.put_byte_found.ensures.bytes c.put_byte_found.ensures.length).stay

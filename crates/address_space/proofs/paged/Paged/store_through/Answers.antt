@@ -28,3 +28,14 @@ store_byte_by_walk-requires-in-Four-clause-finds c =
     let at : fourth.result.0 ≡ c.args.address + 3 = omega (arith, a, b, d) in
     fourth.ensures.finds Write fourth.result.0 ∙ third.ensures.finds Write fourth.result.0 ∙ second.ensures.finds Write fourth.result.0
     ∙ ap (finds_at (image_at c.args.self.now) c.args.pid Write) at ∙ c.requires.finds 3 (omega (arith, count))
+
+pub returns-in-Two-clause-stay : goal.returns-in-Two-clause-stay
+returns-in-Two-clause-stay c = λ q d f stays way.
+    c.store_byte_by_walk-in-Two.ensures.stay q d f stays (c.store_byte_by_walk-second.ensures.stay q d f stays way)
+
+pub returns-in-Four-clause-stay : goal.returns-in-Four-clause-stay
+returns-in-Four-clause-stay c = λ q d f stays way.
+    c.store_byte_by_walk-in-Four.ensures.stay q d f stays
+    (c.store_byte_by_walk-fourth.ensures.stay q d f stays
+    (c.store_byte_by_walk-third.ensures.stay q d f stays
+    (c.store_byte_by_walk-second-in-Four.ensures.stay q d f stays way)))

@@ -22,3 +22,9 @@ returns-then-takes_stores-clause-kept c = (found_stored c.args.self.now c.args.p
 
 pub returns-else-takes_stores-clause-done : goal.returns-else-takes_stores-clause-done
 returns-else-takes_stores-clause-done c = sym c.if-takes_stores.false ∙ c.takes_stores.ensures ∙ ap (λ x. takes_stores_through (option_map (λ (f : Found). f.entry) x)) (sym c.in-Some.is ∙ c.find.ensures) ∙ found_takes c.args.self.now c.args.pid c.args.page c.requires.kept c.requires.user
+
+pub returns-then-takes_stores-clause-stay : goal.returns-then-takes_stores-clause-stay
+returns-then-takes_stores-clause-stay c = (found_stored c.args.self.now c.args.pid c.args.page c.in-Some.found
+    c.requires.kept c.requires.user (sym c.find.ensures ∙ c.in-Some.is) c.store.new.memory c.args.at c.args.size
+    c.args.value (takes_real c.in-Some.found.entry (sym c.takes_stores.ensures ∙ c.if-takes_stores.true))
+    c.requires.inside c.store.ensures).stay

@@ -4,6 +4,8 @@ use Rattle.address_space.proofs.steps.Steps.{page_map_of}
 use Rattle.address_space.proofs.steps.FoundPages.{found_known}
 use Rattle.address_space.proofs.steps.GonePages.{home_table, home_entry, home_count, home_positive, home_counts, home_in_use, gone_table, gone_page, gone_kept}
 use Rattle.address_space.proofs.paged.Paged.unmap.Goals as goal
+use Rattle.address_space.specs.Stays.{of_page}
+use Rattle.address_space.proofs.standing.FramesStand.{frames_stay}
 
 pub home-directory-requires : goal.home-directory-requires
 home-directory-requires c = ap is_some (found_known c.args.self.now c.args.pid c.args.page c.place-found.result c.requires.kept c.requires.user c.place-found.ensures).live
@@ -50,3 +52,14 @@ returns-clause-kept c =
 pub returns-clause-frames : goal.returns-clause-frames
 returns-clause-frames c = (gone_page c.args.self.now c.args.pid c.home-directory.result c.args.page c.place-found.result c.requires.kept c.requires.user c.place-found.ensures c.home-directory.ensures
     c.clear_found_entry-freed.new.memory c.leave.new.frames c.clear_found_entry-freed.result c.clear_found_entry-freed.ensures.cleared c.leave.ensures c.free_table.new.frames c.clear_found_entry-freed.ensures.length c.free_table.ensures).length
+
+pub returns-clause-stay : goal.returns-clause-stay
+returns-clause-stay c =
+    let gone = gone_page c.args.self.now c.args.pid c.home-directory.result c.args.page c.place-found.result
+    c.requires.kept c.requires.user c.place-found.ensures c.home-directory.ensures
+    c.clear_found_entry-freed.new.memory c.leave.new.frames c.clear_found_entry-freed.result
+    c.clear_found_entry-freed.ensures.cleared c.leave.ensures c.free_table.new.frames
+    c.clear_found_entry-freed.ensures.length c.free_table.ensures in
+    frames_stay (of_page c.args.pid c.args.page) c.args.self.now.directories c.args.self.now.memory
+    c.clear_found_entry-freed.new.memory c.args.self.now.frames c.free_table.new.frames c.requires.kept.spaces.sound
+    gone.after.sound gone.stay

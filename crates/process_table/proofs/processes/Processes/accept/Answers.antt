@@ -8,6 +8,9 @@ use Rattle.process_table.specs.View.{View, state_of}
 use Rattle.process_table.proofs.Keeping.{whole, keeps-accept}
 use Rattle.process_table.proofs.Refusals.{no_cause, may_accept}
 use Rattle.process_table.proofs.SharingLaws.{giver_user}
+use Rattle.address_space.specs.Image.{image_of}
+use Rattle.address_space.specs.Stays.{FramesStay, of_lazy}
+use Rattle.process_table.specs.Image.{memory_of}
 use Rattle.process_table.proofs.processes.Processes.accept.Goals as goal
 
 pub join_page-requires-clause-from : goal.join_page-requires-clause-from
@@ -32,3 +35,7 @@ invariant_of-self c =
     let spaces = c.join_page.ensures.spaces ∙ ap (joined s.spaces (at_page giver giver_page) (at_page p page)) c.take_offer-right.ensures.right in
     whole c.join_page.new.spaces c.join_page.new.quotas c.take_offer-right.new.offers (after_accept s p giver giver_page page) c.join_page.ensures.kept spaces c.join_page.ensures.book c.take_offer-right.ensures.offers
     (keeps-accept s p giver giver_page page c.self.invariant.well_formed ok)
+
+pub returns-clause-stay : goal.returns-clause-stay
+returns-clause-stay c = subst (λ (v : View). FramesStay (of_lazy c.args.giver c.args.giver_page) (memory_of v)
+    (image_of c.join_page.new.spaces)) c.self.view_is c.join_page.ensures.stay

@@ -6,6 +6,9 @@ use Rattle.process_table.specs.View.{View, state_of}
 use Rattle.process_table.specs.WellFormed.{IsWellFormed}
 use Rattle.process_table.proofs.Keeping.{keeps-access}
 use Rattle.process_table.proofs.SharingLaws.{touched_user}
+use Rattle.address_space.specs.Image.{image_of}
+use Rattle.address_space.specs.Stays.{FramesStay, none_goes}
+use Rattle.process_table.specs.Image.{memory_of}
 use Rattle.process_table.proofs.processes.Processes.access.Goals as goal
 
 pub invariant_of-self : goal.invariant_of-self
@@ -25,3 +28,7 @@ complete_access-requires-clause-user c =
     let s : State = state_of c.self.inside.spaces c.self.inside.quotas c.self.inside.offers in
     let p = c.args.pid in
     touched_user s p c.args.address c.args.size c.self.invariant.well_formed (subst (λ (v : View). EachTouched c.args.address c.args.size (IsThere v.state.spaces p)) (sym c.self.view_is) c.requires.mapped)
+
+pub returns-clause-stay : goal.returns-clause-stay
+returns-clause-stay c = subst (λ (v : View). FramesStay none_goes (memory_of v) (image_of c.complete_access.new.spaces))
+    c.self.view_is c.complete_access.ensures.stay

@@ -9,6 +9,9 @@ use Rattle.process_table.specs.View.{View, state_of}
 use Rattle.process_table.proofs.Forks.{may_fork, fork-ok, fork-number, fork-spawns, well_formed-fork}
 use Rattle.process_table.proofs.Keeping.{whole}
 use Rattle.process_table.proofs.Spawns.{spawn-may, child-is}
+use Rattle.address_space.specs.Image.{image_of}
+use Rattle.address_space.specs.Stays.{FramesStay, none_goes}
+use Rattle.process_table.specs.Image.{memory_of}
 use Rattle.process_table.proofs.processes.Processes.fork.Goals as goal
 
 pub add_copy-requires-clause-can : goal.add_copy-requires-clause-can
@@ -53,3 +56,7 @@ invariant_of-self c =
     let book = c.add_copy.ensures.book ∙ ap (λ n. map.insert q.book n (record { parent = p; quota = c.args.quota })) (sym child) in
     whole c.add_copy.new.spaces c.add_copy.new.quotas c.self.inside.offers (after_fork s p c.args.quota) c.add_copy.ensures.kept spaces book refl
     (well_formed-fork s p c.args.quota c.self.invariant.well_formed ok.0 ok.1)
+
+pub returns-clause-stay : goal.returns-clause-stay
+returns-clause-stay c = subst (λ (v : View). FramesStay none_goes (memory_of v) (image_of c.add_copy.new.spaces))
+    c.self.view_is c.add_copy.ensures.stay

@@ -10,6 +10,9 @@ use Rattle.process_table.specs.TestAnswers.{map_answer}
 use Rattle.process_table.specs.Calls.{after_map, after_store}
 use Rattle.process_table.specs.View.{View, state_of}
 use Rattle.process_table.proofs.Keeping.{whole, alone, there_now, keeps-map, keeps-access}
+use Rattle.address_space.specs.Image.{image_of}
+use Rattle.address_space.specs.Stays.{FramesStay, none_goes}
+use Rattle.process_table.specs.Image.{memory_of}
 use Rattle.process_table.proofs.processes.Processes.map_stored.Goals as goal
 
 pub invariant_of-self : goal.invariant_of-self
@@ -26,3 +29,7 @@ invariant_of-self c =
     whole c.add_stored.new.spaces c.add_stored.new.quotas c.self.inside.offers (after_store (after_map s p page true) p address size c.args.value) c.add_stored.ensures.kept
     c.add_stored.ensures.spaces c.add_stored.ensures.book refl
     (keeps-access (after_map s p page true) p address size Write c.args.value (keeps-map s p page true c.self.invariant.well_formed ok) (alone address size (IsThere T p) c.requires.within there))
+
+pub returns-clause-stay : goal.returns-clause-stay
+returns-clause-stay c = subst (λ (v : View). FramesStay none_goes (memory_of v) (image_of c.add_stored.new.spaces))
+    c.self.view_is c.add_stored.ensures.stay

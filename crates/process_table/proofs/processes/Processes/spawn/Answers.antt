@@ -8,6 +8,9 @@ use Rattle.process_table.specs.View.{View, state_of}
 use Rattle.process_table.proofs.Spawns.{spawn-may, spawn-split, child-is}
 use Rattle.process_table.specs.State.{State}
 use Rattle.process_table.proofs.Keeping.{whole, keeps-spawn}
+use Rattle.address_space.specs.Image.{image_of}
+use Rattle.address_space.specs.Stays.{FramesStay, none_goes}
+use Rattle.process_table.specs.Image.{memory_of}
 use Rattle.process_table.proofs.processes.Processes.spawn.Goals as goal
 
 pub add_process-requires-clause-can : goal.add_process-requires-clause-can
@@ -41,3 +44,7 @@ invariant_of-self c =
     let book = ap (λ (x : Containers). x.book) c.add_process.ensures.quotas ∙ ap (λ n. map.insert q.book n (record { parent = p; quota = c.args.quota })) (sym child) in
     whole c.add_process.new.spaces c.add_process.new.quotas c.self.inside.offers (after_spawn s p c.args.quota) c.add_process.ensures.kept c.add_process.ensures.spaces book refl
     (keeps-spawn s p c.args.quota c.self.invariant.well_formed ok)
+
+pub returns-clause-stay : goal.returns-clause-stay
+returns-clause-stay c = subst (λ (v : View). FramesStay none_goes (memory_of v) (image_of c.add_process.new.spaces))
+    c.self.view_is c.add_process.ensures.stay

@@ -8,6 +8,7 @@ use Rattle.process_table.specs.WellFormed.{IsWellFormed, total}
 use Rattle.process_table.proofs.ImageStanding.{image_stands}
 use Rattle.process_table.proofs.Ranges.{total-book}
 use Rattle.process_table.proofs.processes.Processes.stands.Goals as goal
+use Rattle.address_space.specs.Stays.{WaysAgree}
 
 pub returns-clause-image : goal.returns-clause-image
 returns-clause-image c =
@@ -34,3 +35,7 @@ returns-clause-used c =
     let v : View = view_of c.self.inside.spaces c.self.inside.quotas c.self.inside.offers in
     subst (λ (v : View). LeavesRoom (record { directories = v.directories; bytes = v.bytes; roles = v.roles }) (total v.state)) c.self.view_is
     (subst (LeavesRoom (record { directories = v.directories; bytes = v.bytes; roles = v.roles })) (total-book v.directories v.state c.self.invariant.kept.live c.within.ensures.numbers) c.stands.ensures.used)
+
+pub returns-clause-ways : goal.returns-clause-ways
+returns-clause-ways c = subst (λ (v : View). WaysAgree
+    (record { directories = v.directories; bytes = v.bytes; roles = v.roles })) c.self.view_is c.stands.ensures.ways

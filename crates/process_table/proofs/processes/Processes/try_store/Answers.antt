@@ -12,6 +12,9 @@ use Rattle.process_table.specs.View.{View, IsWhole, state_of}
 use Rattle.process_table.specs.WellFormed.{IsWellFormed}
 use Rattle.process_table.proofs.Charged.{charged-same}
 use Rattle.process_table.proofs.Keeping.{keeps-store_in_page}
+use Rattle.address_space.specs.Image.{image_of}
+use Rattle.address_space.specs.Stays.{FramesStay, none_goes}
+use Rattle.process_table.specs.Image.{memory_of}
 use Rattle.process_table.proofs.processes.Processes.try_store.Goals as goal
 
 pub invariant_of-self : goal.invariant_of-self
@@ -40,3 +43,7 @@ returns-clause-state c = λ done.
     ap (λ (T : Spaces). record s { spaces = T })
     (c.try_write.ensures.spaces done ∙ sym (store_in_page S c.args.pid c.args.address c.args.size c.args.value c.requires.within there))
     ∙ ap (λ (v : View). after_store v.state c.args.pid c.args.address c.args.size c.args.value) c.self.view_is
+
+pub returns-clause-stay : goal.returns-clause-stay
+returns-clause-stay c = subst (λ (v : View). FramesStay none_goes (memory_of v) (image_of c.try_write.new.self))
+    c.self.view_is c.try_write.ensures.stay

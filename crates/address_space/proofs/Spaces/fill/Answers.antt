@@ -1,0 +1,11 @@
+use Rattle.std.proofs.Common.{subst}
+use Rattle.address_space.specs.Stays.{FramesStay, of_lazy}
+use Rattle.address_space.specs.View.{View}
+use Rattle.address_space.specs.Finds.{image_at}
+use Rattle.address_space.proofs.Spaces.fill.Goals as goal
+
+pub returns-clause-stay : goal.returns-clause-stay
+returns-clause-stay c =
+    subst (λ (v : View). FramesStay (of_lazy c.args.pid c.args.page)
+    (record { directories = v.directories; bytes = v.bytes; roles = v.roles }) (image_at c.fill.new.self))
+    c.self.view_is c.fill.ensures.stay

@@ -1,0 +1,119 @@
+-- Slots whose walk leads to the same frame after a change.
+use Rattle.std.proofs.Common.{◌≡◌, ℕ, Bool, false, List, refl, ap, sym, ◌∙◌, inl, inr, Option, Some, None}
+use Rattle.std.specs.Prelude.{◌&&◌, ◌==◌}
+use Rattle.std.specs.Option.{option_map, option_and_then}
+use Rattle.page_words.specs.Words.{frame_number}
+use Rattle.page_words.specs.FiniteMap as map
+use Rattle.page_words.proofs.MapLemmas.{same_or_not}
+use Rattle.phys_memory.specs.Bytes.{frame_bytes}
+use Rattle.alloc_table.specs.declared.Role.{Role}
+use Rattle.page_map.specs.declared.PageEntry.{PageEntry}
+use Rattle.page_map.specs.Entries.{entry_from}
+use Rattle.address_space.specs.Spaces.{Slot, slot_order, at_page}
+use Rattle.address_space.specs.Image.{Image, directory_at, page_word}
+use Rattle.address_space.specs.View.{directory_of, entries_in, spaces_in}
+use Rattle.address_space.specs.Sound.{IsSound}
+use Rattle.address_space.specs.Stays.{way_of, Gone, FramesStay, none_goes, of_lazy, entry_frame, EntriesStay}
+use Rattle.address_space.proofs.entries.Refinement.{get-spaces_of}
+use Rattle.address_space.proofs.standing.Standing.{image_of, read_entry}
+use Rattle.address_space.proofs.steps.Steps.{none_before}
+
+-- the frame of a slot's word is that of its entry
+pub frame_read : (directories : List (Option ℕ)) (bytes : List ℕ) (roles : List Role) → IsSound directories bytes roles
+    → (slot : Slot)
+    → entry_frame (entries_in (directory_of directories) (frame_bytes bytes)) slot ≡ option_map frame_number
+    (page_word (image_of directories bytes roles) slot)
+frame_read directories bytes roles sound slot = ap (option_map (λ (x : PageEntry). x.frame))
+    (read_entry directories bytes roles sound slot) ∙ by (page_word (image_of directories bytes roles) slot)
+  where
+    by : (x : Option ℕ) → option_map (λ (x : PageEntry). x.frame) (option_map entry_from x) ≡ option_map frame_number x
+    by None = refl
+    by (Some word) = refl
+
+-- a way is a directory and a frame
+pub record Way (image : Image) (slot : Slot) (directory frame : ℕ) : Type 0 where
+  pub live : directory_at image slot.pid ≡ Some directory
+  pub names : option_map frame_number (page_word image slot) ≡ Some frame
+
+pub way_parts : (image : Image) (slot : Slot) (directory frame : ℕ) → way_of image slot ≡ Some (directory, frame)
+    → Way image slot directory frame
+way_parts image slot directory frame h = by (directory_at image slot.pid) refl (page_word image slot) refl h
+  where
+    by : (x : Option ℕ) → directory_at image slot.pid ≡ x → (y : Option ℕ) → page_word image slot ≡ y
+        → option_and_then {U = ℕ × ℕ} (λ d. option_map (λ word. (d, frame_number word)) y) x ≡ Some (directory, frame)
+        → Way image slot directory frame
+    by None live y word h = cc
+    by (Some d) live None word h = cc
+    by (Some d) live (Some w) word h =
+        let pair : ◌≡◌ {A = Option (ℕ × ℕ)} (Some (d, frame_number w)) (Some (directory, frame)) = h in
+        record {
+          live = live ∙ ap (option_map (λ (p : ℕ × ℕ). p.0)) pair;
+          names = ap (option_map frame_number) word ∙ ap (option_map (λ (p : ℕ × ℕ). p.1)) pair;
+        }
+
+pub way_whole : (image : Image) (slot : Slot) (directory frame : ℕ) → Way image slot directory frame
+    → way_of image slot ≡ Some (directory, frame)
+way_whole image slot directory frame way =
+    ap (option_and_then {U = ℕ × ℕ} (λ d. option_map (λ word. (d, frame_number word)) (page_word image slot))) way.live
+    ∙ by (page_word image slot) way.names
+  where
+    by : (y : Option ℕ) → option_map frame_number y ≡ Some frame
+        → option_map {U = ℕ × ℕ} (λ word. (directory, frame_number word)) y ≡ Some (directory, frame)
+    by None h = cc
+    by (Some w) h = let e : Some (frame_number w) ≡ Some frame = h in
+        ap (option_map {U = ℕ × ℕ} (λ n. (directory, n))) e
+
+-- where directories stay, and entries
+pub frames_stay_by : (gone : Gone) (directories directories' : List (Option ℕ)) (bytes bytes' : List ℕ)
+    (roles roles' : List Role) → IsSound directories bytes roles → IsSound directories' bytes' roles'
+    → ((slot : Slot) (d f : ℕ) → gone slot f ≡ false → directory_of directories slot.pid ≡ Some d
+    → directory_of directories' slot.pid ≡ Some d)
+    → EntriesStay gone (entries_in (directory_of directories) (frame_bytes bytes))
+    (entries_in (directory_of directories') (frame_bytes bytes'))
+    → FramesStay gone (image_of directories bytes roles) (image_of directories' bytes' roles')
+frames_stay_by gone directories directories' bytes bytes' roles roles' sound sound' dirs stay slot d f stays way =
+    let was = way_parts (image_of directories bytes roles) slot d f way in
+    way_whole (image_of directories' bytes' roles') slot d f
+    (record {
+      live = dirs slot d f stays was.live;
+      names = sym (frame_read directories' bytes' roles' sound' slot)
+          ∙ stay slot f stays (frame_read directories bytes roles sound slot ∙ was.names);
+    })
+
+-- where directories are the same
+pub frames_stay : (gone : Gone) (directories : List (Option ℕ)) (bytes bytes' : List ℕ) (roles roles' : List Role)
+    → IsSound directories bytes roles → IsSound directories bytes' roles'
+    → EntriesStay gone (entries_in (directory_of directories) (frame_bytes bytes))
+    (entries_in (directory_of directories) (frame_bytes bytes'))
+    → FramesStay gone (image_of directories bytes roles) (image_of directories bytes' roles')
+frames_stay gone directories bytes bytes' roles roles' sound sound' stay =
+    frames_stay_by gone directories directories bytes bytes' roles roles' sound sound' (λ slot d f stays live. live)
+    stay
+
+-- a slot that names no frame may get any
+pub stays_from_none : (p page : ℕ) (old new : Image) → way_of old (at_page p page) ≡ None
+    → FramesStay (of_lazy p page) old new → FramesStay none_goes old new
+stays_from_none p page old new none stay q d f stays way = elim (same_or_not slot_order (at_page p page) q) [
+  | inl h ↦ absurd (let k : None ≡ Some (d, f) = sym (ap (way_of old) (sym h.0) ∙ none) ∙ way in cc)
+  | inr h ↦ stay q d f (ap (λ b. b && (f == 0)) h) way
+]
+
+-- a slot that isn't mapped has no way
+pub no_way : (directories : List (Option ℕ)) (bytes : List ℕ) (roles : List Role) (slot : Slot)
+    → IsSound directories bytes roles → map.get (spaces_in directories bytes) slot ≡ None
+    → way_of (image_of directories bytes roles) slot ≡ None
+unfolding spaces_in
+no_way directories bytes roles slot sound none =
+    let E = entries_in (directory_of directories) (frame_bytes bytes) in
+    let names : option_map frame_number (page_word (image_of directories bytes roles) slot) ≡ None =
+    sym (frame_read directories bytes roles sound slot)
+    ∙ ap (option_map (λ (x : PageEntry). x.frame))
+    (none_before E (frame_bytes bytes) slot (map.get E slot)
+    (sym (get-spaces_of E (frame_bytes bytes) slot) ∙ none)) in
+    by (directory_of directories slot.pid) (page_word (image_of directories bytes roles) slot) names
+  where
+    by : (x y : Option ℕ) → option_map frame_number y ≡ None
+        → option_and_then {U = ℕ × ℕ} (λ d. option_map (λ word. (d, frame_number word)) y) x ≡ None
+    by None y h = refl
+    by (Some d) None h = refl
+    by (Some d) (Some w) h = cc

@@ -1,0 +1,60 @@
+-- Where each slot's walk leads, and when it leads to the same frame after a change.
+use Rattle.std.specs.Prelude.{◌≡◌, ◌<◌, ◌^◌, ℕ, Bool, true, false, ◌&&◌, ◌==◌, Option, Some, Ok}
+use Rattle.std.specs.Option.{option_map, option_and_then}
+use Rattle.page_words.specs.Words.{frame_number, is_lazy, is_dirty}
+use Rattle.page_words.specs.FiniteMap as map
+use Rattle.page_map.specs.declared.PageEntry.{PageEntry}
+use Rattle.address_space.specs.Spaces.{Slot, slot_at, is_slot, is_of}
+use Rattle.address_space.specs.Cells.{Entries}
+use Rattle.address_space.specs.Image.{Image, directory_at, page_word, is_lazy_at}
+use Rattle.table_walk.specs.declared.Access.{Access}
+use Rattle.table_walk.specs.Walk.{walk_of}
+
+-- the directory of a slot's process, and the frame that the slot's word names: frame 0 for a lazy page
+abbrev pub way_of : Image → Slot → Option (ℕ × ℕ)
+way_of image slot = option_and_then (λ directory.
+    option_map (λ word. (directory, frame_number word)) (page_word image slot)) (directory_at image slot.pid)
+
+-- which slots' ways go, by the frame that the slot names
+abbrev pub Gone : Type 0
+Gone = Slot → ℕ → Bool
+
+-- none goes
+abbrev pub none_goes : Gone
+none_goes slot frame = false
+
+-- that of a page of a process
+abbrev pub of_page : ℕ → ℕ → Gone
+of_page p page slot frame = is_slot p page slot
+
+-- those of a process
+abbrev pub of_process : ℕ → Gone
+of_process p slot frame = is_of p slot
+
+-- that of a page of a process, where it is lazy
+abbrev pub of_lazy : ℕ → ℕ → Gone
+of_lazy p page slot frame = is_slot p page slot && (frame == 0)
+
+-- each way leads to the same frame afterwards, but for those that go
+abbrev pub FramesStay : Gone → Image → Image → Type 0
+FramesStay gone old new = (slot : Slot) (directory frame : ℕ) → gone slot frame ≡ false
+    → way_of old slot ≡ Some (directory, frame) → way_of new slot ≡ Some (directory, frame)
+
+-- each walk that finds a frame goes the way of its slot, and the lazy slots, which are clean, are those whose way
+-- leads to frame 0
+pub record WaysAgree (image : Image) : Type 0 where
+  pub lead : (p directory address frame : ℕ) (access : Access) → directory_at image p ≡ Some directory
+      → address < 2 ^ 32 → walk_of image.bytes directory address access ≡ Ok frame
+      → way_of image (slot_at p address) ≡ Some (directory, frame)
+  pub lazy : (slot : Slot) (directory frame : ℕ) → way_of image slot ≡ Some (directory, frame)
+      → is_lazy_at image slot ≡ (frame == 0)
+  pub clean : (slot : Slot) (word : ℕ) → page_word image slot ≡ Some word → is_lazy word ≡ true → is_dirty word ≡ false
+
+-- ---- By entries
+
+abbrev pub entry_frame : Entries → Slot → Option ℕ
+entry_frame entries slot = option_map (λ (e : PageEntry). e.frame) (map.get entries slot)
+
+abbrev pub EntriesStay : Gone → Entries → Entries → Type 0
+EntriesStay gone old new = (slot : Slot) (frame : ℕ) → gone slot frame ≡ false → entry_frame old slot ≡ Some frame
+    → entry_frame new slot ≡ Some frame

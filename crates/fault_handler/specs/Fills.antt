@@ -1,0 +1,20 @@
+-- Which slots' ways go where an access is carried out: those of the lazy pages that a write touches.
+use Rattle.std.proofs.Common.{ℕ, ◌||◌, false, Option, Some, None}
+use Rattle.page_words.specs.Addresses.{page_number, second_page}
+use Rattle.page_words.specs.declared.addresses.Size.{Size}
+use Rattle.table_walk.specs.declared.Access.{Access}
+use Rattle.table_walk.specs.declared.Access.TheVariants.{Read, Write}
+use Rattle.address_space.specs.Stays.{Gone, of_lazy}
+
+abbrev pub lazy_second : ℕ → Option ℕ → Gone
+lazy_second p None slot frame = false
+lazy_second p (Some page) slot frame = of_lazy p page slot frame
+
+-- the lazy ones of the pages that an access touches, one or two
+abbrev pub lazy_touched : ℕ → ℕ → Size → Gone
+lazy_touched p address size slot frame = of_lazy p (page_number address) slot frame || lazy_second p
+    (second_page address size) slot frame
+
+abbrev pub lazy_written : Access → ℕ → ℕ → Size → Gone
+lazy_written Read p address size slot frame = false
+lazy_written Write p address size slot frame = lazy_touched p address size slot frame

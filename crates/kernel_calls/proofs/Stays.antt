@@ -1,0 +1,603 @@
+-- What stays of a page, whosever it is, as long as it is mapped.
+use Rattle.std.proofs.Common.{
+  ◌≡◌,
+  ◌≢◌,
+  ℕ,
+  suc,
+  ◌+◌,
+  ◌&&◌,
+  ◌||◌,
+  ◌==◌,
+  not,
+  Bool,
+  true,
+  false,
+  cond,
+  List,
+  [],
+  ◌∷◌,
+  refl,
+  sym,
+  ap,
+  subst,
+  ◌∙◌,
+  Option,
+  Some,
+  None,
+  is_some,
+  unwrap_or,
+  arith,
+  inl,
+  inr,
+}
+use Rattle.std.specs.Prelude.{◌⊎◌, if◌then◌else◌, slice_index}
+use Rattle.std.specs.Option.{option_map}
+use Rattle.std.proofs.lemmas.Bool.{cases_eq, ne_eqb}
+use Rattle.std.proofs.lemmas.Option.{same_Some}
+use Rattle.page_words.specs.Addresses.{offset_number, byte_count, touched}
+use Rattle.page_words.specs.declared.addresses.Size.{Size}
+use Rattle.page_words.specs.FiniteMap as map
+use Rattle.page_words.specs.FiniteMap.{same, nat_order}
+use Rattle.page_words.specs.FiniteSet as set
+use Rattle.page_words.specs.FiniteSet.{Set}
+use Rattle.page_words.proofs.MapLemmas.{get-insert, get-map_values, get-retain_keys, contains-retain}
+use Rattle.page_words.proofs.OptionLemmas.{some_value, no_value}
+use Rattle.page_words.proofs.SetLemmas.{same_cases, same_apart, get-remove_other}
+use Rattle.address_space.specs.Spaces.{
+  Slot,
+  slot_order,
+  Cell,
+  Spaces,
+  fresh,
+  cell_or_fresh,
+  with_bytes,
+  write_at,
+  bytes_of,
+  without,
+  is_slot,
+  is_of,
+  at_page,
+  slot_at,
+  accessed,
+  stored,
+  with_page,
+  with_pages,
+  all_accessed,
+  all_stored,
+  copied,
+}
+use Rattle.address_space.proofs.costs.Copied.{copied-other}
+use Rattle.address_space.proofs.steps.Departures.{left, get-without}
+use Rattle.page_sharing.specs.Offers.{OfferKey, offer_order, offer_of}
+use Rattle.process_table.specs.State.{State, is_live, child_of}
+use Rattle.process_table.specs.Calls.{
+  accept_refusal,
+  fork_refusal,
+  map_refusal,
+  offered,
+  after_load,
+  after_store,
+  after_map,
+  after_unmap,
+  after_protect,
+  after_offer,
+  after_withdraw,
+  after_accept,
+  after_spawn,
+  after_fork,
+  after_exit,
+}
+use Rattle.process_table.specs.WellFormed.{IsWellFormed}
+use Rattle.process_table.proofs.ApartOthers.{child_free, live_differ}
+use Rattle.process_table.proofs.CellLaws.{get-inserted, get-inserted_other}
+use Rattle.process_table.proofs.Forks.{may_fork}
+use Rattle.process_table.proofs.Refusals.{may_accept, may_map}
+use Rattle.process_table.proofs.SharingLaws.{giver_mapped}
+use Rattle.kernel_calls.specs.Authority.{
+  flags_of,
+  byte_in,
+  shares,
+  sees,
+  is_offered,
+  IsStoreInto,
+  IsUntouched,
+  RightsStay,
+  makes_child,
+  ShowsLittle,
+}
+use Rattle.kernel_calls.specs.Machine.{answer, answer_of, after, next, completes}
+use Rattle.kernel_calls.specs.declared.calls.Call.{Call}
+use Rattle.kernel_calls.specs.declared.calls.Call.TheVariants as call
+use Rattle.kernel_calls.specs.declared.calls.Event.{Event}
+use Rattle.kernel_calls.proofs.Decided.{next-stays, next-goes}
+use Rattle.kernel_calls.proofs.Runs.{not-refused, kept-next}
+use Rattle.kernel_calls.proofs.UntouchedSlots.{store_bytes, Kept}
+use Rattle.kernel_calls.proofs.Untouched.{caller_live, get_joined, widen, widen_kept, integrity}
+use borrow.Author.Tests.{eqb-true}
+
+-- ---- Something of a cell that stays
+
+-- what is mapped still is, and has the same of it
+abbrev Keeps : {A : Type 0} → (Cell → A) → Spaces → Spaces → Type 0
+Keeps P S T = (slot : Slot) (c : Cell) → map.get S slot ≡ Some c → option_map P (map.get T slot) ≡ Some (P c)
+
+module _ {A : Type 0} (P : Cell → A) where
+  keeps_all : (S : Spaces) → Keeps P S S
+  keeps_all S slot c h = ap (option_map P) h
+
+  keeps_through : (S T U : Spaces) → Keeps P S T → Keeps P T U → Keeps P S U
+  keeps_through S T U a b slot c h = by (map.get T slot) refl (a slot c h)
+    where
+      by : (x : Option Cell) → map.get T slot ≡ x → option_map P x ≡ Some (P c)
+          → option_map P (map.get U slot) ≡ Some (P c)
+      by None at k = cc
+      by (Some d) at k = b slot d at ∙ k
+
+  keeps_insert : (S : Spaces) (at : Slot) (x : Cell) → ((c : Cell) → map.get S at ≡ Some c → P x ≡ P c)
+      → Keeps P S (map.insert S at x)
+  keeps_insert S at x own slot c h = elim (same_cases slot_order slot at) [
+    | inl is ↦ ap (option_map P) (ap (map.get (map.insert S at x)) is.0 ∙ get-inserted S at x)
+        ∙ ap Some (own c (sym (ap (map.get S) is.0) ∙ h))
+    | inr other ↦ ap (option_map P) (get-inserted_other S at x slot other.0 ∙ h)
+  ]
+
+  keeps_new : (S : Spaces) (at : Slot) (x : Cell) → map.get S at ≡ None → Keeps P S (map.insert S at x)
+  keeps_new S at x none = keeps_insert S at x (λ c h. let n = none in absurd (let e : None ≡ Some c = sym n ∙ h in cc))
+
+  keeps_set : (S : Spaces) (at : Slot) (x : Cell) → P x ≡ P (cell_or_fresh S at) → Keeps P S (map.insert S at x)
+  keeps_set S at x same = keeps_insert S at x (λ c h. same
+      ∙ ap (λ (o : Option Cell). P (unwrap_or o (fresh at true))) h)
+
+  keeps_changed : (S : Spaces) (f : Slot → Cell → Cell)
+      → ((slot : Slot) (c : Cell) → map.get S slot ≡ Some c → P (f slot c) ≡ P c) → Keeps P S (map.map_values f S)
+  keeps_changed S f same slot c h = ap (option_map P) (get-map_values slot_order f S slot ∙ ap (option_map (f slot)) h)
+      ∙ ap Some (same slot c h)
+
+  keeps_page : (S : Spaces) (q page : ℕ) → Keeps P S (with_page S q page)
+  keeps_page S q page = by (map.contains_key S (at_page q page)) refl
+    where
+      by : (b : Bool) → map.contains_key S (at_page q page) ≡ b
+          → Keeps P S (if b then S else map.insert S (at_page q page) (fresh (at_page q page) true))
+      by true is = keeps_all S
+      by false is = keeps_new S (at_page q page) (fresh (at_page q page) true)
+          (no_value (map.get S (at_page q page)) is)
+
+  keeps_pages : (S : Spaces) (q : ℕ) (pages : List ℕ) → Keeps P S (with_pages S q pages)
+  keeps_pages S q [] = keeps_all S
+  keeps_pages S q (page ∷ pages) = keeps_through S (with_page S q page) (with_pages (with_page S q page) q pages)
+      (keeps_page S q page) (keeps_pages (with_page S q page) q pages)
+
+  keeps_accessed : ((c : Cell) → P (record c { accessed = true }) ≡ P c) → (S : Spaces) (q : ℕ) (pages : List ℕ)
+      → Keeps P S (all_accessed S q pages)
+  keeps_accessed same S q [] = keeps_all S
+  keeps_accessed same S q (page ∷ pages) =
+      keeps_through S (accessed S (at_page q page)) (all_accessed (accessed S (at_page q page)) q pages)
+      (keeps_set S (at_page q page) (record (cell_or_fresh S (at_page q page)) { accessed = true })
+      (same (cell_or_fresh S (at_page q page))))
+      (keeps_accessed same (accessed S (at_page q page)) q pages)
+
+-- ---- But for bytes
+
+-- what it may have, and whether a slot is in its group
+abbrev Rest : Type 0
+Rest = Bool × Bool
+
+abbrev rest_of : Slot → Cell → Rest
+rest_of other c = (c.may, set.contains c.holders other)
+
+rest_stored : (S : Spaces) (slot : Slot) (at : ℕ) (new : List ℕ) (other : Slot)
+    → Keeps (rest_of other) S (stored S slot at new)
+rest_stored S slot at new other =
+    let c : Cell = cell_or_fresh S slot in
+    let bytes : List ℕ = write_at c.bytes at new in
+    let f : Slot → Cell → Cell = (λ r d. if set.contains c.holders r then with_bytes d bytes else d) in
+    keeps_through (rest_of other) S (map.map_values f S) (stored S slot at new)
+    (keeps_changed (rest_of other) S f (λ r d h. either (set.contains c.holders r) d bytes))
+    (keeps_set (rest_of other) (map.map_values f S) slot (record c { bytes = bytes; accessed = true; dirty = true })
+    (sym (ap (λ (x : Option Cell). rest_of other (unwrap_or x (fresh slot true))) (get-map_values slot_order f S slot)
+    ∙ by c.holders bytes (map.get S slot))))
+  where
+    either : (b : Bool) (d : Cell) (bytes : List ℕ)
+        → rest_of other (if b then with_bytes d bytes else d) ≡ rest_of other d
+    either true d bytes = refl
+    either false d bytes = refl
+
+    by : (g : Set slot_order) (bytes : List ℕ) (x : Option Cell)
+        → rest_of other (unwrap_or (option_map (λ (d : Cell). if set.contains g slot then with_bytes d bytes else d) x)
+        (fresh slot true)) ≡ rest_of other (unwrap_or x (fresh slot true))
+    by g bytes None = refl
+    by g bytes (Some d) = either (set.contains g slot) d bytes
+
+rest_all_stored : (S : Spaces) (q addr : ℕ) (bytes : List ℕ) (other : Slot)
+    → Keeps (rest_of other) S (all_stored S q addr bytes)
+rest_all_stored S q addr [] other = keeps_all (rest_of other) S
+rest_all_stored S q addr (byte ∷ bytes) other =
+    keeps_through (rest_of other) S (stored S (slot_at q addr) (offset_number addr) (byte ∷ []))
+    (all_stored S q addr (byte ∷ bytes))
+    (rest_stored S (slot_at q addr) (offset_number addr) (byte ∷ []) other)
+    (rest_all_stored (stored S (slot_at q addr) (offset_number addr) (byte ∷ [])) q (addr + 1) bytes other)
+
+-- ---- All
+
+-- the same, and the bytes
+abbrev Whole : Type 0
+Whole = Bool × (List ℕ × Bool)
+
+abbrev whole_of : Slot → Cell → Whole
+whole_of other c = (c.may, (c.bytes, set.contains c.holders other))
+
+-- what stays of a cell, in which the event of e's process changes no more than bytes that it stores
+pub record Same (s : State) (e : Event) (slot other : Slot) (before after : Cell) : Type 0 where
+  pub may : after.may ≡ before.may
+  pub group : set.contains after.holders other ≡ set.contains before.holders other
+  pub bytes : (place : ℕ) → (slice_index after.bytes place ≡ slice_index before.bytes place)
+      ⊎ IsStoreInto s e slot place
+
+-- a slot that doesn't come or go: of another process, or mapped before and after
+abbrev pub Bystands : State → Event → State → Slot → Type 0
+Bystands s e t other = (other.pid ≢ e.pid) ⊎ ((map.contains_key s.spaces other ≡ true)
+    × (map.contains_key t.spaces other ≡ true))
+
+abbrev pub Stays : State → Event → State → Type 0
+Stays s e t = (slot other : Slot) (before after : Cell) → Bystands s e t other → map.get s.spaces slot ≡ Some before
+    → map.get t.spaces slot ≡ Some after → Same s e slot other before after
+
+whole_same : (s : State) (e : Event) (slot other : Slot) (before after : Cell)
+    → whole_of other after ≡ whole_of other before → Same s e slot other before after
+whole_same s e slot other before after h = record {
+  may = ap (λ (k : Whole). k.0) h;
+  group =
+      ap (λ (k : Whole). k.1.1) h;
+  bytes = λ place. inl (ap (λ (k : Whole). slice_index k.1.0 place) h);
+}
+
+kept_stays : (s : State) (e : Event) (t : State)
+    → ((other : Slot) → Bystands s e t other → Keeps (whole_of other) s.spaces t.spaces) → Stays s e t
+kept_stays s e t keeps slot other before after o at_s at_t =
+    whole_same s e slot other before after (same_Some (whole_of other after) (whole_of other before)
+    (sym (ap (option_map (whole_of other)) at_t) ∙ keeps other o slot before at_s))
+
+without_stays : (s : State) (e : Event) (t : State) (gone : Slot → Bool) → t.spaces ≡ without s.spaces gone
+    → ((other : Slot) → other.pid ≢ e.pid → gone other ≡ false) → Stays s e t
+without_stays s e t gone is stays slot other before after o at_s at_t =
+    by (not (gone slot)) (sym (get-without s.spaces gone slot
+    ∙ ap (λ x. cond (not (gone slot)) (option_map (left gone) x) None) at_s)
+    ∙ sym (ap (λ (S : Spaces). map.get S slot) is) ∙ at_t)
+  where
+    and_true : (b : Bool) → (b && true) ≡ b
+    and_true true = refl
+    and_true false = refl
+
+    stays_too : gone other ≡ false
+    stays_too = elim o [
+      | inl apart ↦ stays other apart
+      | inr there ↦ not_gone (gone other) refl (sym
+          (ap is_some (ap (λ (S : Spaces). map.get S other) is ∙ get-without s.spaces gone other)) ∙ there.1)
+    ]
+      where
+        not_gone : (b : Bool) → gone other ≡ b → is_some
+            (cond (not (gone other)) (option_map (left gone) (map.get s.spaces other)) None) ≡ true → b ≡ false
+        not_gone false h k = refl
+        not_gone true h k = absurd (let f : is_some (cond (not (gone other))
+            (option_map (left gone) (map.get s.spaces other)) None) ≡ false =
+            ap (λ b. is_some (cond (not b) (option_map (left gone) (map.get s.spaces other)) None)) h in cc)
+
+    same_whole : whole_of other (left gone before) ≡ whole_of other before
+    same_whole = ap (λ b. (before.may, (before.bytes, b)))
+        (contains-retain before.holders (λ s. not (gone s)) other
+        ∙ ap (λ b. set.contains before.holders other && not b) stays_too ∙ and_true (set.contains before.holders other))
+
+    by : (b : Bool) → cond b (Some (left gone before)) None ≡ Some after → Same s e slot other before after
+    by true k = whole_same s e slot other before after
+        (ap (whole_of other) (sym (same_Some (left gone before) after k)) ∙ same_whole)
+    by false k = cc
+
+module _ (s : State) (e : Event) (w : IsWellFormed s) (live : is_live s e.pid ≡ true) where
+  abbrev q : ℕ
+  q = e.pid
+
+  all_stay : (t : State) → t.spaces ≡ s.spaces → Stays s e t
+  all_stay t is = kept_stays s e t (λ other o slot c h.
+      ap (option_map (whole_of other)) (ap (λ (S : Spaces). map.get S slot) is ∙ h))
+
+  load_stays : (addr : ℕ) (size : Size) → Stays s e (after_load s e.pid addr size)
+  load_stays addr size =
+      let pages = touched addr size in
+      let T : Spaces = with_pages s.spaces e.pid pages in
+      kept_stays s e (after_load s e.pid addr size)
+      (λ other o. keeps_through (whole_of other) s.spaces T (all_accessed T e.pid pages)
+      (keeps_pages (whole_of other) s.spaces e.pid pages)
+      (keeps_accessed (whole_of other) (λ c. refl) T e.pid pages))
+
+  store_stays : (addr : ℕ) (size : Size) (value : ℕ) → e.call ≡ call.Store addr size value
+      → completes (answer_of s e.pid (call.Store addr size value)) ≡ true
+      → Stays s e (after_store s e.pid addr size value)
+  store_stays addr size value is done slot other before after o at_s at_t =
+      let T : Spaces = with_pages s.spaces e.pid (touched addr size) in
+      let bytes = bytes_of (byte_count size) value in
+      let rest : rest_of other after ≡ rest_of other before =
+      same_Some (rest_of other after) (rest_of other before) (sym (ap (option_map (rest_of other)) at_t)
+      ∙ keeps_through (rest_of other) s.spaces T (all_stored T e.pid addr bytes)
+      (keeps_pages (rest_of other) s.spaces e.pid (touched addr size)) (rest_all_stored T e.pid addr bytes other)
+      slot before at_s) in
+      record {
+        may = ap (λ (k : Rest). k.0) rest;
+        group = ap (λ (k : Rest). k.1) rest;
+        bytes = λ place. elim (store_bytes s e addr value size is w live done slot before place at_s) [
+          | inl same_byte ↦ inl (
+              sym (ap (λ (x : Option Cell). slice_index (unwrap_or x (fresh slot true)).bytes place) at_t) ∙ same_byte
+              ∙ ap (λ (x : Option Cell). slice_index (unwrap_or x (fresh slot true)).bytes place) at_s)
+          | inr into ↦ inr into
+        ];
+      }
+
+  accept_stays : (giver giver_page page : ℕ) → accept_refusal s e.pid giver giver_page page ≡ None
+      → Stays s e (after_accept s e.pid giver giver_page page)
+  accept_stays giver giver_page page allowed =
+      let may = may_accept s e.pid giver giver_page page allowed in
+      let g = giver_mapped s e.pid giver giver_page w may.there in
+      let new : Slot = at_page e.pid page in
+      kept_stays s e (after_accept s e.pid giver giver_page page)
+      (λ other o slot c h.
+      let apart : slot ≢ new = (λ is. let x : Some c ≡ None = sym h ∙ ap (map.get s.spaces) is ∙ may.none in cc) in
+      ap (option_map (whole_of other)) (get_joined s e.pid giver giver_page page (offered s giver giver_page e.pid) w
+      g.0 g.1 slot apart ∙ ap (option_map (widen s e.pid giver giver_page page (offered s giver giver_page e.pid) w
+      g.0 g.1 slot)) h)
+      ∙ ap (λ (k : Kept). Some (k.0.may, k.1)) (widen_kept s e.pid giver giver_page page
+      (offered s giver giver_page e.pid) w g.0 g.1 slot other c h (not_new other o)))
+    where
+      not_new : (other : Slot) → Bystands s e (after_accept s e.pid giver giver_page page) other
+          → other ≢ at_page e.pid page
+      not_new other o is = elim o [
+        | inl apart ↦ apart (ap (λ (x : Slot). x.pid) is)
+        | inr there ↦ (
+            let t = there.0 in
+            let f : map.contains_key s.spaces other ≡ false =
+            ap is_some (ap (map.get s.spaces) is ∙ (may_accept s e.pid giver giver_page page allowed).none) in
+            cc)
+      ]
+
+  after_stays : (c : Call) → e.call ≡ c → completes (answer_of s e.pid c) ≡ true → Stays s e (after s e.pid c)
+  after_stays (call.Load addr size) is h = load_stays addr size
+  after_stays (call.Store addr size value) is h = store_stays addr size value is h
+  after_stays (call.Map page write) is h =
+      kept_stays s e (after_map s e.pid page write)
+      (λ other o. keeps_new (whole_of other) s.spaces (at_page e.pid page) (fresh (at_page e.pid page) write)
+      (may_map s e.pid page (not-refused (map_refusal s e.pid page) _ h)).none)
+  after_stays (call.Unmap page) is h =
+      without_stays s e (after_unmap s e.pid page) (is_slot e.pid page) refl
+      (λ other o. same_apart slot_order (at_page e.pid page) other (λ x. o (ap (λ (r : Slot). r.pid) (sym x))))
+  after_stays (call.Protect page write) is h =
+      kept_stays s e (after_protect s e.pid page write)
+      (λ other o. keeps_set (whole_of other) s.spaces (at_page e.pid page)
+      (record (cell_or_fresh s.spaces (at_page e.pid page)) { write = write }) refl)
+  after_stays (call.Info page) is h = all_stay s refl
+  after_stays (call.Offer page target write) is h = all_stay (after_offer s e.pid page target write) refl
+  after_stays (call.Withdraw page target) is h = all_stay (after_withdraw s e.pid page target) refl
+  after_stays (call.Accept giver giver_page page) is h =
+      accept_stays giver giver_page page (not-refused (accept_refusal s e.pid giver giver_page page) _ h)
+  after_stays (call.Spawn quota) is h = all_stay (after_spawn s e.pid quota) refl
+  after_stays (call.Fork quota) is h =
+      let free = child_free s e.pid quota (may_fork s e.pid quota (not-refused (fork_refusal s e.pid quota) _ h)).spawn
+      in
+      kept_stays s e (after_fork s e.pid quota) (λ other o slot c k.
+      ap (option_map (whole_of other)) (copied-other s.spaces e.pid (child_of s) slot
+      (live_differ s slot.pid (child_of s) (w.owners slot c k) free) ∙ k))
+  after_stays call.Exit is h = without_stays s e (after_exit s e.pid) (is_of e.pid) refl
+      (λ other o. ne_eqb other.pid e.pid o)
+  after_stays call.Quota is h = all_stay s refl
+
+-- after any event, at a slot that is mapped before and after it
+pub next_stays : (s : State) (e : Event) → IsWellFormed s → Stays s e (next s e)
+next_stays s e w = by (completes (answer s e)) refl
+  where
+    by : (b : Bool) → completes (answer s e) ≡ b → Stays s e (next s e)
+    by true h = let l = caller_live s e h in subst (Stays s e) (sym (next-goes s e h))
+        (after_stays s e w l.0 e.call refl l.1)
+    by false h = subst (Stays s e) (sym (next-stays s e h))
+        (kept_stays s e s (λ other o slot c k. ap (option_map (whole_of other)) k))
+
+pub rights_stay : RightsStay
+rights_stay s e slot before after w at_s at_t = (next_stays s e w slot (at_page (suc e.pid) 0) before after
+    (inl (λ is. absurd (omega (arith, is)))) at_s at_t).may
+
+-- ---- What shows
+
+-- what is seen is mapped, or is q's own and not mapped
+seen_mapped : (s : State) (q : ℕ) (slot : Slot) → IsWellFormed s → sees s q slot ≡ true
+    → (is_of q slot ≡ true) ⊎ ((c : Cell) × (map.get s.spaces slot ≡ Some c))
+seen_mapped s q slot w v = by (is_of q slot) v
+  where
+    by : (b : Bool) → (b || is_offered s q slot) ≡ true → (b ≡ true) ⊎ ((c : Cell) × (map.get s.spaces slot ≡ Some c))
+    by true h = inl refl
+    by false h =
+        let r = some_value (map.get s.offers (offer_of slot.pid slot.page q)) h in
+        let o = (w.offers (offer_of slot.pid slot.page q) r.0 r.1).offered in
+        inr (o.0, o.1)
+
+abbrev LiveBut : State → State → Event → Type 0
+LiveBut s t e = (p : ℕ) → (is_live t p ≡ is_live s p)
+    ⊎ (((p ≡ child_of s) × (makes_child e.call ≡ true)) ⊎ ((p ≡ e.pid) × (e.call ≡ call.Exit)))
+
+abbrev OffersBut : State → State → Event → ℕ → Type 0
+OffersBut s t e q = (giver page : ℕ) → giver ≢ e.pid
+    → map.get t.offers (offer_of giver page q) ≡ map.get s.offers (offer_of giver page q)
+
+child_live : (s : State) (e : Event) (quota : ℕ) (S : Spaces) → makes_child e.call ≡ true
+    → LiveBut s (record {
+      spaces = S;
+      book = map.insert s.book (child_of s) (record { parent = e.pid; quota = quota });
+      offers = s.offers;
+    }) e
+child_live s e quota S makes p = elim (same_cases nat_order p (child_of s)) [
+  | inl is ↦ inr (inl (is.0, makes))
+  | inr other ↦ inl (ap is_some (get-insert s.book (child_of s) (record { parent = e.pid; quota = quota }) p
+      ∙ ap (λ b. cond b (Some (record { parent = e.pid; quota = quota })) (map.get s.book p)) other.1))
+]
+
+after_live : (s : State) (e : Event) (c : Call) → e.call ≡ c → LiveBut s (after s e.pid c) e
+after_live s e (call.Load addr size) is = λ p. inl refl
+after_live s e (call.Store addr size value) is = λ p. inl refl
+after_live s e (call.Map page write) is = λ p. inl refl
+after_live s e (call.Unmap page) is = λ p. inl refl
+after_live s e (call.Protect page write) is = λ p. inl refl
+after_live s e (call.Info page) is = λ p. inl refl
+after_live s e (call.Offer page target write) is = λ p. inl refl
+after_live s e (call.Withdraw page target) is = λ p. inl refl
+after_live s e (call.Accept giver giver_page page) is = λ p. inl refl
+after_live s e (call.Spawn quota) is = child_live s e quota s.spaces (ap makes_child is)
+after_live s e (call.Fork quota) is = child_live s e quota (copied s.spaces e.pid (child_of s)) (ap makes_child is)
+after_live s e call.Exit is = λ p. elim (same_cases nat_order p e.pid) [
+  | inl same_number ↦ inr (inr (same_number.0, is))
+  | inr other ↦ inl (ap is_some (get-remove_other s.book e.pid p other.0))
+]
+after_live s e call.Quota is = λ p. inl refl
+
+module _ (s : State) (e : Event) (q : ℕ) (d : q ≢ e.pid) where
+  retained_same : (stay : OfferKey → Bool) (key : OfferKey) → stay key ≡ true
+      → map.get (map.retain_keys s.offers stay) key ≡ map.get s.offers key
+  retained_same stay key h = get-retain_keys s.offers stay key ∙ ap (λ b. cond b (map.get s.offers key) None) h
+
+  after_offered : (c : Call) → OffersBut s (after s e.pid c) e q
+  after_offered (call.Load addr size) giver page o = refl
+  after_offered (call.Store addr size value) giver page o = refl
+  after_offered (call.Map n write) giver page o = refl
+  after_offered (call.Unmap n) giver page o = retained_same
+      (λ (k : OfferKey). not ((k.offerer == e.pid) && (k.page == n))) (offer_of giver page q)
+      (ap (λ b. not (b && (page == n))) (ne_eqb giver e.pid o))
+  after_offered (call.Protect n write) giver page o = refl
+  after_offered (call.Info n) giver page o = refl
+  after_offered (call.Offer n target write) giver page o =
+      get-insert s.offers (offer_of e.pid n target) write (offer_of giver page q)
+      ∙ ap (λ b. cond b (Some write) (map.get s.offers (offer_of giver page q)))
+      (same_apart offer_order (offer_of giver page q) (offer_of e.pid n target)
+      (λ is. o (ap (λ (k : OfferKey). k.offerer) is)))
+  after_offered (call.Withdraw n target) giver page o =
+      get-remove_other s.offers (offer_of e.pid n target) (offer_of giver page q)
+      (λ is. o (ap (λ (k : OfferKey). k.offerer) is))
+  after_offered (call.Accept from n at) giver page o =
+      get-remove_other s.offers (offer_of from n e.pid) (offer_of giver page q)
+      (λ is. d (ap (λ (k : OfferKey). k.target) is))
+  after_offered (call.Spawn quota) giver page o = refl
+  after_offered (call.Fork quota) giver page o = refl
+  after_offered call.Exit giver page o =
+      retained_same (λ (k : OfferKey). not ((k.offerer == e.pid) || (k.target == e.pid))) (offer_of giver page q)
+      (λ i. not (ne_eqb giver e.pid o i || ne_eqb q e.pid d i))
+  after_offered call.Quota giver page o = refl
+
+next_live : (s : State) (e : Event) → LiveBut s (next s e) e
+next_live s e = by (completes (answer s e)) refl
+  where
+    by : (b : Bool) → completes (answer s e) ≡ b → LiveBut s (next s e) e
+    by true h = subst (λ t. LiveBut s t e) (sym (next-goes s e h)) (after_live s e e.call refl)
+    by false h = subst (λ t. LiveBut s t e) (sym (next-stays s e h)) (λ p. inl refl)
+
+next_offered : (s : State) (e : Event) (q : ℕ) → q ≢ e.pid → OffersBut s (next s e) e q
+next_offered s e q d = by (completes (answer s e)) refl
+  where
+    by : (b : Bool) → completes (answer s e) ≡ b → OffersBut s (next s e) e q
+    by true h = subst (λ t. OffersBut s t e q) (sym (next-goes s e h)) (after_offered s e q d e.call)
+    by false h = subst (λ t. OffersBut s t e q) (sym (next-stays s e h)) (λ giver page o. refl)
+
+pub shows_little : ShowsLittle
+shows_little s e q w live d = record {
+  live = next_live s e;
+  offered = next_offered s e q d;
+  bytes = λ slot place v u. elim (seen_mapped s q slot w v) [
+    | inl own ↦ subst (λ x. (byte_in (next s e) x place ≡ byte_in s x place) ⊎ IsStoreInto s e x place)
+        (sym (own_slot slot own)) (mine.bytes slot.page place)
+    | inr there ↦ elim (seen_mapped (next s e) q slot well u) [
+      | inl own ↦ subst (λ x. (byte_in (next s e) x place ≡ byte_in s x place) ⊎ IsStoreInto s e x place)
+          (sym (own_slot slot own)) (mine.bytes slot.page place)
+      | inr still ↦ byte_of slot place there.0 still.0 there.1 still.1
+    ]
+  ];
+  holders = λ slot other v u o. elim (seen_mapped s q slot w v) [
+    | inl own ↦ subst (λ x. shares (next s e) x other ≡ shares s x other) (sym (own_slot slot own))
+        (mine.holders slot.page other o)
+    | inr there ↦ elim (seen_mapped (next s e) q slot well u) [
+      | inl own ↦ subst (λ x. shares (next s e) x other ≡ shares s x other) (sym (own_slot slot own))
+          (mine.holders slot.page other o)
+      | inr still ↦
+          ap (λ (x : Option Cell). unwrap_or (option_map (λ (c : Cell). set.contains c.holders other) x) false) still.1
+          ∙ (next_stays s e w slot other there.0 still.0 (inl o) there.1 still.1).group
+          ∙ sym (ap (λ (x : Option Cell). unwrap_or (option_map (λ (c : Cell). set.contains c.holders other) x) false)
+          there.1)
+    ]
+  ];
+  same_page = λ slot other v u x y. elim (both slot v u) [
+    | inl none ↦
+        ap (λ (o : Option Cell). unwrap_or (option_map (λ (c : Cell). set.contains c.holders other) o) false) none.1
+        ∙ sym (ap (λ (o : Option Cell). unwrap_or (option_map (λ (c : Cell). set.contains c.holders other) o) false)
+        none.0)
+    | inr some ↦
+        ap (λ (o : Option Cell). unwrap_or (option_map (λ (c : Cell). set.contains c.holders other) o) false) some.3
+        ∙ (next_stays s e w slot other some.0 some.1 (bystands other x y) some.2 some.3).group
+        ∙ sym (ap (λ (o : Option Cell). unwrap_or (option_map (λ (c : Cell). set.contains c.holders other) o) false)
+        some.2)
+  ];
+}
+  where
+    mine : IsUntouched s (next s e) e q
+    mine = integrity s e q w live d
+
+    well : IsWellFormed (next s e)
+    well = (kept-next s e w).0
+
+    own_slot : (slot : Slot) → is_of q slot ≡ true → slot ≡ at_page q slot.page
+    own_slot slot is = λ i. record { pid = eqb-true slot.pid q is i; page = slot.page }
+
+    byte_of : (slot : Slot) (place : ℕ) (before after : Cell) → map.get s.spaces slot ≡ Some before
+        → map.get (next s e).spaces slot ≡ Some after
+        → (byte_in (next s e) slot place ≡ byte_in s slot place) ⊎ IsStoreInto s e slot place
+    byte_of slot place before after at_s at_t = elim
+        ((next_stays s e w slot (at_page (suc e.pid) 0) before after (inl (λ is. absurd (omega (arith, is)))) at_s
+        at_t).bytes place) [
+          | inl same_byte ↦ inl (
+              ap (λ (x : Option Cell). slice_index (unwrap_or x (fresh slot true)).bytes place) at_t ∙ same_byte
+              ∙ sym (ap (λ (x : Option Cell). slice_index (unwrap_or x (fresh slot true)).bytes place) at_s))
+          | inr into ↦ inr into
+        ]
+
+    own_flags : (slot : Slot) → is_of q slot ≡ true
+        → option_map flags_of (map.get (next s e).spaces slot) ≡ option_map flags_of (map.get s.spaces slot)
+    own_flags slot own = subst (λ x. option_map flags_of (map.get (next s e).spaces x) ≡ option_map flags_of
+        (map.get s.spaces x)) (sym (own_slot slot own)) (mine.flags slot.page)
+
+    -- what q saw and sees is mapped before and after, or neither
+    both : (slot : Slot) → sees s q slot ≡ true → sees (next s e) q slot ≡ true
+        → ((map.get s.spaces slot ≡ None) × (map.get (next s e).spaces slot ≡ None))
+        ⊎ ((c : Cell) × (d : Cell) × (map.get s.spaces slot ≡ Some c) × (map.get (next s e).spaces slot ≡ Some d))
+    both slot v u = elim (seen_mapped s q slot w v) [
+      | inl own ↦ own_both slot own (map.get s.spaces slot) (map.get (next s e).spaces slot) refl refl
+      | inr there ↦ elim (seen_mapped (next s e) q slot well u) [
+        | inl own ↦ own_both slot own (map.get s.spaces slot) (map.get (next s e).spaces slot) refl refl
+        | inr still ↦ inr (there.0, still.0, there.1, still.1)
+      ]
+    ]
+      where
+        own_both : (slot : Slot) → is_of q slot ≡ true → (x y : Option Cell) → map.get s.spaces slot ≡ x
+            → map.get (next s e).spaces slot ≡ y
+            → ((map.get s.spaces slot ≡ None) × (map.get (next s e).spaces slot ≡ None))
+            ⊎ ((c : Cell) × (d : Cell) × (map.get s.spaces slot ≡ Some c)
+            × (map.get (next s e).spaces slot ≡ Some d))
+        own_both slot own None None a b = inl (a, b)
+        own_both slot own (Some c) (Some d) a b = inr (c, d, a, b)
+        own_both slot own None (Some d) a b = absurd
+            (let f = own_flags slot own in let g = ap (option_map flags_of) a in let h = ap (option_map flags_of) b in
+            let k : Some (flags_of d) ≡ None = sym h ∙ f ∙ g in cc)
+        own_both slot own (Some c) None a b = absurd
+            (let f = own_flags slot own in let g = ap (option_map flags_of) a in let h = ap (option_map flags_of) b in
+            let k : None ≡ Some (flags_of c) = sym h ∙ f ∙ g in cc)
+
+    bystands : (other : Slot) → sees s q other ≡ true → sees (next s e) q other ≡ true → Bystands s e (next s e) other
+    bystands other x y = elim (cases_eq other.pid e.pid) [
+      | inr apart ↦ inl apart
+      | inl is ↦ elim (seen_mapped s q other w x) [
+        | inl own ↦ absurd (d (sym (eqb-true other.pid q own) ∙ is))
+        | inr there ↦ elim (seen_mapped (next s e) q other well y) [
+          | inl own ↦ absurd (d (sym (eqb-true other.pid q own) ∙ is))
+          | inr still ↦ inr (ap is_some there.1, ap is_some still.1)
+        ]
+      ]
+    ]

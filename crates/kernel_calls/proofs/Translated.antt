@@ -1,0 +1,553 @@
+-- Which walks find the same frame after an event.
+use Rattle.std.proofs.Common.{
+  ◌≡◌,
+  ◌≢◌,
+  ◌<◌,
+  ◌^◌,
+  ℕ,
+  Bool,
+  true,
+  false,
+  not,
+  ◌&&◌,
+  ◌||◌,
+  ◌==◌,
+  List,
+  [],
+  ◌∷◌,
+  refl,
+  ap,
+  sym,
+  ◌∙◌,
+  subst,
+  arith,
+  inl,
+  inr,
+  Option,
+  Some,
+  None,
+}
+use Rattle.std.specs.Prelude.{if◌then◌else◌, is_some, MatchBool, Ok}
+use Rattle.std.specs.Option.{option_map, unwrap_or}
+use Rattle.page_words.specs.Addresses.{IsUserPage, page_number, start_number, second_page}
+use Rattle.page_words.specs.declared.addresses.Size.{Size}
+use Rattle.page_words.specs.FiniteMap as map
+use Rattle.page_words.proofs.MapLemmas.{same-true, same_itself}
+use Rattle.page_words.specs.Words.{frame_number}
+use Rattle.table_walk.specs.declared.Access.{Access}
+use Rattle.table_walk.specs.declared.Access.TheVariants.{Read, Write}
+use Rattle.table_walk.specs.Walk.{walk_of, is_write, not_present, not_allowed}
+use Rattle.address_space.specs.Image as memory
+use Rattle.address_space.specs.Image.{directory_at, page_word, is_lazy_at, takes_stores, SlotStands}
+use Rattle.address_space.specs.Spaces.{
+  Slot,
+  slot_order,
+  Cell,
+  Spaces,
+  at_page,
+  slot_at,
+  is_slot,
+  is_of,
+  cell_or_fresh,
+  fresh,
+}
+use Rattle.address_space.specs.Stays.{way_of, FramesStay, WaysAgree, of_lazy}
+use Rattle.address_space.specs.Walks.{FindsBytes, WalkEndsBy, WalksAgree}
+use Rattle.address_space.proofs.standing.FramesStand.{way_parts}
+use Rattle.process_table.specs.Image.{StandsFor, image_of, memory_of}
+use Rattle.process_table.specs.State.{State, is_live, is_mapped}
+use Rattle.process_table.specs.View.{View}
+use Rattle.process_table.specs.WellFormed.{IsWellFormed}
+use Rattle.process_table.specs.declared.causes.Cause.TheVariants as cause
+use Rattle.fault_handler.specs.Plans.{goes_on, plan_at, step_at, takes_no_frame}
+use Rattle.fault_handler.specs.Fills.{lazy_second, lazy_touched}
+use Rattle.fault_handler.specs.declared.plans.PageStep.{PageStep}
+use Rattle.fault_handler.specs.declared.plans.PageStep.TheVariants as step
+use Rattle.fault_handler.specs.declared.plans.Plan.{Plan}
+use Rattle.fault_handler.proofs.Settled.{ready}
+use Rattle.kernel_calls.specs.Machine.{answer, answer_of, after, next, completes}
+use Rattle.kernel_calls.specs.Decisions.{decision_of, plan_of_call, plan_of_event}
+use Rattle.kernel_calls.specs.declared.calls.Decision.{Decision}
+use Rattle.process_table.proofs.Refusals.{may_accept}
+use Rattle.process_table.proofs.SharingLaws.{giver_user}
+use Rattle.kernel_calls.specs.Walked.{finds_call, finds_event}
+use Rattle.fault_handler.specs.declared.plans.Plan.TheVariants as plan
+use Rattle.kernel_calls.specs.Translations.{
+  is_ended,
+  page_filled,
+  second_filled,
+  of_pages,
+  of_plan,
+  of_call,
+  ended_by,
+  TranslationsStay,
+  FlagsStay,
+  Translation,
+  IsGiven,
+  AreGiven,
+  left_by,
+  KeepsThrough,
+}
+use Rattle.kernel_calls.specs.declared.translations.Ended.{Ended}
+use Rattle.kernel_calls.specs.Gone.{gone_of_call, gone_by}
+use Rattle.kernel_calls.specs.declared.calls.Call.{Call}
+use Rattle.kernel_calls.specs.declared.calls.Call.TheVariants as call
+use Rattle.kernel_calls.specs.declared.calls.Event.{Event}
+use Rattle.kernel_calls.specs.declared.calls.Reply.{Reply}
+use Rattle.kernel_calls.specs.declared.calls.Reply.TheVariants as reply
+use Rattle.kernel_calls.specs.declared.translations.Ended.TheVariants as end
+use Rattle.kernel_calls.proofs.Decided.{goes-event, goes-decided, next-stays, next-goes}
+use Rattle.kernel_calls.proofs.Flags.{
+  IsFlag,
+  has,
+  not_refused,
+  own,
+  right_is_flag,
+  accessed_is_flag,
+  dirty_is_flag,
+  Spared,
+  keeps_call,
+}
+use borrow.Author.Tests.{eqb-true, eq-eqb}
+
+-- ---- Tests
+
+neither : (a b : Bool) → (a || b) ≡ false → (a ≡ false) × (b ≡ false)
+neither false false h = (refl, refl)
+neither false true h = cc
+neither true b h = cc
+
+-- what completes is of a live process
+pub live_answer : (s : State) (e : Event) → completes (answer s e) ≡ true
+    → (is_live s e.pid ≡ true) × (completes (answer_of s e.pid e.call) ≡ true)
+live_answer s e h = by (is_live s e.pid) refl h
+  where
+    by : (b : Bool) → is_live s e.pid ≡ b → completes
+        (if b then answer_of s e.pid e.call else reply.Refused cause.NoProcess) ≡ true
+        → (is_live s e.pid ≡ true) × (completes (answer_of s e.pid e.call) ≡ true)
+    by true is k = (is, k)
+    by false is k = cc
+
+-- ---- A slot that has a way
+
+module _ (v : View) (stands : StandsFor (image_of v) v.state) (walks : WalksAgree (memory_of v) v.state.spaces)
+    (ways : WaysAgree (memory_of v)) where
+  -- is mapped
+  pub way_mapped : (slot : Slot) (d f : ℕ) → way_of (memory_of v) slot ≡ Some (d, f)
+      → (c : Cell) × (map.get v.state.spaces slot ≡ Some c)
+  way_mapped slot d f way = by (page_word (memory_of v) slot) (map.get v.state.spaces slot) refl
+      (way_parts (memory_of v) slot d f way).names (stands.memory.cells slot)
+    where
+      by : (x : Option ℕ) (y : Option Cell) → map.get v.state.spaces slot ≡ y → option_map frame_number x ≡ Some f
+          → SlotStands (memory_of v) slot x y → (c : Cell) × (map.get v.state.spaces slot ≡ Some c)
+      by None y is names h = cc
+      by (Some w) None is names h = absurd h
+      by (Some w) (Some c) is names h = (c, is)
+
+  -- where the walk of a write finds a frame, the slot takes stores
+  pub walk_takes : (p d a f : ℕ) → directory_at (memory_of v) p ≡ Some d → a < 2 ^ 32 → walk_of v.bytes d a Write ≡ Ok f
+      → takes_stores v.state.spaces (memory_of v) (slot_at p a) ≡ true
+  walk_takes p d a f live small walk = by (map.get v.state.spaces (slot_at p a)) refl (walks p d a Write live small)
+    where
+      lazy : Bool
+      lazy = is_lazy_at (memory_of v) (slot_at p a)
+
+      by_right : (c : Cell) (b : Bool) → (c.write && not lazy) ≡ b → map.get v.state.spaces (slot_at p a) ≡ Some c
+          → MatchBool (not b) (walk_of v.bytes d a Write ≡ not_allowed a Write) (FindsBytes v.bytes d a Write c)
+          → takes_stores v.state.spaces (memory_of v) (slot_at p a) ≡ true
+      by_right c true right is h = ap (λ (x : Option Cell).
+          is_some x && ((unwrap_or x (fresh (slot_at p a) true)).write && not lazy)) is ∙ right
+      by_right c false right is h = absurd (let k : Ok f ≡ not_allowed a Write = sym walk ∙ h in cc)
+
+      by : (x : Option Cell) → map.get v.state.spaces (slot_at p a) ≡ x → WalkEndsBy v.bytes d a Write lazy x
+          → takes_stores v.state.spaces (memory_of v) (slot_at p a) ≡ true
+      by None is h = absurd (let k : Ok f ≡ not_present a Write = sym walk ∙ h in cc)
+      by (Some c) is h = by_right c (c.write && not lazy) refl is h
+
+  -- where a slot with a way has the right, or for a read, its walk finds the way's frame
+  pub walk_finds : (p d a f : ℕ) (access : Access) → a < 2 ^ 32 → way_of (memory_of v) (slot_at p a) ≡ Some (d, f)
+      → (access ≡ Write → (has (λ c. c.write) (map.get v.state.spaces (slot_at p a)) ≡ true)
+      × (is_lazy_at (memory_of v) (slot_at p a) ≡ false))
+      → walk_of v.bytes d a access ≡ Ok f
+  walk_finds p d a f access small way right = at (map.get v.state.spaces (slot_at p a)) cell.1
+      (walks p d a access live small) right
+    where
+      live : directory_at (memory_of v) p ≡ Some d
+      live = (way_parts (memory_of v) (slot_at p a) d f way).live
+
+      cell : (c : Cell) × (map.get v.state.spaces (slot_at p a) ≡ Some c)
+      cell = way_mapped (slot_at p a) d f way
+
+      lazy : Bool
+      lazy = is_lazy_at (memory_of v) (slot_at p a)
+
+      same : (x : ℕ) → walk_of v.bytes d a access ≡ Ok x → walk_of v.bytes d a access ≡ Ok f
+      same x found =
+          let k : ◌≡◌ {A = Option (ℕ × ℕ)} (Some (d, x)) (Some (d, f)) = sym (ways.lead p d a x access live small found)
+          ∙ way in
+          let e : ◌≡◌ {A = Option ℕ} (Some x) (Some f) = ap (option_map (λ (q : ℕ × ℕ). q.1)) k in
+          let is : x ≡ f = cc in
+          found ∙ ap Ok is
+
+      may : (c : Cell) (k : Access) → (k ≡ Write → (c.write ≡ true) × (lazy ≡ false))
+          → (is_write k && not (c.write && not lazy)) ≡ false
+      may c Read h = refl
+      may c Write h = let r = h refl in (λ i. not (r.0 i && not (r.1 i)))
+
+      at : (x : Option Cell) → x ≡ Some cell.0 → WalkEndsBy v.bytes d a access lazy x
+          → (access ≡ Write → (has (λ c. c.write) x ≡ true) × (lazy ≡ false)) → walk_of v.bytes d a access ≡ Ok f
+      at None is h r = cc
+      at (Some c) is h r =
+          let found : FindsBytes v.bytes d a access c =
+          subst (λ b. MatchBool b (walk_of v.bytes d a access ≡ not_allowed a access)
+          (FindsBytes v.bytes d a access c)) (may c access r) h in
+          same found.frame found.found
+
+  -- ---- Ways that an event leaves
+
+  -- whether a page is that of a slot, where there is one
+  abbrev pub named : ℕ → Option ℕ → Slot → Bool
+  named p None slot = false
+  named p (Some page) slot = is_slot p page slot
+
+  ended_pages : (p : ℕ) (x y : Option ℕ) (slot : Slot) → is_ended (of_pages p x y) slot ≡ false
+      → (named p x slot ≡ false) × (named p y slot ≡ false)
+  ended_pages p None None slot h = (refl, refl)
+  ended_pages p (Some page) None slot h = (h, refl)
+  ended_pages p None (Some page) slot h = (refl, h)
+  ended_pages p (Some first) (Some second) slot h = neither (is_slot p first slot) (is_slot p second slot) h
+
+  -- a lazy page of a store that isn't ended isn't there
+  page_spared : (p page : ℕ) (slot : Slot) (d f : ℕ) → way_of (memory_of v) slot ≡ Some (d, f)
+      → named p (page_filled page (step_at v p Write page)) slot ≡ false → of_lazy p page slot f ≡ false
+  page_spared p page slot d f way stays = by (is_slot p page slot) refl (f == 0) refl
+    where
+      by : (a : Bool) → is_slot p page slot ≡ a → (b : Bool) → (f == 0) ≡ b → (a && b) ≡ false
+      by false is b zero = refl
+      by true is false zero = refl
+      by true is true zero = absurd (
+          let here : at_page p page ≡ slot = same-true slot_order (at_page p page) slot is in
+          let mapped : is_mapped v.state (at_page p page) ≡ true = ap (λ s. is_some (map.get v.state.spaces s)) here
+          ∙ ap is_some (way_mapped slot d f way).1 in
+          let lazy : is_lazy_at (memory_of v) (at_page p page) ≡ true = ap (is_lazy_at (memory_of v)) here
+          ∙ ways.lazy slot d f way ∙ zero in
+          let fills : step_at v p Write page ≡ step.Fill =
+          (λ i. if not (mapped i) then step.MapZero else if lazy i then step.Fill else step.Complete) in
+          let k : false ≡ true = sym stays ∙ ap (λ h. named p (page_filled page h) slot) fills ∙ is in
+          cc)
+
+  store_spared : (p addr : ℕ) (size : Size) (slot : Slot) (d f : ℕ) → way_of (memory_of v) slot ≡ Some (d, f)
+      → goes_on (plan_at v p addr size Write) ≡ true
+      → is_ended (of_plan p addr size (plan_at v p addr size Write)) slot ≡ false
+      → lazy_touched p addr size slot f ≡ false
+  store_spared p addr size slot d f way goes stays =
+      let is = (ready (step_at v p Write) v.state p addr size Write goes).is in
+      let parts = ended_pages p (page_filled (page_number addr) (step_at v p Write (page_number addr)))
+      (second_filled (second_page addr size) (option_map (step_at v p Write) (second_page addr size))) slot
+      (sym (ap (λ x. is_ended (of_plan p addr size x) slot) is) ∙ stays) in
+      let first = page_spared p (page_number addr) slot d f way parts.0 in
+      let second = by (second_page addr size) parts.1 in
+      (λ i. first i || second i)
+    where
+      by : (x : Option ℕ) → named p (second_filled x (option_map (step_at v p Write) x)) slot ≡ false
+          → lazy_second p x slot f ≡ false
+      by None h = refl
+      by (Some page) h = page_spared p page slot d f way h
+
+  accept_spared : (giver giver_page : ℕ) (slot : Slot) (d f : ℕ) → way_of (memory_of v) slot ≡ Some (d, f)
+      → is_ended (if is_lazy_at (memory_of v) (at_page giver giver_page) then end.Page giver giver_page
+      else end.Nothing) slot ≡ false → of_lazy giver giver_page slot f ≡ false
+  accept_spared giver giver_page slot d f way stays = by (is_slot giver giver_page slot) refl (f == 0) refl
+    where
+      by : (a : Bool) → is_slot giver giver_page slot ≡ a → (b : Bool) → (f == 0) ≡ b → (a && b) ≡ false
+      by false is b zero = refl
+      by true is false zero = refl
+      by true is true zero = absurd (
+          let here : at_page giver giver_page ≡ slot = same-true slot_order (at_page giver giver_page) slot is in
+          let lazy : is_lazy_at (memory_of v) (at_page giver giver_page) ≡ true = ap (is_lazy_at (memory_of v)) here
+          ∙ ways.lazy slot d f way ∙ zero in
+          let k : false ≡ true = sym stays ∙ ap (λ b. is_ended (if b then end.Page giver giver_page else end.Nothing)
+          slot) lazy ∙ is in
+          cc)
+
+  -- a slot that a call that completes doesn't end keeps its way
+  call_spared : (p : ℕ) (c : Call) (slot : Slot) (d f : ℕ) → way_of (memory_of v) slot ≡ Some (d, f)
+      → ((addr : ℕ) (size : Size) (value : ℕ) → c ≡ call.Store addr size value
+      → goes_on (plan_at v p addr size Write) ≡ true)
+      → is_ended (of_call v p c) slot ≡ false → gone_of_call p c slot f ≡ false
+  call_spared p (call.Load addr size) slot d f way goes stays = refl
+  call_spared p (call.Store addr size value) slot d f way goes stays =
+      store_spared p addr size slot d f way (goes addr size value refl) stays
+  call_spared p (call.Map page write) slot d f way goes stays = refl
+  call_spared p (call.Unmap page) slot d f way goes stays = stays
+  call_spared p (call.Protect page write) slot d f way goes stays = refl
+  call_spared p (call.Info page) slot d f way goes stays = refl
+  call_spared p (call.Offer page target write) slot d f way goes stays = refl
+  call_spared p (call.Withdraw page target) slot d f way goes stays = refl
+  call_spared p (call.Accept giver giver_page page) slot d f way goes stays =
+      accept_spared giver giver_page slot d f way stays
+  call_spared p (call.Spawn quota) slot d f way goes stays = refl
+  call_spared p (call.Fork quota) slot d f way goes stays = refl
+  call_spared p call.Exit slot d f way goes stays = stays
+  call_spared p call.Quota slot d f way goes stays = refl
+
+  event_spared : (e : Event) (slot : Slot) (d f : ℕ) → way_of (memory_of v) slot ≡ Some (d, f)
+      → is_ended (ended_by v e) slot ≡ false → gone_by v.state e slot f ≡ false
+  event_spared e slot d f way stays = by (completes (answer v.state e)) refl stays
+    where
+      by : (b : Bool) → completes (answer v.state e) ≡ b
+          → is_ended (if b then of_call v e.pid e.call else end.Nothing) slot ≡ false
+          → (if b then gone_of_call e.pid e.call slot f else false) ≡ false
+      by false is h = refl
+      by true is h =
+          call_spared e.pid e.call slot d f way
+          (λ addr size value store.
+          let live = (live_answer v.state e is).0 in
+          sym (ap (λ c. goes_on (plan_of_call v e.pid c)) store)
+          ∙ sym (ap (λ b. goes_on (if b then plan_of_call v e.pid e.call else plan.Refused cause.NoProcess)) live)
+          ∙ goes-event v e ∙ is) h
+
+  -- ---- Rights that an event leaves
+
+  right_spared : (p : ℕ) (c : Call) (slot : Slot) → takes_stores v.state.spaces (memory_of v) slot ≡ true
+      → is_ended (of_call v p c) slot ≡ false → Spared (λ c. c.write) right_is_flag v.state p c slot
+  right_spared p (call.Load addr size) slot takes stays = tt
+  right_spared p (call.Store addr size value) slot takes stays = tt
+  right_spared p (call.Map page write) slot takes stays = tt
+  right_spared p (call.Unmap page) slot takes stays = stays
+  right_spared p (call.Protect page true) slot takes stays = λ here. refl
+  right_spared p (call.Protect page false) slot takes stays = λ here. absurd (
+      let test : takes_stores v.state.spaces (memory_of v) (at_page p page) ≡ true =
+      sym (ap (takes_stores v.state.spaces (memory_of v)) here) ∙ takes in
+      let own : is_slot p page slot ≡ true = ap (is_slot p page) here ∙ same_itself slot_order (at_page p page) in
+      let k : false ≡ true = sym stays ∙ ap (λ b. is_ended (if b then end.Page p page else end.Nothing) slot) test
+      ∙ own in
+      cc)
+  right_spared p (call.Info page) slot takes stays = tt
+  right_spared p (call.Offer page target write) slot takes stays = tt
+  right_spared p (call.Withdraw page target) slot takes stays = tt
+  right_spared p (call.Accept giver giver_page page) slot takes stays = tt
+  right_spared p (call.Spawn quota) slot takes stays = tt
+  right_spared p (call.Fork quota) slot takes stays = tt
+  right_spared p call.Exit slot takes stays = stays
+  right_spared p call.Quota slot takes stays = tt
+
+  pub has_right : (slot : Slot) → takes_stores v.state.spaces (memory_of v) slot ≡ true
+      → (has (λ c. c.write) (map.get v.state.spaces slot) ≡ true) × (is_lazy_at (memory_of v) slot ≡ false)
+  has_right slot takes = by (map.get v.state.spaces slot) (is_lazy_at (memory_of v) slot) refl takes
+    where
+      by : (x : Option Cell) (b : Bool) → is_lazy_at (memory_of v) slot ≡ b
+          → (is_some x && ((unwrap_or x (fresh slot true)).write && not b)) ≡ true
+          → (has (λ c. c.write) x ≡ true) × (is_lazy_at (memory_of v) slot ≡ false)
+      by None b is h = cc
+      by (Some c) b is h = both c.write b is h refl
+        where
+          both : (w b : Bool) → is_lazy_at (memory_of v) slot ≡ b → (w && not b) ≡ true → c.write ≡ w
+              → (c.write ≡ true) × (is_lazy_at (memory_of v) slot ≡ false)
+          both true false is h same = (same, is)
+          both true true is h same = cc
+          both false b is h same = cc
+
+  right_stays : (e : Event) (slot : Slot) → IsWellFormed v.state → takes_stores v.state.spaces (memory_of v) slot ≡ true
+      → is_ended (ended_by v e) slot ≡ false → has (λ c. c.write) (map.get (next v.state e).spaces slot) ≡ true
+  right_stays e slot w takes stays = by (completes (answer v.state e)) refl stays
+    where
+      by : (b : Bool) → completes (answer v.state e) ≡ b
+          → is_ended (if b then of_call v e.pid e.call else end.Nothing) slot ≡ false
+          → has (λ c. c.write) (map.get (next v.state e).spaces slot) ≡ true
+      by false is h = ap (λ (t : State). has (λ c. c.write) (map.get t.spaces slot)) (next-stays v.state e is)
+          ∙ (has_right slot takes).0
+      by true is h =
+          ap (λ (t : State). has (λ c. c.write) (map.get t.spaces slot)) (next-goes v.state e is)
+          ∙ keeps_call (λ c. c.write) right_is_flag v.state e.pid e.call slot w (live_answer v.state e is).1
+          (right_spared e.pid e.call slot takes h) (has_right slot takes).0
+
+-- each walk that finds a frame and isn't ended finds it afterwards
+pub translations_stay : (v w : View) (e : Event) → StandsFor (image_of v) v.state
+    → WalksAgree (memory_of v) v.state.spaces → WaysAgree (memory_of v) → IsWellFormed v.state
+    → StandsFor (image_of w) w.state → WalksAgree (memory_of w) w.state.spaces → WaysAgree (memory_of w)
+    → w.state ≡ next v.state e → FramesStay (gone_by v.state e) (memory_of v) (memory_of w)
+    → TranslationsStay (ended_by v e) (memory_of v) (memory_of w)
+translations_stay v w e stands walks ways well stands' walks' ways' state stay p d a f access live small stays walk =
+    let slot = slot_at p a in
+    let way : way_of (memory_of v) slot ≡ Some (d, f) = ways.lead p d a f access live small walk in
+    let way' : way_of (memory_of w) slot ≡ Some (d, f) =
+    stay slot d f (event_spared v stands walks ways e slot d f way stays) way in
+    let lazy : is_lazy_at (memory_of w) slot ≡ is_lazy_at (memory_of v) slot = ways'.lazy slot d f way'
+    ∙ sym (ways.lazy slot d f way) in (
+      (way_parts (memory_of w) slot d f way').live,
+      walk_finds w stands' walks' ways' p d a f access small way'
+          (λ is.
+          let takes = walk_takes v stands walks ways p d a f live small (ap (walk_of v.bytes d a) (sym is) ∙ walk) in (
+            ap (λ (t : State). has (λ c. c.write) (map.get t.spaces slot)) state
+                ∙ right_stays v stands walks ways e slot well takes stays,
+            lazy
+                ∙ (has_right v stands walks ways slot takes).1,
+          )),
+    )
+
+-- ---- Flags
+
+-- a slot that isn't ended and has a flag that is no right is spared by its call
+flag_spared : (flag : Cell → Bool) (F : IsFlag flag) → ((c : Cell) (w : Bool) → flag (record c { write = w }) ≡ flag c)
+    → (v : View) (p : ℕ) (c : Call) (slot : Slot) → has flag (map.get v.state.spaces slot) ≡ true
+    → is_ended (of_call v p c) slot ≡ false → Spared flag F v.state p c slot
+flag_spared flag F alike v p (call.Load addr size) slot h stays = tt
+flag_spared flag F alike v p (call.Store addr size value) slot h stays = tt
+flag_spared flag F alike v p (call.Map page write) slot h stays = tt
+flag_spared flag F alike v p (call.Unmap page) slot h stays = stays
+flag_spared flag F alike v p (call.Protect page write) slot h stays = λ here.
+    alike (cell_or_fresh v.state.spaces (at_page p page)) write
+    ∙ own flag F v.state.spaces (at_page p page) (sym (ap (λ q. has flag (map.get v.state.spaces q)) here) ∙ h)
+flag_spared flag F alike v p (call.Info page) slot h stays = tt
+flag_spared flag F alike v p (call.Offer page target write) slot h stays = tt
+flag_spared flag F alike v p (call.Withdraw page target) slot h stays = tt
+flag_spared flag F alike v p (call.Accept giver giver_page page) slot h stays = tt
+flag_spared flag F alike v p (call.Spawn quota) slot h stays = tt
+flag_spared flag F alike v p (call.Fork quota) slot h stays = tt
+flag_spared flag F alike v p call.Exit slot h stays = stays
+flag_spared flag F alike v p call.Quota slot h stays = tt
+
+flag_stays : (flag : Cell → Bool) → IsFlag flag → ((c : Cell) (w : Bool) → flag (record c { write = w }) ≡ flag c)
+    → (v : View) (e : Event) (slot : Slot) → IsWellFormed v.state → is_ended (ended_by v e) slot ≡ false
+    → has flag (map.get v.state.spaces slot) ≡ true → has flag (map.get (next v.state e).spaces slot) ≡ true
+flag_stays flag F alike v e slot w stays h = by (completes (answer v.state e)) refl stays
+  where
+    by : (b : Bool) → completes (answer v.state e) ≡ b
+        → is_ended (if b then of_call v e.pid e.call else end.Nothing) slot ≡ false
+        → has flag (map.get (next v.state e).spaces slot) ≡ true
+    by false is k = ap (λ (t : State). has flag (map.get t.spaces slot)) (next-stays v.state e is) ∙ h
+    by true is k =
+        ap (λ (t : State). has flag (map.get t.spaces slot)) (next-goes v.state e is)
+        ∙ keeps_call flag F v.state e.pid e.call slot w (live_answer v.state e is).1
+        (flag_spared flag F alike v e.pid e.call slot h k) h
+
+pub flags_stay : (v w : View) (e : Event) → IsWellFormed v.state → w.state ≡ next v.state e
+    → FlagsStay (ended_by v e) v.state w.state
+flags_stay v w e well state slot c stays there =
+    let mapped = flag_stays (λ _. true) (record {
+      accessed = λ c h. refl;
+      stored = λ c b h. refl;
+      bytes = λ c b.
+          refl;
+      holders = λ c g. refl;
+    }) (λ c w. refl) v e slot well stays (ap (has (λ _. true)) there) in
+    let cell = some_cell (map.get (next v.state e).spaces slot) mapped in (
+      cell.0,
+      ap (λ (t : State). map.get t.spaces slot) state ∙ cell.1,
+      λ h. sym (ap (has (λ c. c.accessed)) cell.1) ∙ flag_stays (λ c. c.accessed) accessed_is_flag (λ c w. refl) v e
+          slot
+          well stays (ap (has (λ c. c.accessed)) there ∙ h),
+      λ h. sym (ap (has (λ c. c.dirty)) cell.1) ∙ flag_stays (λ c. c.dirty) dirty_is_flag (λ c w. refl) v e slot well
+          stays (ap (has (λ c. c.dirty)) there ∙ h),
+    )
+  where
+    some_cell : (x : Option Cell) → has (λ _. true) x ≡ true → (d : Cell) × (x ≡ Some d)
+    some_cell None h = cc
+    some_cell (Some d) h = (d, refl)
+
+-- ---- What is kept
+
+-- what is given stays given, where it isn't invalidated
+given_stays : (ended : Ended) (old new : memory.Image) (t : Translation) → TranslationsStay ended old new
+    → is_ended ended t.slot ≡ false → IsGiven old t → IsGiven new t
+given_stays ended old new t stay spared given = record {
+  page = given.page;
+  directory = given.directory;
+  live = (stay t.slot.pid given.directory first t.frame Read given.live first_small (at first first_page)
+      (given.read first first_small first_page)).0;
+  read = λ a small page. (stay t.slot.pid given.directory a t.frame Read given.live small (at a page)
+      (given.read a small page)).1;
+  written = λ w a small page. (stay t.slot.pid given.directory a t.frame Write given.live small (at a page)
+      (given.written w a small page)).1;
+}
+  where
+    first : ℕ
+    first = start_number t.slot.page
+
+    first_small : first < 2 ^ 32
+    first_small = let l = given.page in omega (arith, l)
+
+    first_page : page_number first ≡ t.slot.page
+    first_page = omega arith
+
+    at : (a : ℕ) → page_number a ≡ t.slot.page → is_ended ended (slot_at t.slot.pid a) ≡ false
+    at a page = ap (λ n. is_ended ended (at_page t.slot.pid n)) page ∙ spared
+
+pub left_given : (ended : Ended) (old new : memory.Image) (kept : List Translation) → TranslationsStay ended old new
+    → AreGiven old kept → AreGiven new (left_by ended kept)
+left_given ended old new [] stay given = tt
+left_given ended old new (t ∷ kept) stay given =
+    by (is_ended ended t.slot) refl (left_given ended old new kept stay given.1)
+  where
+    by : (b : Bool) → is_ended ended t.slot ≡ b → AreGiven new (left_by ended kept)
+        → AreGiven new (if b then left_by ended kept else t ∷ left_by ended kept)
+    by true is rest = rest
+    by false is rest = (given_stays ended old new t stay is given.0, rest)
+
+-- ---- An access that a processor makes by its walk
+
+of_frameless : (p address : ℕ) (size : Size) (x : Plan) → takes_no_frame x ≡ true
+    → of_plan p address size x ≡ end.Nothing
+of_frameless p address size (plan.Refused k) h = refl
+of_frameless p address size (plan.Fault f) h = refl
+of_frameless p address size (plan.Ready step.Complete None) h = by (second_page address size)
+  where
+    by : (x : Option ℕ) → of_pages p None (second_filled x None) ≡ end.Nothing
+    by None = refl
+    by (Some page) = refl
+of_frameless p address size (plan.Ready step.Complete (Some step.Complete)) h = by (second_page address size)
+  where
+    by : (x : Option ℕ) → of_pages p None (second_filled x (Some step.Complete)) ≡ end.Nothing
+    by None = refl
+    by (Some page) = refl
+of_frameless p address size (plan.Ready step.Complete (Some step.MapZero)) h = cc
+of_frameless p address size (plan.Ready step.Complete (Some step.Fill)) h = cc
+of_frameless p address size (plan.Ready step.MapZero second) h = cc
+of_frameless p address size (plan.Ready step.Fill second) h = cc
+
+call_ends_none : (v : View) (p : ℕ) (c : Call) → finds_call v p c ≡ true → takes_no_frame (plan_of_call v p c) ≡ true
+    → of_call v p c ≡ end.Nothing
+call_ends_none v p (call.Load addr size) found h = refl
+call_ends_none v p (call.Store addr size value) found h = of_frameless p addr size (plan_at v p addr size Write) h
+call_ends_none v p (call.Map page write) found h = refl
+call_ends_none v p (call.Unmap page) found h = cc
+call_ends_none v p (call.Protect page write) found h = cc
+call_ends_none v p (call.Info page) found h = refl
+call_ends_none v p (call.Offer page target write) found h = refl
+call_ends_none v p (call.Withdraw page target) found h = refl
+call_ends_none v p (call.Accept giver giver_page page) found h = cc
+call_ends_none v p (call.Spawn quota) found h = refl
+call_ends_none v p (call.Fork quota) found h = refl
+call_ends_none v p call.Exit found h = cc
+call_ends_none v p call.Quota found h = refl
+
+-- it ends no translation
+pub accessed_ends_none : (v : View) (e : Event) → finds_event v e ≡ true → takes_no_frame (plan_of_event v e) ≡ true
+    → ended_by v e ≡ end.Nothing
+accessed_ends_none v e found h = by (completes (answer v.state e)) refl
+  where
+    by : (b : Bool) → completes (answer v.state e) ≡ b
+        → (if b then of_call v e.pid e.call else end.Nothing) ≡ end.Nothing
+    by false is = refl
+    by true is = call_ends_none v e.pid e.call found
+        (sym (ap (λ b. takes_no_frame (if b then plan_of_call v e.pid e.call else plan.Refused cause.NoProcess))
+        (live_answer v.state e is).0) ∙ h)
+
+-- ---- What is accepted is of the user range
+
+pub accept_user : (v : View) (d : Decision) (giver giver_page page : ℕ) → IsWellFormed v.state
+    → d ≡ decision_of v d.event → goes_on d.plan ≡ true → d.event.call ≡ call.Accept giver giver_page page
+    → IsUserPage giver_page
+accept_user v d giver giver_page page w decided goes accepts =
+    let done = (live_answer v.state d.event (goes-decided v d true decided goes)).1 in
+    let allowed = not_refused _ _ (sym (ap (λ c. completes (answer_of v.state d.event.pid c)) accepts) ∙ done) in
+    giver_user v.state d.event.pid giver giver_page w
+    (may_accept v.state d.event.pid giver giver_page page allowed).there
+
+-- ---- One event after another
+
+pub kept_through : KeepsThrough
+kept_through [] a b kept same given = subst (λ image. AreGiven image kept) same given
+kept_through (ended ∷ more) a b kept steps given =
+    kept_through more steps.0 b (left_by ended kept) steps.2 (left_given ended a steps.0 kept steps.1 given)

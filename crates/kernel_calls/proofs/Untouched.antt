@@ -1,0 +1,512 @@
+-- What an event leaves of the other processes.
+use Rattle.std.proofs.Common.{
+  ◌≡◌,
+  ◌≢◌,
+  ℕ,
+  ◌&&◌,
+  ◌||◌,
+  ◌==◌,
+  not,
+  Bool,
+  true,
+  false,
+  cond,
+  refl,
+  sym,
+  ap,
+  subst,
+  ◌∙◌,
+  Option,
+  Some,
+  None,
+  is_some,
+  unwrap_or,
+  arith,
+  inl,
+  inr,
+}
+use Rattle.std.specs.Prelude.{◌⊎◌, if◌then◌else◌, slice_index}
+use Rattle.std.specs.Option.{option_map}
+use Rattle.std.proofs.lemmas.Bool.{ne_eqb}
+use Rattle.std.proofs.lemmas.Option.{same_Some}
+use Rattle.page_words.specs.Addresses.{byte_count, touched}
+use Rattle.page_words.specs.declared.addresses.Size.{Size}
+use Rattle.page_words.specs.FiniteMap as map
+use Rattle.page_words.specs.FiniteMap.{same}
+use Rattle.page_words.specs.FiniteSet as set
+use Rattle.page_words.specs.FiniteSet.{Set}
+use Rattle.page_words.proofs.MapLemmas.{get-insert, get-map_values, contains-insert, get-retain_keys}
+use Rattle.page_words.proofs.OptionLemmas.{some_value, no_value, is_some-map}
+use Rattle.page_words.proofs.SetLemmas.{same_cases, same_apart, get-remove_other, get-removed}
+use Rattle.address_space.specs.Spaces.{
+  Slot,
+  slot_order,
+  Cell,
+  Spaces,
+  cost_of,
+  fresh,
+  cell_or_fresh,
+  with_holders,
+  set_holders,
+  bytes_of,
+  is_slot,
+  is_of,
+  at_page,
+  accessed,
+  with_pages,
+  all_stored,
+  joined,
+  copied,
+}
+use Rattle.address_space.proofs.costs.Costs.{same_pages}
+use Rattle.address_space.proofs.costs.Copied.{copied-other}
+use Rattle.quota_tree.specs.Book.{Member, given, is_child, number_of_children}
+use Rattle.quota_tree.proofs.BookFacts.{child_no, get-insert_other}
+use Rattle.quota_tree.proofs.Sums.{given-insert, given-remove, number-insert, number-remove}
+use Rattle.page_sharing.specs.Offers.{OfferKey, Offers, offer_order, offer_of}
+use Rattle.process_table.specs.State.{State, is_live, child_of}
+use Rattle.process_table.specs.Calls.{
+  accept_refusal,
+  spawn_refusal,
+  fork_refusal,
+  offered,
+  after_load,
+  after_store,
+  after_unmap,
+  after_offer,
+  after_withdraw,
+  after_accept,
+  after_exit,
+}
+use Rattle.process_table.specs.WellFormed.{IsWellFormed}
+use Rattle.process_table.proofs.ApartOthers.{child_free, live_differ}
+use Rattle.process_table.proofs.CellLaws.{get-inserted_other}
+use Rattle.process_table.proofs.Forks.{may_fork}
+use Rattle.process_table.proofs.Refusals.{may_accept}
+use Rattle.process_table.proofs.SharingLaws.{giver_mapped}
+use Rattle.kernel_calls.specs.Authority.{
+  flags_of,
+  flags_at,
+  byte_in,
+  shares,
+  IsStoreInto,
+  IsChildsExit,
+  EndsOffer,
+  IsUntouched,
+  Integrity,
+}
+use Rattle.kernel_calls.specs.Machine.{answer, answer_of, after, next, completes}
+use Rattle.kernel_calls.specs.declared.calls.Call.{Call}
+use Rattle.kernel_calls.specs.declared.calls.Call.TheVariants as call
+use Rattle.kernel_calls.specs.declared.calls.Event.{Event}
+use Rattle.kernel_calls.specs.declared.calls.Reply.TheVariants as reply
+use Rattle.process_table.specs.declared.causes.Cause.TheVariants as cause
+use Rattle.kernel_calls.proofs.Decided.{next-stays, next-goes}
+use Rattle.kernel_calls.proofs.Runs.{not-refused}
+use borrow.Author.Tests.{eqb-true}
+use Rattle.kernel_calls.proofs.UntouchedSlots.{
+  kept_of,
+  kept_at,
+  kept_flags,
+  kept_bytes,
+  kept_shares,
+  of_others,
+  Rest,
+  rest_of,
+  insert_same,
+  pages_same,
+  accessed_same,
+  without_kept,
+  all_stored_rest,
+  store_bytes,
+}
+
+-- ---- A slot that joins a group
+
+module _ (s : State) (q giver giver_page page : ℕ) (right : Bool) (w : IsWellFormed s) (g : Cell)
+    (at : map.get s.spaces (at_page giver giver_page) ≡ Some g) where
+  abbrev pub wider : Set slot_order
+  wider = set.insert g.holders (at_page q page)
+
+  abbrev pub after_join : Spaces
+  after_join = joined s.spaces (at_page giver giver_page) (at_page q page) right
+
+  giver_is : cell_or_fresh s.spaces (at_page giver giver_page) ≡ g
+  giver_is = ap (λ (x : Option Cell). unwrap_or x (fresh (at_page giver giver_page) true)) at
+
+  abbrev pub widen : Slot → Cell → Cell
+  widen r c = if set.contains g.holders r then with_holders c wider else c
+
+  pub get_joined : (slot : Slot) → slot ≢ at_page q page
+      → map.get after_join slot ≡ option_map (widen slot) (map.get s.spaces slot)
+  get_joined slot d =
+      (let c : Cell = cell_or_fresh s.spaces (at_page giver giver_page) in
+      get-inserted_other (set_holders s.spaces c.holders (set.insert c.holders (at_page q page))) (at_page q page)
+      (record {
+        write = right;
+        may = right;
+        accessed = false;
+        dirty = false;
+        bytes = c.bytes;
+        holders =
+            set.insert c.holders (at_page q page);
+      }) slot d
+      ∙ ap (λ (x : Cell). map.get (set_holders s.spaces x.holders (set.insert x.holders (at_page q page))) slot)
+      giver_is)
+      ∙ get-map_values slot_order widen s.spaces slot
+
+  -- who is in the group of a slot of it, but for the new one
+  pub widen_kept : (slot other : Slot) (c : Cell) → map.get s.spaces slot ≡ Some c → other ≢ at_page q page
+      → kept_of other (widen slot c) ≡ kept_of other c
+  widen_kept slot other c here d = by (set.contains g.holders slot) refl
+    where
+      by : (b : Bool) → set.contains g.holders slot ≡ b
+          → kept_of other (if b then with_holders c wider else c) ≡ kept_of other c
+      by false out = refl
+      by true inside =
+          let o = (w.cells (at_page giver giver_page) g at).alike slot inside in
+          let group : c.holders ≡ g.holders = ap (λ (x : Cell). x.holders) (same_Some c o.0 (sym here ∙ o.1)) ∙ o.2 in
+          ap (λ b. (flags_of c, (c.bytes, b)))
+          (contains-insert g.holders (at_page q page) other
+          ∙ ap (λ b. b || set.contains g.holders other) (same_apart slot_order other (at_page q page) d)
+          ∙ ap (λ (h : Set slot_order). set.contains h other) (sym group))
+
+  pub joined_kept : (slot other : Slot) → slot ≢ at_page q page → other ≢ at_page q page
+      → kept_at after_join slot other ≡ kept_at s.spaces slot other
+  joined_kept slot other d o = ap (option_map (kept_of other)) (get_joined slot d) ∙ by (map.get s.spaces slot) refl
+    where
+      by : (x : Option Cell) → map.get s.spaces slot ≡ x
+          → option_map (kept_of other) (option_map (widen slot) x) ≡ option_map (kept_of other) x
+      by None is = refl
+      by (Some c) is = ap Some (widen_kept slot other c is o)
+
+-- ---- Integrity, call by call
+
+untouched : (s t : State) (e : Event) (p : ℕ)
+    → map.get t.book p ≡ map.get s.book p
+    → ((page : ℕ) → flags_at t (at_page p page) ≡ flags_at s (at_page p page))
+    → ((page place : ℕ) → (byte_in t (at_page p page) place ≡ byte_in s (at_page p page) place)
+    ⊎ IsStoreInto s e (at_page p page) place)
+    → ((page : ℕ) (other : Slot) → other.pid ≢ e.pid
+    → shares t (at_page p page) other ≡ shares s (at_page p page) other)
+    → (((given t.book p ≡ given s.book p) × (number_of_children t.book p ≡ number_of_children s.book p))
+    ⊎ IsChildsExit s e p)
+    → ((key : OfferKey) → key.offerer ≡ p → (map.get t.offers key ≡ map.get s.offers key)
+    ⊎ ((map.get t.offers key ≡ None) × EndsOffer e key))
+    → IsUntouched s t e p
+untouched s t e p member flags bytes holders given offers = record {
+  member = member;
+  flags = flags;
+  cost = ap cost_of (same_pages t.spaces s.spaces p p
+      (λ page. sym (is_some-map flags_of (map.get t.spaces (at_page p page))) ∙ ap is_some (flags page)
+      ∙ is_some-map flags_of (map.get s.spaces (at_page p page))));
+  bytes = bytes;
+  holders = holders;
+  given = given;
+  offers = offers;
+}
+
+kept_untouched : (s t : State) (e : Event) (p : ℕ) → p ≢ e.pid
+    → map.get t.book p ≡ map.get s.book p
+    → ((page : ℕ) (other : Slot) → other.pid ≢ e.pid
+    → kept_at t.spaces (at_page p page) other ≡ kept_at s.spaces (at_page p page) other)
+    → (((given t.book p ≡ given s.book p) × (number_of_children t.book p ≡ number_of_children s.book p))
+    ⊎ IsChildsExit s e p)
+    → ((key : OfferKey) → key.offerer ≡ p → (map.get t.offers key ≡ map.get s.offers key)
+    ⊎ ((map.get t.offers key ≡ None) × EndsOffer e key))
+    → IsUntouched s t e p
+kept_untouched s t e p d member kept given offers =
+    untouched s t e p member
+    (λ page. kept_flags s.spaces t.spaces (at_page p page) (at_page p page) (kept page (at_page p page) d))
+    (λ page place. inl (ap (λ xs. slice_index xs place)
+    (kept_bytes s.spaces t.spaces (at_page p page) (at_page p page) (kept page (at_page p page) d))))
+    (λ page other o. kept_shares s.spaces t.spaces (at_page p page) other (kept page other o))
+    given offers
+
+same_untouched : (s t : State) (e : Event) (p : ℕ) → p ≢ e.pid
+    → map.get t.book p ≡ map.get s.book p
+    → ((page : ℕ) → map.get t.spaces (at_page p page) ≡ map.get s.spaces (at_page p page))
+    → (((given t.book p ≡ given s.book p) × (number_of_children t.book p ≡ number_of_children s.book p))
+    ⊎ IsChildsExit s e p)
+    → ((key : OfferKey) → key.offerer ≡ p → (map.get t.offers key ≡ map.get s.offers key)
+    ⊎ ((map.get t.offers key ≡ None) × EndsOffer e key))
+    → IsUntouched s t e p
+same_untouched s t e p d member same given offers =
+    kept_untouched s t e p d member (λ page other o. ap (option_map (kept_of other)) (same page)) given offers
+
+-- offers of p, where others go
+retain_same : (offers : Offers) (stay : OfferKey → Bool) (key : OfferKey) → stay key ≡ true
+    → map.get (map.retain_keys offers stay) key ≡ map.get offers key
+retain_same offers stay key h = get-retain_keys offers stay key ∙ ap (λ b. cond b (map.get offers key) None) h
+
+retain_gone : (offers : Offers) (stay : OfferKey → Bool) (key : OfferKey) → stay key ≡ false
+    → map.get (map.retain_keys offers stay) key ≡ None
+retain_gone offers stay key h = get-retain_keys offers stay key ∙ ap (λ b. cond b (map.get offers key) None) h
+
+other_offerer : (p q page to : ℕ) (key : OfferKey) → p ≢ q → key.offerer ≡ p → key ≢ offer_of q page to
+other_offerer p q page to key d own e = d (sym own ∙ ap (λ (k : OfferKey). k.offerer) e)
+
+-- a child of q more
+more_given : (s : State) (q p k quota : ℕ) → q ≢ p → is_live s k ≡ false
+    → (given (map.insert s.book k (record { parent = q; quota = quota })) p ≡ given s.book p)
+    × (number_of_children (map.insert s.book k (record { parent = q; quota = quota })) p ≡ number_of_children s.book
+    p)
+more_given s q p k quota d free =
+    let child : Member = record { parent = q; quota = quota } in
+    let none = no_value (map.get s.book k) free in
+    let a = given-insert s.book k child none p in
+    let b = number-insert s.book k child none p in
+    let no = child_no q p k quota d in
+    let x : ◌≡◌ {A = ℕ} (cond (is_child p (k, child)) quota 0) 0 = ap (λ t. cond t quota 0) no in
+    let y : ◌≡◌ {A = ℕ} (cond (is_child p (k, child)) 1 0) 0 = ap (λ t. cond t 1 0) no in
+    (omega (arith, a, x), omega (arith, b, y))
+
+-- one child less, where q was one of p
+less_given : (s : State) (e : Event) (p : ℕ) → e.call ≡ call.Exit → (m : Member) → map.get s.book e.pid ≡ Some m
+    → ((given (map.remove s.book e.pid) p ≡ given s.book p)
+    × (number_of_children (map.remove s.book e.pid) p ≡ number_of_children s.book p)) ⊎ IsChildsExit s e p
+less_given s e p exit m here = by (is_child p (e.pid, m)) refl
+  where
+    child_of_p : (not (e.pid == 0) && (m.parent == p)) ≡ true → m.parent ≡ p
+    child_of_p h = eqb-true m.parent p (second (not (e.pid == 0)) (m.parent == p) h)
+      where
+        second : (a b : Bool) → (a && b) ≡ true → b ≡ true
+        second true b h = h
+        second false b h = cc
+
+    by : (b : Bool) → is_child p (e.pid, m) ≡ b
+        → ((given (map.remove s.book e.pid) p ≡ given s.book p)
+        × (number_of_children (map.remove s.book e.pid) p ≡ number_of_children s.book p)) ⊎ IsChildsExit s e p
+    by true is = inr (record { exit = exit; member = m; child = here; parent = child_of_p is })
+    by false is = inl (
+        let a = given-remove s.book e.pid m here p in
+        let b = number-remove s.book e.pid m here p in
+        let x : ◌≡◌ {A = ℕ} (cond (is_child p (e.pid, m)) m.quota 0) 0 = ap (λ t. cond t m.quota 0) is in
+        let y : ◌≡◌ {A = ℕ} (cond (is_child p (e.pid, m)) 1 0) 0 = ap (λ t. cond t 1 0) is in
+        (omega (arith, a, x), omega (arith, b, y)))
+
+module _ (s : State) (e : Event) (p : ℕ) (w : IsWellFormed s) (live_p : is_live s p ≡ true) (d : p ≢ e.pid)
+    (live : is_live s e.pid ≡ true) where
+  q_not : e.pid ≢ p
+  q_not x = d (sym x)
+
+  offers_same : (key : OfferKey) → key.offerer ≡ p
+      → (map.get s.offers key ≡ map.get s.offers key) ⊎ ((map.get s.offers key ≡ None) × EndsOffer e key)
+  offers_same key own = inl refl
+
+  load_untouched : (addr : ℕ) (size : Size) → IsUntouched s (after_load s e.pid addr size) e p
+  load_untouched addr size =
+      let pages = touched addr size in
+      same_untouched s (after_load s e.pid addr size) e p d refl
+      (λ page. accessed_same e.pid (at_page p page) d (with_pages s.spaces e.pid pages) pages
+      ∙ pages_same e.pid (at_page p page) d s.spaces pages)
+      (inl (refl, refl)) offers_same
+
+  map_untouched : (page : ℕ) (c : Cell) → IsUntouched s
+      (record s { spaces = map.insert s.spaces (at_page e.pid page) c }) e p
+  map_untouched page c =
+      same_untouched s (record s { spaces = map.insert s.spaces (at_page e.pid page) c }) e p d refl
+      (λ n. insert_same e.pid (at_page p n) d s.spaces page c)
+      (inl (refl, refl)) offers_same
+
+  store_untouched : (addr : ℕ) (size : Size) (value : ℕ) → e.call ≡ call.Store addr size value
+      → completes (answer_of s e.pid (call.Store addr size value)) ≡ true
+      → IsUntouched s (after_store s e.pid addr size value) e p
+  store_untouched addr size value is done =
+      untouched s (after_store s e.pid addr size value) e p refl
+      (λ page. flags_from page (rest page (at_page p page)))
+      bytes
+      (λ page other o. shares_from page other (rest page other))
+      (inl (refl, refl)) offers_same
+    where
+      T : Spaces
+      T = with_pages s.spaces e.pid (touched addr size)
+
+      U : Spaces
+      U = all_stored T e.pid addr (bytes_of (byte_count size) value)
+
+      rest : (page : ℕ) (other : Slot) → option_map (rest_of other) (map.get U (at_page p page)) ≡ option_map
+          (rest_of other) (map.get s.spaces (at_page p page))
+      rest page other =
+          all_stored_rest e.pid (at_page p page) d T addr (bytes_of (byte_count size) value) other
+          ∙ ap (option_map (rest_of other)) (pages_same e.pid (at_page p page) d s.spaces (touched addr size))
+
+      flags_from : (page : ℕ) → option_map (rest_of (at_page p page)) (map.get U (at_page p page)) ≡ option_map
+          (rest_of (at_page p page)) (map.get s.spaces (at_page p page))
+          → option_map flags_of (map.get U (at_page p page)) ≡ option_map flags_of (map.get s.spaces (at_page p page))
+      flags_from page h = sym (by (map.get U (at_page p page))) ∙ ap (option_map (λ (k : Rest). k.0)) h
+          ∙ by (map.get s.spaces (at_page p page))
+        where
+          by : (x : Option Cell) → option_map (λ (k : Rest). k.0) (option_map (rest_of (at_page p page)) x) ≡ option_map
+              flags_of x
+          by None = refl
+          by (Some c) = refl
+
+      shares_from : (page : ℕ) (other : Slot) → option_map (rest_of other) (map.get U (at_page p page)) ≡ option_map
+          (rest_of other) (map.get s.spaces (at_page p page))
+          → shares (after_store s e.pid addr size value) (at_page p page) other ≡ shares s (at_page p page) other
+      shares_from page other h = sym (by (map.get U (at_page p page)))
+          ∙ ap (λ (x : Option Rest). unwrap_or (option_map (λ (k : Rest). k.1) x) false) h
+          ∙ by (map.get s.spaces (at_page p page))
+        where
+          by : (x : Option Cell) → unwrap_or (option_map (λ (k : Rest). k.1) (option_map (rest_of other) x))
+              false ≡ unwrap_or (option_map (λ (c : Cell). set.contains c.holders other) x) false
+          by None = refl
+          by (Some c) = refl
+
+      bytes : (page place : ℕ) → (byte_in (after_store s e.pid addr size value) (at_page p page) place ≡ byte_in s
+          (at_page p page) place) ⊎ IsStoreInto s e (at_page p page) place
+      bytes page place = by (map.get s.spaces (at_page p page)) refl
+        where
+          by : (x : Option Cell) → map.get s.spaces (at_page p page) ≡ x
+              → (byte_in (after_store s e.pid addr size value) (at_page p page) place ≡ byte_in s (at_page p page)
+              place) ⊎ IsStoreInto s e (at_page p page) place
+          by (Some c) at = store_bytes s e addr value size is w live done (at_page p page) c place at
+          by None none = inl (ap (λ (x : Option Cell).
+              slice_index (unwrap_or x (fresh (at_page p page) true)).bytes place)
+              (nothing (map.get U (at_page p page)) (flags_from page (rest page (at_page p page))
+              ∙ ap (option_map flags_of) none) ∙ sym none))
+            where
+              nothing : (x : Option Cell) → option_map flags_of x ≡ None → x ≡ None
+              nothing None h = refl
+              nothing (Some c) h = cc
+
+  unmap_untouched : (page : ℕ) → IsUntouched s (after_unmap s e.pid page) e p
+  unmap_untouched page =
+      kept_untouched s (after_unmap s e.pid page) e p d refl
+      (λ n other o. without_kept e.pid (at_page p n) d s.spaces (is_slot e.pid page) other (stays (at_page p n) d)
+      (stays other o))
+      (inl (refl, refl))
+      (λ key own. inl (retain_same s.offers (λ (k : OfferKey). not ((k.offerer == e.pid) && (k.page == page))) key
+      (ap (λ b. not (b && (key.page == page))) (ne_eqb key.offerer e.pid (λ x. d (sym own ∙ x))))))
+    where
+      stays : (slot : Slot) → slot.pid ≢ e.pid → is_slot e.pid page slot ≡ false
+      stays slot n = same_apart slot_order (at_page e.pid page) slot (λ x. of_others e.pid page slot n (sym x))
+
+  offer_untouched : (page target : ℕ) (write : Bool) → IsUntouched s (after_offer s e.pid page target write) e p
+  offer_untouched page target write =
+      same_untouched s (after_offer s e.pid page target write) e p d refl (λ n. refl) (inl (refl, refl))
+      (λ key own. inl (get-insert s.offers (offer_of e.pid page target) write key
+      ∙ ap (λ b. cond b (Some write) (map.get s.offers key))
+      (same_apart offer_order key (offer_of e.pid page target) (other_offerer p e.pid page target key d own))))
+
+  withdraw_untouched : (page target : ℕ) → IsUntouched s (after_withdraw s e.pid page target) e p
+  withdraw_untouched page target =
+      same_untouched s (after_withdraw s e.pid page target) e p d refl (λ n. refl) (inl (refl, refl))
+      (λ key own. inl (get-remove_other s.offers (offer_of e.pid page target) key
+      (other_offerer p e.pid page target key d own)))
+
+  accept_untouched : (giver giver_page page : ℕ) → e.call ≡ call.Accept giver giver_page page
+      → accept_refusal s e.pid giver giver_page page ≡ None
+      → IsUntouched s (after_accept s e.pid giver giver_page page) e p
+  accept_untouched giver giver_page page is allowed =
+      kept_untouched s (after_accept s e.pid giver giver_page page) e p d refl
+      (λ n other o. joined_kept s e.pid giver giver_page page (offered s giver giver_page e.pid) w g.0 g.1 (at_page p n)
+      other (of_others e.pid page (at_page p n) d) (of_others e.pid page other o))
+      (inl (refl, refl))
+      (λ key own. offers key (same_cases offer_order key (offer_of giver giver_page e.pid)))
+    where
+      g : (c : Cell) × (map.get s.spaces (at_page giver giver_page) ≡ Some c)
+      g = giver_mapped s e.pid giver giver_page w (may_accept s e.pid giver giver_page page allowed).there
+
+      offers : (key : OfferKey) → ((key ≡ offer_of giver giver_page e.pid)
+          × (same offer_order key (offer_of giver giver_page e.pid) ≡ true))
+          ⊎ ((key ≢ offer_of giver giver_page e.pid) × (same offer_order key (offer_of giver giver_page e.pid) ≡ false))
+          → (map.get (map.remove s.offers (offer_of giver giver_page e.pid)) key ≡ map.get s.offers key)
+          ⊎ ((map.get (map.remove s.offers (offer_of giver giver_page e.pid)) key ≡ None) × EndsOffer e key)
+      offers key (inl same) = inr (
+        ap (map.get (map.remove s.offers (offer_of giver giver_page e.pid))) same.0
+            ∙ get-removed s.offers (offer_of giver giver_page e.pid),
+        record {
+          target = ap (λ (k : OfferKey). k.target) same.0;
+          how = inl (page, is ∙ (λ i. call.Accept (sym same.0 i).offerer (sym same.0 i).page page));
+        },
+      )
+      offers key (inr other) = inl (get-remove_other s.offers (offer_of giver giver_page e.pid) key other.0)
+
+  child_untouched : (k quota : ℕ) (T : Spaces) → is_live s k ≡ false
+      → ((n : ℕ) → map.get T (at_page p n) ≡ map.get s.spaces (at_page p n))
+      → IsUntouched s (record {
+        spaces = T;
+        book = map.insert s.book k (record { parent = e.pid; quota = quota });
+        offers = s.offers;
+      }) e p
+  child_untouched k quota T free same =
+      same_untouched s (record {
+        spaces = T;
+        book =
+            map.insert s.book k (record { parent = e.pid; quota = quota });
+        offers = s.offers;
+      }) e p d
+      (get-insert_other s.book k (record { parent = e.pid; quota = quota }) p (live_differ s p k live_p free))
+      same
+      (inl (more_given s e.pid p k quota q_not free))
+      offers_same
+
+  exit_untouched : e.call ≡ call.Exit → IsUntouched s (after_exit s e.pid) e p
+  exit_untouched is =
+      let m = some_value (map.get s.book e.pid) live in
+      kept_untouched s (after_exit s e.pid) e p d
+      (get-remove_other s.book e.pid p d)
+      (λ n other o. without_kept e.pid (at_page p n) d s.spaces (is_of e.pid) other (ne_eqb p e.pid d)
+      (ne_eqb other.pid e.pid o))
+      (less_given s e p is m.0 m.1)
+      (λ key own. offers key (key.target == e.pid) refl (ne_eqb key.offerer e.pid (λ x. d (sym own ∙ x))))
+    where
+      offers : (key : OfferKey) (b : Bool) → (key.target == e.pid) ≡ b → (key.offerer == e.pid) ≡ false
+          → (map.get (after_exit s e.pid).offers key ≡ map.get s.offers key)
+          ⊎ ((map.get (after_exit s e.pid).offers key ≡ None) × EndsOffer e key)
+      offers key true target other = inr (
+        retain_gone s.offers (λ (k : OfferKey). not ((k.offerer == e.pid) || (k.target == e.pid))) key
+            (λ i. not (other i || target i)),
+        record { target = eqb-true key.target e.pid target; how = inr is },
+      )
+      offers key false target other = inl (retain_same s.offers
+          (λ (k : OfferKey). not ((k.offerer == e.pid) || (k.target == e.pid))) key (λ i. not (other i || target i)))
+
+  nothing_untouched : IsUntouched s s e p
+  nothing_untouched = same_untouched s s e p d refl (λ n. refl) (inl (refl, refl)) offers_same
+
+  after_untouched : (c : Call) → e.call ≡ c → completes (answer_of s e.pid c) ≡ true
+      → IsUntouched s (after s e.pid c) e p
+  after_untouched (call.Load addr size) is h = load_untouched addr size
+  after_untouched (call.Store addr size value) is h = store_untouched addr size value is h
+  after_untouched (call.Map page write) is h = map_untouched page (fresh (at_page e.pid page) write)
+  after_untouched (call.Unmap page) is h = unmap_untouched page
+  after_untouched (call.Protect page write) is h =
+      map_untouched page (record (cell_or_fresh s.spaces (at_page e.pid page)) { write = write })
+  after_untouched (call.Info page) is h = nothing_untouched
+  after_untouched (call.Offer page target write) is h = offer_untouched page target write
+  after_untouched (call.Withdraw page target) is h = withdraw_untouched page target
+  after_untouched (call.Accept giver giver_page page) is h =
+      accept_untouched giver giver_page page is (not-refused (accept_refusal s e.pid giver giver_page page) _ h)
+  after_untouched (call.Spawn quota) is h = child_untouched (child_of s) quota s.spaces
+      (child_free s e.pid quota (not-refused (spawn_refusal s e.pid quota) _ h)) (λ n. refl)
+  after_untouched (call.Fork quota) is h =
+      let free = child_free s e.pid quota (may_fork s e.pid quota (not-refused (fork_refusal s e.pid quota) _ h)).spawn
+      in
+      child_untouched (child_of s) quota (copied s.spaces e.pid (child_of s)) free
+      (λ n. copied-other s.spaces e.pid (child_of s) (at_page p n) (live_differ s p (child_of s) live_p free))
+  after_untouched call.Exit is h = exit_untouched is
+  after_untouched call.Quota is h = nothing_untouched
+
+-- who calls and is not refused is live
+pub caller_live : (s : State) (e : Event) → completes (answer s e) ≡ true
+    → (is_live s e.pid ≡ true) × (completes (answer_of s e.pid e.call) ≡ true)
+caller_live s e h = by (is_live s e.pid) h
+  where
+    by : (b : Bool) → completes (if b then answer_of s e.pid e.call else reply.Refused cause.NoProcess) ≡ true
+        → (b ≡ true) × (completes (answer_of s e.pid e.call) ≡ true)
+    by true k = (refl, k)
+    by false k = cc
+
+still_untouched : (s : State) (e : Event) (p : ℕ) → p ≢ e.pid → IsUntouched s s e p
+still_untouched s e p d = same_untouched s s e p d refl (λ n. refl) (inl (refl, refl)) (λ key own. inl refl)
+
+pub integrity : Integrity
+integrity s e p w live d = by (completes (answer s e)) refl
+  where
+    by : (b : Bool) → completes (answer s e) ≡ b → IsUntouched s (next s e) e p
+    by true h = let l = caller_live s e h in subst (λ t. IsUntouched s t e p) (sym (next-goes s e h))
+        (after_untouched s e p w live d l.0 e.call refl l.1)
+    by false h = subst (λ t. IsUntouched s t e p) (sym (next-stays s e h)) (still_untouched s e p d)

@@ -1,0 +1,17 @@
+use Rattle.std.proofs.Common.{refl}
+use Rattle.kernel_calls.proofs.worked.worked_runs_of_authority.Goals as goal
+
+pub returns-clause-passed_on : goal.returns-clause-passed_on
+returns-clause-passed_on c = refl
+
+pub returns-clause-more_than_the_giver_has : goal.returns-clause-more_than_the_giver_has
+returns-clause-more_than_the_giver_has c = refl
+
+pub returns-clause-offered_page_shows : goal.returns-clause-offered_page_shows
+returns-clause-offered_page_shows c = refl
+
+pub returns-clause-two_slots_one_page : goal.returns-clause-two_slots_one_page
+returns-clause-two_slots_one_page c = refl
+
+pub returns-clause-two_slots_two_pages : goal.returns-clause-two_slots_two_pages
+returns-clause-two_slots_two_pages c = refl

@@ -1,0 +1,254 @@
+-- What an event of one process may do to others, and what it lets them learn: integrity, consent and confidentiality.
+use Rattle.std.proofs.Common.{
+  ◌≡◌,
+  ◌≢◌,
+  ℕ,
+  ◌+◌,
+  ◌<◌,
+  ◌≤◌,
+  Bool,
+  true,
+  false,
+  ◌||◌,
+  IsTrue,
+  List,
+  Option,
+  Some,
+  None,
+  unwrap_or,
+}
+use Rattle.std.specs.Prelude.{◌⊎◌, slice_index}
+use Rattle.std.specs.Option.{option_map}
+use Rattle.std.specs.List.{All}
+use Rattle.page_words.specs.Addresses.{offset_number, byte_count}
+use Rattle.page_words.specs.declared.addresses.Size.{Size}
+use Rattle.page_words.specs.FiniteMap as map
+use Rattle.page_words.specs.FiniteSet as set
+use Rattle.address_space.specs.Spaces.{Slot, Cell, cost, cell_or_fresh, at_page, slot_at, is_of}
+use Rattle.quota_tree.specs.Book.{Member, given, quota_of, number_of_children}
+use Rattle.page_sharing.specs.Offers.{OfferKey, offer_of}
+use Rattle.process_table.specs.State.{State, is_live, child_of}
+use Rattle.process_table.specs.WellFormed.{IsWellFormed}
+use Rattle.kernel_calls.specs.Machine.{answer, answers, next, end_of}
+use Rattle.kernel_calls.specs.declared.calls.Call.{Call}
+use Rattle.kernel_calls.specs.declared.calls.Call.TheVariants as call
+use Rattle.kernel_calls.specs.declared.calls.Event.{Event}
+
+-- the flags of a page
+pub record Flags : Type 0 where
+  pub write : Bool
+  pub may : Bool
+  pub accessed : Bool
+  pub dirty : Bool
+
+abbrev pub flags_of : Cell → Flags
+flags_of cell = record { write = cell.write; may = cell.may; accessed = cell.accessed; dirty = cell.dirty }
+
+-- the flags of a slot, where it is mapped
+abbrev pub flags_at : State → Slot → Option Flags
+flags_at s slot = option_map flags_of (map.get s.spaces slot)
+
+-- the byte at a place of a slot's page
+abbrev pub byte_in : State → Slot → ℕ → ℕ
+byte_in s slot place = slice_index (cell_or_fresh s.spaces slot).bytes place
+
+-- a slot is mapped, and another is in its group
+abbrev pub shares : State → Slot → Slot → Bool
+shares s slot other = unwrap_or (option_map (λ (cell : Cell). set.contains cell.holders other) (map.get s.spaces slot))
+    false
+
+-- ---- Integrity: what an event leaves of all other processes
+
+-- the event is a store of its process that covers this byte, through a slot of its own, with write, whose page this
+-- slot shares
+pub record IsStoreInto (s : State) (e : Event) (slot : Slot) (place : ℕ) : Type 0 where
+  pub address : ℕ
+  pub size : Size
+  pub value : ℕ
+  pub store : e.call ≡ call.Store address size value
+  pub byte : ℕ
+  pub covered : (address ≤ byte) × (byte < address + byte_count size)
+  pub there : offset_number byte ≡ place
+  pub own : Cell
+  pub through : map.get s.spaces (slot_at e.pid byte) ≡ Some own
+  pub right : IsTrue own.write
+  pub shared : IsTrue (set.contains own.holders slot)
+
+-- the event is the exit of a child of p
+pub record IsChildsExit (s : State) (e : Event) (p : ℕ) : Type 0 where
+  pub exit : e.call ≡ call.Exit
+  pub member : Member
+  pub child : map.get s.book e.pid ≡ Some member
+  pub parent : member.parent ≡ p
+
+-- the event ends an offer to its process: that accepts it, or exits
+pub record EndsOffer (e : Event) (key : OfferKey) : Type 0 where
+  pub target : key.target ≡ e.pid
+  pub how : ((page : ℕ) × (e.call ≡ call.Accept key.offerer key.page page)) ⊎ (e.call ≡ call.Exit)
+
+-- what p has in one state and another, where an event of another process lies between them
+pub record IsUntouched (s t : State) (e : Event) (p : ℕ) : Type 0 where
+  -- p is live, with the same parent and quota
+  pub member : map.get t.book p ≡ map.get s.book p
+  -- the same pages are mapped, with the same flags, and cost the same
+  pub flags : (page : ℕ) → flags_at t (at_page p page) ≡ flags_at s (at_page p page)
+  pub cost : cost t.spaces p ≡ cost s.spaces p
+  -- each byte is the same, or stored by the event
+  pub bytes : (page place : ℕ) → (byte_in t (at_page p page) place ≡ byte_in s (at_page p page) place)
+      ⊎ IsStoreInto s e (at_page p page) place
+  -- of the slots that share a page, only those of the event's process come and go
+  pub holders : (page : ℕ) (other : Slot) → other.pid ≢ e.pid
+      → shares t (at_page p page) other ≡ shares s (at_page p page) other
+  -- what it has given, and to how many children, unless one of them exits
+  pub given : ((given t.book p ≡ given s.book p) × (number_of_children t.book p ≡ number_of_children s.book p))
+      ⊎ IsChildsExit s e p
+  -- an offer that p has made is as it was, or ended by the process that it names
+  pub offers : (key : OfferKey) → key.offerer ≡ p
+      → (map.get t.offers key ≡ map.get s.offers key) ⊎ ((map.get t.offers key ≡ None) × EndsOffer e key)
+
+abbrev pub Integrity : Type 0
+Integrity = (s : State) (e : Event) (p : ℕ) → IsWellFormed s → is_live s p ≡ true → p ≢ e.pid
+    → IsUntouched s (next s e) e p
+
+-- ---- Consent: how authority spreads
+
+-- the event accepts a pending offer to its process, at this new slot: the slot joins the group of the slot that was
+-- offered, with the right of the offer, and not with more than that slot may have
+pub record IsJoin (s : State) (e : Event) (slot other : Slot) : Type 0 where
+  pub page : ℕ
+  pub slot_is : slot ≡ at_page e.pid page
+  pub giver : Slot
+  pub right : Bool
+  pub call : e.call ≡ call.Accept giver.pid giver.page page
+  pub offered : map.get s.offers (offer_of giver.pid giver.page e.pid) ≡ Some right
+  pub cell : Cell
+  pub given : map.get s.spaces giver ≡ Some cell
+  pub within : IsTrue right → IsTrue cell.may
+  pub among : IsTrue (set.contains cell.holders other)
+  pub gets : flags_at (next s e) slot ≡ Some (record { write = right; may = right; accessed = false; dirty = false })
+
+-- two slots share a page after an event where they did before, or where one joins the group of the other
+abbrev pub SharingByConsent : Type 0
+SharingByConsent = (s : State) (e : Event) (slot other : Slot) → IsWellFormed s → slot ≢ other
+    → shares (next s e) slot other ≡ true
+    → (shares s slot other ≡ true) ⊎ (IsJoin s e slot other ⊎ IsJoin s e other slot)
+
+-- an offer is pending after an event where it was before, or where the event is this offer
+abbrev pub OffersByOfferer : Type 0
+OffersByOfferer = (s : State) (e : Event) (key : OfferKey) (right : Bool) → map.get (next s e).offers key ≡ Some right
+    → (map.get s.offers key ≡ Some right) ⊎ ((e.pid ≡ key.offerer) × (e.call ≡ call.Offer key.page key.target right))
+
+-- as long as a slot is mapped, what it may have stays
+abbrev pub RightsStay : Type 0
+RightsStay = (s : State) (e : Event) (slot : Slot) (before after : Cell) → IsWellFormed s
+    → map.get s.spaces slot ≡ Some before → map.get (next s e).spaces slot ≡ Some after → after.may ≡ before.may
+
+-- ---- Confidentiality: what a process sees
+
+-- a slot that is offered to a process
+abbrev pub is_offered : State → ℕ → Slot → Bool
+is_offered s q slot = map.contains_key s.offers (offer_of slot.pid slot.page q)
+
+-- the slots whose pages a process sees: its own, and those that are offered to it
+abbrev pub sees : State → ℕ → Slot → Bool
+sees s q slot = is_of q slot || is_offered s q slot
+
+-- what shows of a page, whoever has it: its bytes, and how many slots share it
+pub record Shown : Type 0 where
+  pub bytes : List ℕ
+  pub holders : ℕ
+
+abbrev pub shown_of : Cell → Shown
+shown_of cell = record { bytes = cell.bytes; holders = set.len cell.holders }
+
+abbrev pub shown_at : State → Slot → Option Shown
+shown_at s slot = option_map shown_of (map.get s.spaces slot)
+
+-- two states are one to q
+pub record LooksSame (s t : State) (q : ℕ) : Type 0 where
+  -- which processes are live
+  pub live : (p : ℕ) → is_live s p ≡ is_live t p
+  pub quota : quota_of s.book q ≡ quota_of t.book q
+  pub given : given s.book q ≡ given t.book q
+  pub children : number_of_children s.book q ≡ number_of_children t.book q
+  -- the flags of its own pages
+  pub flags : (page : ℕ) → flags_at s (at_page q page) ≡ flags_at t (at_page q page)
+  -- the offers that it made, and those that it was made
+  pub made : (page target : ℕ) → map.get s.offers (offer_of q page target) ≡ map.get t.offers (offer_of q page target)
+  pub offered : (giver page : ℕ) → map.get s.offers (offer_of giver page q) ≡ map.get t.offers (offer_of giver page q)
+  -- the pages that it sees, and which of them are one
+  pub pages : (slot : Slot) → sees s q slot ≡ true → shown_at s slot ≡ shown_at t slot
+  pub same_page : (slot other : Slot) → sees s q slot ≡ true → sees s q other ≡ true
+      → shares s slot other ≡ shares t slot other
+
+-- it is told the same
+abbrev pub ToldTheSame : Type 0
+ToldTheSame = (s t : State) (e : Event) → LooksSame s t e.pid → answer s e ≡ answer t e
+
+-- and what it does, it does in both
+abbrev pub SeesTheSame : Type 0
+SeesTheSame = (s t : State) (e : Event) → IsWellFormed s → IsWellFormed t → LooksSame s t e.pid
+    → LooksSame (next s e) (next t e) e.pid
+
+-- so until another process acts, all its events are answered the same in both
+abbrev pub ToldTheSameInRuns : Type 0
+ToldTheSameInRuns = (s t : State) (q : ℕ) (events : List Event) → IsWellFormed s → IsWellFormed t → LooksSame s t q
+    → All (λ (e : Event). e.pid ≡ q) events → answers s events ≡ answers t events
+
+-- ---- What an event of another process changes of what q sees
+
+-- the event makes a child, as a spawn and a fork do
+abbrev pub makes_child : Call → Bool
+makes_child (call.Spawn _) = true
+makes_child (call.Fork _) = true
+makes_child _ = false
+
+-- besides what integrity says of q's own
+pub record ShowsAtMost (s t : State) (e : Event) (q : ℕ) : Type 0 where
+  -- which processes are live: a new child is, who exits is not
+  pub live : (p : ℕ) → (is_live t p ≡ is_live s p)
+      ⊎ (((p ≡ child_of s) × (makes_child e.call ≡ true)) ⊎ ((p ≡ e.pid) × (e.call ≡ call.Exit)))
+  -- the offers to q by the event's process
+  pub offered : (giver page : ℕ) → giver ≢ e.pid → map.get t.offers (offer_of giver page q) ≡ map.get s.offers
+      (offer_of giver page q)
+  -- of a page that q saw and sees: the bytes that the event stores, and the slots of its process that come and go
+  pub bytes : (slot : Slot) (place : ℕ) → sees s q slot ≡ true → sees t q slot ≡ true
+      → (byte_in t slot place ≡ byte_in s slot place) ⊎ IsStoreInto s e slot place
+  pub holders : (slot other : Slot) → sees s q slot ≡ true → sees t q slot ≡ true → other.pid ≢ e.pid
+      → shares t slot other ≡ shares s slot other
+  -- and which of those pages are one stays
+  pub same_page : (slot other : Slot) → sees s q slot ≡ true → sees t q slot ≡ true → sees s q other ≡ true
+      → sees t q other ≡ true → shares t slot other ≡ shares s slot other
+
+abbrev pub ShowsLittle : Type 0
+ShowsLittle = (s : State) (e : Event) (q : ℕ) → IsWellFormed s → is_live s q ≡ true → q ≢ e.pid
+    → ShowsAtMost s (next s e) e q
+
+-- ---- Over whole runs
+
+-- p shares no page with another process, and offers none
+pub record IsPrivate (s : State) (p : ℕ) : Type 0 where
+  pub shares_none : (slot other : Slot) → slot.pid ≡ p → other.pid ≢ p → shares s slot other ≡ false
+  pub offers_none : (key : OfferKey) (right : Bool) → map.get s.offers key ≡ Some right → key.offerer ≢ p
+
+-- the call makes an offer or takes one
+abbrev pub gives_or_takes : Call → Bool
+gives_or_takes (call.Offer _ _ _) = true
+gives_or_takes (call.Accept _ _ _) = true
+gives_or_takes _ = false
+
+-- a process that makes no offer and takes none stays private, whatever children it makes and whatever others do
+abbrev pub RunsStayPrivate : Type 0
+RunsStayPrivate = (s : State) (events : List Event) (p : ℕ) → IsWellFormed s → IsPrivate s p
+    → All (λ (e : Event). e.pid ≡ p → gives_or_takes e.call ≡ false) events → IsPrivate (end_of s events) p
+
+-- p's place in the book, its flags and its bytes are as they were
+pub record IsAsBefore (s t : State) (p : ℕ) : Type 0 where
+  pub member : map.get t.book p ≡ map.get s.book p
+  pub flags : (page : ℕ) → flags_at t (at_page p page) ≡ flags_at s (at_page p page)
+  pub bytes : (page place : ℕ) → byte_in t (at_page p page) place ≡ byte_in s (at_page p page) place
+
+-- and no run of events of others changes what it has
+abbrev pub OthersLeavePrivate : Type 0
+OthersLeavePrivate = (s : State) (events : List Event) (p : ℕ) → IsWellFormed s → is_live s p ≡ true → IsPrivate s p
+    → All (λ (e : Event). p ≢ e.pid) events → IsAsBefore s (end_of s events) p

@@ -1,0 +1,19 @@
+-- Which slots' ways go with an event, whatever was kept of them.
+use Rattle.std.proofs.Common.{ℕ, Bool, false, if◌then◌else◌}
+use Rattle.address_space.specs.Stays.{Gone, none_goes, of_page, of_process, of_lazy}
+use Rattle.fault_handler.specs.Fills.{lazy_touched}
+use Rattle.process_table.specs.State.{State}
+use Rattle.kernel_calls.specs.Machine.{answer, completes}
+use Rattle.kernel_calls.specs.declared.calls.Call.{Call}
+use Rattle.kernel_calls.specs.declared.calls.Call.TheVariants as call
+use Rattle.kernel_calls.specs.declared.calls.Event.{Event}
+
+abbrev pub gone_of_call : ℕ → Call → Gone
+gone_of_call p (call.Store addr size value) slot frame = lazy_touched p addr size slot frame
+gone_of_call p (call.Unmap page) slot frame = of_page p page slot frame
+gone_of_call p (call.Accept giver giver_page page) slot frame = of_lazy giver giver_page slot frame
+gone_of_call p call.Exit slot frame = of_process p slot frame
+gone_of_call p _ slot frame = false
+
+abbrev pub gone_by : State → Event → Gone
+gone_by s e slot frame = if completes (answer s e) then gone_of_call e.pid e.call slot frame else false

@@ -1,0 +1,158 @@
+//! Which cached translations an event ends.
+
+ghost use Rattle.std.specs.Prelude.{◌≡◌, ◌&&◌, not, true, if◌then◌else◌};
+ghost use Rattle.page_words.specs.Addresses.{IsUserPage};
+ghost use Rattle.address_space.specs.Spaces.{at_page};
+ghost use Rattle.address_space.specs.Image.{is_lazy_at, takes_stores};
+ghost use Rattle.process_table.specs.Image.{memory_of};
+ghost use Rattle.process_table.specs.WellFormed.{IsWellFormed};
+ghost use Rattle.kernel_calls.specs.declared.translations.Ended.TheVariants as end;
+ghost use Rattle.fault_handler.specs.Plans.{goes_on};
+ghost use Rattle.kernel_calls.specs.Decisions.{decision_of};
+ghost use Rattle.kernel_calls.specs.Translations.{page_filled, second_filled, of_pages, of_plan, of_call, ended_by};
+
+use crate::calls::{Call, Decision};
+use fault_handler::{PageStep, Plan};
+use page_words::{Page, Pid, Size, Vaddr, page_of, second_page};
+use process_table::Processes;
+
+/// The cached translations that an event ends: a processor that keeps translations has to invalidate these.
+#[derive(Clone, Copy, Debug, PartialEq, Eq)]
+pub enum Ended {
+    /// None.
+    Nothing,
+    /// That of one page of a process.
+    Page { pid: Pid, page: Page },
+    /// Those of two pages of a process.
+    Pages { pid: Pid, first: Page, second: Page },
+    /// All of a process, which is gone.
+    Space { pid: Pid },
+}
+
+/// A page whose step gives it a frame of its own.
+fn filled(page: Page, how: &PageStep) -> Option<Page>
+    ensures { result ≡ page_filled page how.now }
+{
+    match how {
+        PageStep::Fill => Some(page),
+        PageStep::Complete => None,
+        PageStep::MapZero => None,
+    }
+}
+
+/// The second page of an access, where its step gives it a frame of its own.
+fn filled_second(page: Option<Page>, how: &Option<PageStep>) -> Option<Page>
+    ensures { result ≡ second_filled page how.now }
+{
+    match (page, how) {
+        (Some(page), Some(how)) => filled(page, how),
+        _ => None,
+    }
+}
+
+fn pages(pid: Pid, first: Option<Page>, second: Option<Page>) -> Ended
+    ensures { result ≡ of_pages pid first second }
+{
+    match (first, second) {
+        (None, None) => Ended::Nothing,
+        (Some(page), None) => Ended::Page { pid, page },
+        (None, Some(page)) => Ended::Page { pid, page },
+        (Some(first), Some(second)) => Ended::Pages { pid, first, second },
+    }
+}
+
+/// The lazy pages that a store fills, by its plan.
+fn by_plan(pid: Pid, address: Vaddr, size: Size, plan: &Plan) -> Ended
+    ensures { result ≡ of_plan pid address size plan.now }
+{
+    match plan {
+        Plan::Ready { first, second } => pages(
+            pid,
+            filled(page_of(address), first),
+            filled_second(second_page(address, size), second),
+        ),
+        Plan::Refused(_) => Ended::Nothing,
+        Plan::Fault(_) => Ended::Nothing,
+    }
+}
+
+/// Whether writes go through a page of a process.
+fn takes_stores(processes: &Processes, pid: Pid, page: Page) -> bool
+    requires user { IsUserPage page }
+    ensures { result ≡ takes_stores processes.now.state.spaces (memory_of processes.now) (at_page pid page) }
+{
+    let seen = processes.seen(pid, page);
+    match seen.cell() {
+        Some(cell) => cell.write && !seen.is_lazy(),
+        None => false,
+    }
+}
+
+/// What a Protect ends: the translation of a page that let writes through, where it lets none from then on.
+fn by_protect(processes: &Processes, pid: Pid, page: Page, write: bool) -> Ended
+    requires user { IsUserPage page }
+    ensures { result ≡ (if not write && takes_stores processes.now.state.spaces (memory_of processes.now) (at_page pid page) then end.Page pid page else end.Nothing) }
+{
+    if !write && takes_stores(processes, pid, page) {
+        Ended::Page { pid, page }
+    } else {
+        Ended::Nothing
+    }
+}
+
+/// What an Accept ends: the translation of the giver's page, where that is lazy, as it gets its frame then.
+fn by_accept(processes: &Processes, giver: Pid, giver_page: Page) -> Ended
+    requires user { IsUserPage giver_page }
+    ensures { result ≡ (if is_lazy_at (memory_of processes.now) (at_page giver giver_page) then end.Page giver giver_page else end.Nothing) }
+{
+    if processes.is_lazy(giver, giver_page) {
+        Ended::Page {
+            pid: giver,
+            page: giver_page,
+        }
+    } else {
+        Ended::Nothing
+    }
+}
+
+/// What a call that completes ends.
+fn by_call(processes: &Processes, decision: &Decision) -> Ended
+    requires decided { decision.now ≡ decision_of processes.now decision.now.event }
+    requires completes { goes_on decision.now.plan ≡ true }
+    requires well_formed { IsWellFormed processes.now.state }
+    ensures { result ≡ of_call processes.now decision.now.event.pid decision.now.event.call }
+{
+    let pid = decision.event.pid;
+    match decision.event.call {
+        Call::Store { addr, size, .. } => by_plan(pid, addr, size, &decision.plan),
+        Call::Unmap { page } => Ended::Page { pid, page },
+        Call::Protect { page, write } => by_protect(processes, pid, page, write),
+        Call::Accept {
+            giver,
+            giver_page,
+            ..
+        } => by_accept(processes, giver, giver_page),
+        Call::Exit => Ended::Space { pid },
+        Call::Load { .. } => Ended::Nothing,
+        Call::Map { .. } => Ended::Nothing,
+        Call::Info { .. } => Ended::Nothing,
+        Call::Offer { .. } => Ended::Nothing,
+        Call::Withdraw { .. } => Ended::Nothing,
+        Call::Spawn { .. } => Ended::Nothing,
+        Call::Fork { .. } => Ended::Nothing,
+        Call::Quota => Ended::Nothing,
+    }
+}
+
+/// What an event ends, as it was decided.
+pub fn ended_by(processes: &Processes, decision: &Decision) -> Ended
+    requires decided { decision.now ≡ decision_of processes.now decision.now.event }
+    requires well_formed { IsWellFormed processes.now.state }
+    ensures { result ≡ ended_by processes.now decision.now.event }
+{
+    match decision.plan {
+        Plan::Refused(_) => Ended::Nothing,
+        Plan::Fault(_) => Ended::Nothing,
+        Plan::Ready { .. } => by_call(processes, decision),
+    }
+}
