@@ -305,6 +305,7 @@ module _ (s : State) (e : Event) (giver giver_page page : ℕ) (w : IsWellFormed
   joins other among = record {
     page = page;
     slot_is = refl;
+    new = may.none;
     giver = at_page giver giver_page;
     right = was_offered.0;
     call = is;

@@ -156,13 +156,13 @@ looks_spaces : (s t : State) (q : ℕ) (S T : Spaces) → LooksSame s t q → Sa
 looks_spaces s t q S T l = looks s t q S T s.offers t.offers l l.made l.offered (λ slot v. v)
 
 -- offers that are kept or dropped by their keys
-kept_offers : (O P : Offers) (stay : OfferKey → Bool) (key : OfferKey) → map.get O key ≡ map.get P key
+pub kept_offers : (O P : Offers) (stay : OfferKey → Bool) (key : OfferKey) → map.get O key ≡ map.get P key
     → map.get (map.retain_keys O stay) key ≡ map.get (map.retain_keys P stay) key
 kept_offers O P stay key h = get-retain_keys O stay key ∙ (λ i. cond (stay key) (h i) None)
     ∙ sym (get-retain_keys P stay key)
 
-kept_key : (O : Offers) (stay : OfferKey → Bool) (key : OfferKey) → map.contains_key (map.retain_keys O stay) key ≡ true
-    → map.contains_key O key ≡ true
+pub kept_key : (O : Offers) (stay : OfferKey → Bool) (key : OfferKey)
+    → map.contains_key (map.retain_keys O stay) key ≡ true → map.contains_key O key ≡ true
 kept_key O stay key h = by (stay key) (sym (ap is_some (get-retain_keys O stay key)) ∙ h)
   where
     by : (b : Bool) → is_some (cond b (map.get O key) None) ≡ true → is_some (map.get O key) ≡ true
@@ -363,17 +363,18 @@ given_none book p h = by (children book p) h
     by (e ∷ entries) is = absurd (omega (arith, is))
 
 module _ (s : State) (q : ℕ) (live : is_live s q ≡ true) (childless : number_of_children s.book q ≡ 0) where
-  exit_children : number_of_children (map.remove s.book q) q ≡ 0
+  pub exit_children : number_of_children (map.remove s.book q) q ≡ 0
   exit_children = let m = some_value (map.get s.book q) live in let a = number-remove s.book q m.0 m.1 q in let b =
       childless in omega (arith, a, b)
 
-  exit_given : given (map.remove s.book q) q ≡ 0
+  pub exit_given : given (map.remove s.book q) q ≡ 0
   exit_given = given_none (map.remove s.book q) q exit_children
 
-  exit_quota : quota_of (map.remove s.book q) q ≡ 0
+  pub exit_quota : quota_of (map.remove s.book q) q ≡ 0
   exit_quota = ap (λ (x : Option Member). unwrap_or (option_map (λ (m : Member). m.quota) x) 0) (get-removed s.book q)
 
-exit_slot : (s : State) (q : ℕ) (slot : Slot) → is_of q slot ≡ true → map.get (without s.spaces (is_of q)) slot ≡ None
+pub exit_slot : (s : State) (q : ℕ) (slot : Slot) → is_of q slot ≡ true
+    → map.get (without s.spaces (is_of q)) slot ≡ None
 exit_slot s q slot is = get-without s.spaces (is_of q) slot
     ∙ ap (λ b. cond (not b) (option_map (left (is_of q)) (map.get s.spaces slot)) None) is
 

@@ -40,7 +40,7 @@ use Rattle.page_words.specs.FiniteMap as map
 use Rattle.page_words.specs.FiniteMap.{same, nat_order}
 use Rattle.page_words.specs.FiniteSet as set
 use Rattle.page_words.specs.FiniteSet.{Set}
-use Rattle.page_words.proofs.MapLemmas.{get-insert, get-map_values, get-retain_keys, contains-retain}
+use Rattle.page_words.proofs.MapLemmas.{same-true, get-insert, get-map_values, get-retain_keys, contains-retain}
 use Rattle.page_words.proofs.OptionLemmas.{some_value, no_value}
 use Rattle.page_words.proofs.SetLemmas.{same_cases, same_apart, get-remove_other}
 use Rattle.address_space.specs.Spaces.{
@@ -102,6 +102,8 @@ use Rattle.kernel_calls.specs.Authority.{
   IsStoreInto,
   IsUntouched,
   RightsStay,
+  IsLeave,
+  SharingStays,
   makes_child,
   ShowsLittle,
 }
@@ -227,11 +229,11 @@ abbrev whole_of : Slot → Cell → Whole
 whole_of other c = (c.may, (c.bytes, set.contains c.holders other))
 
 -- what stays of a cell, in which the event of e's process changes no more than bytes that it stores
-pub record Same (s : State) (e : Event) (slot other : Slot) (before after : Cell) : Type 0 where
+pub record Same (s t : State) (e : Event) (slot other : Slot) (before after : Cell) : Type 0 where
   pub may : after.may ≡ before.may
   pub group : set.contains after.holders other ≡ set.contains before.holders other
   pub bytes : (place : ℕ) → (slice_index after.bytes place ≡ slice_index before.bytes place)
-      ⊎ IsStoreInto s e slot place
+      ⊎ IsStoreInto s t e slot place
 
 -- a slot that doesn't come or go: of another process, or mapped before and after
 abbrev pub Bystands : State → Event → State → Slot → Type 0
@@ -240,11 +242,11 @@ Bystands s e t other = (other.pid ≢ e.pid) ⊎ ((map.contains_key s.spaces oth
 
 abbrev pub Stays : State → Event → State → Type 0
 Stays s e t = (slot other : Slot) (before after : Cell) → Bystands s e t other → map.get s.spaces slot ≡ Some before
-    → map.get t.spaces slot ≡ Some after → Same s e slot other before after
+    → map.get t.spaces slot ≡ Some after → Same s t e slot other before after
 
-whole_same : (s : State) (e : Event) (slot other : Slot) (before after : Cell)
-    → whole_of other after ≡ whole_of other before → Same s e slot other before after
-whole_same s e slot other before after h = record {
+whole_same : (s t : State) (e : Event) (slot other : Slot) (before after : Cell)
+    → whole_of other after ≡ whole_of other before → Same s t e slot other before after
+whole_same s t e slot other before after h = record {
   may = ap (λ (k : Whole). k.0) h;
   group =
       ap (λ (k : Whole). k.1.1) h;
@@ -254,7 +256,7 @@ whole_same s e slot other before after h = record {
 kept_stays : (s : State) (e : Event) (t : State)
     → ((other : Slot) → Bystands s e t other → Keeps (whole_of other) s.spaces t.spaces) → Stays s e t
 kept_stays s e t keeps slot other before after o at_s at_t =
-    whole_same s e slot other before after (same_Some (whole_of other after) (whole_of other before)
+    whole_same s t e slot other before after (same_Some (whole_of other after) (whole_of other before)
     (sym (ap (option_map (whole_of other)) at_t) ∙ keeps other o slot before at_s))
 
 without_stays : (s : State) (e : Event) (t : State) (gone : Slot → Bool) → t.spaces ≡ without s.spaces gone
@@ -287,8 +289,8 @@ without_stays s e t gone is stays slot other before after o at_s at_t =
         (contains-retain before.holders (λ s. not (gone s)) other
         ∙ ap (λ b. set.contains before.holders other && not b) stays_too ∙ and_true (set.contains before.holders other))
 
-    by : (b : Bool) → cond b (Some (left gone before)) None ≡ Some after → Same s e slot other before after
-    by true k = whole_same s e slot other before after
+    by : (b : Bool) → cond b (Some (left gone before)) None ≡ Some after → Same s t e slot other before after
+    by true k = whole_same s t e slot other before after
         (ap (whole_of other) (sym (same_Some (left gone before) after k)) ∙ same_whole)
     by false k = cc
 
@@ -401,10 +403,124 @@ pub rights_stay : RightsStay
 rights_stay s e slot before after w at_s at_t = (next_stays s e w slot (at_page (suc e.pid) 0) before after
     (inl (λ is. absurd (omega (arith, is)))) at_s at_t).may
 
+-- ---- Slots that go
+
+kept_there : {A : Type 0} (P : Cell → A) (S T : Spaces) → Keeps P S T → (slot : Slot) (c : Cell)
+    → map.get S slot ≡ Some c → map.contains_key T slot ≡ true
+kept_there P S T keeps slot c at = by (map.get T slot) (keeps slot c at)
+  where
+    by : (x : Option Cell) → option_map P x ≡ Some (P c) → is_some x ≡ true
+    by None h = cc
+    by (Some d) h = refl
+
+-- a slot of spaces that some leave is there, or leaves
+without_or : (S : Spaces) (gone : Slot → Bool) (slot : Slot) (c : Cell) → map.get S slot ≡ Some c
+    → (map.contains_key (without S gone) slot ≡ true) ⊎ (gone slot ≡ true)
+without_or S gone slot c at = by (gone slot) refl
+  where
+    by : (b : Bool) → gone slot ≡ b → (map.contains_key (without S gone) slot ≡ true) ⊎ (b ≡ true)
+    by true is = inr refl
+    by false is = inl (ap is_some (get-without S gone slot)
+        ∙ (λ i. is_some (cond (not (is i)) (option_map (left gone) (at i)) None)))
+
+module _ (s : State) (e : Event) (w : IsWellFormed s) (slot : Slot) (cell : Cell)
+    (at : map.get s.spaces slot ≡ Some cell) where
+  abbrev may_of : Cell → Bool
+  may_of c = c.may
+
+  after_leaves : (c : Call) → e.call ≡ c → completes (answer_of s e.pid c) ≡ true
+      → (map.contains_key (after s e.pid c).spaces slot ≡ true) ⊎ IsLeave e slot
+  after_leaves (call.Load addr size) is h =
+      let pages = touched addr size in
+      let T : Spaces = with_pages s.spaces e.pid pages in
+      inl (kept_there may_of s.spaces (all_accessed T e.pid pages)
+      (keeps_through may_of s.spaces T (all_accessed T e.pid pages) (keeps_pages may_of s.spaces e.pid pages)
+      (keeps_accessed may_of (λ c. refl) T e.pid pages)) slot cell at)
+  after_leaves (call.Store addr size value) is h =
+      let T : Spaces = with_pages s.spaces e.pid (touched addr size) in
+      let bytes = bytes_of (byte_count size) value in
+      inl (kept_there (rest_of slot) s.spaces (all_stored T e.pid addr bytes)
+      (keeps_through (rest_of slot) s.spaces T (all_stored T e.pid addr bytes)
+      (keeps_pages (rest_of slot) s.spaces e.pid (touched addr size)) (rest_all_stored T e.pid addr bytes slot))
+      slot cell at)
+  after_leaves (call.Map page write) is h =
+      let new : Cell = fresh (at_page e.pid page) write in
+      inl (kept_there may_of s.spaces (map.insert s.spaces (at_page e.pid page) new)
+      (keeps_new may_of s.spaces (at_page e.pid page) new
+      (may_map s e.pid page (not-refused (map_refusal s e.pid page) _ h)).none) slot cell at)
+  after_leaves (call.Unmap page) is h = elim (without_or s.spaces (is_slot e.pid page) slot cell at) [
+    | inl there ↦ inl there
+    | inr goes ↦ (
+        let same_slot : at_page e.pid page ≡ slot = same-true slot_order (at_page e.pid page) slot goes in
+        inr (record {
+          own = ap (λ (x : Slot). x.pid) (sym same_slot);
+          how =
+              inl (is ∙ ap (λ (x : Slot). call.Unmap x.page) same_slot);
+        }))
+  ]
+  after_leaves (call.Protect page write) is h =
+      let c : Cell = record (cell_or_fresh s.spaces (at_page e.pid page)) { write = write } in
+      inl (kept_there may_of s.spaces (map.insert s.spaces (at_page e.pid page) c)
+      (keeps_set may_of s.spaces (at_page e.pid page) c refl) slot cell at)
+  after_leaves (call.Info page) is h = inl (ap is_some at)
+  after_leaves (call.Offer page target write) is h = inl (ap is_some at)
+  after_leaves (call.Withdraw page target) is h = inl (ap is_some at)
+  after_leaves (call.Accept giver giver_page page) is h =
+      let may = may_accept s e.pid giver giver_page page
+      (not-refused (accept_refusal s e.pid giver giver_page page) _ h) in
+      let g = giver_mapped s e.pid giver giver_page w may.there in
+      let right = offered s giver giver_page e.pid in
+      let apart : slot ≢ at_page e.pid page = (λ x. let y : Some cell ≡ None = sym at ∙ ap (map.get s.spaces) x
+      ∙ may.none in cc) in
+      inl (ap is_some (get_joined s e.pid giver giver_page page right w g.0 g.1 slot apart
+      ∙ ap (option_map (widen s e.pid giver giver_page page right w g.0 g.1 slot)) at))
+  after_leaves (call.Spawn quota) is h = inl (ap is_some at)
+  after_leaves (call.Fork quota) is h =
+      let free = child_free s e.pid quota (may_fork s e.pid quota (not-refused (fork_refusal s e.pid quota) _ h)).spawn
+      in
+      inl (ap is_some (copied-other s.spaces e.pid (child_of s) slot
+      (live_differ s slot.pid (child_of s) (w.owners slot cell at) free) ∙ at))
+  after_leaves call.Exit is h = elim (without_or s.spaces (is_of e.pid) slot cell at) [
+    | inl there ↦ inl there
+    | inr goes ↦ inr (record { own = eqb-true slot.pid e.pid goes; how = inr is })
+  ]
+  after_leaves call.Quota is h = inl (ap is_some at)
+
+  pub next_leaves : (map.contains_key (next s e).spaces slot ≡ true) ⊎ IsLeave e slot
+  next_leaves = by (completes (answer s e)) refl
+    where
+      by : (b : Bool) → completes (answer s e) ≡ b → (map.contains_key (next s e).spaces slot ≡ true) ⊎ IsLeave e slot
+      by true h = let l = caller_live s e h in subst
+          (λ (t : State). (map.contains_key t.spaces slot ≡ true) ⊎ IsLeave e slot) (sym (next-goes s e h))
+          (after_leaves e.call refl l.1)
+      by false h = inl (ap (λ (t : State). map.contains_key t.spaces slot) (next-stays s e h) ∙ ap is_some at)
+
+pub sharing_stays : SharingStays
+sharing_stays s e slot other w h = by (map.get s.spaces slot) refl h
+  where
+    by : (x : Option Cell) → map.get s.spaces slot ≡ x
+        → unwrap_or (option_map (λ (c : Cell). set.contains c.holders other) x) false ≡ true
+        → (shares (next s e) slot other ≡ true) ⊎ (IsLeave e slot ⊎ IsLeave e other)
+    by None at k = cc
+    by (Some c) at k = elim (next_leaves s e w slot c at) [
+      | inr goes ↦ inr (inl goes)
+      | inl there ↦ elim (next_leaves s e w other o.0 o.1) [
+        | inr goes ↦ inr (inr goes)
+        | inl also ↦ (
+            let d = some_value (map.get (next s e).spaces slot) there in
+            inl (ap (λ (x : Option Cell). unwrap_or (option_map (λ (c : Cell). set.contains c.holders other) x) false)
+            d.1
+            ∙ (next_stays s e w slot other c d.0 (inr (ap is_some o.1, also)) at d.1).group ∙ k))
+      ]
+    ]
+      where
+        o : (d : Cell) × (map.get s.spaces other ≡ Some d) × (d.holders ≡ c.holders) × (d.bytes ≡ c.bytes)
+        o = (w.cells slot c at).alike other k
+
 -- ---- What shows
 
 -- what is seen is mapped, or is q's own and not mapped
-seen_mapped : (s : State) (q : ℕ) (slot : Slot) → IsWellFormed s → sees s q slot ≡ true
+pub seen_mapped : (s : State) (q : ℕ) (slot : Slot) → IsWellFormed s → sees s q slot ≡ true
     → (is_of q slot ≡ true) ⊎ ((c : Cell) × (map.get s.spaces slot ≡ Some c))
 seen_mapped s q slot w v = by (is_of q slot) v
   where
@@ -415,11 +531,11 @@ seen_mapped s q slot w v = by (is_of q slot) v
         let o = (w.offers (offer_of slot.pid slot.page q) r.0 r.1).offered in
         inr (o.0, o.1)
 
-abbrev LiveBut : State → State → Event → Type 0
+abbrev pub LiveBut : State → State → Event → Type 0
 LiveBut s t e = (p : ℕ) → (is_live t p ≡ is_live s p)
     ⊎ (((p ≡ child_of s) × (makes_child e.call ≡ true)) ⊎ ((p ≡ e.pid) × (e.call ≡ call.Exit)))
 
-abbrev OffersBut : State → State → Event → ℕ → Type 0
+abbrev pub OffersBut : State → State → Event → ℕ → Type 0
 OffersBut s t e q = (giver page : ℕ) → giver ≢ e.pid
     → map.get t.offers (offer_of giver page q) ≡ map.get s.offers (offer_of giver page q)
 
@@ -485,14 +601,14 @@ module _ (s : State) (e : Event) (q : ℕ) (d : q ≢ e.pid) where
       (λ i. not (ne_eqb giver e.pid o i || ne_eqb q e.pid d i))
   after_offered call.Quota giver page o = refl
 
-next_live : (s : State) (e : Event) → LiveBut s (next s e) e
+pub next_live : (s : State) (e : Event) → LiveBut s (next s e) e
 next_live s e = by (completes (answer s e)) refl
   where
     by : (b : Bool) → completes (answer s e) ≡ b → LiveBut s (next s e) e
     by true h = subst (λ t. LiveBut s t e) (sym (next-goes s e h)) (after_live s e e.call refl)
     by false h = subst (λ t. LiveBut s t e) (sym (next-stays s e h)) (λ p. inl refl)
 
-next_offered : (s : State) (e : Event) (q : ℕ) → q ≢ e.pid → OffersBut s (next s e) e q
+pub next_offered : (s : State) (e : Event) (q : ℕ) → q ≢ e.pid → OffersBut s (next s e) e q
 next_offered s e q d = by (completes (answer s e)) refl
   where
     by : (b : Bool) → completes (answer s e) ≡ b → OffersBut s (next s e) e q
@@ -504,10 +620,10 @@ shows_little s e q w live d = record {
   live = next_live s e;
   offered = next_offered s e q d;
   bytes = λ slot place v u. elim (seen_mapped s q slot w v) [
-    | inl own ↦ subst (λ x. (byte_in (next s e) x place ≡ byte_in s x place) ⊎ IsStoreInto s e x place)
+    | inl own ↦ subst (λ x. (byte_in (next s e) x place ≡ byte_in s x place) ⊎ IsStoreInto s (next s e) e x place)
         (sym (own_slot slot own)) (mine.bytes slot.page place)
     | inr there ↦ elim (seen_mapped (next s e) q slot well u) [
-      | inl own ↦ subst (λ x. (byte_in (next s e) x place ≡ byte_in s x place) ⊎ IsStoreInto s e x place)
+      | inl own ↦ subst (λ x. (byte_in (next s e) x place ≡ byte_in s x place) ⊎ IsStoreInto s (next s e) e x place)
           (sym (own_slot slot own)) (mine.bytes slot.page place)
       | inr still ↦ byte_of slot place there.0 still.0 there.1 still.1
     ]
@@ -549,7 +665,7 @@ shows_little s e q w live d = record {
 
     byte_of : (slot : Slot) (place : ℕ) (before after : Cell) → map.get s.spaces slot ≡ Some before
         → map.get (next s e).spaces slot ≡ Some after
-        → (byte_in (next s e) slot place ≡ byte_in s slot place) ⊎ IsStoreInto s e slot place
+        → (byte_in (next s e) slot place ≡ byte_in s slot place) ⊎ IsStoreInto s (next s e) e slot place
     byte_of slot place before after at_s at_t = elim
         ((next_stays s e w slot (at_page (suc e.pid) 0) before after (inl (λ is. absurd (omega (arith, is)))) at_s
         at_t).bytes place) [

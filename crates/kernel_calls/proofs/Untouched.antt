@@ -11,6 +11,8 @@ use Rattle.std.proofs.Common.{
   true,
   false,
   cond,
+  [],
+  ◌∷◌,
   refl,
   sym,
   ap,
@@ -28,6 +30,7 @@ use Rattle.std.proofs.Common.{
 use Rattle.std.specs.Prelude.{◌⊎◌, if◌then◌else◌, slice_index}
 use Rattle.std.specs.Option.{option_map}
 use Rattle.std.proofs.lemmas.Bool.{ne_eqb}
+use Rattle.std.proofs.lemmas.List.Elements.{All-head, All-tail}
 use Rattle.std.proofs.lemmas.Option.{same_Some}
 use Rattle.page_words.specs.Addresses.{byte_count, touched}
 use Rattle.page_words.specs.declared.addresses.Size.{Size}
@@ -94,6 +97,7 @@ use Rattle.kernel_calls.specs.Authority.{
   EndsOffer,
   IsUntouched,
   Integrity,
+  NobodyTakesBack,
 }
 use Rattle.kernel_calls.specs.Machine.{answer, answer_of, after, next, completes}
 use Rattle.kernel_calls.specs.declared.calls.Call.{Call}
@@ -102,7 +106,7 @@ use Rattle.kernel_calls.specs.declared.calls.Event.{Event}
 use Rattle.kernel_calls.specs.declared.calls.Reply.TheVariants as reply
 use Rattle.process_table.specs.declared.causes.Cause.TheVariants as cause
 use Rattle.kernel_calls.proofs.Decided.{next-stays, next-goes}
-use Rattle.kernel_calls.proofs.Runs.{not-refused}
+use Rattle.kernel_calls.proofs.Runs.{not-refused, kept-next}
 use borrow.Author.Tests.{eqb-true}
 use Rattle.kernel_calls.proofs.UntouchedSlots.{
   kept_of,
@@ -186,11 +190,11 @@ untouched : (s t : State) (e : Event) (p : ℕ)
     → map.get t.book p ≡ map.get s.book p
     → ((page : ℕ) → flags_at t (at_page p page) ≡ flags_at s (at_page p page))
     → ((page place : ℕ) → (byte_in t (at_page p page) place ≡ byte_in s (at_page p page) place)
-    ⊎ IsStoreInto s e (at_page p page) place)
+    ⊎ IsStoreInto s t e (at_page p page) place)
     → ((page : ℕ) (other : Slot) → other.pid ≢ e.pid
     → shares t (at_page p page) other ≡ shares s (at_page p page) other)
     → (((given t.book p ≡ given s.book p) × (number_of_children t.book p ≡ number_of_children s.book p))
-    ⊎ IsChildsExit s e p)
+    ⊎ IsChildsExit s t e p)
     → ((key : OfferKey) → key.offerer ≡ p → (map.get t.offers key ≡ map.get s.offers key)
     ⊎ ((map.get t.offers key ≡ None) × EndsOffer e key))
     → IsUntouched s t e p
@@ -211,7 +215,7 @@ kept_untouched : (s t : State) (e : Event) (p : ℕ) → p ≢ e.pid
     → ((page : ℕ) (other : Slot) → other.pid ≢ e.pid
     → kept_at t.spaces (at_page p page) other ≡ kept_at s.spaces (at_page p page) other)
     → (((given t.book p ≡ given s.book p) × (number_of_children t.book p ≡ number_of_children s.book p))
-    ⊎ IsChildsExit s e p)
+    ⊎ IsChildsExit s t e p)
     → ((key : OfferKey) → key.offerer ≡ p → (map.get t.offers key ≡ map.get s.offers key)
     ⊎ ((map.get t.offers key ≡ None) × EndsOffer e key))
     → IsUntouched s t e p
@@ -227,7 +231,7 @@ same_untouched : (s t : State) (e : Event) (p : ℕ) → p ≢ e.pid
     → map.get t.book p ≡ map.get s.book p
     → ((page : ℕ) → map.get t.spaces (at_page p page) ≡ map.get s.spaces (at_page p page))
     → (((given t.book p ≡ given s.book p) × (number_of_children t.book p ≡ number_of_children s.book p))
-    ⊎ IsChildsExit s e p)
+    ⊎ IsChildsExit s t e p)
     → ((key : OfferKey) → key.offerer ≡ p → (map.get t.offers key ≡ map.get s.offers key)
     ⊎ ((map.get t.offers key ≡ None) × EndsOffer e key))
     → IsUntouched s t e p
@@ -264,7 +268,8 @@ more_given s q p k quota d free =
 -- one child less, where q was one of p
 less_given : (s : State) (e : Event) (p : ℕ) → e.call ≡ call.Exit → (m : Member) → map.get s.book e.pid ≡ Some m
     → ((given (map.remove s.book e.pid) p ≡ given s.book p)
-    × (number_of_children (map.remove s.book e.pid) p ≡ number_of_children s.book p)) ⊎ IsChildsExit s e p
+    × (number_of_children (map.remove s.book e.pid) p ≡ number_of_children s.book p))
+    ⊎ IsChildsExit s (after_exit s e.pid) e p
 less_given s e p exit m here = by (is_child p (e.pid, m)) refl
   where
     child_of_p : (not (e.pid == 0) && (m.parent == p)) ≡ true → m.parent ≡ p
@@ -276,8 +281,22 @@ less_given s e p exit m here = by (is_child p (e.pid, m)) refl
 
     by : (b : Bool) → is_child p (e.pid, m) ≡ b
         → ((given (map.remove s.book e.pid) p ≡ given s.book p)
-        × (number_of_children (map.remove s.book e.pid) p ≡ number_of_children s.book p)) ⊎ IsChildsExit s e p
-    by true is = inr (record { exit = exit; member = m; child = here; parent = child_of_p is })
+        × (number_of_children (map.remove s.book e.pid) p ≡ number_of_children s.book p))
+        ⊎ IsChildsExit s (after_exit s e.pid) e p
+    by true is = inr (
+        let a = given-remove s.book e.pid m here p in
+        let b = number-remove s.book e.pid m here p in
+        let x : ◌≡◌ {A = ℕ} (cond (is_child p (e.pid, m)) m.quota 0) m.quota = ap (λ t. cond t m.quota 0) is in
+        let y : ◌≡◌ {A = ℕ} (cond (is_child p (e.pid, m)) 1 0) 1 = ap (λ t. cond t 1 0) is in
+        record {
+          exit = exit;
+          member = m;
+          child = here;
+          parent = child_of_p is;
+          returned = omega (arith, a, x);
+          fewer =
+              omega (arith, b, y);
+        })
     by false is = inl (
         let a = given-remove s.book e.pid m here p in
         let b = number-remove s.book e.pid m here p in
@@ -355,12 +374,12 @@ module _ (s : State) (e : Event) (p : ℕ) (w : IsWellFormed s) (live_p : is_liv
           by (Some c) = refl
 
       bytes : (page place : ℕ) → (byte_in (after_store s e.pid addr size value) (at_page p page) place ≡ byte_in s
-          (at_page p page) place) ⊎ IsStoreInto s e (at_page p page) place
+          (at_page p page) place) ⊎ IsStoreInto s (after_store s e.pid addr size value) e (at_page p page) place
       bytes page place = by (map.get s.spaces (at_page p page)) refl
         where
           by : (x : Option Cell) → map.get s.spaces (at_page p page) ≡ x
               → (byte_in (after_store s e.pid addr size value) (at_page p page) place ≡ byte_in s (at_page p page)
-              place) ⊎ IsStoreInto s e (at_page p page) place
+              place) ⊎ IsStoreInto s (after_store s e.pid addr size value) e (at_page p page) place
           by (Some c) at = store_bytes s e addr value size is w live done (at_page p page) c place at
           by None none = inl (ap (λ (x : Option Cell).
               slice_index (unwrap_or x (fresh (at_page p page) true)).bytes place)
@@ -510,3 +529,11 @@ integrity s e p w live d = by (completes (answer s e)) refl
     by true h = let l = caller_live s e h in subst (λ t. IsUntouched s t e p) (sym (next-goes s e h))
         (after_untouched s e p w live d l.0 e.call refl l.1)
     by false h = subst (λ t. IsUntouched s t e p) (sym (next-stays s e h)) (still_untouched s e p d)
+
+pub nobody_takes_back : NobodyTakesBack
+nobody_takes_back s [] p page w live others = refl
+nobody_takes_back s (e ∷ events) p page w live others =
+    let u = integrity s e p w live (All-head (λ (e : Event). p ≢ e.pid) e events others) in
+    nobody_takes_back (next s e) events p page (kept-next s e w).0 (ap is_some u.member ∙ live)
+    (All-tail (λ (e : Event). p ≢ e.pid) e events others)
+    ∙ u.flags page

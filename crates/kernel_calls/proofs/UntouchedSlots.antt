@@ -6,6 +6,7 @@ use Rattle.std.proofs.Common.{
   zero,
   suc,
   ◌+◌,
+  ◌-◌,
   ◌/◌,
   ◌%◌,
   ◌<◌,
@@ -33,6 +34,7 @@ use Rattle.std.proofs.Common.{
   inl,
   inr,
   get_or-set_other,
+  get_or-set_same,
 }
 use Rattle.std.specs.Prelude.{◌⊎◌, if◌then◌else◌, find, slice_index}
 use Rattle.std.specs.Option.{option_map}
@@ -221,6 +223,11 @@ pub other_byte : (bytes : List ℕ) (at v place : ℕ) → at < length bytes →
 other_byte bytes at v place inside differ = ap (λ xs. slice_index xs place) (sym (byte_is_write bytes at v inside))
     ∙ get_or-set_other bytes at place (v % 256) 0 (λ e. differ (sym e))
 
+-- the byte that is written
+own_byte : (bytes : List ℕ) (at v : ℕ) → at < length bytes → slice_index (write_at bytes at (bytes_of 1 v)) at ≡ v % 256
+own_byte bytes at v inside = ap (λ xs. slice_index xs at) (sym (byte_is_write bytes at v inside))
+    ∙ get_or-set_same bytes at (v % 256) 0 inside
+
 -- a store leaves all groups of its process
 pub holders_stored : (S : Spaces) (q page at n : ℕ) (new : List ℕ)
     → (cell_or_fresh (stored S (at_page q page) at new) (at_page q n)).holders ≡ (cell_or_fresh S (at_page q n)).holders
@@ -259,13 +266,16 @@ holders_stored S q page at n new = elim (cases_eq n page) [
     by None = refl
     by (Some c) = either (set.contains group (at_page q n)) c
 
--- of k bytes from an address on, one goes to this place, through a slot of q in whose group this slot is
-pub record Reaches (S : Spaces) (q addr k : ℕ) (slot : Slot) (place : ℕ) : Type 0 where
+-- of the k low bytes of v, stored from an address on, one goes to this place, through a slot of q in whose group this
+-- slot is
+pub record Reaches (S : Spaces) (q addr k v : ℕ) (slot : Slot) (place : ℕ) : Type 0 where
   pub byte : ℕ
   pub first : addr ≤ byte
   pub last : byte < addr + k
   pub there : offset_number byte ≡ place
   pub shared : set.contains (cell_or_fresh S (slot_at q byte)).holders slot ≡ true
+  pub stored : slice_index (cell_or_fresh (all_stored S q addr (bytes_of k v)) slot).bytes place ≡ slice_index
+      (bytes_of k v) (byte - addr)
 
 -- one byte
 module _ (s : State) (q addr v : ℕ) (w : IsWellFormed s) (own_there : map.contains_key s.spaces (slot_at q addr) ≡ true)
@@ -318,16 +328,25 @@ module _ (s : State) (q addr v : ℕ) (w : IsWellFormed s) (own_there : map.cont
 
     pub one_byte : (slot : Slot) (d : Cell) (place : ℕ) → map.get s.spaces slot ≡ Some d
         → (slice_index (cell_or_fresh one_stored slot).bytes place ≡ slice_index d.bytes place)
-        ⊎ ((offset_number addr ≡ place) × (set.contains cell.holders slot ≡ true))
+        ⊎ ((offset_number addr ≡ place) × (set.contains cell.holders slot ≡ true)
+        × (slice_index (cell_or_fresh one_stored slot).bytes place ≡ v % 256))
     one_byte slot d place at = by (set.contains cell.holders slot) refl
       where
         by : (b : Bool) → set.contains cell.holders slot ≡ b
             → (slice_index (cell_or_fresh one_stored slot).bytes place ≡ slice_index d.bytes place)
-            ⊎ ((offset_number addr ≡ place) × (set.contains cell.holders slot ≡ true))
+            ⊎ ((offset_number addr ≡ place) × (set.contains cell.holders slot ≡ true)
+            × (slice_index (cell_or_fresh one_stored slot).bytes place ≡ v % 256))
         by false out = inl (ap (λ (x : Option Cell). slice_index (unwrap_or x (fresh slot true)).bytes place)
             (same_out slot d at out))
         by true inside = elim (cases_eq (offset_number addr) place) [
-          | inl is ↦ inr (is, inside)
+          | inl is ↦ inr (
+            is,
+            inside,
+            (let long : length cell.bytes ≡ 4096 = (w.cells target cell own_cell).long in
+                let fits : offset_number addr < length cell.bytes = omega (arith, long) in
+                ap (λ xs. slice_index xs place) (new_in slot d at inside) ∙ ap (λ n. slice_index new_bytes n) (sym is)
+                ∙ own_byte cell.bytes (offset_number addr) v fits),
+          )
           | inr differ ↦ inl (
               let was = w.cells target cell own_cell in
               let long : length cell.bytes ≡ 4096 = was.long in
@@ -360,7 +379,7 @@ module _ (s : State) (q addr v : ℕ) (w : IsWellFormed s) (own_there : map.cont
 pub many_bytes : (s : State) (q addr k v : ℕ) → IsWellFormed s → AreThere s.spaces q addr k
     → (slot : Slot) (d : Cell) (place : ℕ) → map.get s.spaces slot ≡ Some d
     → (slice_index (cell_or_fresh (all_stored s.spaces q addr (bytes_of k v)) slot).bytes place ≡ slice_index d.bytes
-    place) ⊎ Reaches s.spaces q addr k slot place
+    place) ⊎ Reaches s.spaces q addr k v slot place
 many_bytes s q addr zero v w there slot d place at =
     inl (ap (λ (x : Option Cell). slice_index (unwrap_or x (fresh slot true)).bytes place) at)
 many_bytes s q addr (suc k) v w there slot d place at =
@@ -374,8 +393,9 @@ many_bytes s q addr (suc k) v w there slot d place at =
           first = omega arith;
           last = omega arith;
           there = reached.0;
-          shared =
-              reached.1;
+          shared = reached.1;
+          stored = later ∙ sym (ap (λ (x : Option Cell). slice_index (unwrap_or x (fresh slot true)).bytes place)
+              next_cell.1) ∙ reached.2 ∙ sym (ap (λ n. slice_index (v % 256 ∷ bytes_of k (v / 256)) n) nothing);
         })
       ])
       | inr r ↦ inr (
@@ -389,9 +409,16 @@ many_bytes s q addr (suc k) v w there slot d place at =
             shared = ap (λ (g : Set slot_order). set.contains g slot)
                 (sym (holders_stored s.spaces q (page_number addr) (offset_number addr) (page_number r.byte)
                 (v % 256 ∷ []))) ∙ r.shared;
+            stored = r.stored ∙ sym (ap (λ n. slice_index (v % 256 ∷ bytes_of k (v / 256)) n) (one_less r.byte a));
           })
     ]
   where
+    nothing : addr - addr ≡ 0
+    nothing = omega arith
+
+    one_less : (byte : ℕ) → addr + 1 ≤ byte → byte - addr ≡ suc (byte - (addr + 1))
+    one_less byte l = omega (arith, l)
+
     T : Spaces
     T = stored s.spaces (slot_at q addr) (offset_number addr) (bytes_of 1 v)
 
@@ -406,7 +433,8 @@ many_bytes s q addr (suc k) v w there slot d place at =
     next_cell = still_there s q addr v w first slot d at
 
     one : (slice_index (cell_or_fresh T slot).bytes place ≡ slice_index d.bytes place)
-        ⊎ ((offset_number addr ≡ place) × (set.contains (cell_or_fresh s.spaces (slot_at q addr)).holders slot ≡ true))
+        ⊎ ((offset_number addr ≡ place) × (set.contains (cell_or_fresh s.spaces (slot_at q addr)).holders slot ≡ true)
+        × (slice_index (cell_or_fresh T slot).bytes place ≡ v % 256))
     one = one_byte s q addr v w first slot d place at
 
 -- where no number of a range passes a test
@@ -433,7 +461,8 @@ module _ (s : State) (e : Event) (addr value : ℕ) (size : Size) (is : e.call �
     (w : IsWellFormed s) (live : is_live s e.pid ≡ true)
     (done : completes (answer_of s e.pid (call.Store addr size value)) ≡ true) where
   pub store_bytes : (slot : Slot) (d : Cell) (place : ℕ) → map.get s.spaces slot ≡ Some d
-      → (byte_in (after_store s e.pid addr size value) slot place ≡ byte_in s slot place) ⊎ IsStoreInto s e slot place
+      → (byte_in (after_store s e.pid addr size value) slot place ≡ byte_in s slot place)
+      ⊎ IsStoreInto s (after_store s e.pid addr size value) e slot place
   store_bytes slot d place at = elim (many_bytes (record s { spaces = T }) q addr (byte_count size) value well
       (bytes_there T q addr size (touched-there s.spaces q addr size)) slot (cell_or_fresh T slot) place at_T) [
         | inl same ↦ inl (same ∙ ap (λ (x : Cell). slice_index x.bytes place)
@@ -442,7 +471,7 @@ module _ (s : State) (e : Event) (addr value : ℕ) (size : Size) (is : e.call �
             let first = r.first in
             let last = r.last in
             through r.byte first last r.there (ap (λ (x : Cell). set.contains x.holders slot)
-            (sym (same_cells s.spaces q (touched addr size) (slot_at q r.byte))) ∙ r.shared)
+            (sym (same_cells s.spaces q (touched addr size) (slot_at q r.byte))) ∙ r.shared) r.stored
             (map.get s.spaces (slot_at q r.byte)) refl)
       ]
     where
@@ -468,8 +497,11 @@ module _ (s : State) (e : Event) (addr value : ℕ) (size : Size) (is : e.call �
 
       through : (byte : ℕ) → addr ≤ byte → byte < addr + byte_count size → offset_number byte ≡ place
           → set.contains (cell_or_fresh s.spaces (slot_at q byte)).holders slot ≡ true
-          → (x : Option Cell) → map.get s.spaces (slot_at q byte) ≡ x → IsStoreInto s e slot place
-      through byte first last there shared None none = absurd (
+          → byte_in (after_store s e.pid addr size value) slot place ≡ slice_index (bytes_of (byte_count size) value)
+          (byte - addr)
+          → (x : Option Cell) → map.get s.spaces (slot_at q byte) ≡ x
+          → IsStoreInto s (after_store s e.pid addr size value) e slot place
+      through byte first last there shared stored None none = absurd (
           let lone_is : (cell_or_fresh s.spaces (slot_at q byte)).holders ≡ lone (slot_at q byte) =
           ap (λ (x : Option Cell). (unwrap_or x (fresh (slot_at q byte) true)).holders) none in
           elim (same_cases slot_order slot (slot_at q byte)) [
@@ -477,7 +509,7 @@ module _ (s : State) (e : Event) (addr value : ℕ) (size : Size) (is : e.call �
             | inr other ↦ (let f = in_lone (slot_at q byte) slot other.0 in let t =
                 ap (λ (g : Set slot_order). set.contains g slot) (sym lone_is) ∙ shared in cc)
           ])
-      through byte first last there shared (Some o) some = record {
+      through byte first last there shared stored (Some o) some = record {
         address = addr;
         size = size;
         value = value;
@@ -489,6 +521,7 @@ module _ (s : State) (e : Event) (addr value : ℕ) (size : Size) (is : e.call �
         through = some;
         right = may_write;
         shared = ap (λ (g : Set slot_order). set.contains g slot) (sym holders_is) ∙ shared;
+        stored = stored;
       }
         where
           cell_is : cell_or_fresh s.spaces (slot_at q byte) ≡ o

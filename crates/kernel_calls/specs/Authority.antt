@@ -4,6 +4,7 @@ use Rattle.std.proofs.Common.{
   ◌≢◌,
   ℕ,
   ◌+◌,
+  ◌-◌,
   ◌<◌,
   ◌≤◌,
   Bool,
@@ -24,7 +25,7 @@ use Rattle.page_words.specs.Addresses.{offset_number, byte_count}
 use Rattle.page_words.specs.declared.addresses.Size.{Size}
 use Rattle.page_words.specs.FiniteMap as map
 use Rattle.page_words.specs.FiniteSet as set
-use Rattle.address_space.specs.Spaces.{Slot, Cell, cost, cell_or_fresh, at_page, slot_at, is_of}
+use Rattle.address_space.specs.Spaces.{Slot, Cell, cost, cell_or_fresh, at_page, slot_at, is_of, bytes_of, copy_of}
 use Rattle.quota_tree.specs.Book.{Member, given, quota_of, number_of_children}
 use Rattle.page_sharing.specs.Offers.{OfferKey, offer_of}
 use Rattle.process_table.specs.State.{State, is_live, child_of}
@@ -33,6 +34,7 @@ use Rattle.kernel_calls.specs.Machine.{answer, answers, next, end_of}
 use Rattle.kernel_calls.specs.declared.calls.Call.{Call}
 use Rattle.kernel_calls.specs.declared.calls.Call.TheVariants as call
 use Rattle.kernel_calls.specs.declared.calls.Event.{Event}
+use Rattle.kernel_calls.specs.declared.calls.Reply.TheVariants as reply
 
 -- the flags of a page
 pub record Flags : Type 0 where
@@ -60,8 +62,8 @@ shares s slot other = unwrap_or (option_map (λ (cell : Cell). set.contains cell
 -- ---- Integrity: what an event leaves of all other processes
 
 -- the event is a store of its process that covers this byte, through a slot of its own, with write, whose page this
--- slot shares
-pub record IsStoreInto (s : State) (e : Event) (slot : Slot) (place : ℕ) : Type 0 where
+-- slot shares; and the byte there is then that byte of the value
+pub record IsStoreInto (s t : State) (e : Event) (slot : Slot) (place : ℕ) : Type 0 where
   pub address : ℕ
   pub size : Size
   pub value : ℕ
@@ -73,13 +75,16 @@ pub record IsStoreInto (s : State) (e : Event) (slot : Slot) (place : ℕ) : Typ
   pub through : map.get s.spaces (slot_at e.pid byte) ≡ Some own
   pub right : IsTrue own.write
   pub shared : IsTrue (set.contains own.holders slot)
+  pub stored : byte_in t slot place ≡ slice_index (bytes_of (byte_count size) value) (byte - address)
 
--- the event is the exit of a child of p
-pub record IsChildsExit (s : State) (e : Event) (p : ℕ) : Type 0 where
+-- the event is the exit of a child of p, whose quota p has back
+pub record IsChildsExit (s t : State) (e : Event) (p : ℕ) : Type 0 where
   pub exit : e.call ≡ call.Exit
   pub member : Member
   pub child : map.get s.book e.pid ≡ Some member
   pub parent : member.parent ≡ p
+  pub returned : given s.book p ≡ given t.book p + member.quota
+  pub fewer : number_of_children s.book p ≡ number_of_children t.book p + 1
 
 -- the event ends an offer to its process: that accepts it, or exits
 pub record EndsOffer (e : Event) (key : OfferKey) : Type 0 where
@@ -95,13 +100,13 @@ pub record IsUntouched (s t : State) (e : Event) (p : ℕ) : Type 0 where
   pub cost : cost t.spaces p ≡ cost s.spaces p
   -- each byte is the same, or stored by the event
   pub bytes : (page place : ℕ) → (byte_in t (at_page p page) place ≡ byte_in s (at_page p page) place)
-      ⊎ IsStoreInto s e (at_page p page) place
+      ⊎ IsStoreInto s t e (at_page p page) place
   -- of the slots that share a page, only those of the event's process come and go
   pub holders : (page : ℕ) (other : Slot) → other.pid ≢ e.pid
       → shares t (at_page p page) other ≡ shares s (at_page p page) other
   -- what it has given, and to how many children, unless one of them exits
   pub given : ((given t.book p ≡ given s.book p) × (number_of_children t.book p ≡ number_of_children s.book p))
-      ⊎ IsChildsExit s e p
+      ⊎ IsChildsExit s t e p
   -- an offer that p has made is as it was, or ended by the process that it names
   pub offers : (key : OfferKey) → key.offerer ≡ p
       → (map.get t.offers key ≡ map.get s.offers key) ⊎ ((map.get t.offers key ≡ None) × EndsOffer e key)
@@ -110,6 +115,12 @@ abbrev pub Integrity : Type 0
 Integrity = (s : State) (e : Event) (p : ℕ) → IsWellFormed s → is_live s p ≡ true → p ≢ e.pid
     → IsUntouched s (next s e) e p
 
+-- no run of events of others unmaps a page of a live process or changes its flags: so nobody can take back a page
+-- that it accepted, nor a right to it
+abbrev pub NobodyTakesBack : Type 0
+NobodyTakesBack = (s : State) (events : List Event) (p page : ℕ) → IsWellFormed s → is_live s p ≡ true
+    → All (λ (e : Event). p ≢ e.pid) events → flags_at (end_of s events) (at_page p page) ≡ flags_at s (at_page p page)
+
 -- ---- Consent: how authority spreads
 
 -- the event accepts a pending offer to its process, at this new slot: the slot joins the group of the slot that was
@@ -117,6 +128,7 @@ Integrity = (s : State) (e : Event) (p : ℕ) → IsWellFormed s → is_live s p
 pub record IsJoin (s : State) (e : Event) (slot other : Slot) : Type 0 where
   pub page : ℕ
   pub slot_is : slot ≡ at_page e.pid page
+  pub new : map.get s.spaces slot ≡ None
   pub giver : Slot
   pub right : Bool
   pub call : e.call ≡ call.Accept giver.pid giver.page page
@@ -133,6 +145,16 @@ SharingByConsent = (s : State) (e : Event) (slot other : Slot) → IsWellFormed 
     → shares (next s e) slot other ≡ true
     → (shares s slot other ≡ true) ⊎ (IsJoin s e slot other ⊎ IsJoin s e other slot)
 
+-- the event gives this slot up: it unmaps it, or its process exits
+pub record IsLeave (e : Event) (slot : Slot) : Type 0 where
+  pub own : slot.pid ≡ e.pid
+  pub how : (e.call ≡ call.Unmap slot.page) ⊎ (e.call ≡ call.Exit)
+
+-- two slots that share a page before an event do so after it, or one of them is given up: so it is with one slot, too
+abbrev pub SharingStays : Type 0
+SharingStays = (s : State) (e : Event) (slot other : Slot) → IsWellFormed s → shares s slot other ≡ true
+    → (shares (next s e) slot other ≡ true) ⊎ (IsLeave e slot ⊎ IsLeave e other)
+
 -- an offer is pending after an event where it was before, or where the event is this offer
 abbrev pub OffersByOfferer : Type 0
 OffersByOfferer = (s : State) (e : Event) (key : OfferKey) (right : Bool) → map.get (next s e).offers key ≡ Some right
@@ -142,6 +164,49 @@ OffersByOfferer = (s : State) (e : Event) (key : OfferKey) (right : Bool) → ma
 abbrev pub RightsStay : Type 0
 RightsStay = (s : State) (e : Event) (slot : Slot) (before after : Cell) → IsWellFormed s
     → map.get s.spaces slot ≡ Some before → map.get (next s e).spaces slot ≡ Some after → after.may ≡ before.may
+
+-- ---- What is given up goes
+
+-- after an exit that is done the process, its slots and all offers by it and to it are gone, and its parent has its
+-- quota back
+pub record HasExited (s t : State) (p : ℕ) : Type 0 where
+  pub gone : map.get t.book p ≡ None
+  pub pages : (page : ℕ) → map.get t.spaces (at_page p page) ≡ None
+  pub groups : (slot : Slot) (page : ℕ) → shares t slot (at_page p page) ≡ false
+  pub offers : (page other : ℕ)
+      → (map.get t.offers (offer_of p page other) ≡ None) × (map.get t.offers (offer_of other page p) ≡ None)
+  pub returned : (member : Member) → map.get s.book p ≡ Some member
+      → given s.book member.parent ≡ given t.book member.parent + member.quota
+
+abbrev pub ExitsEnd : Type 0
+ExitsEnd = (s : State) (e : Event) → e.call ≡ call.Exit → answer s e ≡ reply.Done → HasExited s (next s e) e.pid
+
+-- after an unmap that is done the slot is in no group, and its offers are gone
+pub record HasLeft (t : State) (slot : Slot) : Type 0 where
+  pub gone : map.get t.spaces slot ≡ None
+  pub groups : (other : Slot) → shares t other slot ≡ false
+  pub offers : (target : ℕ) → map.get t.offers (offer_of slot.pid slot.page target) ≡ None
+
+abbrev pub UnmapsEnd : Type 0
+UnmapsEnd = (s : State) (e : Event) (page : ℕ) → e.call ≡ call.Unmap page → answer s e ≡ reply.Done
+    → HasLeft (next s e) (at_page e.pid page)
+
+-- the event withdraws an offer of its process, or accepts one to it
+abbrev pub Settles : Event → OfferKey → Type 0
+Settles e key = ((e.pid ≡ key.offerer) × (e.call ≡ call.Withdraw key.page key.target))
+    ⊎ ((e.pid ≡ key.target) × ((page : ℕ) × (e.call ≡ call.Accept key.offerer key.page page)))
+
+-- after that is done the offer is gone
+abbrev pub OffersEnd : Type 0
+OffersEnd = (s : State) (e : Event) (key : OfferKey) → Settles e key → answer s e ≡ reply.Done
+    → map.get (next s e).offers key ≡ None
+
+-- an offer that is pending before an event is so after it, or is settled, or its page or one of its processes is given
+-- up
+abbrev pub OffersStay : Type 0
+OffersStay = (s : State) (e : Event) (key : OfferKey) (right : Bool) → map.get s.offers key ≡ Some right
+    → (map.get (next s e).offers key ≡ Some right)
+    ⊎ (Settles e key ⊎ (IsLeave e (at_page key.offerer key.page) ⊎ ((key.target ≡ e.pid) × (e.call ≡ call.Exit))))
 
 -- ---- Confidentiality: what a process sees
 
@@ -213,7 +278,7 @@ pub record ShowsAtMost (s t : State) (e : Event) (q : ℕ) : Type 0 where
       (offer_of giver page q)
   -- of a page that q saw and sees: the bytes that the event stores, and the slots of its process that come and go
   pub bytes : (slot : Slot) (place : ℕ) → sees s q slot ≡ true → sees t q slot ≡ true
-      → (byte_in t slot place ≡ byte_in s slot place) ⊎ IsStoreInto s e slot place
+      → (byte_in t slot place ≡ byte_in s slot place) ⊎ IsStoreInto s t e slot place
   pub holders : (slot other : Slot) → sees s q slot ≡ true → sees t q slot ≡ true → other.pid ≢ e.pid
       → shares t slot other ≡ shares s slot other
   -- and which of those pages are one stays
@@ -224,31 +289,21 @@ abbrev pub ShowsLittle : Type 0
 ShowsLittle = (s : State) (e : Event) (q : ℕ) → IsWellFormed s → is_live s q ≡ true → q ≢ e.pid
     → ShowsAtMost s (next s e) e q
 
--- ---- Over whole runs
+-- ---- Births
 
--- p shares no page with another process, and offers none
-pub record IsPrivate (s : State) (p : ℕ) : Type 0 where
-  pub shares_none : (slot other : Slot) → slot.pid ≡ p → other.pid ≢ p → shares s slot other ≡ false
-  pub offers_none : (key : OfferKey) (right : Bool) → map.get s.offers key ≡ Some right → key.offerer ≢ p
+-- the child of a spawn has no page
+abbrev pub SpawnsAreEmpty : Type 0
+SpawnsAreEmpty = (s : State) (e : Event) (quota child page : ℕ) → IsWellFormed s → e.call ≡ call.Spawn quota
+    → answer s e ≡ reply.Child child → map.get (next s e).spaces (at_page child page) ≡ None
 
--- the call makes an offer or takes one
-abbrev pub gives_or_takes : Call → Bool
-gives_or_takes (call.Offer _ _ _) = true
-gives_or_takes (call.Accept _ _ _) = true
-gives_or_takes _ = false
+-- the child of a fork has a copy of each page of its maker, with a group of its own, and no other page
+abbrev pub ForksAreCopies : Type 0
+ForksAreCopies = (s : State) (e : Event) (quota child page : ℕ) → e.call ≡ call.Fork quota
+    → answer s e ≡ reply.Child child
+    → map.get (next s e).spaces (at_page child page)
+    ≡ option_map (copy_of (at_page child page)) (map.get s.spaces (at_page e.pid page))
 
--- a process that makes no offer and takes none stays private, whatever children it makes and whatever others do
-abbrev pub RunsStayPrivate : Type 0
-RunsStayPrivate = (s : State) (events : List Event) (p : ℕ) → IsWellFormed s → IsPrivate s p
-    → All (λ (e : Event). e.pid ≡ p → gives_or_takes e.call ≡ false) events → IsPrivate (end_of s events) p
-
--- p's place in the book, its flags and its bytes are as they were
-pub record IsAsBefore (s t : State) (p : ℕ) : Type 0 where
-  pub member : map.get t.book p ≡ map.get s.book p
-  pub flags : (page : ℕ) → flags_at t (at_page p page) ≡ flags_at s (at_page p page)
-  pub bytes : (page place : ℕ) → byte_in t (at_page p page) place ≡ byte_in s (at_page p page) place
-
--- and no run of events of others changes what it has
-abbrev pub OthersLeavePrivate : Type 0
-OthersLeavePrivate = (s : State) (events : List Event) (p : ℕ) → IsWellFormed s → is_live s p ≡ true → IsPrivate s p
-    → All (λ (e : Event). p ≢ e.pid) events → IsAsBefore s (end_of s events) p
+-- two states that look the same to the maker of a child look the same to the child, once it is made
+abbrev pub BornTheSame : Type 0
+BornTheSame = (s t : State) (e : Event) (child : ℕ) → IsWellFormed s → IsWellFormed t → LooksSame s t e.pid
+    → answer s e ≡ reply.Child child → LooksSame (next s e) (next t e) child

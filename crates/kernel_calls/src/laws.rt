@@ -1,6 +1,9 @@
 //! Laws of the machine's runs. Each is the contract of a function that computes nothing.
 
-ghost use Rattle.kernel_calls.specs.Authority.{Integrity, SharingByConsent, OffersByOfferer, RightsStay, ToldTheSame, SeesTheSame, ToldTheSameInRuns, ShowsLittle, RunsStayPrivate, OthersLeavePrivate};
+ghost use Rattle.kernel_calls.specs.Authority.{Integrity, NobodyTakesBack, SharingByConsent, OffersByOfferer, RightsStay, ToldTheSame, SeesTheSame, ToldTheSameInRuns, ShowsLittle, SharingStays, ExitsEnd, UnmapsEnd, OffersEnd, OffersStay, SpawnsAreEmpty, ForksAreCopies, BornTheSame};
+ghost use Rattle.kernel_calls.specs.Confinement.{RunsStayConfined, FamiliesStayConfined, OutsidersLeaveMembers};
+ghost use Rattle.kernel_calls.specs.Own.{OwnIsEnough, AcceptsReadTheirOffer};
+ghost use Rattle.kernel_calls.specs.Together.{MembersToldTheSame, MembersSeeTheSame, OutsidersUnseen, MembersHearTheSame, OutsidersHearNothing};
 ghost use Rattle.kernel_calls.specs.Isolation.{RunsAreIsolated, OthersMakeNoDifference};
 ghost use Rattle.kernel_calls.specs.Laws.{RunsStayWellFormed};
 ghost use Rattle.kernel_calls.specs.Translations.{KeepsThrough};
@@ -31,9 +34,10 @@ pub fn kept_translations_are_given()
 /// What an event of one process does to another that is live: it leaves its place in the book, its pages with
 /// their flags, its cost, what it gives and the offers that it made, but for the bytes that it stores through
 /// a page that they share, the slots of its own that come and go, the exit of a child, and offers to it that
-/// it takes or that its exit ends. It computes nothing.
+/// it takes or that its exit ends. So nobody can take back a page that a process accepted. It computes nothing.
 pub fn processes_keep_their_integrity()
-    ensures { Integrity }
+    ensures events { Integrity }
+    ensures runs { NobodyTakesBack }
 {}
 
 /// Two slots come to share a page by an Accept alone, which the owner of a slot of that page offered, with no
@@ -41,8 +45,26 @@ pub fn processes_keep_their_integrity()
 /// stays. It computes nothing.
 pub fn authority_spreads_by_consent()
     ensures sharing { SharingByConsent }
+    ensures stays { SharingStays }
     ensures offers { OffersByOfferer }
     ensures rights { RightsStay }
+{}
+
+/// What a process gives up goes: an exit leaves nothing of the process, an unmap nothing of the slot, and an offer that
+/// is withdrawn or accepted is gone. It computes nothing.
+pub fn what_is_given_up_goes()
+    ensures exits { ExitsEnd }
+    ensures unmaps { UnmapsEnd }
+    ensures offers { OffersEnd }
+    ensures stays { OffersStay }
+{}
+
+/// The child of a spawn has no page, that of a fork copies of its maker's; and what a child sees depends on what its
+/// maker saw alone. It computes nothing.
+pub fn children_are_their_makers()
+    ensures spawns { SpawnsAreEmpty }
+    ensures forks { ForksAreCopies }
+    ensures born { BornTheSame }
 {}
 
 /// What a process is told, and what it sees after its own event, depends on what it sees alone; and the event
@@ -54,10 +76,32 @@ pub fn processes_see_their_own()
     ensures shows { ShowsLittle }
 {}
 
-/// A process that shares no page and offers none, and that from then on makes no offer and takes none, stays
-/// so in every run, whatever children it makes; and no run of events of others changes its pages. It computes
-/// nothing.
-pub fn private_processes_stay_private()
-    ensures stay { RunsStayPrivate }
-    ensures untouched { OthersLeavePrivate }
+/// What a process is told by any call but an accept, and what it has afterwards, depends on what it has alone,
+/// and for an offer, a spawn and a fork on who is live; what an accept is told depends also on the offer that it
+/// takes, whatever the page that is offered. It computes nothing.
+pub fn what_a_process_has_is_enough()
+    ensures own { OwnIsEnough }
+    ensures accepts { AcceptsReadTheirOffer }
+{}
+
+/// What the members of a set of processes are told, and what they see together after an event of one of them, with the
+/// child that it may make, depends on what they see together alone; the event of another through none of the channels
+/// that are listed leaves that; so in two runs in which the members ask the same, they are told the same, whatever
+/// others do through no channel. It computes nothing.
+pub fn members_see_their_own()
+    ensures told { MembersToldTheSame }
+    ensures sees { MembersSeeTheSame }
+    ensures unseen { OutsidersUnseen }
+    ensures runs { MembersHearTheSame }
+{}
+
+/// A set of processes that has no page in common with others and offers them none, and that from then on makes
+/// no offer but to members and takes none but of members, stays so in every run, as a set of numbers and with
+/// all children that its members make; no run of events of others changes what a member has; and as long as members
+/// make no process and end none, others learn nothing of what members have and do. It computes nothing.
+pub fn confined_processes_stay_confined()
+    ensures stay { RunsStayConfined }
+    ensures grow { FamiliesStayConfined }
+    ensures untouched { OutsidersLeaveMembers }
+    ensures unheard { OutsidersHearNothing }
 {}

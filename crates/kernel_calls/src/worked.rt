@@ -1,6 +1,6 @@
 //! Worked runs, as theorems on the definitions of the machine: they are computed from them.
 
-ghost use Rattle.kernel_calls.specs.WorkedAuthority.{PassedOn, MoreThanTheGiverHas, OfferedPageShows, TwoSlotsOnePage, TwoSlotsTwoPages};
+ghost use Rattle.kernel_calls.specs.WorkedAuthority.{PassedOn, MoreThanTheGiverHas, OfferedPageShows, TwoSlotsOnePage, TwoSlotsTwoPages, BehindItsBack, NumberComesAgain, CopiesPassOn, TwoHaveOnePage, TwoHaveTwoPages, FamilyGrows, FamilyHears};
 ghost use Rattle.kernel_calls.specs.WorkedRuns.{Empty, MapStoreLoad, OneProcessIsFull, FramesComeBack, UserRangeEdges, DemandZero, TableIsCharged, UnmapReturnsTable, LazyPage};
 ghost use Rattle.kernel_calls.specs.WorkedAccesses.{AcrossTwoPages, BothPagesOrNeither, FaultsAtTheFirstByte, AcrossTwoRegions, AcrossOneGroup};
 ghost use Rattle.kernel_calls.specs.WorkedForks.{ForkCopies, ForkOfShared};
@@ -75,4 +75,11 @@ pub fn worked_runs_of_authority()
     ensures offered_page_shows { OfferedPageShows }
     ensures two_slots_one_page { TwoSlotsOnePage }
     ensures two_slots_two_pages { TwoSlotsTwoPages }
+    ensures behind_its_back { BehindItsBack }
+    ensures number_comes_again { NumberComesAgain }
+    ensures copies_pass_on { CopiesPassOn }
+    ensures two_have_one_page { TwoHaveOnePage }
+    ensures two_have_two_pages { TwoHaveTwoPages }
+    ensures family_grows { FamilyGrows }
+    ensures family_hears { FamilyHears }
 {}

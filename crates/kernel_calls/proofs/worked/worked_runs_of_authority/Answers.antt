@@ -15,3 +15,24 @@ returns-clause-two_slots_one_page c = refl
 
 pub returns-clause-two_slots_two_pages : goal.returns-clause-two_slots_two_pages
 returns-clause-two_slots_two_pages c = refl
+
+pub returns-clause-behind_its_back : goal.returns-clause-behind_its_back
+returns-clause-behind_its_back c = refl
+
+pub returns-clause-number_comes_again : goal.returns-clause-number_comes_again
+returns-clause-number_comes_again c = refl
+
+pub returns-clause-copies_pass_on : goal.returns-clause-copies_pass_on
+returns-clause-copies_pass_on c = refl
+
+pub returns-clause-two_have_one_page : goal.returns-clause-two_have_one_page
+returns-clause-two_have_one_page c = refl
+
+pub returns-clause-two_have_two_pages : goal.returns-clause-two_have_two_pages
+returns-clause-two_have_two_pages c = refl
+
+pub returns-clause-family_grows : goal.returns-clause-family_grows
+returns-clause-family_grows c = (refl, refl, refl)
+
+pub returns-clause-family_hears : goal.returns-clause-family_hears
+returns-clause-family_hears c = refl

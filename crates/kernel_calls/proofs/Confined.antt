@@ -1,0 +1,316 @@
+-- A set of processes that has nothing in common with others stays so, and others leave what it has.
+use Rattle.std.proofs.Common.{
+  ◌≡◌,
+  ◌≢◌,
+  ℕ,
+  ◌&&◌,
+  Bool,
+  true,
+  false,
+  if◌then◌else◌,
+  [],
+  ◌∷◌,
+  refl,
+  sym,
+  ap,
+  ◌∙◌,
+  Option,
+  Some,
+  None,
+  is_some,
+  unwrap_or,
+  inl,
+  inr,
+}
+use Rattle.std.specs.Prelude.{slice_index}
+use Rattle.std.specs.Option.{option_map}
+use Rattle.std.proofs.lemmas.Bool.{cases_eq}
+use Rattle.std.proofs.lemmas.List.{ext_get_or}
+use Rattle.std.proofs.lemmas.List.Elements.{All-head, All-tail}
+use Rattle.std.proofs.lemmas.Option.{same_Some}
+use Rattle.page_words.specs.FiniteMap as map
+use Rattle.page_words.specs.FiniteSet as set
+use Rattle.page_words.specs.FiniteSet.{Set}
+use Rattle.page_words.proofs.MapLemmas.{same_set}
+use Rattle.address_space.specs.Spaces.{Slot, slot_order, Cell, fresh, at_page, slot_at}
+use Rattle.page_sharing.specs.Offers.{OfferKey, offer_of}
+use Rattle.process_table.specs.State.{State, is_live}
+use Rattle.process_table.specs.WellFormed.{IsWellFormed}
+use Rattle.kernel_calls.specs.Authority.{flags_of, shares, byte_in, IsUntouched, IsJoin, EndsOffer, makes_child}
+use Rattle.kernel_calls.specs.Confinement.{
+  IsConfined,
+  keeps_within,
+  KeepsWithin,
+  RunsStayConfined,
+  members_after,
+  FamiliesStayConfined,
+  IsAsBefore,
+  OutsidersLeaveMembers,
+}
+use Rattle.kernel_calls.specs.Machine.{next}
+use Rattle.kernel_calls.specs.declared.calls.Event.{Event}
+use Rattle.kernel_calls.specs.declared.calls.Call.TheVariants as call
+use Rattle.kernel_calls.proofs.Consent.{sharing_by_consent, offers_by_offerer}
+use Rattle.kernel_calls.proofs.Runs.{kept-next}
+use Rattle.kernel_calls.proofs.Stays.{next_live}
+use Rattle.kernel_calls.proofs.Untouched.{integrity}
+
+-- ---- Slots that share a page
+
+-- a slot that shares its page is mapped
+pub shared_cell : (s : State) (slot other : Slot) → shares s slot other ≡ true
+    → (c : Cell) × (map.get s.spaces slot ≡ Some c) × (set.contains c.holders other ≡ true)
+shared_cell s slot other = by (map.get s.spaces slot) refl
+  where
+    by : (x : Option Cell) → map.get s.spaces slot ≡ x
+        → unwrap_or (option_map (λ (c : Cell). set.contains c.holders other) x) false ≡ true
+        → (c : Cell) × (map.get s.spaces slot ≡ Some c) × (set.contains c.holders other ≡ true)
+    by None at h = cc
+    by (Some c) at h = (c, at, h)
+
+pub shares_by : (s : State) (slot other : Slot) (c : Cell) → map.get s.spaces slot ≡ Some c
+    → set.contains c.holders other ≡ true → shares s slot other ≡ true
+shares_by s slot other c at h = ap (λ (x : Option Cell).
+    unwrap_or (option_map (λ (c : Cell). set.contains c.holders other) x) false) at ∙ h
+
+-- both slots' processes are live
+pub shared_live : (s : State) (slot other : Slot) → IsWellFormed s → shares s slot other ≡ true
+    → (is_live s slot.pid ≡ true) × (is_live s other.pid ≡ true)
+shared_live s slot other w h =
+    let c = shared_cell s slot other h in
+    let o = (w.cells slot c.0 c.1).alike other c.2 in
+    (w.owners slot c.0 c.1, w.owners other o.0 o.1)
+
+-- a slot in the group of another has that one in its own
+pub back : (s : State) (slot other : Slot) → IsWellFormed s → shares s slot other ≡ true → shares s other slot ≡ true
+back s slot other w h =
+    let c = shared_cell s slot other h in
+    let was = w.cells slot c.0 c.1 in
+    let o = was.alike other c.2 in
+    shares_by s other slot o.0 o.1 (ap (λ (g : Set slot_order). set.contains g slot) o.2 ∙ was.own)
+
+-- an offer's processes are both live
+offer_live : (s : State) (key : OfferKey) (right : Bool) → IsWellFormed s → map.get s.offers key ≡ Some right
+    → (is_live s key.offerer ≡ true) × (is_live s key.target ≡ true)
+offer_live s key right w at =
+    let o = w.offers key right at in
+    (w.owners (at_page key.offerer key.page) o.offered.0 o.offered.1, o.target)
+
+-- an offer makes nobody and ends nobody
+offer_keeps : (s : State) (e : Event) (page target p : ℕ) (right : Bool) → e.call ≡ call.Offer page target right
+    → is_live (next s e) p ≡ true → is_live s p ≡ true
+offer_keeps s e page target p right is live = elim (next_live s e p) [
+  | inl same ↦ sym same ∙ live
+  | inr differs ↦ elim differs [
+    | inl born ↦ absurd (let x : false ≡ true = sym (ap makes_child is) ∙ born.1 in cc)
+    | inr gone ↦ absurd (let x : call.Offer page target right ≡ call.Exit = sym is ∙ gone.1 in cc)
+  ]
+]
+
+-- ---- One event: who lives on is a member afterwards where it was one
+
+module _ (s : State) (e : Event) (C D : ℕ → Bool) (w : IsWellFormed s) (confined : IsConfined s C)
+    (keeps : KeepsWithin C e) (same : (p : ℕ) → is_live s p ≡ true → is_live (next s e) p ≡ true → D p ≡ C p) where
+  well : IsWellFormed (next s e)
+  well = (kept-next s e w).0
+
+  no_share : (slot other : Slot) → D slot.pid ≡ true → D other.pid ≡ false → (b : Bool)
+      → shares (next s e) slot other ≡ b → b ≡ false
+  no_share slot other own apart false is = refl
+  no_share slot other own apart true is = absurd (elim (sharing_by_consent s e slot other w differ is) [
+    | inl old ↦ (
+        let before = shared_live s slot other w old in
+        let f = confined.shares_none slot other (sym (same slot.pid before.0 after.0) ∙ own)
+        (sym (same other.pid before.1 after.1) ∙ apart) in
+        cc)
+    | inr joined ↦ elim joined [
+      | inl j ↦ mine j
+      | inr j ↦ theirs j
+    ]
+  ])
+    where
+      differ : slot ≢ other
+      differ x = let a = ap (λ (r : Slot). D r.pid) x in cc
+
+      after : (is_live (next s e) slot.pid ≡ true) × (is_live (next s e) other.pid ≡ true)
+      after = shared_live (next s e) slot other well is
+
+      mine : IsJoin s e slot other → ⊥
+      mine j =
+          let pid : slot.pid ≡ e.pid = ap (λ (r : Slot). r.pid) j.slot_is in
+          let given = shares_by s j.giver other j.cell j.given j.among in
+          let offer = offer_live s (offer_of j.giver.pid j.giver.page e.pid) j.right w j.offered in
+          let member : C e.pid ≡ true = sym (same e.pid offer.1 (ap (is_live (next s e)) (sym pid) ∙ after.0))
+          ∙ ap D (sym pid) ∙ own in
+          let kept : C j.giver.pid ≡ true = sym (ap (keeps_within C) j.call) ∙ keeps member in
+          let f = confined.shares_none j.giver other kept
+          (sym (same other.pid (shared_live s j.giver other w given).1 after.1) ∙ apart) in
+          cc
+
+      theirs : IsJoin s e other slot → ⊥
+      theirs j =
+          let pid : other.pid ≡ e.pid = ap (λ (r : Slot). r.pid) j.slot_is in
+          let given = shares_by s j.giver slot j.cell j.given j.among in
+          let offer = offer_live s (offer_of j.giver.pid j.giver.page e.pid) j.right w j.offered in
+          let outsider : C e.pid ≡ false = sym (same e.pid offer.1 (ap (is_live (next s e)) (sym pid) ∙ after.1))
+          ∙ ap D (sym pid) ∙ apart in
+          let member : C slot.pid ≡ true = sym (same slot.pid (shared_live s j.giver slot w given).1 after.0) ∙ own in
+          by j given outsider member (C j.giver.pid) refl
+        where
+          by : (j : IsJoin s e other slot) → shares s j.giver slot ≡ true → C e.pid ≡ false → C slot.pid ≡ true
+              → (b : Bool) → C j.giver.pid ≡ b → ⊥
+          by j given outsider member true is = let t =
+              confined.offers_none (offer_of j.giver.pid j.giver.page e.pid) j.right j.offered is in cc
+          by j given outsider member false is = let t = back s j.giver slot w given in let f =
+              confined.shares_none slot j.giver member is in cc
+
+  next_offers : (key : OfferKey) (right : Bool) → map.get (next s e).offers key ≡ Some right → D key.offerer ≡ true
+      → D key.target ≡ true
+  next_offers key right at own = elim (offers_by_offerer s e key right at) [
+    | inl old ↦ (
+        let before = offer_live s key right w old in
+        same key.target before.1 after.1 ∙ confined.offers_none key right old
+        (sym (same key.offerer before.0 after.0) ∙ own))
+    | inr new ↦ (
+        let lives = offer_keeps s e key.page key.target key.offerer right new.1 after.0 in
+        let member : C e.pid ≡ true = ap C new.0 ∙ sym (same key.offerer lives after.0) ∙ own in
+        same key.target (offer_keeps s e key.page key.target key.target right new.1 after.1) after.1
+        ∙ sym (ap (keeps_within C) new.1) ∙ keeps member)
+  ]
+    where
+      after : (is_live (next s e) key.offerer ≡ true) × (is_live (next s e) key.target ≡ true)
+      after = offer_live (next s e) key right well at
+
+  pub next_confined : IsConfined (next s e) D
+  next_confined = record {
+    shares_none = λ slot other own apart. no_share slot other own apart (shares (next s e) slot other) refl;
+    offers_none = next_offers;
+  }
+
+-- ---- Runs
+
+-- a set of numbers
+pub numbers_confined : (s : State) (e : Event) (C : ℕ → Bool) → IsWellFormed s → IsConfined s C → KeepsWithin C e
+    → IsConfined (next s e) C
+numbers_confined s e C w confined keeps = next_confined s e C C w confined keeps (λ p before after. refl)
+
+pub runs_stay_confined : RunsStayConfined
+runs_stay_confined s [] C w confined keep = confined
+runs_stay_confined s (e ∷ events) C w confined keep =
+    runs_stay_confined (next s e) events C (kept-next s e w).0
+    (numbers_confined s e C w confined (All-head (KeepsWithin C) e events keep))
+    (All-tail (KeepsWithin C) e events keep)
+
+-- a set with the children of its members
+pub families_stay_confined : FamiliesStayConfined
+families_stay_confined s [] C w confined keep = confined
+families_stay_confined s (e ∷ events) C w confined keep =
+    families_stay_confined (next s e) events (members_after s C e) (kept-next s e w).0
+    (next_confined s e C (members_after s C e) w confined keep.0
+    (λ p before after. (λ i. after i && (if before i then C p else C e.pid))))
+    keep.1
+
+-- ---- What an outsider's event leaves of a member
+
+module _ (s : State) (e : Event) (C : ℕ → Bool) (p : ℕ) (w : IsWellFormed s) (confined : IsConfined s C)
+    (member : C p ≡ true) (live : is_live s p ≡ true) (outsider : C e.pid ≡ false) where
+  apart_from : p ≢ e.pid
+  apart_from x = let a = ap C x in cc
+
+  u : IsUntouched s (next s e) e p
+  u = integrity s e p w live apart_from
+
+  still : IsConfined (next s e) C
+  still = numbers_confined s e C w confined (λ h. absurd (let o = outsider in cc))
+
+  next_well : IsWellFormed (next s e)
+  next_well = (kept-next s e w).0
+
+  bytes_same : (page place : ℕ) → byte_in (next s e) (at_page p page) place ≡ byte_in s (at_page p page) place
+  bytes_same page place = elim (u.bytes page place) [
+    | inl same_byte ↦ same_byte
+    | inr into ↦ absurd (
+        let t = back s (slot_at e.pid into.byte) (at_page p page) w
+        (shares_by s (slot_at e.pid into.byte) (at_page p page) into.own into.through into.shared) in
+        let f = confined.shares_none (at_page p page) (slot_at e.pid into.byte) member outsider in
+        cc)
+  ]
+
+  groups_same : (page : ℕ) (other : Slot) → shares (next s e) (at_page p page) other ≡ shares s (at_page p page) other
+  groups_same page other = elim (cases_eq other.pid e.pid) [
+    | inl theirs ↦ still.shares_none (at_page p page) other member (ap C theirs ∙ outsider)
+        ∙ sym (confined.shares_none (at_page p page) other member (ap C theirs ∙ outsider))
+    | inr differ ↦ u.holders page other differ
+  ]
+
+  pages_same : (page : ℕ) → map.get (next s e).spaces (at_page p page) ≡ map.get s.spaces (at_page p page)
+  pages_same page = by (map.get s.spaces (at_page p page)) (map.get (next s e).spaces (at_page p page)) refl refl
+      (u.flags page)
+    where
+      by : (x y : Option Cell) → map.get s.spaces (at_page p page) ≡ x → map.get (next s e).spaces (at_page p page) ≡ y
+          → option_map flags_of y ≡ option_map flags_of x → y ≡ x
+      by None None a b h = refl
+      by None (Some d) a b h = cc
+      by (Some c) None a b h = cc
+      by (Some c) (Some d) a b h = λ i. Some (record {
+        write = (flags i).write;
+        may = (flags i).may;
+        accessed = (flags i).accessed;
+        dirty = (flags i).dirty;
+        bytes = bytes i;
+        holders = holders i;
+      })
+        where
+          flags : flags_of d ≡ flags_of c
+          flags = same_Some (flags_of d) (flags_of c) h
+
+          byte : (place : ℕ) → slice_index d.bytes place ≡ slice_index c.bytes place
+          byte place =
+              sym (ap (λ (x : Option Cell). slice_index (unwrap_or x (fresh (at_page p page) true)).bytes place) b)
+              ∙ bytes_same page place
+              ∙ ap (λ (x : Option Cell). slice_index (unwrap_or x (fresh (at_page p page) true)).bytes place) a
+
+          bytes : d.bytes ≡ c.bytes
+          bytes = ext_get_or 0 d.bytes c.bytes ((next_well.cells (at_page p page) d b).long
+              ∙ sym (w.cells (at_page p page) c a).long) (λ place l. byte place)
+
+          holders : d.holders ≡ c.holders
+          holders = same_set d.holders c.holders (λ other.
+              sym (ap (λ (x : Option Cell). unwrap_or (option_map (λ (k : Cell). set.contains k.holders other) x) false)
+              b)
+              ∙ groups_same page other
+              ∙ ap (λ (x : Option Cell). unwrap_or (option_map (λ (k : Cell). set.contains k.holders other) x) false) a)
+
+  offers_same : (page target : ℕ) → map.get (next s e).offers (offer_of p page target) ≡ map.get s.offers
+      (offer_of p page target)
+  offers_same page target = elim (u.offers (offer_of p page target) refl) [
+    | inl same_offer ↦ same_offer
+    | inr ended ↦ gone (map.get s.offers (offer_of p page target)) refl ended.0 ended.1
+  ]
+    where
+      gone : (x : Option Bool) → map.get s.offers (offer_of p page target) ≡ x
+          → map.get (next s e).offers (offer_of p page target) ≡ None → EndsOffer e (offer_of p page target)
+          → map.get (next s e).offers (offer_of p page target) ≡ x
+      gone None at none ends = none
+      gone (Some right) at none ends = absurd (
+          let inside : C target ≡ true = confined.offers_none (offer_of p page target) right at member in
+          let out : C target ≡ false = ap C ends.target ∙ outsider in
+          cc)
+
+  one_leaves : IsAsBefore s (next s e) p
+  one_leaves = record { member = u.member; pages = pages_same; offers = offers_same }
+
+pub outsiders_leave_members : OutsidersLeaveMembers
+outsiders_leave_members s [] C p w confined member live others =
+    record { member = refl; pages = λ page. refl; offers = λ page target. refl }
+outsiders_leave_members s (e ∷ events) C p w confined member live others =
+    let outsider = All-head (λ (e : Event). C e.pid ≡ false) e events others in
+    let first = one_leaves s e C p w confined member live outsider in
+    let rest = outsiders_leave_members (next s e) events C p (kept-next s e w).0
+    (numbers_confined s e C w confined (λ h. absurd (let o = outsider in cc))) member
+    (ap is_some first.member ∙ live) (All-tail (λ (e : Event). C e.pid ≡ false) e events others) in
+    record {
+      member = rest.member ∙ first.member;
+      pages = λ page. rest.pages page ∙ first.pages page;
+      offers = λ page target. rest.offers page target ∙ first.offers page target;
+    }

@@ -1,0 +1,539 @@
+-- What a process is told, and what it has afterwards, depends on what it has, but for what it is offered.
+use Rattle.std.proofs.Common.{
+  ◌≡◌,
+  ℕ,
+  ◌+◌,
+  ◌-◌,
+  ◌&&◌,
+  ◌||◌,
+  ◌==◌,
+  not,
+  Bool,
+  true,
+  false,
+  cond,
+  List,
+  map as each,
+  refl,
+  sym,
+  ap,
+  ◌∙◌,
+  Option,
+  Some,
+  None,
+  is_some,
+  is_none,
+  unwrap_or,
+  subst,
+  ◌≢◌,
+  arith,
+}
+use Rattle.std.specs.Prelude.{if◌then◌else◌, nat_lt, nat_le, find, slice_index}
+use Rattle.std.specs.Option.{option_map}
+use Rattle.std.specs.List.{range_with_len}
+use Rattle.page_words.specs.Addresses.{
+  byte_count,
+  slot_number,
+  is_user_page,
+  page_number,
+  offset_number,
+  covered,
+  second_page,
+  touched,
+}
+use Rattle.page_words.specs.declared.addresses.Size.{Size}
+use Rattle.page_words.specs.FiniteMap as map
+use Rattle.page_words.specs.FiniteMap.{Map, same, nat_order}
+use Rattle.page_words.specs.FiniteSet as set
+use Rattle.page_words.specs.FiniteSet.{Set}
+use Rattle.page_words.proofs.MapLemmas.{same_map, same-true, get-insert, get-retain_keys}
+use Rattle.page_words.proofs.OptionLemmas.{no_value, is_some-map}
+use Rattle.address_space.specs.Spaces.{
+  Slot,
+  slot_order,
+  Cell,
+  Spaces,
+  is_of,
+  is_slot,
+  without,
+  bytes_of,
+  with_pages,
+  all_accessed,
+  all_stored,
+  copied,
+  cost,
+  cost_of,
+  need,
+  pages_of,
+  regions_of,
+  fresh,
+  cell_or_fresh,
+  missing,
+  access_need,
+  value_of,
+  at_page,
+}
+use Rattle.address_space.proofs.costs.Costs.{same_pages}
+use Rattle.address_space.proofs.costs.Copied.{copied-other}
+use Rattle.quota_tree.specs.Book.{Member, next_number, is_child, number_of_children}
+use Rattle.quota_tree.proofs.BookFacts.{get-insert_other}
+use Rattle.quota_tree.proofs.Sums.{given-insert, number-insert}
+use Rattle.page_sharing.specs.Offers.{OfferKey, Offers, offer_order, offer_of, pending}
+use Rattle.table_walk.specs.declared.Access.{Access}
+use Rattle.table_walk.specs.declared.Access.TheVariants.{Read, Write}
+use Rattle.table_walk.specs.Walk.{is_write}
+use Rattle.process_table.specs.State.{State, is_live, is_mapped, has_no_room, lacks_room, room, child_of}
+use Rattle.process_table.specs.Calls.{
+  protect_refusal,
+  spawn_refusal,
+  fork_refusal,
+  exit_refusal,
+  loaded,
+  after_load,
+  after_store,
+  after_map,
+  after_unmap,
+  after_protect,
+  after_offer,
+  after_withdraw,
+  after_spawn,
+  after_fork,
+  after_exit,
+}
+use Rattle.process_table.specs.declared.causes.Cause.TheVariants as cause
+use Rattle.process_table.proofs.ApartOthers.{child_free, fork_free, live_differ}
+use Rattle.process_table.proofs.SpaceLaws.{not_less}
+use Rattle.fault_handler.specs.Plans.{plan_of, step_of, outside, fault_or}
+use Rattle.fault_handler.specs.declared.plans.PageStep.TheVariants as step
+use Rattle.fault_handler.specs.declared.plans.Plan.TheVariants as plan
+use Rattle.kernel_calls.specs.Authority.{Flags, flags_of, Shown, shown_of, shares}
+use Rattle.kernel_calls.specs.Own.{HasTheSame, reads_live, takes_offer, OwnIsEnough, AcceptsReadTheirOffer}
+use Rattle.kernel_calls.specs.Machine.{answer, answer_of, after, next, completes, refused_or, planned_or}
+use Rattle.kernel_calls.specs.declared.calls.Call.{Call}
+use Rattle.kernel_calls.specs.declared.calls.Call.TheVariants as call
+use Rattle.kernel_calls.specs.declared.calls.Reply.{Reply}
+use Rattle.kernel_calls.specs.declared.calls.Reply.TheVariants as reply
+use Rattle.kernel_calls.proofs.Decided.{next-stays, next-goes}
+use Rattle.kernel_calls.proofs.Runs.{not-refused}
+use Rattle.kernel_calls.proofs.Seen.{kept_offers, exit_children, exit_given, exit_quota, exit_slot}
+use Rattle.kernel_calls.proofs.TogetherSpaces.{
+  SameSpaces,
+  pages_same,
+  accessed_same,
+  all_stored_same,
+  put_same,
+  set_same,
+  gone_same,
+}
+use Rattle.kernel_calls.proofs.Untouched.{caller_live}
+use Rattle.page_words.proofs.SetLemmas.{get-removed}
+use borrow.Author.Tests.{eqb-true, eq-eqb}
+
+flags_or : (x : Option Cell) (slot : Slot) → flags_of (unwrap_or x (fresh slot true)) ≡ unwrap_or
+    (option_map flags_of x) (flags_of (fresh slot true))
+flags_or None slot = refl
+flags_or (Some c) slot = refl
+
+shown_or : (x : Option Cell) (slot : Slot) → shown_of (unwrap_or x (fresh slot true)) ≡ unwrap_or
+    (option_map shown_of x) (shown_of (fresh slot true))
+shown_or None slot = refl
+shown_or (Some c) slot = refl
+
+module _ (s t : State) (q : ℕ) (l : HasTheSame s t q) where
+  mapped_same : (page : ℕ) → is_mapped s (at_page q page) ≡ is_mapped t (at_page q page)
+  mapped_same page = sym (is_some-map flags_of (map.get s.spaces (at_page q page))) ∙ ap is_some (l.flags page)
+      ∙ is_some-map flags_of (map.get t.spaces (at_page q page))
+
+  own_pages_same : pages_of s.spaces q ≡ pages_of t.spaces q
+  own_pages_same = same_pages s.spaces t.spaces q q mapped_same
+
+  cost_same : cost s.spaces q ≡ cost t.spaces q
+  cost_same = ap cost_of own_pages_same
+
+  need_same : (page : ℕ) → need s.spaces q page ≡ need t.spaces q page
+  need_same page = ap (λ (pages : Set nat_order). if set.contains (regions_of pages) (slot_number page) then 1 else 2)
+      own_pages_same
+
+  room_same : room s q ≡ room t q
+  room_same = λ i. l.quota i - cost_same i - l.given i
+
+  no_room_same : (page : ℕ) → has_no_room s (at_page q page) ≡ has_no_room t (at_page q page)
+  no_room_same page = λ i. nat_lt (room_same i) (need_same page i)
+
+  own_flags_same : (page : ℕ) → flags_of (cell_or_fresh s.spaces (at_page q page)) ≡ flags_of
+      (cell_or_fresh t.spaces (at_page q page))
+  own_flags_same page =
+      flags_or (map.get s.spaces (at_page q page)) (at_page q page)
+      ∙ ap (λ (x : Option Flags). unwrap_or x (flags_of (fresh (at_page q page) true))) (l.flags page)
+      ∙ sym (flags_or (map.get t.spaces (at_page q page)) (at_page q page))
+
+  own_shown_same : (page : ℕ) → shown_of (cell_or_fresh s.spaces (at_page q page)) ≡ shown_of
+      (cell_or_fresh t.spaces (at_page q page))
+  own_shown_same page =
+      shown_or (map.get s.spaces (at_page q page)) (at_page q page)
+      ∙ ap (λ (x : Option Shown). unwrap_or x (shown_of (fresh (at_page q page) true))) (l.pages page)
+      ∙ sym (shown_or (map.get t.spaces (at_page q page)) (at_page q page))
+
+  missing_same : (pages : List ℕ) → missing s.spaces q pages ≡ missing t.spaces q pages
+  missing_same pages = λ i. set.retain (set.from_list pages) (λ page. not (mapped_same page i))
+
+  access_need_same : (addr : ℕ) (size : Size) → access_need s.spaces q addr size ≡ access_need t.spaces q addr size
+  access_need_same addr size = λ i. set.len (missing_same (touched addr size) i) + set.len
+      (set.retain (regions_of (missing_same (touched addr size) i))
+      (λ region. not (set.contains (regions_of (own_pages_same i)) region)))
+
+  lacks_room_same : (addr : ℕ) (size : Size) → lacks_room s q addr size ≡ lacks_room t q addr size
+  lacks_room_same addr size = λ i. nat_lt (room_same i) (access_need_same addr size i)
+
+  loaded_same : (addr : ℕ) (size : Size) → loaded s q addr size ≡ loaded t q addr size
+  loaded_same addr size = λ i. value_of (each (λ b.
+      slice_index (own_shown_same (page_number b) i).bytes (offset_number b)) (covered addr size))
+
+  pending_same : pending s.offers q ≡ pending t.offers q
+  pending_same = same_map (pending s.offers q) (pending t.offers q) (λ key.
+      get-retain_keys s.offers (λ (k : OfferKey). k.offerer == q) key ∙ by key (key.offerer == q) refl
+      ∙ sym (get-retain_keys t.offers (λ (k : OfferKey). k.offerer == q) key))
+    where
+      by : (key : OfferKey) (b : Bool) → (key.offerer == q) ≡ b
+          → cond (key.offerer == q) (map.get s.offers key) None ≡ cond (key.offerer == q) (map.get t.offers key) None
+      by key true is =
+          let here : key ≡ offer_of q key.page key.target =
+          (λ i. record { offerer = eqb-true key.offerer q is i; page = key.page; target = key.target }) in
+          ap (λ x. cond (key.offerer == q) x None) (ap (map.get s.offers) here ∙ l.made key.page key.target
+          ∙ ap (map.get t.offers) (sym here))
+      by key false is = (λ i. cond (is i) (map.get s.offers key) None)
+          ∙ sym (λ i. cond (is i) (map.get t.offers key) None)
+
+  plan_same : (addr : ℕ) (size : Size) (access : Access) → plan_of s q addr size access ≡ plan_of t q addr size access
+  plan_same addr size access = λ i.
+      fault_or (outside addr size) access false
+      (fault_or (if is_write access then find (λ b.
+      mapped_same (page_number b) i && not (own_flags_same (page_number b) i).write) (covered addr size) else None)
+      access true
+      (if lacks_room_same addr size i then plan.Refused cause.Quota else plan.Ready (step_same (page_number addr) i)
+      (option_map (λ page. step_same page i) (second_page addr size))))
+    where
+      step_same : (page : ℕ) → step_of s q page ≡ step_of t q page
+      step_same page = λ i. if mapped_same page i then step.Complete else step.MapZero
+
+  protect_same : (page : ℕ) (write : Bool) → protect_refusal s q page write ≡ protect_refusal t q page write
+  protect_same page write = λ i. if not (is_user_page page) then Some cause.BadPage else if not (mapped_same page i)
+      then Some cause.NotMapped else if write && not (own_flags_same page i).may then Some cause.Rights else None
+
+  -- what an accept is told, by the offer that it takes
+  accept_same : (giver giver_page page : ℕ) → map.get s.offers (offer_of giver giver_page q) ≡ map.get t.offers
+      (offer_of giver giver_page q) → answer_of s q (call.Accept giver giver_page page) ≡ answer_of t q
+      (call.Accept giver giver_page page)
+  accept_same giver giver_page page same_offer = λ i. refused_or
+      (if not (is_user_page page) then Some cause.BadPage else
+      if not (is_some (same_offer i)) then Some cause.NoOffer else
+      if mapped_same page i then Some cause.Mapped else
+      if no_room_same page i then Some cause.Quota else
+      None) reply.Done
+
+  next_same : ((p : ℕ) → is_live s p ≡ is_live t p) → next_number s.book ≡ next_number t.book
+  next_same lives = λ i. find (λ p. not (lives p i)) (range_with_len 0 64)
+
+  child_is_same : ((p : ℕ) → is_live s p ≡ is_live t p) → child_of s ≡ child_of t
+  child_is_same lives = λ i. unwrap_or (next_same lives i) 0
+
+  answer_of_same : (c : Call) → takes_offer c ≡ false → (reads_live c ≡ true → (p : ℕ) → is_live s p ≡ is_live t p)
+      → answer_of s q c ≡ answer_of t q c
+  answer_of_same (call.Load addr size) none lives = λ i.
+      planned_or (plan_same addr size Read i) (reply.Value (loaded_same addr size i))
+  answer_of_same (call.Store addr size value) none lives = λ i. planned_or (plan_same addr size Write i) reply.Done
+  answer_of_same (call.Map page write) none lives = λ i.
+      refused_or (if not (is_user_page page) then Some cause.BadPage else if mapped_same page i then Some cause.Mapped
+      else if no_room_same page i then Some cause.Quota else None) reply.Done
+  answer_of_same (call.Unmap page) none lives = λ i.
+      refused_or (if not (is_user_page page) then Some cause.BadPage else if not (mapped_same page i) then Some
+      cause.NotMapped else None) reply.Done
+  answer_of_same (call.Protect page write) none lives = λ i. refused_or (protect_same page write i) reply.Done
+  answer_of_same (call.Info page) none lives = λ i.
+      refused_or (protect_same page false i) (told (own_flags_same page i) (own_shown_same page i))
+    where
+      told : Flags → Shown → Reply
+      told flags shown = reply.Info flags.write flags.may flags.accessed flags.dirty shown.holders
+  answer_of_same (call.Offer page target write) none lives = λ i. refused_or
+      (if not (is_user_page page) then Some cause.BadPage else
+      if not (mapped_same page i) then Some cause.NotMapped else
+      if target == q then Some cause.SelfOffer else
+      if not (lives refl target i) then Some cause.NoTarget else
+      if write && not (own_flags_same page i).may then Some cause.Rights else
+      if is_some (l.made page target i) then Some cause.OfferPending else
+      if nat_le 32 (map.len (pending_same i)) then Some cause.TooManyOffers else
+      None) reply.Done
+  answer_of_same (call.Withdraw page target) none lives = λ i.
+      refused_or (if not (is_user_page page) then Some cause.BadPage else if not (is_some (l.made page target i))
+      then Some cause.NoOffer else None) reply.Done
+  answer_of_same (call.Accept giver giver_page page) none lives = cc
+  answer_of_same (call.Spawn quota) none lives = λ i. refused_or
+      (if quota == 0 then Some cause.BadQuota else
+      if is_none (next_same (lives refl) i) then Some cause.TableFull else
+      if nat_lt (room_same i) quota then Some cause.Quota else
+      None) (reply.Child (child_is_same (lives refl) i))
+  answer_of_same (call.Fork quota) none lives = λ i. refused_or
+      (if quota == 0 then Some cause.BadQuota else
+      if is_none (next_same (lives refl) i) then Some cause.TableFull else
+      if nat_lt quota (cost_same i) then Some cause.TooSmall else
+      if nat_lt (room_same i) quota then Some cause.Quota else
+      None) (reply.Child (child_is_same (lives refl) i))
+  answer_of_same call.Exit none lives = λ i. refused_or
+      (if q == 0 then Some cause.RootExit else if nat_lt 0 (l.children i) then Some cause.HasChildren else None)
+      reply.Done
+  answer_of_same call.Quota none lives = λ i. reply.Quota (l.quota i) (cost_same i) (l.given i)
+
+-- ---- What it has afterwards
+
+-- its slots
+abbrev Mine : ℕ → Slot → Type 0
+Mine q slot = is_of q slot ≡ true
+
+itself : (q : ℕ) → (q == q) ≡ true
+itself q = eq-eqb q q refl
+
+own_slot : (q : ℕ) (slot : Slot) → Mine q slot → at_page q slot.page ≡ slot
+own_slot q slot h = λ i. record { pid = sym (eqb-true slot.pid q h) i; page = slot.page }
+
+spaces_of : (s t : State) (q : ℕ) → HasTheSame s t q → SameSpaces (λ p. p == q) (Mine q) s.spaces t.spaces
+spaces_of s t q l = record {
+  flags = λ slot h. subst (λ x. option_map flags_of (map.get s.spaces x) ≡ option_map flags_of (map.get t.spaces x))
+      (own_slot q slot h) (l.flags slot.page);
+  pages = λ slot h. subst (λ x. option_map shown_of (map.get s.spaces x) ≡ option_map shown_of (map.get t.spaces x))
+      (own_slot q slot h) (l.pages slot.page);
+  groups = λ slot other h k.
+      subst (λ x. shares s x other ≡ shares t x other) (own_slot q slot h)
+      (subst (λ x. shares s (at_page q slot.page) x ≡ shares t (at_page q slot.page) x) (own_slot q other k)
+      (l.same_page slot.page other.page));
+}
+
+-- where the book stays
+has : (s t : State) (q : ℕ) (S T : Spaces) (O P : Offers) → HasTheSame s t q
+    → ((page target : ℕ) → map.get O (offer_of q page target) ≡ map.get P (offer_of q page target))
+    → SameSpaces (λ p. p == q) (Mine q) S T
+    → HasTheSame (record { spaces = S; book = s.book; offers = O }) (record { spaces = T; book = t.book; offers = P }) q
+has s t q S T O P l made spaces = record {
+  live = l.live;
+  quota = l.quota;
+  given = l.given;
+  children = l.children;
+  flags = λ page. spaces.flags (at_page q page) (itself q);
+  pages = λ page. spaces.pages (at_page q page) (itself q);
+  same_page = λ page other. spaces.groups (at_page q page) (at_page q other) (itself q) (itself q);
+  made = made;
+}
+
+module _ (s t : State) (q : ℕ) (l : HasTheSame s t q) where
+  abbrev Q : ℕ → Bool
+  Q p = p == q
+
+  own_pages : (page : ℕ) → Mine q (at_page q page)
+  own_pages page = itself q
+
+  start : SameSpaces Q (Mine q) s.spaces t.spaces
+  start = spaces_of s t q l
+
+  has_spaces : (S T : Spaces) → SameSpaces Q (Mine q) S T
+      → HasTheSame (record s { spaces = S }) (record t { spaces = T }) q
+  has_spaces S T = has s t q S T s.offers t.offers l l.made
+
+  load_has : (addr : ℕ) (size : Size) → HasTheSame (after_load s q addr size) (after_load t q addr size) q
+  load_has addr size =
+      let pages = touched addr size in
+      let S : Spaces = with_pages s.spaces q pages in
+      let T : Spaces = with_pages t.spaces q pages in
+      has_spaces (all_accessed S q pages) (all_accessed T q pages)
+      (accessed_same Q q (itself q) (Mine q) own_pages S T pages
+      (pages_same Q q (itself q) (Mine q) own_pages s.spaces t.spaces pages start))
+
+  store_has : (addr : ℕ) (size : Size) (value : ℕ)
+      → HasTheSame (after_store s q addr size value) (after_store t q addr size value) q
+  store_has addr size value =
+      let pages = touched addr size in
+      let S : Spaces = with_pages s.spaces q pages in
+      let T : Spaces = with_pages t.spaces q pages in
+      let bytes = bytes_of (byte_count size) value in
+      has_spaces (all_stored S q addr bytes) (all_stored T q addr bytes)
+      (all_stored_same Q q (itself q) (Mine q) own_pages S T addr bytes
+      (pages_same Q q (itself q) (Mine q) own_pages s.spaces t.spaces pages start))
+
+  map_has : (page : ℕ) (write : Bool) → HasTheSame (after_map s q page write) (after_map t q page write) q
+  map_has page write =
+      let c : Cell = fresh (at_page q page) write in
+      has_spaces (after_map s q page write).spaces (after_map t q page write).spaces
+      (put_same Q q (itself q) (Mine q) own_pages s.spaces t.spaces page c c start refl refl (λ other o. refl))
+
+  protect_has : (page : ℕ) (write : Bool) → HasTheSame (after_protect s q page write) (after_protect t q page write) q
+  protect_has page write =
+      has_spaces (after_protect s q page write).spaces (after_protect t q page write).spaces
+      (set_same Q q (itself q) (Mine q) own_pages s.spaces t.spaces page (λ c. record c { write = write })
+      (λ c d h. ap (λ (f : Flags). record f { write = write }) h) (λ c. refl) (λ c. refl) start)
+
+  unmap_has : (page : ℕ) → HasTheSame (after_unmap s q page) (after_unmap t q page) q
+  unmap_has page =
+      let stay : OfferKey → Bool = (λ (k : OfferKey). not ((k.offerer == q) && (k.page == page))) in
+      has s t q (without s.spaces (is_slot q page)) (without t.spaces (is_slot q page)) (map.retain_keys s.offers stay)
+      (map.retain_keys t.offers stay) l
+      (λ n target. kept_offers s.offers t.offers stay (offer_of q n target) (l.made n target))
+      (gone_same Q q (itself q) (Mine q) own_pages s.spaces t.spaces (is_slot q page)
+      (λ slot h. subst (Mine q) (same-true slot_order (at_page q page) slot h) (itself q)) start)
+
+  withdraw_has : (page target : ℕ) → HasTheSame (after_withdraw s q page target) (after_withdraw t q page target) q
+  withdraw_has page target =
+      let stay : OfferKey → Bool = (λ k. not (same offer_order (offer_of q page target) k)) in
+      has s t q s.spaces t.spaces (map.retain_keys s.offers stay) (map.retain_keys t.offers stay) l
+      (λ n to. kept_offers s.offers t.offers stay (offer_of q n to) (l.made n to)) start
+
+  offer_has : (page target : ℕ) (write : Bool) → HasTheSame (after_offer s q page target write)
+      (after_offer t q page target write) q
+  offer_has page target write =
+      has s t q s.spaces t.spaces (map.insert s.offers (offer_of q page target) write)
+      (map.insert t.offers (offer_of q page target) write) l
+      (λ n to. get-insert s.offers (offer_of q page target) write (offer_of q n to)
+      ∙ (λ i. cond (same offer_order (offer_of q n to) (offer_of q page target)) (Some write) (l.made n to i))
+      ∙ sym (get-insert t.offers (offer_of q page target) write (offer_of q n to)))
+      start
+
+  -- a child more
+  child_has : (k quota : ℕ) (S T : Spaces) → is_live s q ≡ true → is_live s k ≡ false → is_live t k ≡ false
+      → SameSpaces Q (Mine q) S T
+      → HasTheSame (record {
+        spaces = S;
+        book = map.insert s.book k (record { parent = q; quota = quota });
+        offers =
+            s.offers;
+      }) (record {
+        spaces = T;
+        book = map.insert t.book k (record { parent = q; quota = quota });
+        offers =
+            t.offers;
+      }) q
+  child_has k quota S T live free free_t spaces =
+      let child : Member = record { parent = q; quota = quota } in
+      let none_s = no_value (map.get s.book k) free in
+      let none_t = no_value (map.get t.book k) free_t in
+      let live_t : is_live t q ≡ true = sym l.live ∙ live in
+      let here = get-insert_other s.book k child q (live_differ s q k live free) in
+      let here_t = get-insert_other t.book k child q (live_differ t q k live_t free_t) in
+      record {
+        live = ap is_some here ∙ l.live ∙ sym (ap is_some here_t);
+        quota = ap (λ (x : Option Member). unwrap_or (option_map (λ (m : Member). m.quota) x) 0) here ∙ l.quota
+            ∙ sym (ap (λ (x : Option Member). unwrap_or (option_map (λ (m : Member). m.quota) x) 0) here_t);
+        given = given-insert s.book k child none_s q ∙ ap (λ n. cond (is_child q (k, child)) quota 0 + n) l.given
+            ∙ sym (given-insert t.book k child none_t q);
+        children = number-insert s.book k child none_s q ∙ ap (λ n. cond (is_child q (k, child)) 1 0 + n) l.children
+            ∙ sym (number-insert t.book k child none_t q);
+        flags = λ page. spaces.flags (at_page q page) (itself q);
+        pages = λ page. spaces.pages (at_page q page) (itself q);
+        same_page = λ page other. spaces.groups (at_page q page) (at_page q other) (itself q) (itself q);
+        made = l.made;
+      }
+
+  spawn_has : (quota : ℕ) → ((p : ℕ) → is_live s p ≡ is_live t p) → is_live s q ≡ true → spawn_refusal s q quota ≡ None
+      → HasTheSame (after_spawn s q quota) (after_spawn t q quota) q
+  spawn_has quota lives live allowed =
+      let free = child_free s q quota allowed in
+      subst (λ k. HasTheSame (after_spawn s q quota)
+      (record t { book = map.insert t.book k (record { parent = q; quota = quota }) }) q)
+      (child_is_same s t q l lives)
+      (child_has (child_of s) quota s.spaces t.spaces live free (sym (lives (child_of s)) ∙ free) start)
+
+  fork_has : (quota : ℕ) → ((p : ℕ) → is_live s p ≡ is_live t p) → is_live s q ≡ true → fork_refusal s q quota ≡ None
+      → HasTheSame (after_fork s q quota) (after_fork t q quota) q
+  fork_has quota lives live allowed =
+      let k = child_of s in
+      let free = fork_free s q quota allowed in
+      subst (λ k. HasTheSame (after_fork s q quota)
+      (record t { spaces = copied t.spaces q k; book = map.insert t.book k (record { parent = q; quota = quota }) })
+      q) (child_is_same s t q l lives)
+      (child_has k quota (copied s.spaces q k) (copied t.spaces q k) live free (sym (lives k) ∙ free)
+      (copies k (live_differ s q k live free)))
+    where
+      copies : (k : ℕ) → q ≢ k → SameSpaces Q (Mine q) (copied s.spaces q k) (copied t.spaces q k)
+      copies k d = record {
+        flags = λ slot h. ap (option_map flags_of) (old s slot h) ∙ start.flags slot h
+            ∙ sym (ap (option_map flags_of) (old t slot h));
+        pages = λ slot h. ap (option_map shown_of) (old s slot h) ∙ start.pages slot h
+            ∙ sym (ap (option_map shown_of) (old t slot h));
+        groups = λ slot other h o.
+            ap (λ (y : Option Cell). unwrap_or (option_map (λ (e : Cell). set.contains e.holders other) y) false)
+            (old s slot h) ∙ start.groups slot other h o
+            ∙ sym (ap (λ (y : Option Cell). unwrap_or (option_map (λ (e : Cell). set.contains e.holders other) y) false)
+            (old t slot h));
+      }
+        where
+          old : (u : State) (slot : Slot) → Mine q slot → map.get (copied u.spaces q k) slot ≡ map.get u.spaces slot
+          old u slot h = copied-other u.spaces q k slot (λ is. d (sym (eqb-true slot.pid q h) ∙ is))
+
+  exit_has : is_live s q ≡ true → exit_refusal s q ≡ None → HasTheSame (after_exit s q) (after_exit t q) q
+  exit_has live allowed = record {
+    live = ap is_some (get-removed s.book q) ∙ sym (ap is_some (get-removed t.book q));
+    quota = exit_quota s q live childless ∙ sym (exit_quota t q live_t childless_t);
+    given = exit_given s q live childless ∙ sym (exit_given t q live_t childless_t);
+    children = exit_children s q live childless ∙ sym (exit_children t q live_t childless_t);
+    flags = λ page. ap (option_map flags_of) (exit_slot s q (at_page q page) (itself q)
+        ∙ sym (exit_slot t q (at_page q page) (itself q)));
+    pages = λ page. ap (option_map shown_of) (exit_slot s q (at_page q page) (itself q)
+        ∙ sym (exit_slot t q (at_page q page) (itself q)));
+    same_page = λ page other.
+        ap (λ (y : Option Cell). unwrap_or (option_map (λ (e : Cell). set.contains e.holders (at_page q other)) y)
+        false)
+        (exit_slot s q (at_page q page) (itself q) ∙ sym (exit_slot t q (at_page q page) (itself q)));
+    made = λ page target. kept_offers s.offers t.offers (λ (k : OfferKey). not ((k.offerer == q) || (k.target == q)))
+        (offer_of q page target) (l.made page target);
+  }
+    where
+      none_of : (a c : Bool) (n : ℕ) → nat_lt 0 n ≡ c
+          → (if a then Some cause.RootExit else if c then Some cause.HasChildren else None) ≡ None → n ≡ 0
+      none_of true c n is h = cc
+      none_of false true n is h = cc
+      none_of false false n is h = let m = not_less 0 n is in omega (arith, m)
+
+      childless : number_of_children s.book q ≡ 0
+      childless = none_of (q == 0) (nat_lt 0 (number_of_children s.book q)) (number_of_children s.book q) refl allowed
+
+      childless_t : number_of_children t.book q ≡ 0
+      childless_t = sym l.children ∙ childless
+
+      live_t : is_live t q ≡ true
+      live_t = sym l.live ∙ live
+
+  after_has : (c : Call) → takes_offer c ≡ false → (reads_live c ≡ true → (p : ℕ) → is_live s p ≡ is_live t p)
+      → is_live s q ≡ true → completes (answer_of s q c) ≡ true → HasTheSame (after s q c) (after t q c) q
+  after_has (call.Load addr size) none lives live h = load_has addr size
+  after_has (call.Store addr size value) none lives live h = store_has addr size value
+  after_has (call.Map page write) none lives live h = map_has page write
+  after_has (call.Unmap page) none lives live h = unmap_has page
+  after_has (call.Protect page write) none lives live h = protect_has page write
+  after_has (call.Info page) none lives live h = l
+  after_has (call.Offer page target write) none lives live h = offer_has page target write
+  after_has (call.Withdraw page target) none lives live h = withdraw_has page target
+  after_has (call.Accept giver giver_page page) none lives live h = cc
+  after_has (call.Spawn quota) none lives live h =
+      spawn_has quota (lives refl) live (not-refused (spawn_refusal s q quota) _ h)
+  after_has (call.Fork quota) none lives live h =
+      fork_has quota (lives refl) live (not-refused (fork_refusal s q quota) _ h)
+  after_has call.Exit none lives live h = exit_has live (not-refused (exit_refusal s q) _ h)
+  after_has call.Quota none lives live h = l
+
+pub own_is_enough : OwnIsEnough
+own_is_enough s t e l none lives = (told, by (completes (answer s e)) refl)
+  where
+    told : answer s e ≡ answer t e
+    told = λ i. if l.live i then answer_of_same s t e.pid l e.call none lives i else reply.Refused cause.NoProcess
+
+    by : (b : Bool) → completes (answer s e) ≡ b → HasTheSame (next s e) (next t e) e.pid
+    by true h =
+        let c = caller_live s e h in
+        subst (λ u. HasTheSame u (next t e) e.pid) (sym (next-goes s e h))
+        (subst (λ u. HasTheSame (after s e.pid e.call) u e.pid) (sym (next-goes t e (sym (ap completes told) ∙ h)))
+        (after_has s t e.pid l e.call none lives c.0 c.1))
+    by false h = subst (λ u. HasTheSame u (next t e) e.pid) (sym (next-stays s e h))
+        (subst (λ u. HasTheSame s u e.pid) (sym (next-stays t e (sym (ap completes told) ∙ h))) l)
+
+pub accepts_read_their_offer : AcceptsReadTheirOffer
+accepts_read_their_offer s t e giver giver_page page l is same_offer =
+    ap (λ c. if is_live s e.pid then answer_of s e.pid c else reply.Refused cause.NoProcess) is
+    ∙ (λ i. if l.live i then accept_same s t e.pid l giver giver_page page same_offer i else reply.Refused
+    cause.NoProcess)
+    ∙ sym (ap (λ c. if is_live t e.pid then answer_of t e.pid c else reply.Refused cause.NoProcess) is)

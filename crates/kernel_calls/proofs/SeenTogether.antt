@@ -1,0 +1,635 @@
+-- What the event of a member does to what all members see depends on what they see alone.
+use Rattle.std.proofs.Common.{
+  ◌≡◌,
+  ◌≢◌,
+  ℕ,
+  ◌&&◌,
+  ◌||◌,
+  ◌==◌,
+  not,
+  Bool,
+  true,
+  false,
+  cond,
+  List,
+  length,
+  refl,
+  sym,
+  ap,
+  subst,
+  ◌∙◌,
+  Option,
+  Some,
+  None,
+  is_some,
+  unwrap_or,
+  sum_by,
+  inl,
+  inr,
+}
+use Rattle.std.specs.Prelude.{◌⊎◌, if◌then◌else◌}
+use Rattle.std.specs.Option.{option_map}
+use Rattle.std.proofs.lemmas.Bool.{cases_eq, ne_eqb}
+use Rattle.page_words.specs.Addresses.{byte_count, touched}
+use Rattle.page_words.specs.declared.addresses.Size.{Size}
+use Rattle.page_words.specs.FiniteMap as map
+use Rattle.page_words.specs.FiniteMap.{same, nat_order}
+use Rattle.page_words.specs.FiniteSet as set
+use Rattle.page_words.specs.FiniteSet.{Set}
+use Rattle.page_words.proofs.MapLemmas.{same-true, get-insert}
+use Rattle.page_words.proofs.OptionLemmas.{no_value}
+use Rattle.page_words.proofs.SetLemmas.{same_cases, get-remove}
+use Rattle.address_space.specs.Spaces.{
+  Slot,
+  slot_order,
+  Cell,
+  Spaces,
+  fresh,
+  bytes_of,
+  without,
+  is_slot,
+  is_of,
+  at_page,
+  accessed,
+  with_pages,
+  all_accessed,
+  all_stored,
+  copied,
+}
+use Rattle.address_space.proofs.costs.Copied.{copied-own, copied-other}
+use Rattle.quota_tree.specs.Book.{Member, children}
+use Rattle.quota_tree.proofs.Sums.{number-none}
+use Rattle.page_sharing.specs.Offers.{OfferKey, Offers, offer_order, offer_of}
+use Rattle.process_table.specs.State.{State, is_live, child_of}
+use Rattle.process_table.specs.Calls.{
+  accept_refusal,
+  spawn_refusal,
+  fork_refusal,
+  offered,
+  after_load,
+  after_store,
+  after_map,
+  after_unmap,
+  after_protect,
+  after_offer,
+  after_withdraw,
+  after_accept,
+  after_spawn,
+  after_fork,
+  after_exit,
+}
+use Rattle.process_table.specs.WellFormed.{IsWellFormed}
+use Rattle.process_table.specs.Apart.{lone}
+use Rattle.process_table.proofs.ApartOthers.{child_free, fork_free, no_page}
+use Rattle.process_table.proofs.BookLaws.{parents_in}
+use Rattle.process_table.proofs.Refusals.{may_accept}
+use Rattle.kernel_calls.specs.Authority.{
+  Flags,
+  flags_of,
+  Shown,
+  shown_of,
+  shares,
+  sees,
+  is_offered,
+  LooksSame,
+  makes_child,
+}
+use Rattle.kernel_calls.specs.Confinement.{members_after}
+use Rattle.kernel_calls.specs.Together.{Sees, LooksSameTo, MembersToldTheSame, MembersSeeTheSame}
+use Rattle.kernel_calls.specs.Machine.{answer, answer_of, after, next, completes}
+use Rattle.kernel_calls.specs.declared.calls.Call.{Call}
+use Rattle.kernel_calls.specs.declared.calls.Call.TheVariants as call
+use Rattle.kernel_calls.specs.declared.calls.Event.{Event}
+use Rattle.kernel_calls.proofs.Births.{
+  with_child,
+  own_seen,
+  no_offer_by,
+  no_offer_to,
+  AreLone,
+  none_lone,
+  copy_lone,
+  copy_flags,
+  copy_shown,
+}
+use Rattle.kernel_calls.proofs.ChildLists.{children-insert, children-remove, childless}
+use Rattle.kernel_calls.proofs.Confined.{shared_live}
+use Rattle.kernel_calls.proofs.Decided.{next-stays, next-goes}
+use Rattle.kernel_calls.proofs.Runs.{not-refused}
+use Rattle.kernel_calls.proofs.Seen.{kept_offers, kept_key}
+use Rattle.kernel_calls.proofs.Stays.{next_live}
+use Rattle.kernel_calls.proofs.Untouched.{caller_live}
+use Rattle.kernel_calls.proofs.Views.{sees_own, child_same, told_the_same}
+use borrow.Author.Tests.{eq-eqb}
+use Rattle.kernel_calls.proofs.TogetherSpaces.{
+  shares_in,
+  SameSpaces,
+  put_same,
+  pages_same,
+  set_same,
+  accessed_same,
+  all_stored_same,
+  gone_same,
+  joined_same,
+}
+
+-- ---- States that look the same
+
+pub weaken : (s t : State) (Q D : ℕ → Bool) → ((p : ℕ) → D p ≡ true → Q p ≡ true) → LooksSameTo s t Q
+    → LooksSameTo s t D
+weaken s t Q D less l = record {
+  live = l.live;
+  quota = λ q h. l.quota q (less q h);
+  children = λ q h. l.children q (less q h);
+  flags = λ slot h. l.flags slot (less slot.pid h);
+  offers = λ key h. elim h [
+    | inl by ↦ l.offers key (inl (less key.offerer by))
+    | inr to ↦ l.offers key (inr (less key.target to))
+  ];
+  pages = λ slot v. l.pages slot (v.0, less v.0 v.1, v.2);
+  same_page = λ slot other v o. l.same_page slot other (v.0, less v.0 v.1, v.2) (o.0, less o.0 o.1, o.2);
+}
+
+-- so they do to each member
+pub single : (s t : State) (Q : ℕ → Bool) (q : ℕ) → Q q ≡ true → LooksSameTo s t Q → LooksSame s t q
+single s t Q q mine l = record {
+  live = l.live;
+  quota = l.quota q mine;
+  given = ap (λ (xs : List (ℕ × Member)). sum_by (λ (e : ℕ × Member). e.1.quota) xs) (l.children q mine);
+  children = ap (λ (xs : List (ℕ × Member)). length xs) (l.children q mine);
+  flags = λ page. l.flags (at_page q page) mine;
+  made = λ page target. l.offers (offer_of q page target) (inl mine);
+  offered = λ giver page. l.offers (offer_of giver page q) (inr mine);
+  pages = λ slot v. l.pages slot (q, mine, v);
+  same_page = λ slot other v o. l.same_page slot other (q, mine, v) (q, mine, o);
+}
+
+pub members_told_the_same : MembersToldTheSame
+members_told_the_same s t e Q l mine = told_the_same s t e (single s t Q e.pid mine l)
+
+spaces_same : (s t : State) (Q : ℕ → Bool) → LooksSameTo s t Q → SameSpaces Q (Sees s Q) s.spaces t.spaces
+spaces_same s t Q l = record { flags = l.flags; pages = l.pages; groups = l.same_page }
+
+-- where no offer is new, nothing new is seen
+fewer_seen : (s u : State) (Q : ℕ → Bool) → ((key : OfferKey) → map.contains_key u.offers key ≡ true
+    → map.contains_key s.offers key ≡ true) → (slot : Slot) → Sees u Q slot → Sees s Q slot
+fewer_seen s u Q fewer slot v = (v.0, v.1, by (is_of v.0 slot) v.2)
+  where
+    by : (b : Bool) → (b || is_offered u v.0 slot) ≡ true → (b || is_offered s v.0 slot) ≡ true
+    by true h = refl
+    by false h = fewer (offer_of slot.pid slot.page v.0) h
+
+-- where the book stays
+looks : (s t : State) (Q : ℕ → Bool) (S T : Spaces) (O P : Offers) → LooksSameTo s t Q
+    → ((key : OfferKey) → map.get s.offers key ≡ map.get t.offers key → map.get O key ≡ map.get P key)
+    → ((slot : Slot) → Sees (record { spaces = S; book = s.book; offers = O }) Q slot → Sees s Q slot)
+    → SameSpaces Q (Sees s Q) S T
+    → LooksSameTo (record { spaces = S; book = s.book; offers = O }) (record { spaces = T; book = t.book; offers = P })
+    Q
+looks s t Q S T O P l offers seen spaces = record {
+  live = l.live;
+  quota = l.quota;
+  children = l.children;
+  flags = spaces.flags;
+  offers = λ key h. offers key (l.offers key h);
+  pages = λ slot v. spaces.pages slot (seen slot v);
+  same_page = λ slot other v o. spaces.groups slot other (seen slot v) (seen other o);
+}
+
+looks_spaces : (s t : State) (Q : ℕ → Bool) (S T : Spaces) → LooksSameTo s t Q → SameSpaces Q (Sees s Q) S T
+    → LooksSameTo (record s { spaces = S }) (record t { spaces = T }) Q
+looks_spaces s t Q S T l = looks s t Q S T s.offers t.offers l (λ key h. h) (λ slot v. v)
+
+module _ (s t : State) (Q : ℕ → Bool) (q : ℕ) (mine : Q q ≡ true) (l : LooksSameTo s t Q) where
+  own_pages : (page : ℕ) → Sees s Q (at_page q page)
+  own_pages page = (q, mine, sees_own s q page)
+
+  own_slots : (slot : Slot) → is_of q slot ≡ true → Sees s Q slot
+  own_slots slot h = (q, mine, ap (λ b. b || is_offered s q slot) h)
+
+  load_together : (addr : ℕ) (size : Size) → LooksSameTo (after_load s q addr size) (after_load t q addr size) Q
+  load_together addr size =
+      let pages = touched addr size in
+      let S : Spaces = with_pages s.spaces q pages in
+      let T : Spaces = with_pages t.spaces q pages in
+      looks_spaces s t Q (all_accessed S q pages) (all_accessed T q pages) l
+      (accessed_same Q q mine (Sees s Q) own_pages S T pages
+      (pages_same Q q mine (Sees s Q) own_pages s.spaces t.spaces pages (spaces_same s t Q l)))
+
+  store_together : (addr : ℕ) (size : Size) (value : ℕ)
+      → LooksSameTo (after_store s q addr size value) (after_store t q addr size value) Q
+  store_together addr size value =
+      let pages = touched addr size in
+      let S : Spaces = with_pages s.spaces q pages in
+      let T : Spaces = with_pages t.spaces q pages in
+      let bytes = bytes_of (byte_count size) value in
+      looks_spaces s t Q (all_stored S q addr bytes) (all_stored T q addr bytes) l
+      (all_stored_same Q q mine (Sees s Q) own_pages S T addr bytes
+      (pages_same Q q mine (Sees s Q) own_pages s.spaces t.spaces pages (spaces_same s t Q l)))
+
+  map_together : (page : ℕ) (write : Bool) → LooksSameTo (after_map s q page write) (after_map t q page write) Q
+  map_together page write =
+      let c : Cell = fresh (at_page q page) write in
+      looks_spaces s t Q (map.insert s.spaces (at_page q page) c) (map.insert t.spaces (at_page q page) c) l
+      (put_same Q q mine (Sees s Q) own_pages s.spaces t.spaces page c c (spaces_same s t Q l) refl refl
+      (λ other o. refl))
+
+  protect_together : (page : ℕ) (write : Bool) → LooksSameTo (after_protect s q page write)
+      (after_protect t q page write) Q
+  protect_together page write =
+      looks_spaces s t Q (after_protect s q page write).spaces (after_protect t q page write).spaces l
+      (set_same Q q mine (Sees s Q) own_pages s.spaces t.spaces page (λ c. record c { write = write })
+      (λ c d h. ap (λ (f : Flags). record f { write = write }) h) (λ c. refl) (λ c. refl) (spaces_same s t Q l))
+
+  unmap_together : (page : ℕ) → LooksSameTo (after_unmap s q page) (after_unmap t q page) Q
+  unmap_together page =
+      let stay : OfferKey → Bool = (λ (k : OfferKey). not ((k.offerer == q) && (k.page == page))) in
+      looks s t Q (without s.spaces (is_slot q page)) (without t.spaces (is_slot q page))
+      (map.retain_keys s.offers stay) (map.retain_keys t.offers stay) l
+      (kept_offers s.offers t.offers stay)
+      (fewer_seen s (after_unmap s q page) Q (kept_key s.offers stay))
+      (gone_same Q q mine (Sees s Q) own_pages s.spaces t.spaces (is_slot q page)
+      (λ slot h. subst (Sees s Q) (same-true slot_order (at_page q page) slot h) (own_pages page))
+      (spaces_same s t Q l))
+
+  withdraw_together : (page target : ℕ) → LooksSameTo (after_withdraw s q page target) (after_withdraw t q page target)
+      Q
+  withdraw_together page target =
+      let stay : OfferKey → Bool = (λ k. not (same offer_order (offer_of q page target) k)) in
+      looks s t Q s.spaces t.spaces (map.retain_keys s.offers stay) (map.retain_keys t.offers stay) l
+      (kept_offers s.offers t.offers stay)
+      (fewer_seen s (after_withdraw s q page target) Q (kept_key s.offers stay))
+      (spaces_same s t Q l)
+
+  offer_together : (page target : ℕ) (write : Bool)
+      → LooksSameTo (after_offer s q page target write) (after_offer t q page target write) Q
+  offer_together page target write =
+      looks s t Q s.spaces t.spaces (map.insert s.offers key write) (map.insert t.offers key write) l more seen
+      (spaces_same s t Q l)
+    where
+      key : OfferKey
+      key = offer_of q page target
+
+      more : (k : OfferKey) → map.get s.offers k ≡ map.get t.offers k
+          → map.get (map.insert s.offers (offer_of q page target) write) k ≡ map.get
+          (map.insert t.offers (offer_of q page target) write) k
+      more k h = get-insert s.offers (offer_of q page target) write k
+          ∙ (λ i. cond (same offer_order k (offer_of q page target)) (Some write) (h i))
+          ∙ sym (get-insert t.offers (offer_of q page target) write k)
+
+      seen : (slot : Slot) → Sees (after_offer s q page target write) Q slot → Sees s Q slot
+      seen slot v = by (is_of v.0 slot) refl v.2
+        where
+          by : (b : Bool) → is_of v.0 slot ≡ b → (b || is_offered (after_offer s q page target write) v.0 slot) ≡ true
+              → Sees s Q slot
+          by true is h = (v.0, v.1, ap (λ b. b || is_offered s v.0 slot) is)
+          by false is h = elim (same_cases offer_order (offer_of slot.pid slot.page v.0) (offer_of q page target)) [
+            | inl same_key ↦ own_slots slot (eq-eqb slot.pid q (ap (λ (k : OfferKey). k.offerer) same_key.0))
+            | inr other ↦ (
+              v.0,
+              v.1,
+              ap (λ b. b || is_offered s v.0 slot) is ∙ sym
+                  (ap is_some (get-insert s.offers (offer_of q page target) write (offer_of slot.pid slot.page v.0)
+                  ∙ ap (λ b. cond b (Some write) (map.get s.offers (offer_of slot.pid slot.page v.0))) other.1)) ∙ h,
+            )
+          ]
+
+  accept_together : (giver giver_page page : ℕ) → map.contains_key s.offers (offer_of giver giver_page q) ≡ true
+      → LooksSameTo (after_accept s q giver giver_page page) (after_accept t q giver giver_page page) Q
+  accept_together giver giver_page page there =
+      let stay : OfferKey → Bool = (λ k. not (same offer_order (offer_of giver giver_page q) k)) in
+      looks s t Q (after_accept s q giver giver_page page).spaces (after_accept t q giver giver_page page).spaces
+      (map.retain_keys s.offers stay) (map.retain_keys t.offers stay) l
+      (kept_offers s.offers t.offers stay)
+      (fewer_seen s (after_accept s q giver giver_page page) Q (kept_key s.offers stay))
+      (joined_same Q q mine (Sees s Q) own_pages s.spaces t.spaces (at_page giver giver_page) page
+      (offered s giver giver_page q) (offered t giver giver_page q) (spaces_same s t Q l)
+      (q, mine, ap (λ b. is_of q (at_page giver giver_page) || b) there ∙ or_yes (is_of q (at_page giver giver_page)))
+      (ap (λ (x : Option Bool). unwrap_or x false) (l.offers (offer_of giver giver_page q) (inr mine))))
+    where
+      or_yes : (b : Bool) → (b || true) ≡ true
+      or_yes true = refl
+      or_yes false = refl
+
+  exit_together : LooksSameTo (after_exit s q) (after_exit t q) Q
+  exit_together =
+      let stay : OfferKey → Bool = (λ (k : OfferKey). not ((k.offerer == q) || (k.target == q))) in
+      let spaces = gone_same Q q mine (Sees s Q) own_pages s.spaces t.spaces (is_of q) own_slots (spaces_same s t Q l)
+      in
+      let seen = fewer_seen s (after_exit s q) Q (kept_key s.offers stay) in
+      record {
+        live = λ p. ap is_some (get-remove s.book q p) ∙ by_live (same nat_order p q) p
+            ∙ sym (ap is_some (get-remove t.book q p));
+        quota = λ r h. ap (λ (x : Option Member). unwrap_or (option_map (λ (m : Member). m.quota) x) 0)
+            (get-remove s.book q r) ∙ by_quota (same nat_order r q) r h
+            ∙ sym (ap (λ (x : Option Member). unwrap_or (option_map (λ (m : Member). m.quota) x) 0)
+            (get-remove t.book q r));
+        children = λ r h. children-remove s.book t.book r q (l.children r h);
+        flags = spaces.flags;
+        offers = λ key h. kept_offers s.offers t.offers stay key (l.offers key h);
+        pages = λ slot v. spaces.pages slot (seen slot v);
+        same_page = λ slot other v o. spaces.groups slot other (seen slot v) (seen other o);
+      }
+    where
+      by_live : (b : Bool) (p : ℕ) → is_some (cond b None (map.get s.book p)) ≡ is_some (cond b None (map.get t.book p))
+      by_live true p = refl
+      by_live false p = l.live p
+
+      by_quota : (b : Bool) (r : ℕ) → Q r ≡ true → unwrap_or
+          (option_map (λ (m : Member). m.quota) (cond b None (map.get s.book r))) 0 ≡ unwrap_or
+          (option_map (λ (m : Member). m.quota) (cond b None (map.get t.book r))) 0
+      by_quota true r h = refl
+      by_quota false r h = l.quota r h
+
+-- ---- A child joins them
+
+abbrev grown : (ℕ → Bool) → ℕ → ℕ → Bool
+grown Q k p = Q p || (p == k)
+
+module _ (s t : State) (Q : ℕ → Bool) (q k quota : ℕ) (w : IsWellFormed s) (v : IsWellFormed t) (l : LooksSameTo s t Q)
+    (free : is_live s k ≡ false) (S T : Spaces)
+    (others : (slot : Slot) → slot.pid ≢ k → map.get S slot ≡ map.get s.spaces slot)
+    (others_too : (slot : Slot) → slot.pid ≢ k → map.get T slot ≡ map.get t.spaces slot)
+    (flags : (page : ℕ) → option_map flags_of (map.get S (at_page k page)) ≡ option_map flags_of
+    (map.get T (at_page k page)))
+    (pages : (page : ℕ) → option_map shown_of (map.get S (at_page k page)) ≡ option_map shown_of
+    (map.get T (at_page k page)))
+    (alone : AreLone S k) (alone_too : AreLone T k) where
+  free_t : is_live t k ≡ false
+  free_t = sym (l.live k) ∙ free
+
+  abbrev child : Member
+  child = record { parent = q; quota = quota }
+
+  -- who is not the child was a member
+  was : (p : ℕ) → grown Q k p ≡ true → p ≢ k → Q p ≡ true
+  was p h d = by (Q p) (sym (ap (λ b. Q p || b) (ne_eqb p k d)) ∙ h)
+    where
+      by : (b : Bool) → (b || false) ≡ true → b ≡ true
+      by true h = refl
+      by false h = h
+
+  here : (slot : Slot) → slot.pid ≡ k → slot ≡ at_page k slot.page
+  here slot is = λ i. record { pid = is i; page = slot.page }
+
+  old : (slot : Slot) → Sees (with_child s q k quota S) (grown Q k) slot → slot.pid ≢ k → Sees s Q slot
+  old slot u d = elim (cases_eq u.0 k) [
+    | inl is ↦ absurd (d (ap (λ (x : Slot). x.pid)
+        (own_seen s q k quota S w free slot (ap (λ r. sees (with_child s q k quota S) r slot) (sym is) ∙ u.2))))
+    | inr differ ↦ (u.0, was u.0 u.1 differ, u.2)
+  ]
+
+  group_of : (page : ℕ) (other : Slot) → shares_in S (at_page k page) other ≡ shares_in T (at_page k page) other
+  group_of page other = by (map.get S (at_page k page)) (map.get T (at_page k page)) refl refl (pages page)
+    where
+      by : (x y : Option Cell) → map.get S (at_page k page) ≡ x → map.get T (at_page k page) ≡ y
+          → option_map shown_of x ≡ option_map shown_of y
+          → unwrap_or (option_map (λ (c : Cell). set.contains c.holders other) x) false ≡ unwrap_or
+          (option_map (λ (c : Cell). set.contains c.holders other) y) false
+      by None None a b h = refl
+      by None (Some d) a b h = cc
+      by (Some c) None a b h = cc
+      by (Some c) (Some d) a b h = ap (λ (g : Set slot_order). set.contains g other)
+          (alone page c a ∙ sym (alone_too page d b))
+
+  -- who is not live is in no group
+  not_in : (u : State) → IsWellFormed u → is_live u k ≡ false → (slot other : Slot) → other.pid ≡ k → (b : Bool)
+      → shares u slot other ≡ b → b ≡ false
+  not_in u x dead slot other is false h = refl
+  not_in u x dead slot other is true h = absurd (let a = (shared_live u slot other x h).1 in let b = ap (is_live u) is
+      ∙ dead in cc)
+
+  no_offers : (key : OfferKey) → (key.offerer ≡ k) ⊎ (key.target ≡ k) → map.get s.offers key ≡ map.get t.offers key
+  no_offers key (inl is) =
+      let at : key ≡ offer_of k key.page key.target =
+      (λ i. record { offerer = is i; page = key.page; target = key.target }) in
+      ap (map.get s.offers) at ∙ no_offer_by s k key.page key.target w free
+      ∙ sym (ap (map.get t.offers) at ∙ no_offer_by t k key.page key.target v free_t)
+  no_offers key (inr is) =
+      let at : key ≡ offer_of key.offerer key.page k =
+      (λ i. record { offerer = key.offerer; page = key.page; target = is i }) in
+      ap (map.get s.offers) at ∙ no_offer_to s key.offerer key.page k w free
+      ∙ sym (ap (map.get t.offers) at ∙ no_offer_to t key.offerer key.page k v free_t)
+
+  child_together : LooksSameTo (with_child s q k quota S) (with_child t q k quota T) (grown Q k)
+  child_together = record {
+    live = λ p. ap is_some (get-insert s.book k child p) ∙ by_live (same nat_order p k) p
+        ∙ sym (ap is_some (get-insert t.book k child p));
+    quota = λ r h.
+        ap (λ (x : Option Member). unwrap_or (option_map (λ (m : Member). m.quota) x) 0) (get-insert s.book k child r)
+        ∙ by_quota r h (same_cases nat_order r k)
+        ∙ sym (ap (λ (x : Option Member). unwrap_or (option_map (λ (m : Member). m.quota) x) 0)
+        (get-insert t.book k child r));
+    children = λ r h. children-insert s.book t.book r k child (kids_same r h);
+    flags = λ slot h. elim (cases_eq slot.pid k) [
+      | inl is ↦ subst (λ x. option_map flags_of (map.get S x) ≡ option_map flags_of (map.get T x)) (sym (here slot is))
+          (flags slot.page)
+      | inr d ↦ ap (option_map flags_of) (others slot d) ∙ l.flags slot (was slot.pid h d)
+          ∙ sym (ap (option_map flags_of) (others_too slot d))
+    ];
+    offers = λ key h. offers_same key h;
+    pages = λ slot u. elim (cases_eq slot.pid k) [
+      | inl is ↦ subst (λ x. option_map shown_of (map.get S x) ≡ option_map shown_of (map.get T x)) (sym (here slot is))
+          (pages slot.page)
+      | inr d ↦ ap (option_map shown_of) (others slot d) ∙ l.pages slot (old slot u d)
+          ∙ sym (ap (option_map shown_of) (others_too slot d))
+    ];
+    same_page = λ slot other u x. elim (cases_eq slot.pid k) [
+      | inl is ↦ subst (λ y. shares_in S y other ≡ shares_in T y other) (sym (here slot is)) (group_of slot.page other)
+      | inr d ↦
+          ap (λ (y : Option Cell). unwrap_or (option_map (λ (c : Cell). set.contains c.holders other) y) false)
+          (others slot d)
+          ∙ (elim (cases_eq other.pid k) [
+            | inl new ↦ not_in s w free slot other new (shares s slot other) refl
+                ∙ sym (not_in t v free_t slot other new (shares t slot other) refl)
+            | inr n ↦ l.same_page slot other (old slot u d) (old other x n)
+          ])
+          ∙ sym (ap (λ (y : Option Cell). unwrap_or (option_map (λ (c : Cell). set.contains c.holders other) y) false)
+          (others_too slot d))
+    ];
+  }
+    where
+      by_live : (b : Bool) (p : ℕ) → is_some (cond b (Some child) (map.get s.book p)) ≡ is_some
+          (cond b (Some child) (map.get t.book p))
+      by_live true p = refl
+      by_live false p = l.live p
+
+      by_quota : (r : ℕ) → grown Q k r ≡ true → ((r ≡ k) × (same nat_order r k ≡ true))
+          ⊎ ((r ≢ k) × (same nat_order r k ≡ false))
+          → unwrap_or (option_map (λ (m : Member). m.quota) (cond (same nat_order r k) (Some child) (map.get s.book r)))
+          0 ≡ unwrap_or (option_map (λ (m : Member). m.quota)
+          (cond (same nat_order r k) (Some child) (map.get t.book r))) 0
+      by_quota r h (inl is) = ap (λ b. unwrap_or (option_map (λ (m : Member). m.quota)
+          (cond b (Some child) (map.get s.book r))) 0) is.1
+          ∙ sym (ap (λ b. unwrap_or (option_map (λ (m : Member). m.quota) (cond b (Some child) (map.get t.book r))) 0)
+          is.1)
+      by_quota r h (inr other) =
+          ap (λ b. unwrap_or (option_map (λ (m : Member). m.quota) (cond b (Some child) (map.get s.book r))) 0) other.1
+          ∙ l.quota r (was r h other.0)
+          ∙ sym (ap (λ b. unwrap_or (option_map (λ (m : Member). m.quota) (cond b (Some child) (map.get t.book r))) 0)
+          other.1)
+
+      kids_same : (r : ℕ) → grown Q k r ≡ true → children s.book r ≡ children t.book r
+      kids_same r h = elim (cases_eq r k) [
+        | inl is ↦
+            ap (children s.book) is ∙ childless s.book k
+            (number-none s.book k (no_value (map.get s.book k) free) (parents_in s w))
+            ∙ sym (ap (children t.book) is ∙ childless t.book k
+            (number-none t.book k (no_value (map.get t.book k) free_t) (parents_in t v)))
+        | inr d ↦ l.children r (was r h d)
+      ]
+
+      offers_same : (key : OfferKey) → (grown Q k key.offerer ≡ true) ⊎ (grown Q k key.target ≡ true)
+          → map.get s.offers key ≡ map.get t.offers key
+      offers_same key (inl h) = elim (cases_eq key.offerer k) [
+        | inl is ↦ no_offers key (inl is)
+        | inr d ↦ l.offers key (inl (was key.offerer h d))
+      ]
+      offers_same key (inr h) = elim (cases_eq key.target k) [
+        | inl is ↦ no_offers key (inr is)
+        | inr d ↦ l.offers key (inr (was key.target h d))
+      ]
+
+module _ (s t : State) (Q : ℕ → Bool) (q quota : ℕ) (w : IsWellFormed s) (v : IsWellFormed t) (mine : Q q ≡ true)
+    (l : LooksSameTo s t Q) where
+  number_same : child_of s ≡ child_of t
+  number_same = child_same s t q (single s t Q q mine l)
+
+  spawn_together : spawn_refusal s q quota ≡ None
+      → LooksSameTo (after_spawn s q quota) (after_spawn t q quota) (grown Q (child_of s))
+  spawn_together allowed =
+      let k = child_of s in
+      let free = child_free s q quota allowed in
+      let none = no_page s k w free in
+      let none_t = no_page t k v (sym (l.live k) ∙ free) in
+      subst (λ n. LooksSameTo (after_spawn s q quota) (with_child t q n quota t.spaces) (grown Q k)) number_same
+      (child_together s t Q q k quota w v l free s.spaces t.spaces (λ slot d. refl) (λ slot d. refl)
+      (λ page. ap (option_map flags_of) (none page ∙ sym (none_t page)))
+      (λ page. ap (option_map shown_of) (none page ∙ sym (none_t page)))
+      (none_lone s.spaces k none) (none_lone t.spaces k none_t))
+
+  fork_together : fork_refusal s q quota ≡ None → LooksSameTo (after_fork s q quota) (after_fork t q quota)
+      (grown Q (child_of s))
+  fork_together allowed =
+      let k = child_of s in
+      subst (λ n. LooksSameTo (after_fork s q quota) (with_child t q n quota (copied t.spaces q n)) (grown Q k))
+      number_same
+      (child_together s t Q q k quota w v l (fork_free s q quota allowed) (copied s.spaces q k) (copied t.spaces q k)
+      (λ slot d. copied-other s.spaces q k slot d) (λ slot d. copied-other t.spaces q k slot d)
+      (λ page. ap (option_map flags_of) (copied-own s.spaces q k page)
+      ∙ copy_flags (at_page k page) (map.get s.spaces (at_page q page))
+      ∙ ap (option_map (λ (f : Flags). record f { accessed = false; dirty = false }))
+      (l.flags (at_page q page) mine)
+      ∙ sym (copy_flags (at_page k page) (map.get t.spaces (at_page q page)))
+      ∙ sym (ap (option_map flags_of) (copied-own t.spaces q k page)))
+      (λ page. ap (option_map shown_of) (copied-own s.spaces q k page)
+      ∙ copy_shown (at_page k page) (map.get s.spaces (at_page q page))
+      ∙ ap (option_map (λ (f : Shown). record f { holders = set.len (lone (at_page k page)) }))
+      (l.pages (at_page q page) (q, mine, sees_own s q page))
+      ∙ sym (copy_shown (at_page k page) (map.get t.spaces (at_page q page)))
+      ∙ sym (ap (option_map shown_of) (copied-own t.spaces q k page)))
+      (copy_lone s.spaces q k) (copy_lone t.spaces q k))
+
+-- ---- All calls
+
+-- who is a member after a call: who was, or the child that is made
+abbrev Small : State → (ℕ → Bool) → (ℕ → Bool) → Call → Type 0
+Small s Q D c = (p : ℕ) → D p ≡ true → (Q p ≡ true) ⊎ ((p ≡ child_of s) × (makes_child c ≡ true))
+
+module _ (s t : State) (Q D : ℕ → Bool) (q : ℕ) (w : IsWellFormed s) (v : IsWellFormed t) (mine : Q q ≡ true)
+    (l : LooksSameTo s t Q) where
+  with_grown : (a b : State) (c : Call) → Small s Q D c → LooksSameTo a b (grown Q (child_of s)) → LooksSameTo a b D
+  with_grown a b c small = weaken a b (grown Q (child_of s)) D (λ p h. elim (small p h) [
+    | inl member ↦ ap (λ x. x || (p == child_of s)) member
+    | inr born ↦ ap (λ x. Q p || x) (eq-eqb p (child_of s) born.0) ∙ or_yes (Q p)
+  ])
+    where
+      or_yes : (b : Bool) → (b || true) ≡ true
+      or_yes true = refl
+      or_yes false = refl
+
+  with_same : (a b : State) (c : Call) → makes_child c ≡ false → Small s Q D c → LooksSameTo a b Q → LooksSameTo a b D
+  with_same a b c none small = weaken a b Q D (λ p h. elim (small p h) [
+    | inl member ↦ member
+    | inr born ↦ absurd (let x = born.1 in cc)
+  ])
+
+  after_together : (c : Call) → Small s Q D c → completes (answer_of s q c) ≡ true
+      → LooksSameTo (after s q c) (after t q c) D
+  after_together (call.Load addr size) small h = with_same (after_load s q addr size) (after_load t q addr size)
+      (call.Load addr size) refl small (load_together s t Q q mine l addr size)
+  after_together (call.Store addr size value) small h =
+      with_same (after_store s q addr size value) (after_store t q addr size value) (call.Store addr size value) refl
+      small (store_together s t Q q mine l addr size value)
+  after_together (call.Map page write) small h = with_same (after_map s q page write) (after_map t q page write)
+      (call.Map page write) refl small (map_together s t Q q mine l page write)
+  after_together (call.Unmap page) small h = with_same (after_unmap s q page) (after_unmap t q page) (call.Unmap page)
+      refl small (unmap_together s t Q q mine l page)
+  after_together (call.Protect page write) small h =
+      with_same (after_protect s q page write) (after_protect t q page write) (call.Protect page write) refl small
+      (protect_together s t Q q mine l page write)
+  after_together (call.Info page) small h = with_same s t (call.Info page) refl small l
+  after_together (call.Offer page target write) small h =
+      with_same (after_offer s q page target write) (after_offer t q page target write) (call.Offer page target write)
+      refl small (offer_together s t Q q mine l page target write)
+  after_together (call.Withdraw page target) small h =
+      with_same (after_withdraw s q page target) (after_withdraw t q page target) (call.Withdraw page target) refl small
+      (withdraw_together s t Q q mine l page target)
+  after_together (call.Accept giver giver_page page) small h =
+      with_same (after_accept s q giver giver_page page) (after_accept t q giver giver_page page)
+      (call.Accept giver giver_page page) refl small
+      (accept_together s t Q q mine l giver giver_page page
+      (may_accept s q giver giver_page page (not-refused (accept_refusal s q giver giver_page page) _ h)).there)
+  after_together (call.Spawn quota) small h = with_grown (after_spawn s q quota) (after_spawn t q quota)
+      (call.Spawn quota) small (spawn_together s t Q q quota w v mine l (not-refused (spawn_refusal s q quota) _ h))
+  after_together (call.Fork quota) small h = with_grown (after_fork s q quota) (after_fork t q quota) (call.Fork quota)
+      small (fork_together s t Q q quota w v mine l (not-refused (fork_refusal s q quota) _ h))
+  after_together call.Exit small h = with_same (after_exit s q) (after_exit t q) call.Exit refl small
+      (exit_together s t Q q mine l)
+  after_together call.Quota small h = with_same s t call.Quota refl small l
+
+-- who lives on is a member where it was, and who is new is a child
+module _ (s : State) (Q : ℕ → Bool) (e : Event) where
+  second : (a b : Bool) → (a && b) ≡ true → (a ≡ true) × (b ≡ true)
+  second true b h = (refl, h)
+  second false b h = cc
+
+  pub members_small : completes (answer s e) ≡ true → Small s Q (members_after s Q e) e.call
+  members_small done p h = by (is_live s p) refl (second (is_live (next s e) p) (if is_live s p then Q p else Q e.pid)
+      h).0 (second (is_live (next s e) p) (if is_live s p then Q p else Q e.pid) h).1
+    where
+      by : (b : Bool) → is_live s p ≡ b → is_live (next s e) p ≡ true → (if b then Q p else Q e.pid) ≡ true
+          → (Q p ≡ true) ⊎ ((p ≡ child_of s) × (makes_child e.call ≡ true))
+      by true is lives h = inl h
+      by false is lives h = elim (next_live s e p) [
+        | inl same_live ↦ absurd (let x = sym lives ∙ same_live ∙ is in cc)
+        | inr differs ↦ elim differs [
+          | inl born ↦ inr born
+          | inr gone ↦ absurd (let a = (caller_live s e done).0 in let b = ap (is_live s) gone.0 in let c = is in cc)
+        ]
+      ]
+
+  pub members_stay : completes (answer s e) ≡ false → (p : ℕ) → members_after s Q e p ≡ true → Q p ≡ true
+  members_stay none p h = by (is_live s p) (sym (ap (λ (u : State). is_live u p) (next-stays s e none))
+      ∙ (second (is_live (next s e) p) (if is_live s p then Q p else Q e.pid) h).0)
+      (second (is_live (next s e) p) (if is_live s p then Q p else Q e.pid) h).1
+    where
+      by : (b : Bool) → b ≡ true → (if b then Q p else Q e.pid) ≡ true → Q p ≡ true
+      by true is h = h
+      by false is h = cc
+
+pub members_see_the_same : MembersSeeTheSame
+members_see_the_same s t e Q w v l mine = by (completes (answer s e)) refl
+  where
+    told : completes (answer s e) ≡ completes (answer t e)
+    told = ap completes (members_told_the_same s t e Q l mine)
+
+    by : (b : Bool) → completes (answer s e) ≡ b → LooksSameTo (next s e) (next t e) (members_after s Q e)
+    by true h =
+        let c = caller_live s e h in
+        subst (λ u. LooksSameTo u (next t e) (members_after s Q e)) (sym (next-goes s e h))
+        (subst (λ u. LooksSameTo (after s e.pid e.call) u (members_after s Q e)) (sym (next-goes t e (sym told ∙ h)))
+        (after_together s t Q (members_after s Q e) e.pid w v mine l e.call (members_small s Q e h) c.1))
+    by false h =
+        subst (λ u. LooksSameTo u (next t e) (members_after s Q e)) (sym (next-stays s e h))
+        (subst (λ u. LooksSameTo s u (members_after s Q e)) (sym (next-stays t e (sym told ∙ h)))
+        (weaken s t Q (members_after s Q e) (members_stay s Q e h) l))

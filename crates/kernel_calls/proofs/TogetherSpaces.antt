@@ -1,0 +1,526 @@
+-- Spaces that look the same to a set of processes.
+use Rattle.std.proofs.Common.{
+  ◌≡◌,
+  ◌≢◌,
+  ℕ,
+  ◌+◌,
+  ◌&&◌,
+  ◌||◌,
+  not,
+  Bool,
+  true,
+  false,
+  cond,
+  List,
+  [],
+  ◌∷◌,
+  length,
+  filter,
+  refl,
+  sym,
+  ap,
+  ◌∙◌,
+  Option,
+  Some,
+  None,
+  is_some,
+  unwrap_or,
+  arith,
+  inl,
+  inr,
+}
+use Rattle.std.specs.Prelude.{◌⊎◌, if◌then◌else◌}
+use Rattle.std.specs.Option.{option_map}
+use Rattle.std.proofs.lemmas.Option.{same_Some}
+use Rattle.page_words.specs.Addresses.{page_number, offset_number}
+use Rattle.page_words.specs.FiniteMap as map
+use Rattle.page_words.specs.FiniteMap.{same}
+use Rattle.page_words.specs.FiniteSet as set
+use Rattle.page_words.specs.FiniteSet.{Set}
+use Rattle.page_words.proofs.MapLemmas.{get-map_values, contains-insert, contains-retain, len-insert, same_set}
+use Rattle.page_words.proofs.OptionLemmas.{is_some-map}
+use Rattle.page_words.proofs.SetLemmas.{same_cases}
+use Rattle.address_space.specs.Spaces.{
+  Slot,
+  slot_order,
+  Cell,
+  Spaces,
+  fresh,
+  cell_or_fresh,
+  with_bytes,
+  with_holders,
+  set_bytes,
+  set_holders,
+  write_at,
+  without,
+  at_page,
+  slot_at,
+  accessed,
+  stored,
+  with_page,
+  with_pages,
+  all_accessed,
+  all_stored,
+  joined,
+}
+use Rattle.address_space.proofs.steps.Departures.{left, get-without}
+use Rattle.process_table.proofs.CellLaws.{get-inserted, get-inserted_other}
+use Rattle.kernel_calls.specs.Authority.{Flags, flags_of, Shown, shown_of}
+
+-- ---- How many of a set pass a test, and how many don't
+
+split_list : (p : Slot → Bool) (es : List (Slot × Unit {0}))
+    → length es ≡ length (filter (λ (e : Slot × Unit {0}). p e.0) es) + length
+    (filter (λ (e : Slot × Unit {0}). not (p e.0)) es)
+split_list p [] = omega arith
+split_list p (e ∷ es) = by (p e.0) (split_list p es)
+  where
+    by : (b : Bool) → length es ≡ length (filter (λ (e : Slot × Unit {0}). p e.0) es) + length
+        (filter (λ (e : Slot × Unit {0}). not (p e.0)) es)
+        → length (e ∷ es) ≡ length (cond b (e ∷ filter (λ (e : Slot × Unit {0}). p e.0) es)
+        (filter (λ (e : Slot × Unit {0}). p e.0) es)) + length
+        (cond (not b) (e ∷ filter (λ (e : Slot × Unit {0}). not (p e.0)) es)
+        (filter (λ (e : Slot × Unit {0}). not (p e.0)) es))
+    by true rest = omega (arith, rest)
+    by false rest = omega (arith, rest)
+
+len_split : (g : Set slot_order) (p : Slot → Bool)
+    → set.len g ≡ set.len (set.retain g p) + set.len (set.retain g (λ x. not (p x)))
+len_split g p = split_list p g.entries
+
+-- ---- Spaces that look the same
+
+abbrev pub shares_in : Spaces → Slot → Slot → Bool
+shares_in S slot other = unwrap_or (option_map (λ (c : Cell). set.contains c.holders other) (map.get S slot)) false
+
+-- at the slots that are seen, those of members among them
+pub record SameSpaces (Q : ℕ → Bool) (seen : Slot → Type 0) (S T : Spaces) : Type 0 where
+  pub flags : (slot : Slot) → Q slot.pid ≡ true → option_map flags_of (map.get S slot) ≡ option_map flags_of
+      (map.get T slot)
+  pub pages : (slot : Slot) → seen slot → option_map shown_of (map.get S slot) ≡ option_map shown_of (map.get T slot)
+  pub groups : (slot other : Slot) → seen slot → seen other → shares_in S slot other ≡ shares_in T slot other
+
+-- two sets of slots that have the same of what is seen
+abbrev pub SameGroups : (Slot → Type 0) → Set slot_order → Set slot_order → Type 0
+SameGroups seen g h = (other : Slot) → seen other → set.contains g other ≡ set.contains h other
+
+module _ (Q : ℕ → Bool) (q : ℕ) (mine : Q q ≡ true) (seen : Slot → Type 0) (own : (page : ℕ) → seen (at_page q page))
+  where
+    -- at a slot that is seen, mapped or not
+    groups_same : (S T : Spaces) → SameSpaces Q seen S T → (slot : Slot) → seen slot
+        → SameGroups seen (cell_or_fresh S slot).holders (cell_or_fresh T slot).holders
+    groups_same S T l slot v other o = by (map.get S slot) (map.get T slot) (l.pages slot v) (l.groups slot other v o)
+      where
+        by : (x y : Option Cell) → option_map shown_of x ≡ option_map shown_of y
+            → unwrap_or (option_map (λ (c : Cell). set.contains c.holders other) x) false ≡ unwrap_or
+            (option_map (λ (c : Cell). set.contains c.holders other) y) false
+            → set.contains (unwrap_or x (fresh slot true)).holders other ≡ set.contains
+            (unwrap_or y (fresh slot true)).holders other
+        by None None h k = refl
+        by None (Some d) h k = cc
+        by (Some c) None h k = cc
+        by (Some c) (Some d) h k = k
+
+    shown_same : (S T : Spaces) → SameSpaces Q seen S T → (slot : Slot) → seen slot
+        → shown_of (cell_or_fresh S slot) ≡ shown_of (cell_or_fresh T slot)
+    shown_same S T l slot v = by (map.get S slot) (map.get T slot) (l.pages slot v)
+      where
+        by : (x y : Option Cell) → option_map shown_of x ≡ option_map shown_of y
+            → shown_of (unwrap_or x (fresh slot true)) ≡ shown_of (unwrap_or y (fresh slot true))
+        by None None h = refl
+        by None (Some d) h = cc
+        by (Some c) None h = cc
+        by (Some c) (Some d) h = same_Some (shown_of c) (shown_of d) h
+
+    own_flags : (S T : Spaces) → SameSpaces Q seen S T → (page : ℕ)
+        → flags_of (cell_or_fresh S (at_page q page)) ≡ flags_of (cell_or_fresh T (at_page q page))
+    own_flags S T l page = by (map.get S (at_page q page)) (map.get T (at_page q page)) (l.flags (at_page q page) mine)
+      where
+        by : (x y : Option Cell) → option_map flags_of x ≡ option_map flags_of y
+            → flags_of (unwrap_or x (fresh (at_page q page) true)) ≡ flags_of
+            (unwrap_or y (fresh (at_page q page) true))
+        by None None h = refl
+        by None (Some d) h = cc
+        by (Some c) None h = cc
+        by (Some c) (Some d) h = same_Some (flags_of c) (flags_of d) h
+
+    -- one cell of q, put in both
+    pub put_same : (S T : Spaces) (page : ℕ) (c d : Cell) → SameSpaces Q seen S T → flags_of c ≡ flags_of d
+        → shown_of c ≡ shown_of d → SameGroups seen c.holders d.holders
+        → SameSpaces Q seen (map.insert S (at_page q page) c) (map.insert T (at_page q page) d)
+    put_same S T page c d l flags shown groups = record {
+      flags = λ slot h. by_flags slot h (same_cases slot_order slot (at_page q page));
+      pages = λ slot v. by_pages slot v (same_cases slot_order slot (at_page q page));
+      groups = λ slot other v o. by_groups slot other v o (same_cases slot_order slot (at_page q page));
+    }
+      where
+        x : Slot
+        x = at_page q page
+
+        here : (R : Spaces) (e : Cell) (slot : Slot) → slot ≡ x → map.get (map.insert R x e) slot ≡ Some e
+        here R e slot is = ap (map.get (map.insert R x e)) is ∙ get-inserted R x e
+
+        by_flags : (slot : Slot) → Q slot.pid ≡ true → ((slot ≡ x) × (same slot_order slot x ≡ true))
+            ⊎ ((slot ≢ x) × (same slot_order slot x ≡ false))
+            → option_map flags_of (map.get (map.insert S x c) slot) ≡ option_map flags_of
+            (map.get (map.insert T x d) slot)
+        by_flags slot h (inl is) = ap (option_map flags_of) (here S c slot is.0) ∙ ap Some flags
+            ∙ sym (ap (option_map flags_of) (here T d slot is.0))
+        by_flags slot h (inr other) = ap (option_map flags_of) (get-inserted_other S x c slot other.0) ∙ l.flags slot h
+            ∙ sym (ap (option_map flags_of) (get-inserted_other T x d slot other.0))
+
+        by_pages : (slot : Slot) → seen slot → ((slot ≡ x) × (same slot_order slot x ≡ true))
+            ⊎ ((slot ≢ x) × (same slot_order slot x ≡ false))
+            → option_map shown_of (map.get (map.insert S x c) slot) ≡ option_map shown_of
+            (map.get (map.insert T x d) slot)
+        by_pages slot v (inl is) = ap (option_map shown_of) (here S c slot is.0) ∙ ap Some shown
+            ∙ sym (ap (option_map shown_of) (here T d slot is.0))
+        by_pages slot v (inr other) = ap (option_map shown_of) (get-inserted_other S x c slot other.0) ∙ l.pages slot v
+            ∙ sym (ap (option_map shown_of) (get-inserted_other T x d slot other.0))
+
+        by_groups : (slot other : Slot) → seen slot → seen other
+            → ((slot ≡ x) × (same slot_order slot x ≡ true)) ⊎ ((slot ≢ x) × (same slot_order slot x ≡ false))
+            → shares_in (map.insert S x c) slot other ≡ shares_in (map.insert T x d) slot other
+        by_groups slot other v o (inl is) =
+            ap (λ (y : Option Cell). unwrap_or (option_map (λ (e : Cell). set.contains e.holders other) y) false)
+            (here S c slot is.0) ∙ groups other o
+            ∙ sym (ap (λ (y : Option Cell). unwrap_or (option_map (λ (e : Cell). set.contains e.holders other) y) false)
+            (here T d slot is.0))
+        by_groups slot other v o (inr apart) =
+            ap (λ (y : Option Cell). unwrap_or (option_map (λ (e : Cell). set.contains e.holders other) y) false)
+            (get-inserted_other S x c slot apart.0) ∙ l.groups slot other v o
+            ∙ sym (ap (λ (y : Option Cell). unwrap_or (option_map (λ (e : Cell). set.contains e.holders other) y) false)
+            (get-inserted_other T x d slot apart.0))
+
+    -- a group that gets other bytes
+    bytes_same : (S T : Spaces) (g h : Set slot_order) (xs ys : List ℕ) → SameSpaces Q seen S T → SameGroups seen g h
+        → xs ≡ ys → SameSpaces Q seen (set_bytes S g xs) (set_bytes T h ys)
+    bytes_same S T g h xs ys l groups same_bytes = record {
+      flags = λ slot k. flags_in S g xs slot ∙ l.flags slot k ∙ sym (flags_in T h ys slot);
+      pages = λ slot v. shown_in S g xs slot ∙ (λ i.
+          option_map (renew (groups slot v i) (same_bytes i)) (l.pages slot v i)) ∙ sym (shown_in T h ys slot);
+      groups = λ slot other v o. shares_of S g xs slot other ∙ l.groups slot other v o
+          ∙ sym (shares_of T h ys slot other);
+    }
+      where
+        renew : Bool → List ℕ → Shown → Shown
+        renew b zs shown = if b then record shown { bytes = zs } else shown
+
+        change : Set slot_order → List ℕ → Slot → Cell → Cell
+        change k zs slot c = if set.contains k slot then with_bytes c zs else c
+
+        flags_in : (R : Spaces) (k : Set slot_order) (zs : List ℕ) (slot : Slot)
+            → option_map flags_of (map.get (set_bytes R k zs) slot) ≡ option_map flags_of (map.get R slot)
+        flags_in R k zs slot = ap (option_map flags_of) (get-map_values slot_order (change k zs) R slot)
+            ∙ by (map.get R slot)
+          where
+            either : (b : Bool) (c : Cell) → flags_of (if b then with_bytes c zs else c) ≡ flags_of c
+            either true c = refl
+            either false c = refl
+
+            by : (y : Option Cell) → option_map flags_of (option_map (change k zs slot) y) ≡ option_map flags_of y
+            by None = refl
+            by (Some c) = ap Some (either (set.contains k slot) c)
+
+        shown_in : (R : Spaces) (k : Set slot_order) (zs : List ℕ) (slot : Slot)
+            → option_map shown_of (map.get (set_bytes R k zs) slot) ≡ option_map (renew (set.contains k slot) zs)
+            (option_map shown_of (map.get R slot))
+        shown_in R k zs slot = ap (option_map shown_of) (get-map_values slot_order (change k zs) R slot)
+            ∙ by (map.get R slot)
+          where
+            either : (b : Bool) (c : Cell) → shown_of (if b then with_bytes c zs else c) ≡ renew b zs (shown_of c)
+            either true c = refl
+            either false c = refl
+
+            by : (y : Option Cell) → option_map shown_of (option_map (change k zs slot) y) ≡ option_map
+                (renew (set.contains k slot) zs) (option_map shown_of y)
+            by None = refl
+            by (Some c) = ap Some (either (set.contains k slot) c)
+
+        shares_of : (R : Spaces) (k : Set slot_order) (zs : List ℕ) (slot other : Slot)
+            → shares_in (set_bytes R k zs) slot other ≡ shares_in R slot other
+        shares_of R k zs slot other =
+            ap (λ (y : Option Cell). unwrap_or (option_map (λ (e : Cell). set.contains e.holders other) y) false)
+            (get-map_values slot_order (change k zs) R slot) ∙ by (map.get R slot)
+          where
+            either : (b : Bool) (c : Cell) → (if b then with_bytes c zs else c).holders ≡ c.holders
+            either true c = refl
+            either false c = refl
+
+            by : (y : Option Cell) → unwrap_or (option_map (λ (e : Cell). set.contains e.holders other)
+                (option_map (change k zs slot) y)) false ≡ unwrap_or
+                (option_map (λ (e : Cell). set.contains e.holders other) y) false
+            by None = refl
+            by (Some c) = ap (λ (k : Set slot_order). set.contains k other) (either (set.contains k slot) c)
+
+    -- a group that becomes another
+    holders_same : (S T : Spaces) (g h wide wider : Set slot_order) → SameSpaces Q seen S T → SameGroups seen g h
+        → SameGroups seen wide wider → set.len wide ≡ set.len wider
+        → SameSpaces Q seen (set_holders S g wide) (set_holders T h wider)
+    holders_same S T g h wide wider l groups more len = record {
+      flags = λ slot k. flags_in S g wide slot ∙ l.flags slot k ∙ sym (flags_in T h wider slot);
+      pages = λ slot v. shown_in S g wide slot ∙ (λ i. option_map (renew (groups slot v i) (len i)) (l.pages slot v i))
+          ∙ sym (shown_in T h wider slot);
+      groups = λ slot other v o. shares_of S g wide slot other ∙ mixed slot other v o
+          ∙ sym (shares_of T h wider slot other);
+    }
+      where
+        renew : Bool → ℕ → Shown → Shown
+        renew b n shown = if b then record shown { holders = n } else shown
+
+        change : Set slot_order → Set slot_order → Slot → Cell → Cell
+        change k to slot c = if set.contains k slot then with_holders c to else c
+
+        flags_in : (R : Spaces) (k to : Set slot_order) (slot : Slot)
+            → option_map flags_of (map.get (set_holders R k to) slot) ≡ option_map flags_of (map.get R slot)
+        flags_in R k to slot = ap (option_map flags_of) (get-map_values slot_order (change k to) R slot)
+            ∙ by (map.get R slot)
+          where
+            either : (b : Bool) (c : Cell) → flags_of (if b then with_holders c to else c) ≡ flags_of c
+            either true c = refl
+            either false c = refl
+
+            by : (y : Option Cell) → option_map flags_of (option_map (change k to slot) y) ≡ option_map flags_of y
+            by None = refl
+            by (Some c) = ap Some (either (set.contains k slot) c)
+
+        shown_in : (R : Spaces) (k to : Set slot_order) (slot : Slot)
+            → option_map shown_of (map.get (set_holders R k to) slot) ≡ option_map
+            (renew (set.contains k slot) (set.len to)) (option_map shown_of (map.get R slot))
+        shown_in R k to slot = ap (option_map shown_of) (get-map_values slot_order (change k to) R slot)
+            ∙ by (map.get R slot)
+          where
+            either : (b : Bool) (c : Cell) → shown_of (if b then with_holders c to else c) ≡ renew b (set.len to)
+                (shown_of c)
+            either true c = refl
+            either false c = refl
+
+            by : (y : Option Cell) → option_map shown_of (option_map (change k to slot) y) ≡ option_map
+                (renew (set.contains k slot) (set.len to)) (option_map shown_of y)
+            by None = refl
+            by (Some c) = ap Some (either (set.contains k slot) c)
+
+        -- what is in the group of a slot then
+        new_shares : Spaces → Set slot_order → Set slot_order → Slot → Slot → Bool
+        new_shares R k to slot other = if set.contains k slot && is_some (map.get R slot) then set.contains to other
+            else shares_in R slot other
+
+        shares_of : (R : Spaces) (k to : Set slot_order) (slot other : Slot)
+            → shares_in (set_holders R k to) slot other ≡ new_shares R k to slot other
+        shares_of R k to slot other =
+            ap (λ (y : Option Cell). unwrap_or (option_map (λ (e : Cell). set.contains e.holders other) y) false)
+            (get-map_values slot_order (change k to) R slot) ∙ by (set.contains k slot) (map.get R slot)
+          where
+            by : (b : Bool) (y : Option Cell) → unwrap_or
+                (option_map (λ (e : Cell). set.contains e.holders other)
+                (option_map (λ (c : Cell). if b then with_holders c to else c) y)) false
+                ≡ (if b && is_some y then set.contains to other else unwrap_or
+                (option_map (λ (e : Cell). set.contains e.holders other) y) false)
+            by true None = refl
+            by false None = refl
+            by true (Some c) = refl
+            by false (Some c) = refl
+
+        there : (slot : Slot) → seen slot → is_some (map.get S slot) ≡ is_some (map.get T slot)
+        there slot v = sym (is_some-map shown_of (map.get S slot)) ∙ ap is_some (l.pages slot v)
+            ∙ is_some-map shown_of (map.get T slot)
+
+        mixed : (slot other : Slot) → seen slot → seen other
+            → new_shares S g wide slot other ≡ new_shares T h wider slot other
+        mixed slot other v o = λ i. if groups slot v i && there slot v i then more other o i else l.groups slot other v
+            o
+            i
+
+    -- ---- Accesses
+
+    page_same : (S T : Spaces) (page : ℕ) → SameSpaces Q seen S T
+        → SameSpaces Q seen (with_page S q page) (with_page T q page)
+    page_same S T page l = by (map.contains_key S (at_page q page)) (map.contains_key T (at_page q page))
+        (sym (is_some-map flags_of (map.get S (at_page q page))) ∙ ap is_some (l.flags (at_page q page) mine)
+        ∙ is_some-map flags_of (map.get T (at_page q page)))
+      where
+        new : Cell
+        new = fresh (at_page q page) true
+
+        by : (b c : Bool) → b ≡ c → SameSpaces Q seen (if b then S else map.insert S (at_page q page) new)
+            (if c then T else map.insert T (at_page q page) new)
+        by true true h = l
+        by true false h = cc
+        by false true h = cc
+        by false false h = put_same S T page new new l refl refl (λ other o. refl)
+
+    pub pages_same : (S T : Spaces) (pages : List ℕ) → SameSpaces Q seen S T
+        → SameSpaces Q seen (with_pages S q pages) (with_pages T q pages)
+    pages_same S T [] l = l
+    pages_same S T (page ∷ pages) l = pages_same (with_page S q page) (with_page T q page) pages (page_same S T page l)
+
+    -- where flags are set in a cell
+    pub set_same : (S T : Spaces) (page : ℕ) (set_flags : Cell → Cell)
+        → ((c d : Cell) → flags_of c ≡ flags_of d → flags_of (set_flags c) ≡ flags_of (set_flags d))
+        → ((c : Cell) → shown_of (set_flags c) ≡ shown_of c) → ((c : Cell) → (set_flags c).holders ≡ c.holders)
+        → SameSpaces Q seen S T → SameSpaces Q seen (map.insert S (at_page q page)
+        (set_flags (cell_or_fresh S (at_page q page))))
+        (map.insert T (at_page q page) (set_flags (cell_or_fresh T (at_page q page))))
+    set_same S T page f flags shown group l =
+        let c : Cell = cell_or_fresh S (at_page q page) in
+        let d : Cell = cell_or_fresh T (at_page q page) in
+        put_same S T page (f c) (f d) l (flags c d (own_flags S T l page))
+        (shown c ∙ shown_same S T l (at_page q page) (own page) ∙ sym (shown d))
+        (λ other o. ap (λ (g : Set slot_order). set.contains g other) (group c)
+        ∙ groups_same S T l (at_page q page) (own page) other o
+        ∙ sym (ap (λ (g : Set slot_order). set.contains g other) (group d)))
+
+    pub accessed_same : (S T : Spaces) (pages : List ℕ) → SameSpaces Q seen S T
+        → SameSpaces Q seen (all_accessed S q pages) (all_accessed T q pages)
+    accessed_same S T [] l = l
+    accessed_same S T (page ∷ pages) l =
+        accessed_same (accessed S (at_page q page)) (accessed T (at_page q page)) pages
+        (set_same S T page (λ c. record c { accessed = true })
+        (λ c d h. ap (λ (f : Flags). record f { accessed = true }) h) (λ c. refl) (λ c. refl) l)
+
+    stored_same : (S T : Spaces) (page at : ℕ) (new : List ℕ) → SameSpaces Q seen S T
+        → SameSpaces Q seen (stored S (at_page q page) at new) (stored T (at_page q page) at new)
+    stored_same S T page at new l =
+        let c : Cell = cell_or_fresh S (at_page q page) in
+        let d : Cell = cell_or_fresh T (at_page q page) in
+        let shown = shown_same S T l (at_page q page) (own page) in
+        let bytes : write_at c.bytes at new ≡ write_at d.bytes at new =
+        ap (λ (x : Shown). write_at x.bytes at new) shown in
+        let groups = groups_same S T l (at_page q page) (own page) in
+        put_same (set_bytes S c.holders (write_at c.bytes at new)) (set_bytes T d.holders (write_at d.bytes at new))
+        page
+        (record c { bytes = write_at c.bytes at new; accessed = true; dirty = true })
+        (record d { bytes = write_at d.bytes at new; accessed = true; dirty = true })
+        (bytes_same S T c.holders d.holders (write_at c.bytes at new) (write_at d.bytes at new) l groups bytes)
+        (ap (λ (f : Flags). record f { accessed = true; dirty = true }) (own_flags S T l page))
+        (λ i. record { bytes = bytes i; holders = (shown i).holders })
+        groups
+
+    pub all_stored_same : (S T : Spaces) (addr : ℕ) (bytes : List ℕ) → SameSpaces Q seen S T
+        → SameSpaces Q seen (all_stored S q addr bytes) (all_stored T q addr bytes)
+    all_stored_same S T addr [] l = l
+    all_stored_same S T addr (byte ∷ bytes) l =
+        all_stored_same (stored S (slot_at q addr) (offset_number addr) (byte ∷ []))
+        (stored T (slot_at q addr) (offset_number addr) (byte ∷ [])) (addr + 1) bytes
+        (stored_same S T (page_number addr) (offset_number addr) (byte ∷ []) l)
+
+    -- ---- Slots that go, all of which are seen
+
+    pub gone_same : (S T : Spaces) (gone : Slot → Bool) → ((slot : Slot) → gone slot ≡ true → seen slot)
+        → SameSpaces Q seen S T → SameSpaces Q seen (without S gone) (without T gone)
+    gone_same S T gone goes l = record {
+      flags = λ slot h. flags_in S slot ∙ (λ i. cond (not (gone slot)) (l.flags slot h i) None) ∙ sym (flags_in T slot);
+      pages = λ slot v. pages slot v;
+      groups = λ slot other v o. shares_of S slot other
+          ∙ (λ i. (l.groups slot other v o i && not (gone other)) && not (gone slot)) ∙ sym (shares_of T slot other);
+    }
+      where
+        flags_in : (R : Spaces) (slot : Slot) → option_map flags_of (map.get (without R gone) slot) ≡ cond
+            (not (gone slot)) (option_map flags_of (map.get R slot)) None
+        flags_in R slot = ap (option_map flags_of) (get-without R gone slot) ∙ by (not (gone slot)) (map.get R slot)
+          where
+            by : (b : Bool) (y : Option Cell) → option_map flags_of (cond b (option_map (left gone) y) None) ≡ cond b
+                (option_map flags_of y) None
+            by false y = refl
+            by true None = refl
+            by true (Some c) = refl
+
+        shares_of : (R : Spaces) (slot other : Slot) → shares_in (without R gone) slot
+            other ≡ ((shares_in R slot other && not (gone other)) && not (gone slot))
+        shares_of R slot other = ap (λ (y : Option Cell).
+            unwrap_or (option_map (λ (e : Cell). set.contains e.holders other) y) false) (get-without R gone slot)
+            ∙ by (not (gone slot)) (map.get R slot)
+          where
+            never : (b : Bool) → false ≡ (b && false)
+            never true = refl
+            never false = refl
+
+            always : (b : Bool) → b ≡ (b && true)
+            always true = refl
+            always false = refl
+
+            by : (b : Bool) (y : Option Cell) → unwrap_or
+                (option_map (λ (e : Cell). set.contains e.holders other) (cond b (option_map (left gone) y) None)) false
+                ≡ ((unwrap_or (option_map (λ (e : Cell). set.contains e.holders other) y) false && not (gone other))
+                && b)
+            by false y = never (unwrap_or (option_map (λ (e : Cell). set.contains e.holders other) y) false && not
+                (gone other))
+            by true None = refl
+            by true (Some c) = contains-retain c.holders (λ s. not (gone s)) other
+                ∙ always (set.contains c.holders other && not (gone other))
+
+        fewer : (c d : Cell) → shown_of c ≡ shown_of d → SameGroups seen c.holders d.holders
+            → shown_of (left gone c) ≡ shown_of (left gone d)
+        fewer c d shown groups = λ i. record { bytes = (shown i).bytes; holders = less i }
+          where
+            who_go : set.retain c.holders gone ≡ set.retain d.holders gone
+            who_go = same_set (set.retain c.holders gone) (set.retain d.holders gone)
+                (λ other. contains-retain c.holders gone other ∙ by other (gone other) refl
+                ∙ sym (contains-retain d.holders gone other))
+              where
+                out : (a b : Bool) → (a && false) ≡ (b && false)
+                out true true = refl
+                out true false = refl
+                out false true = refl
+                out false false = refl
+
+                by : (other : Slot) (b : Bool) → gone other ≡ b
+                    → (set.contains c.holders other && gone other) ≡ (set.contains d.holders other && gone other)
+                by other true is = λ i. groups other (goes other is) i && gone other
+                by other false is = (λ i. set.contains c.holders other && is i)
+                    ∙ out (set.contains c.holders other) (set.contains d.holders other)
+                    ∙ sym (λ i. set.contains d.holders other && is i)
+
+            less : set.len (set.retain c.holders (λ s. not (gone s))) ≡ set.len
+                (set.retain d.holders (λ s. not (gone s)))
+            less =
+                let a = len_split c.holders gone in
+                let b = len_split d.holders gone in
+                let same_len : set.len c.holders ≡ set.len d.holders = ap (λ (x : Shown). x.holders) shown in
+                let k : set.len (set.retain c.holders gone) ≡ set.len (set.retain d.holders gone) = ap set.len who_go in
+                omega (arith, a, b, same_len, k)
+
+        pages : (slot : Slot) → seen slot → option_map shown_of (map.get (without S gone) slot) ≡ option_map shown_of
+            (map.get (without T gone) slot)
+        pages slot v =
+            ap (option_map shown_of) (get-without S gone slot)
+            ∙ by (not (gone slot)) (map.get S slot) (map.get T slot) (l.pages slot v)
+            (λ other o. l.groups slot other v o)
+            ∙ sym (ap (option_map shown_of) (get-without T gone slot))
+          where
+            by : (b : Bool) (x y : Option Cell) → option_map shown_of x ≡ option_map shown_of y
+                → ((other : Slot) → seen other → unwrap_or (option_map (λ (e : Cell). set.contains e.holders other) x)
+                false ≡ unwrap_or (option_map (λ (e : Cell). set.contains e.holders other) y) false)
+                → option_map shown_of (cond b (option_map (left gone) x) None) ≡ option_map shown_of
+                (cond b (option_map (left gone) y) None)
+            by false x y h k = refl
+            by true None None h k = refl
+            by true None (Some d) h k = cc
+            by true (Some c) None h k = cc
+            by true (Some c) (Some d) h k = ap Some (fewer c d (same_Some (shown_of c) (shown_of d) h) k)
+
+    -- ---- A slot of q that joins the group of a slot that is seen
+
+    pub joined_same : (S T : Spaces) (giver : Slot) (page : ℕ) (right left : Bool) → SameSpaces Q seen S T → seen giver
+        → right ≡ left → SameSpaces Q seen (joined S giver (at_page q page) right)
+        (joined T giver (at_page q page) left)
+    joined_same S T giver page right left l v rights =
+        let c : Cell = cell_or_fresh S giver in
+        let d : Cell = cell_or_fresh T giver in
+        let x : Slot = at_page q page in
+        let groups = groups_same S T l giver v in
+        let shown = shown_same S T l giver v in
+        let wide : Set slot_order = set.insert c.holders x in
+        let wider : Set slot_order = set.insert d.holders x in
+        let more : SameGroups seen wide wider = (λ other o. contains-insert c.holders x other
+        ∙ ap (λ b. same slot_order other x || b) (groups other o) ∙ sym (contains-insert d.holders x other)) in
+        let len : set.len wide ≡ set.len wider = len-insert c.holders x tt
+        ∙ (λ i. cond (groups x (own page) i) (shown i).holders ((shown i).holders + 1))
+        ∙ sym (len-insert d.holders x tt) in
+        put_same (set_holders S c.holders wide) (set_holders T d.holders wider) page
+        (record { write = right; may = right; accessed = false; dirty = false; bytes = c.bytes; holders = wide })
+        (record { write = left; may = left; accessed = false; dirty = false; bytes = d.bytes; holders = wider })
+        (holders_same S T c.holders d.holders wide wider l groups more len)
+        (λ i. record { write = rights i; may = rights i; accessed = false; dirty = false })
+        (λ i. record { bytes = (shown i).bytes; holders = len i })
+        more
