@@ -2,7 +2,6 @@
 use Rattle.std.proofs.Common.{
   ◌≡◌,
   ℕ,
-  ◌+◌,
   ◌||◌,
   Bool,
   true,
@@ -11,7 +10,6 @@ use Rattle.std.proofs.Common.{
   refl,
   sym,
   ap,
-  subst,
   ◌∙◌,
   Option,
   Some,
@@ -28,11 +26,9 @@ use Rattle.page_words.specs.FiniteMap.{same, nat_order}
 use Rattle.page_words.specs.FiniteSet as set
 use Rattle.page_words.specs.FiniteSet.{Set}
 use Rattle.page_words.proofs.MapLemmas.{same_itself, get-insert}
-use Rattle.page_words.proofs.OptionLemmas.{no_value}
-use Rattle.address_space.specs.Spaces.{Slot, slot_order, Cell, Spaces, at_page, is_of, copy_of, copied}
+use Rattle.address_space.specs.Spaces.{Slot, Cell, Spaces, at_page, is_of, copy_of, copied}
 use Rattle.address_space.proofs.costs.Copied.{copied-own}
-use Rattle.quota_tree.specs.Book.{Book, Member, is_child}
-use Rattle.quota_tree.proofs.Sums.{given-insert, number-insert, given-none, number-none}
+use Rattle.quota_tree.specs.Book.{Book}
 use Rattle.page_sharing.specs.Offers.{offer_of}
 use Rattle.table_walk.specs.declared.Access.TheVariants.{Read, Write}
 use Rattle.process_table.specs.State.{State, is_live, child_of}
@@ -46,15 +42,12 @@ use Rattle.process_table.specs.Calls.{
   spawn_refusal,
   fork_refusal,
   exit_refusal,
-  after_spawn,
-  after_fork,
 }
 use Rattle.process_table.specs.WellFormed.{IsWellFormed}
 use Rattle.process_table.specs.Apart.{lone}
 use Rattle.process_table.specs.declared.causes.Cause.{Cause}
 use Rattle.process_table.specs.declared.causes.Cause.TheVariants as cause
-use Rattle.process_table.proofs.ApartOthers.{child_free, fork_free, no_page}
-use Rattle.process_table.proofs.BookLaws.{parents_in}
+use Rattle.process_table.proofs.ApartOthers.{child_free, no_page}
 use Rattle.fault_handler.specs.Plans.{plan_of}
 use Rattle.fault_handler.specs.declared.plans.Plan.{Plan}
 use Rattle.fault_handler.specs.declared.plans.Plan.TheVariants as plan
@@ -65,12 +58,10 @@ use Rattle.kernel_calls.specs.Authority.{
   shown_of,
   sees,
   is_offered,
-  LooksSame,
   SpawnsAreEmpty,
   ForksAreCopies,
-  BornTheSame,
 }
-use Rattle.kernel_calls.specs.Machine.{answer, answer_of, after, next, completes, refused_or, planned_or}
+use Rattle.kernel_calls.specs.Machine.{answer, answer_of, after, completes, refused_or, planned_or}
 use Rattle.kernel_calls.specs.declared.calls.Call.{Call}
 use Rattle.kernel_calls.specs.declared.calls.Call.TheVariants as call
 use Rattle.kernel_calls.specs.declared.calls.Event.{Event}
@@ -78,7 +69,6 @@ use Rattle.kernel_calls.specs.declared.calls.Reply.{Reply}
 use Rattle.kernel_calls.specs.declared.calls.Reply.TheVariants as reply
 use Rattle.kernel_calls.proofs.Decided.{next-goes}
 use Rattle.kernel_calls.proofs.Untouched.{caller_live}
-use Rattle.kernel_calls.proofs.Views.{told_the_same, child_same, sees_own}
 use borrow.Author.Tests.{eqb-true}
 
 -- ---- Who is told a child's number
@@ -224,67 +214,6 @@ own_seen s q k quota S w free slot v = λ i. record {
 abbrev pub AreLone : Spaces → ℕ → Type 0
 AreLone S k = (page : ℕ) (c : Cell) → map.get S (at_page k page) ≡ Some c → c.holders ≡ lone (at_page k page)
 
-module _ (s t : State) (q k quota : ℕ) (w : IsWellFormed s) (v : IsWellFormed t)
-    (lives : (p : ℕ) → is_live s p ≡ is_live t p) (free : is_live s k ≡ false) (S T : Spaces)
-    (flags : (page : ℕ) → option_map flags_of (map.get S (at_page k page)) ≡ option_map flags_of
-    (map.get T (at_page k page)))
-    (pages : (page : ℕ) → option_map shown_of (map.get S (at_page k page)) ≡ option_map shown_of
-    (map.get T (at_page k page)))
-    (alone : AreLone S k) (alone_too : AreLone T k) where
-  free_t : is_live t k ≡ false
-  free_t = sym (lives k) ∙ free
-
-  abbrev child : Member
-  child = record { parent = q; quota = quota }
-
-  groups : (page : ℕ) (other : Slot) → unwrap_or (option_map (λ (c : Cell). set.contains c.holders other)
-      (map.get S (at_page k page))) false ≡ unwrap_or
-      (option_map (λ (c : Cell). set.contains c.holders other) (map.get T (at_page k page))) false
-  groups page other = by (map.get S (at_page k page)) (map.get T (at_page k page)) refl refl (pages page)
-    where
-      by : (x y : Option Cell) → map.get S (at_page k page) ≡ x → map.get T (at_page k page) ≡ y
-          → option_map shown_of x ≡ option_map shown_of y
-          → unwrap_or (option_map (λ (c : Cell). set.contains c.holders other) x) false ≡ unwrap_or
-          (option_map (λ (c : Cell). set.contains c.holders other) y) false
-      by None None a b h = refl
-      by None (Some d) a b h = cc
-      by (Some c) None a b h = cc
-      by (Some c) (Some d) a b h = ap (λ (g : Set slot_order). set.contains g other)
-          (alone page c a ∙ sym (alone_too page d b))
-
-  pub newborn_looks : LooksSame (with_child s q k quota S) (with_child t q k quota T) k
-  newborn_looks =
-      let none_s = no_value (map.get s.book k) free in
-      let none_t = no_value (map.get t.book k) free_t in
-      record {
-        live = λ p. ap is_some (get-insert s.book k child p) ∙ by (same nat_order p k) p
-            ∙ sym (ap is_some (get-insert t.book k child p));
-        quota = ap (λ (x : Option Member). unwrap_or (option_map (λ (m : Member). m.quota) x) 0)
-            (member_in s.book q k quota ∙ sym (member_in t.book q k quota));
-        given = given-insert s.book k child none_s k
-            ∙ ap (λ n. cond (is_child k (k, child)) quota 0 + n)
-            (given-none s.book k none_s (parents_in s w) ∙ sym (given-none t.book k none_t (parents_in t v)))
-            ∙ sym (given-insert t.book k child none_t k);
-        children = number-insert s.book k child none_s k
-            ∙ ap (λ n. cond (is_child k (k, child)) 1 0 + n)
-            (number-none s.book k none_s (parents_in s w) ∙ sym (number-none t.book k none_t (parents_in t v)))
-            ∙ sym (number-insert t.book k child none_t k);
-        flags = flags;
-        made = λ page target. no_offer_by s k page target w free ∙ sym (no_offer_by t k page target v free_t);
-        offered = λ giver page. no_offer_to s giver page k w free ∙ sym (no_offer_to t giver page k v free_t);
-        pages = λ slot seen. subst (λ x. option_map shown_of (map.get S x) ≡ option_map shown_of (map.get T x))
-            (sym (own_seen s q k quota S w free slot seen)) (pages slot.page);
-        same_page = λ slot other seen too.
-            subst (λ x. unwrap_or (option_map (λ (c : Cell). set.contains c.holders other) (map.get S x))
-            false ≡ unwrap_or (option_map (λ (c : Cell). set.contains c.holders other) (map.get T x)) false)
-            (sym (own_seen s q k quota S w free slot seen)) (groups slot.page other);
-      }
-    where
-      by : (b : Bool) (p : ℕ) → is_some (cond b (Some child) (map.get s.book p)) ≡ is_some
-          (cond b (Some child) (map.get t.book p))
-      by true p = refl
-      by false p = lives p
-
 pub none_lone : (S : Spaces) (k : ℕ) → ((page : ℕ) → map.get S (at_page k page) ≡ None) → AreLone S k
 none_lone S k none page c h = absurd (let x : Some c ≡ None = sym h ∙ none page in cc)
 
@@ -307,62 +236,3 @@ pub copy_shown : (slot : Slot) (x : Option Cell)
     (λ (f : Shown). record f { holders = set.len (lone slot) }) (option_map shown_of x)
 copy_shown slot None = refl
 copy_shown slot (Some c) = refl
-
-module _ (s t : State) (q quota : ℕ) (w : IsWellFormed s) (v : IsWellFormed t)
-    (lives : (p : ℕ) → is_live s p ≡ is_live t p) where
-  pub spawn_born : spawn_refusal s q quota ≡ None
-      → LooksSame (with_child s q (child_of s) quota s.spaces) (with_child t q (child_of s) quota t.spaces) (child_of s)
-  spawn_born allowed =
-      let k = child_of s in
-      let free = child_free s q quota allowed in
-      let none = no_page s k w free in
-      let none_t = no_page t k v (sym (lives k) ∙ free) in
-      newborn_looks s t q k quota w v lives free s.spaces t.spaces
-      (λ page. ap (option_map flags_of) (none page ∙ sym (none_t page)))
-      (λ page. ap (option_map shown_of) (none page ∙ sym (none_t page)))
-      (none_lone s.spaces k none) (none_lone t.spaces k none_t)
-
-  pub fork_born : ((page : ℕ) → option_map flags_of (map.get s.spaces (at_page q page)) ≡ option_map flags_of
-      (map.get t.spaces (at_page q page)))
-      → ((page : ℕ) → option_map shown_of (map.get s.spaces (at_page q page)) ≡ option_map shown_of
-      (map.get t.spaces (at_page q page)))
-      → fork_refusal s q quota ≡ None → LooksSame (with_child s q (child_of s) quota (copied s.spaces q (child_of s)))
-      (with_child t q (child_of s) quota (copied t.spaces q (child_of s))) (child_of s)
-  fork_born flags shown allowed =
-      let k = child_of s in
-      newborn_looks s t q k quota w v lives (fork_free s q quota allowed) (copied s.spaces q k) (copied t.spaces q k)
-      (λ page. ap (option_map flags_of) (copied-own s.spaces q k page)
-      ∙ copy_flags (at_page k page) (map.get s.spaces (at_page q page))
-      ∙ ap (option_map (λ (f : Flags). record f { accessed = false; dirty = false })) (flags page)
-      ∙ sym (copy_flags (at_page k page) (map.get t.spaces (at_page q page)))
-      ∙ sym (ap (option_map flags_of) (copied-own t.spaces q k page)))
-      (λ page. ap (option_map shown_of) (copied-own s.spaces q k page)
-      ∙ copy_shown (at_page k page) (map.get s.spaces (at_page q page))
-      ∙ ap (option_map (λ (f : Shown). record f { holders = set.len (lone (at_page k page)) })) (shown page)
-      ∙ sym (copy_shown (at_page k page) (map.get t.spaces (at_page q page)))
-      ∙ sym (ap (option_map shown_of) (copied-own t.spaces q k page)))
-      (copy_lone s.spaces q k) (copy_lone t.spaces q k)
-
-pub born_the_same : BornTheSame
-born_the_same s t e child w v l told =
-    subst (LooksSame (next s e) (next t e)) b.birth.0
-    (subst (λ u. LooksSame u (next t e) (child_of s)) (sym (next-goes s e b.done))
-    (subst (λ u. LooksSame (after s e.pid e.call) u (child_of s))
-    (sym (next-goes t e (sym (ap completes (told_the_same s t e l)) ∙ b.done))) (by b.birth.1)))
-  where
-    b : IsMaker s e child
-    b = maker_of s e child told
-
-    by : ((quota : ℕ) × (e.call ≡ call.Spawn quota) × (spawn_refusal s e.pid quota ≡ None))
-        ⊎ ((quota : ℕ) × (e.call ≡ call.Fork quota) × (fork_refusal s e.pid quota ≡ None))
-        → LooksSame (after s e.pid e.call) (after t e.pid e.call) (child_of s)
-    by (inl spawned) =
-        subst (λ c. LooksSame (after s e.pid c) (after t e.pid c) (child_of s)) (sym spawned.1)
-        (subst (λ k. LooksSame (after_spawn s e.pid spawned.0) (with_child t e.pid k spawned.0 t.spaces) (child_of s))
-        (child_same s t e.pid l) (spawn_born s t e.pid spawned.0 w v l.live spawned.2))
-    by (inr forked) =
-        subst (λ c. LooksSame (after s e.pid c) (after t e.pid c) (child_of s)) (sym forked.1)
-        (subst (λ k. LooksSame (after_fork s e.pid forked.0) (with_child t e.pid k forked.0 (copied t.spaces e.pid k))
-        (child_of s)) (child_same s t e.pid l)
-        (fork_born s t e.pid forked.0 w v l.live l.flags (λ page. l.pages (at_page e.pid page) (sees_own s e.pid page))
-        forked.2))

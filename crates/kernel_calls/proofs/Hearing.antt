@@ -26,7 +26,7 @@ use Rattle.process_table.specs.State.{State, is_live}
 use Rattle.process_table.specs.WellFormed.{IsWellFormed}
 use Rattle.kernel_calls.specs.Confinement.{members_after}
 use Rattle.kernel_calls.specs.Isolation.{Exchange}
-use Rattle.kernel_calls.specs.Together.{Sees, LooksSameTo, heard, AllQuiet, MembersHearTheSame}
+use Rattle.kernel_calls.specs.Together.{Sees, LooksSame, heard, AllQuiet, MembersHearTheSame}
 use Rattle.kernel_calls.specs.Machine.{answer, next}
 use Rattle.kernel_calls.specs.declared.calls.Event.{Event}
 use Rattle.kernel_calls.proofs.Outsiders.{outsiders_unseen}
@@ -35,7 +35,7 @@ use Rattle.kernel_calls.proofs.SeenTogether.{members_told_the_same, members_see_
 
 -- ---- Looking the same, there and back
 
-sees_both : (s t : State) (Q : ℕ → Bool) → LooksSameTo s t Q → (slot : Slot) → Sees t Q slot → Sees s Q slot
+sees_both : (s t : State) (Q : ℕ → Bool) → LooksSame s t Q → (slot : Slot) → Sees t Q slot → Sees s Q slot
 sees_both s t Q l slot v = (
   v.0,
   v.1,
@@ -43,7 +43,7 @@ sees_both s t Q l slot v = (
       (ap is_some (l.offers (offer_of slot.pid slot.page v.0) (inr v.1))) ∙ v.2,
 )
 
-sees_too : (s t : State) (Q : ℕ → Bool) → LooksSameTo s t Q → (slot : Slot) → Sees s Q slot → Sees t Q slot
+sees_too : (s t : State) (Q : ℕ → Bool) → LooksSame s t Q → (slot : Slot) → Sees s Q slot → Sees t Q slot
 sees_too s t Q l slot v = (
   v.0,
   v.1,
@@ -51,7 +51,7 @@ sees_too s t Q l slot v = (
       (ap is_some (sym (l.offers (offer_of slot.pid slot.page v.0) (inr v.1)))) ∙ v.2,
 )
 
-looks_back : (s t : State) (Q : ℕ → Bool) → LooksSameTo s t Q → LooksSameTo t s Q
+looks_back : (s t : State) (Q : ℕ → Bool) → LooksSame s t Q → LooksSame t s Q
 looks_back s t Q l = record {
   live = λ p. sym (l.live p);
   quota = λ q h. sym (l.quota q h);
@@ -62,7 +62,7 @@ looks_back s t Q l = record {
   same_page = λ slot other v o. sym (l.same_page slot other (sees_both s t Q l slot v) (sees_both s t Q l other o));
 }
 
-looks_on : (s t u : State) (Q : ℕ → Bool) → LooksSameTo s t Q → LooksSameTo t u Q → LooksSameTo s u Q
+looks_on : (s t u : State) (Q : ℕ → Bool) → LooksSame s t Q → LooksSame t u Q → LooksSame s u Q
 looks_on s t u Q l m = record {
   live = λ p. l.live p ∙ m.live p;
   quota = λ q h. l.quota q h ∙ m.quota q h;
@@ -111,7 +111,7 @@ asked x = x.0
 -- the law, at the events of the first run
 abbrev Hear : List Event → Type 0
 Hear events = (s t : State) (Q : ℕ → Bool) (others : List Event) → IsWellFormed s → IsWellFormed t → AreLive s Q
-    → LooksSameTo s t Q
+    → LooksSame s t Q
     → AllQuiet s Q events → AllQuiet t Q others → each (λ (x : Exchange). x.0) (heard s Q events) ≡ each
     (λ (x : Exchange). x.0) (heard t Q others) → heard s Q events ≡ heard t Q others
 
@@ -130,7 +130,7 @@ rest_of (x ∷ xs) = xs
 -- an outsider's event at the head of a run
 module _ (t : State) (o : Event) (os : List Event) (Q : ℕ → Bool) (v : IsWellFormed t) (members : AreLive t Q)
     (out : Q o.pid ≡ false) (quiet : AllQuiet t Q (o ∷ os)) where
-  unseen : LooksSameTo t (next t o) Q
+  unseen : LooksSame t (next t o) Q
   unseen = outsiders_unseen t o Q v out (quiet.0 out)
 
   same_set_then : members_after t Q o ≡ Q
@@ -152,7 +152,7 @@ module _ (events : List Event) (law : Hear events) (s : State) (e : Event) (Q : 
   abbrev first : List Exchange
   first = (e, answer s e) ∷ heard (next s e) (members_after s Q e) events
 
-  meets : (t : State) (o : Event) (os : List Event) → IsWellFormed t → LooksSameTo s t Q
+  meets : (t : State) (o : Event) (os : List Event) → IsWellFormed t → LooksSame s t Q
       → AllQuiet (next t o) (members_after t Q o) os
       → each (λ (x : Exchange). x.0) first ≡ o ∷ each (λ (x : Exchange). x.0)
       (heard (next t o) (members_after t Q o) os)
@@ -165,7 +165,7 @@ module _ (events : List Event) (law : Hear events) (s : State) (e : Event) (Q : 
       reply : answer s e ≡ answer t o
       reply = members_told_the_same s t e Q l mine ∙ ap (answer t) same_event
 
-      after : LooksSameTo (next s e) (next t e) (members_after s Q e)
+      after : LooksSame (next s e) (next t e) (members_after s Q e)
       after = members_see_the_same s t e Q w v l mine
 
       sets : members_after s Q e ≡ members_after t Q e
@@ -184,12 +184,12 @@ module _ (events : List Event) (law : Hear events) (s : State) (e : Event) (Q : 
           (ap rest_of same_asked ∙ ap (λ xs. each (λ (x : Exchange). x.0) xs) heard_is)
           ∙ sym heard_is
 
-  comes : (others : List Event) (t : State) → IsWellFormed t → LooksSameTo s t Q → AllQuiet t Q others
+  comes : (others : List Event) (t : State) → IsWellFormed t → LooksSame s t Q → AllQuiet t Q others
       → each (λ (x : Exchange). x.0) first ≡ each (λ (x : Exchange). x.0) (heard t Q others) → first ≡ heard t Q others
   comes [] t v l quiet_t same_asked = cc
   comes (o ∷ os) t v l quiet_t same_asked = by (comes os) (Q o.pid) refl same_asked
     where
-      by : ((t : State) → IsWellFormed t → LooksSameTo s t Q → AllQuiet t Q os
+      by : ((t : State) → IsWellFormed t → LooksSame s t Q → AllQuiet t Q os
           → each (λ (x : Exchange). x.0) first ≡ each (λ (x : Exchange). x.0) (heard t Q os) → first ≡ heard t Q os)
           → (b : Bool) → Q o.pid ≡ b
           → each (λ (x : Exchange). x.0) first ≡ each (λ (x : Exchange). x.0)

@@ -15,7 +15,6 @@ pub mod OwnViews
 pub mod Planned
 pub mod Runs
 pub mod Seen
-pub mod SeenSpaces
 pub mod SeenTogether
 pub mod Stays
 pub mod TogetherSpaces

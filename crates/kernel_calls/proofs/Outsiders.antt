@@ -46,7 +46,7 @@ use Rattle.kernel_calls.specs.Authority.{
   IsStoreInto,
   Settles,
 }
-use Rattle.kernel_calls.specs.Together.{Sees, LooksSameTo, IsUnseen, IsQuietCall, OutsidersUnseen}
+use Rattle.kernel_calls.specs.Together.{Sees, LooksSame, IsUnseen, IsQuietCall, OutsidersUnseen}
 use Rattle.kernel_calls.specs.Machine.{answer, after, next, completes}
 use Rattle.kernel_calls.specs.declared.calls.Call.{Call}
 use Rattle.kernel_calls.specs.declared.calls.Call.TheVariants as call
@@ -257,7 +257,7 @@ module _ (s : State) (e : Event) (Q : ℕ → Bool) (w : IsWellFormed s) (out : 
         ]
       ]
 
-  done_unseen : LooksSameTo s (next s e) Q
+  done_unseen : LooksSame s (next s e) Q
   done_unseen = record {
     live = lives;
     quota = λ q h. ap (λ (b : Book). quota_of b q) book_same;
@@ -268,7 +268,7 @@ module _ (s : State) (e : Event) (Q : ℕ → Bool) (w : IsWellFormed s) (out : 
     same_page = λ slot other v o. same_page_same slot other v;
   }
 
-pub looks_refl : (s : State) (Q : ℕ → Bool) → LooksSameTo s s Q
+pub looks_refl : (s : State) (Q : ℕ → Bool) → LooksSame s s Q
 looks_refl s Q = record {
   live = λ p. refl;
   quota = λ q h. refl;
@@ -282,6 +282,6 @@ looks_refl s Q = record {
 pub outsiders_unseen : OutsidersUnseen
 outsiders_unseen s e Q w out quiet = by (completes (answer s e)) refl
   where
-    by : (b : Bool) → completes (answer s e) ≡ b → LooksSameTo s (next s e) Q
+    by : (b : Bool) → completes (answer s e) ≡ b → LooksSame s (next s e) Q
     by true h = done_unseen s e Q w out h (quiet h)
-    by false h = subst (λ t. LooksSameTo s t Q) (sym (next-stays s e h)) (looks_refl s Q)
+    by false h = subst (λ t. LooksSame s t Q) (sym (next-stays s e h)) (looks_refl s Q)

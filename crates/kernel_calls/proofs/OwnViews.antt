@@ -3,7 +3,6 @@ use Rattle.std.proofs.Common.{
   ◌≡◌,
   ℕ,
   ◌+◌,
-  ◌-◌,
   ◌&&◌,
   ◌||◌,
   ◌==◌,
@@ -12,8 +11,6 @@ use Rattle.std.proofs.Common.{
   true,
   false,
   cond,
-  List,
-  map as each,
   refl,
   sym,
   ap,
@@ -22,32 +19,21 @@ use Rattle.std.proofs.Common.{
   Some,
   None,
   is_some,
-  is_none,
   unwrap_or,
   subst,
   ◌≢◌,
   arith,
 }
-use Rattle.std.specs.Prelude.{if◌then◌else◌, nat_lt, nat_le, find, slice_index}
+use Rattle.std.specs.Prelude.{if◌then◌else◌, nat_lt}
 use Rattle.std.specs.Option.{option_map}
-use Rattle.std.specs.List.{range_with_len}
-use Rattle.page_words.specs.Addresses.{
-  byte_count,
-  slot_number,
-  is_user_page,
-  page_number,
-  offset_number,
-  covered,
-  second_page,
-  touched,
-}
+use Rattle.page_words.specs.Addresses.{byte_count, touched}
 use Rattle.page_words.specs.declared.addresses.Size.{Size}
 use Rattle.page_words.specs.FiniteMap as map
 use Rattle.page_words.specs.FiniteMap.{Map, same, nat_order}
 use Rattle.page_words.specs.FiniteSet as set
 use Rattle.page_words.specs.FiniteSet.{Set}
-use Rattle.page_words.proofs.MapLemmas.{same_map, same-true, get-insert, get-retain_keys}
-use Rattle.page_words.proofs.OptionLemmas.{no_value, is_some-map}
+use Rattle.page_words.proofs.MapLemmas.{same-true, get-insert}
+use Rattle.page_words.proofs.OptionLemmas.{no_value}
 use Rattle.address_space.specs.Spaces.{
   Slot,
   slot_order,
@@ -61,34 +47,19 @@ use Rattle.address_space.specs.Spaces.{
   all_accessed,
   all_stored,
   copied,
-  cost,
-  cost_of,
-  need,
-  pages_of,
-  regions_of,
   fresh,
-  cell_or_fresh,
-  missing,
-  access_need,
-  value_of,
   at_page,
 }
-use Rattle.address_space.proofs.costs.Costs.{same_pages}
 use Rattle.address_space.proofs.costs.Copied.{copied-other}
-use Rattle.quota_tree.specs.Book.{Member, next_number, is_child, number_of_children}
+use Rattle.quota_tree.specs.Book.{Member, is_child, number_of_children}
 use Rattle.quota_tree.proofs.BookFacts.{get-insert_other}
 use Rattle.quota_tree.proofs.Sums.{given-insert, number-insert}
-use Rattle.page_sharing.specs.Offers.{OfferKey, Offers, offer_order, offer_of, pending}
-use Rattle.table_walk.specs.declared.Access.{Access}
-use Rattle.table_walk.specs.declared.Access.TheVariants.{Read, Write}
-use Rattle.table_walk.specs.Walk.{is_write}
-use Rattle.process_table.specs.State.{State, is_live, is_mapped, has_no_room, lacks_room, room, child_of}
+use Rattle.page_sharing.specs.Offers.{OfferKey, Offers, offer_order, offer_of}
+use Rattle.process_table.specs.State.{State, is_live, child_of}
 use Rattle.process_table.specs.Calls.{
-  protect_refusal,
   spawn_refusal,
   fork_refusal,
   exit_refusal,
-  loaded,
   after_load,
   after_store,
   after_map,
@@ -103,16 +74,11 @@ use Rattle.process_table.specs.Calls.{
 use Rattle.process_table.specs.declared.causes.Cause.TheVariants as cause
 use Rattle.process_table.proofs.ApartOthers.{child_free, fork_free, live_differ}
 use Rattle.process_table.proofs.SpaceLaws.{not_less}
-use Rattle.fault_handler.specs.Plans.{plan_of, step_of, outside, fault_or}
-use Rattle.fault_handler.specs.declared.plans.PageStep.TheVariants as step
-use Rattle.fault_handler.specs.declared.plans.Plan.TheVariants as plan
-use Rattle.kernel_calls.specs.Authority.{Flags, flags_of, Shown, shown_of, shares}
-use Rattle.kernel_calls.specs.Own.{HasTheSame, reads_live, takes_offer, OwnIsEnough, AcceptsReadTheirOffer}
-use Rattle.kernel_calls.specs.Machine.{answer, answer_of, after, next, completes, refused_or, planned_or}
+use Rattle.kernel_calls.specs.Authority.{Flags, flags_of, shown_of, shares}
+use Rattle.kernel_calls.specs.Own.{HasTheSame, reads_live, takes_offer, OwnIsEnough}
+use Rattle.kernel_calls.specs.Machine.{answer, answer_of, after, next, completes}
 use Rattle.kernel_calls.specs.declared.calls.Call.{Call}
 use Rattle.kernel_calls.specs.declared.calls.Call.TheVariants as call
-use Rattle.kernel_calls.specs.declared.calls.Reply.{Reply}
-use Rattle.kernel_calls.specs.declared.calls.Reply.TheVariants as reply
 use Rattle.kernel_calls.proofs.Decided.{next-stays, next-goes}
 use Rattle.kernel_calls.proofs.Runs.{not-refused}
 use Rattle.kernel_calls.proofs.Seen.{kept_offers, exit_children, exit_given, exit_quota, exit_slot}
@@ -126,162 +92,9 @@ use Rattle.kernel_calls.proofs.TogetherSpaces.{
   gone_same,
 }
 use Rattle.kernel_calls.proofs.Untouched.{caller_live}
+use Rattle.kernel_calls.proofs.Views.{told_by_own, child_is_same}
 use Rattle.page_words.proofs.SetLemmas.{get-removed}
 use borrow.Author.Tests.{eqb-true, eq-eqb}
-
-flags_or : (x : Option Cell) (slot : Slot) → flags_of (unwrap_or x (fresh slot true)) ≡ unwrap_or
-    (option_map flags_of x) (flags_of (fresh slot true))
-flags_or None slot = refl
-flags_or (Some c) slot = refl
-
-shown_or : (x : Option Cell) (slot : Slot) → shown_of (unwrap_or x (fresh slot true)) ≡ unwrap_or
-    (option_map shown_of x) (shown_of (fresh slot true))
-shown_or None slot = refl
-shown_or (Some c) slot = refl
-
-module _ (s t : State) (q : ℕ) (l : HasTheSame s t q) where
-  mapped_same : (page : ℕ) → is_mapped s (at_page q page) ≡ is_mapped t (at_page q page)
-  mapped_same page = sym (is_some-map flags_of (map.get s.spaces (at_page q page))) ∙ ap is_some (l.flags page)
-      ∙ is_some-map flags_of (map.get t.spaces (at_page q page))
-
-  own_pages_same : pages_of s.spaces q ≡ pages_of t.spaces q
-  own_pages_same = same_pages s.spaces t.spaces q q mapped_same
-
-  cost_same : cost s.spaces q ≡ cost t.spaces q
-  cost_same = ap cost_of own_pages_same
-
-  need_same : (page : ℕ) → need s.spaces q page ≡ need t.spaces q page
-  need_same page = ap (λ (pages : Set nat_order). if set.contains (regions_of pages) (slot_number page) then 1 else 2)
-      own_pages_same
-
-  room_same : room s q ≡ room t q
-  room_same = λ i. l.quota i - cost_same i - l.given i
-
-  no_room_same : (page : ℕ) → has_no_room s (at_page q page) ≡ has_no_room t (at_page q page)
-  no_room_same page = λ i. nat_lt (room_same i) (need_same page i)
-
-  own_flags_same : (page : ℕ) → flags_of (cell_or_fresh s.spaces (at_page q page)) ≡ flags_of
-      (cell_or_fresh t.spaces (at_page q page))
-  own_flags_same page =
-      flags_or (map.get s.spaces (at_page q page)) (at_page q page)
-      ∙ ap (λ (x : Option Flags). unwrap_or x (flags_of (fresh (at_page q page) true))) (l.flags page)
-      ∙ sym (flags_or (map.get t.spaces (at_page q page)) (at_page q page))
-
-  own_shown_same : (page : ℕ) → shown_of (cell_or_fresh s.spaces (at_page q page)) ≡ shown_of
-      (cell_or_fresh t.spaces (at_page q page))
-  own_shown_same page =
-      shown_or (map.get s.spaces (at_page q page)) (at_page q page)
-      ∙ ap (λ (x : Option Shown). unwrap_or x (shown_of (fresh (at_page q page) true))) (l.pages page)
-      ∙ sym (shown_or (map.get t.spaces (at_page q page)) (at_page q page))
-
-  missing_same : (pages : List ℕ) → missing s.spaces q pages ≡ missing t.spaces q pages
-  missing_same pages = λ i. set.retain (set.from_list pages) (λ page. not (mapped_same page i))
-
-  access_need_same : (addr : ℕ) (size : Size) → access_need s.spaces q addr size ≡ access_need t.spaces q addr size
-  access_need_same addr size = λ i. set.len (missing_same (touched addr size) i) + set.len
-      (set.retain (regions_of (missing_same (touched addr size) i))
-      (λ region. not (set.contains (regions_of (own_pages_same i)) region)))
-
-  lacks_room_same : (addr : ℕ) (size : Size) → lacks_room s q addr size ≡ lacks_room t q addr size
-  lacks_room_same addr size = λ i. nat_lt (room_same i) (access_need_same addr size i)
-
-  loaded_same : (addr : ℕ) (size : Size) → loaded s q addr size ≡ loaded t q addr size
-  loaded_same addr size = λ i. value_of (each (λ b.
-      slice_index (own_shown_same (page_number b) i).bytes (offset_number b)) (covered addr size))
-
-  pending_same : pending s.offers q ≡ pending t.offers q
-  pending_same = same_map (pending s.offers q) (pending t.offers q) (λ key.
-      get-retain_keys s.offers (λ (k : OfferKey). k.offerer == q) key ∙ by key (key.offerer == q) refl
-      ∙ sym (get-retain_keys t.offers (λ (k : OfferKey). k.offerer == q) key))
-    where
-      by : (key : OfferKey) (b : Bool) → (key.offerer == q) ≡ b
-          → cond (key.offerer == q) (map.get s.offers key) None ≡ cond (key.offerer == q) (map.get t.offers key) None
-      by key true is =
-          let here : key ≡ offer_of q key.page key.target =
-          (λ i. record { offerer = eqb-true key.offerer q is i; page = key.page; target = key.target }) in
-          ap (λ x. cond (key.offerer == q) x None) (ap (map.get s.offers) here ∙ l.made key.page key.target
-          ∙ ap (map.get t.offers) (sym here))
-      by key false is = (λ i. cond (is i) (map.get s.offers key) None)
-          ∙ sym (λ i. cond (is i) (map.get t.offers key) None)
-
-  plan_same : (addr : ℕ) (size : Size) (access : Access) → plan_of s q addr size access ≡ plan_of t q addr size access
-  plan_same addr size access = λ i.
-      fault_or (outside addr size) access false
-      (fault_or (if is_write access then find (λ b.
-      mapped_same (page_number b) i && not (own_flags_same (page_number b) i).write) (covered addr size) else None)
-      access true
-      (if lacks_room_same addr size i then plan.Refused cause.Quota else plan.Ready (step_same (page_number addr) i)
-      (option_map (λ page. step_same page i) (second_page addr size))))
-    where
-      step_same : (page : ℕ) → step_of s q page ≡ step_of t q page
-      step_same page = λ i. if mapped_same page i then step.Complete else step.MapZero
-
-  protect_same : (page : ℕ) (write : Bool) → protect_refusal s q page write ≡ protect_refusal t q page write
-  protect_same page write = λ i. if not (is_user_page page) then Some cause.BadPage else if not (mapped_same page i)
-      then Some cause.NotMapped else if write && not (own_flags_same page i).may then Some cause.Rights else None
-
-  -- what an accept is told, by the offer that it takes
-  accept_same : (giver giver_page page : ℕ) → map.get s.offers (offer_of giver giver_page q) ≡ map.get t.offers
-      (offer_of giver giver_page q) → answer_of s q (call.Accept giver giver_page page) ≡ answer_of t q
-      (call.Accept giver giver_page page)
-  accept_same giver giver_page page same_offer = λ i. refused_or
-      (if not (is_user_page page) then Some cause.BadPage else
-      if not (is_some (same_offer i)) then Some cause.NoOffer else
-      if mapped_same page i then Some cause.Mapped else
-      if no_room_same page i then Some cause.Quota else
-      None) reply.Done
-
-  next_same : ((p : ℕ) → is_live s p ≡ is_live t p) → next_number s.book ≡ next_number t.book
-  next_same lives = λ i. find (λ p. not (lives p i)) (range_with_len 0 64)
-
-  child_is_same : ((p : ℕ) → is_live s p ≡ is_live t p) → child_of s ≡ child_of t
-  child_is_same lives = λ i. unwrap_or (next_same lives i) 0
-
-  answer_of_same : (c : Call) → takes_offer c ≡ false → (reads_live c ≡ true → (p : ℕ) → is_live s p ≡ is_live t p)
-      → answer_of s q c ≡ answer_of t q c
-  answer_of_same (call.Load addr size) none lives = λ i.
-      planned_or (plan_same addr size Read i) (reply.Value (loaded_same addr size i))
-  answer_of_same (call.Store addr size value) none lives = λ i. planned_or (plan_same addr size Write i) reply.Done
-  answer_of_same (call.Map page write) none lives = λ i.
-      refused_or (if not (is_user_page page) then Some cause.BadPage else if mapped_same page i then Some cause.Mapped
-      else if no_room_same page i then Some cause.Quota else None) reply.Done
-  answer_of_same (call.Unmap page) none lives = λ i.
-      refused_or (if not (is_user_page page) then Some cause.BadPage else if not (mapped_same page i) then Some
-      cause.NotMapped else None) reply.Done
-  answer_of_same (call.Protect page write) none lives = λ i. refused_or (protect_same page write i) reply.Done
-  answer_of_same (call.Info page) none lives = λ i.
-      refused_or (protect_same page false i) (told (own_flags_same page i) (own_shown_same page i))
-    where
-      told : Flags → Shown → Reply
-      told flags shown = reply.Info flags.write flags.may flags.accessed flags.dirty shown.holders
-  answer_of_same (call.Offer page target write) none lives = λ i. refused_or
-      (if not (is_user_page page) then Some cause.BadPage else
-      if not (mapped_same page i) then Some cause.NotMapped else
-      if target == q then Some cause.SelfOffer else
-      if not (lives refl target i) then Some cause.NoTarget else
-      if write && not (own_flags_same page i).may then Some cause.Rights else
-      if is_some (l.made page target i) then Some cause.OfferPending else
-      if nat_le 32 (map.len (pending_same i)) then Some cause.TooManyOffers else
-      None) reply.Done
-  answer_of_same (call.Withdraw page target) none lives = λ i.
-      refused_or (if not (is_user_page page) then Some cause.BadPage else if not (is_some (l.made page target i))
-      then Some cause.NoOffer else None) reply.Done
-  answer_of_same (call.Accept giver giver_page page) none lives = cc
-  answer_of_same (call.Spawn quota) none lives = λ i. refused_or
-      (if quota == 0 then Some cause.BadQuota else
-      if is_none (next_same (lives refl) i) then Some cause.TableFull else
-      if nat_lt (room_same i) quota then Some cause.Quota else
-      None) (reply.Child (child_is_same (lives refl) i))
-  answer_of_same (call.Fork quota) none lives = λ i. refused_or
-      (if quota == 0 then Some cause.BadQuota else
-      if is_none (next_same (lives refl) i) then Some cause.TableFull else
-      if nat_lt quota (cost_same i) then Some cause.TooSmall else
-      if nat_lt (room_same i) quota then Some cause.Quota else
-      None) (reply.Child (child_is_same (lives refl) i))
-  answer_of_same call.Exit none lives = λ i. refused_or
-      (if q == 0 then Some cause.RootExit else if nat_lt 0 (l.children i) then Some cause.HasChildren else None)
-      reply.Done
-  answer_of_same call.Quota none lives = λ i. reply.Quota (l.quota i) (cost_same i) (l.given i)
 
 -- ---- What it has afterwards
 
@@ -520,7 +333,7 @@ pub own_is_enough : OwnIsEnough
 own_is_enough s t e l none lives = (told, by (completes (answer s e)) refl)
   where
     told : answer s e ≡ answer t e
-    told = λ i. if l.live i then answer_of_same s t e.pid l e.call none lives i else reply.Refused cause.NoProcess
+    told = told_by_own s t e l none lives
 
     by : (b : Bool) → completes (answer s e) ≡ b → HasTheSame (next s e) (next t e) e.pid
     by true h =
@@ -530,10 +343,3 @@ own_is_enough s t e l none lives = (told, by (completes (answer s e)) refl)
         (after_has s t e.pid l e.call none lives c.0 c.1))
     by false h = subst (λ u. HasTheSame u (next t e) e.pid) (sym (next-stays s e h))
         (subst (λ u. HasTheSame s u e.pid) (sym (next-stays t e (sym (ap completes told) ∙ h))) l)
-
-pub accepts_read_their_offer : AcceptsReadTheirOffer
-accepts_read_their_offer s t e giver giver_page page l is same_offer =
-    ap (λ c. if is_live s e.pid then answer_of s e.pid c else reply.Refused cause.NoProcess) is
-    ∙ (λ i. if l.live i then accept_same s t e.pid l giver giver_page page same_offer i else reply.Refused
-    cause.NoProcess)
-    ∙ sym (ap (λ c. if is_live t e.pid then answer_of t e.pid c else reply.Refused cause.NoProcess) is)

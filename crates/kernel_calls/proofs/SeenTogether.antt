@@ -83,19 +83,10 @@ use Rattle.process_table.specs.Apart.{lone}
 use Rattle.process_table.proofs.ApartOthers.{child_free, fork_free, no_page}
 use Rattle.process_table.proofs.BookLaws.{parents_in}
 use Rattle.process_table.proofs.Refusals.{may_accept}
-use Rattle.kernel_calls.specs.Authority.{
-  Flags,
-  flags_of,
-  Shown,
-  shown_of,
-  shares,
-  sees,
-  is_offered,
-  LooksSame,
-  makes_child,
-}
+use Rattle.kernel_calls.specs.Authority.{Flags, flags_of, Shown, shown_of, shares, sees, is_offered, makes_child}
 use Rattle.kernel_calls.specs.Confinement.{members_after}
-use Rattle.kernel_calls.specs.Together.{Sees, LooksSameTo, MembersToldTheSame, MembersSeeTheSame}
+use Rattle.kernel_calls.specs.Own.{HasTheSame, takes_offer}
+use Rattle.kernel_calls.specs.Together.{Sees, LooksSame, MembersToldTheSame, MembersSeeTheSame}
 use Rattle.kernel_calls.specs.Machine.{answer, answer_of, after, next, completes}
 use Rattle.kernel_calls.specs.declared.calls.Call.{Call}
 use Rattle.kernel_calls.specs.declared.calls.Call.TheVariants as call
@@ -118,7 +109,7 @@ use Rattle.kernel_calls.proofs.Runs.{not-refused}
 use Rattle.kernel_calls.proofs.Seen.{kept_offers, kept_key}
 use Rattle.kernel_calls.proofs.Stays.{next_live}
 use Rattle.kernel_calls.proofs.Untouched.{caller_live}
-use Rattle.kernel_calls.proofs.Views.{sees_own, child_same, told_the_same}
+use Rattle.kernel_calls.proofs.Views.{sees_own, child_is_same, told_by_own, accepts_read_their_offer}
 use borrow.Author.Tests.{eq-eqb}
 use Rattle.kernel_calls.proofs.TogetherSpaces.{
   shares_in,
@@ -134,8 +125,7 @@ use Rattle.kernel_calls.proofs.TogetherSpaces.{
 
 -- ---- States that look the same
 
-pub weaken : (s t : State) (Q D : ℕ → Bool) → ((p : ℕ) → D p ≡ true → Q p ≡ true) → LooksSameTo s t Q
-    → LooksSameTo s t D
+pub weaken : (s t : State) (Q D : ℕ → Bool) → ((p : ℕ) → D p ≡ true → Q p ≡ true) → LooksSame s t Q → LooksSame s t D
 weaken s t Q D less l = record {
   live = l.live;
   quota = λ q h. l.quota q (less q h);
@@ -149,24 +139,46 @@ weaken s t Q D less l = record {
   same_page = λ slot other v o. l.same_page slot other (v.0, less v.0 v.1, v.2) (o.0, less o.0 o.1, o.2);
 }
 
--- so they do to each member
-pub single : (s t : State) (Q : ℕ → Bool) (q : ℕ) → Q q ≡ true → LooksSameTo s t Q → LooksSame s t q
+-- so each member has the same
+pub single : (s t : State) (Q : ℕ → Bool) (q : ℕ) → Q q ≡ true → LooksSame s t Q → HasTheSame s t q
 single s t Q q mine l = record {
-  live = l.live;
+  live = l.live q;
   quota = l.quota q mine;
   given = ap (λ (xs : List (ℕ × Member)). sum_by (λ (e : ℕ × Member). e.1.quota) xs) (l.children q mine);
   children = ap (λ (xs : List (ℕ × Member)). length xs) (l.children q mine);
   flags = λ page. l.flags (at_page q page) mine;
+  pages = λ page. l.pages (at_page q page) (q, mine, sees_own s q page);
+  same_page = λ page other. l.same_page (at_page q page) (at_page q other) (q, mine, sees_own s q page)
+      (q, mine, sees_own s q other);
   made = λ page target. l.offers (offer_of q page target) (inl mine);
-  offered = λ giver page. l.offers (offer_of giver page q) (inr mine);
-  pages = λ slot v. l.pages slot (q, mine, v);
-  same_page = λ slot other v o. l.same_page slot other (q, mine, v) (q, mine, o);
 }
 
 pub members_told_the_same : MembersToldTheSame
-members_told_the_same s t e Q l mine = told_the_same s t e (single s t Q e.pid mine l)
+members_told_the_same s t e Q l mine = by e.call refl
+  where
+    own : HasTheSame s t e.pid
+    own = single s t Q e.pid mine l
 
-spaces_same : (s t : State) (Q : ℕ → Bool) → LooksSameTo s t Q → SameSpaces Q (Sees s Q) s.spaces t.spaces
+    other : (c : Call) → e.call ≡ c → takes_offer c ≡ false → answer s e ≡ answer t e
+    other c is none = told_by_own s t e own (ap takes_offer is ∙ none) (λ reads. l.live)
+
+    by : (c : Call) → e.call ≡ c → answer s e ≡ answer t e
+    by (call.Accept giver giver_page page) is = accepts_read_their_offer s t e giver giver_page page own is
+        (l.offers (offer_of giver giver_page e.pid) (inr mine))
+    by (call.Load addr size) is = other (call.Load addr size) is refl
+    by (call.Store addr size value) is = other (call.Store addr size value) is refl
+    by (call.Map page write) is = other (call.Map page write) is refl
+    by (call.Unmap page) is = other (call.Unmap page) is refl
+    by (call.Protect page write) is = other (call.Protect page write) is refl
+    by (call.Info page) is = other (call.Info page) is refl
+    by (call.Offer page target write) is = other (call.Offer page target write) is refl
+    by (call.Withdraw page target) is = other (call.Withdraw page target) is refl
+    by (call.Spawn quota) is = other (call.Spawn quota) is refl
+    by (call.Fork quota) is = other (call.Fork quota) is refl
+    by call.Exit is = other call.Exit is refl
+    by call.Quota is = other call.Quota is refl
+
+spaces_same : (s t : State) (Q : ℕ → Bool) → LooksSame s t Q → SameSpaces Q (Sees s Q) s.spaces t.spaces
 spaces_same s t Q l = record { flags = l.flags; pages = l.pages; groups = l.same_page }
 
 -- where no offer is new, nothing new is seen
@@ -179,12 +191,11 @@ fewer_seen s u Q fewer slot v = (v.0, v.1, by (is_of v.0 slot) v.2)
     by false h = fewer (offer_of slot.pid slot.page v.0) h
 
 -- where the book stays
-looks : (s t : State) (Q : ℕ → Bool) (S T : Spaces) (O P : Offers) → LooksSameTo s t Q
+looks : (s t : State) (Q : ℕ → Bool) (S T : Spaces) (O P : Offers) → LooksSame s t Q
     → ((key : OfferKey) → map.get s.offers key ≡ map.get t.offers key → map.get O key ≡ map.get P key)
     → ((slot : Slot) → Sees (record { spaces = S; book = s.book; offers = O }) Q slot → Sees s Q slot)
     → SameSpaces Q (Sees s Q) S T
-    → LooksSameTo (record { spaces = S; book = s.book; offers = O }) (record { spaces = T; book = t.book; offers = P })
-    Q
+    → LooksSame (record { spaces = S; book = s.book; offers = O }) (record { spaces = T; book = t.book; offers = P }) Q
 looks s t Q S T O P l offers seen spaces = record {
   live = l.live;
   quota = l.quota;
@@ -195,18 +206,18 @@ looks s t Q S T O P l offers seen spaces = record {
   same_page = λ slot other v o. spaces.groups slot other (seen slot v) (seen other o);
 }
 
-looks_spaces : (s t : State) (Q : ℕ → Bool) (S T : Spaces) → LooksSameTo s t Q → SameSpaces Q (Sees s Q) S T
-    → LooksSameTo (record s { spaces = S }) (record t { spaces = T }) Q
+looks_spaces : (s t : State) (Q : ℕ → Bool) (S T : Spaces) → LooksSame s t Q → SameSpaces Q (Sees s Q) S T
+    → LooksSame (record s { spaces = S }) (record t { spaces = T }) Q
 looks_spaces s t Q S T l = looks s t Q S T s.offers t.offers l (λ key h. h) (λ slot v. v)
 
-module _ (s t : State) (Q : ℕ → Bool) (q : ℕ) (mine : Q q ≡ true) (l : LooksSameTo s t Q) where
+module _ (s t : State) (Q : ℕ → Bool) (q : ℕ) (mine : Q q ≡ true) (l : LooksSame s t Q) where
   own_pages : (page : ℕ) → Sees s Q (at_page q page)
   own_pages page = (q, mine, sees_own s q page)
 
   own_slots : (slot : Slot) → is_of q slot ≡ true → Sees s Q slot
   own_slots slot h = (q, mine, ap (λ b. b || is_offered s q slot) h)
 
-  load_together : (addr : ℕ) (size : Size) → LooksSameTo (after_load s q addr size) (after_load t q addr size) Q
+  load_together : (addr : ℕ) (size : Size) → LooksSame (after_load s q addr size) (after_load t q addr size) Q
   load_together addr size =
       let pages = touched addr size in
       let S : Spaces = with_pages s.spaces q pages in
@@ -216,7 +227,7 @@ module _ (s t : State) (Q : ℕ → Bool) (q : ℕ) (mine : Q q ≡ true) (l : L
       (pages_same Q q mine (Sees s Q) own_pages s.spaces t.spaces pages (spaces_same s t Q l)))
 
   store_together : (addr : ℕ) (size : Size) (value : ℕ)
-      → LooksSameTo (after_store s q addr size value) (after_store t q addr size value) Q
+      → LooksSame (after_store s q addr size value) (after_store t q addr size value) Q
   store_together addr size value =
       let pages = touched addr size in
       let S : Spaces = with_pages s.spaces q pages in
@@ -226,21 +237,21 @@ module _ (s t : State) (Q : ℕ → Bool) (q : ℕ) (mine : Q q ≡ true) (l : L
       (all_stored_same Q q mine (Sees s Q) own_pages S T addr bytes
       (pages_same Q q mine (Sees s Q) own_pages s.spaces t.spaces pages (spaces_same s t Q l)))
 
-  map_together : (page : ℕ) (write : Bool) → LooksSameTo (after_map s q page write) (after_map t q page write) Q
+  map_together : (page : ℕ) (write : Bool) → LooksSame (after_map s q page write) (after_map t q page write) Q
   map_together page write =
       let c : Cell = fresh (at_page q page) write in
       looks_spaces s t Q (map.insert s.spaces (at_page q page) c) (map.insert t.spaces (at_page q page) c) l
       (put_same Q q mine (Sees s Q) own_pages s.spaces t.spaces page c c (spaces_same s t Q l) refl refl
       (λ other o. refl))
 
-  protect_together : (page : ℕ) (write : Bool) → LooksSameTo (after_protect s q page write)
-      (after_protect t q page write) Q
+  protect_together : (page : ℕ) (write : Bool) → LooksSame (after_protect s q page write) (after_protect t q page write)
+      Q
   protect_together page write =
       looks_spaces s t Q (after_protect s q page write).spaces (after_protect t q page write).spaces l
       (set_same Q q mine (Sees s Q) own_pages s.spaces t.spaces page (λ c. record c { write = write })
       (λ c d h. ap (λ (f : Flags). record f { write = write }) h) (λ c. refl) (λ c. refl) (spaces_same s t Q l))
 
-  unmap_together : (page : ℕ) → LooksSameTo (after_unmap s q page) (after_unmap t q page) Q
+  unmap_together : (page : ℕ) → LooksSame (after_unmap s q page) (after_unmap t q page) Q
   unmap_together page =
       let stay : OfferKey → Bool = (λ (k : OfferKey). not ((k.offerer == q) && (k.page == page))) in
       looks s t Q (without s.spaces (is_slot q page)) (without t.spaces (is_slot q page))
@@ -251,8 +262,7 @@ module _ (s t : State) (Q : ℕ → Bool) (q : ℕ) (mine : Q q ≡ true) (l : L
       (λ slot h. subst (Sees s Q) (same-true slot_order (at_page q page) slot h) (own_pages page))
       (spaces_same s t Q l))
 
-  withdraw_together : (page target : ℕ) → LooksSameTo (after_withdraw s q page target) (after_withdraw t q page target)
-      Q
+  withdraw_together : (page target : ℕ) → LooksSame (after_withdraw s q page target) (after_withdraw t q page target) Q
   withdraw_together page target =
       let stay : OfferKey → Bool = (λ k. not (same offer_order (offer_of q page target) k)) in
       looks s t Q s.spaces t.spaces (map.retain_keys s.offers stay) (map.retain_keys t.offers stay) l
@@ -261,7 +271,7 @@ module _ (s t : State) (Q : ℕ → Bool) (q : ℕ) (mine : Q q ≡ true) (l : L
       (spaces_same s t Q l)
 
   offer_together : (page target : ℕ) (write : Bool)
-      → LooksSameTo (after_offer s q page target write) (after_offer t q page target write) Q
+      → LooksSame (after_offer s q page target write) (after_offer t q page target write) Q
   offer_together page target write =
       looks s t Q s.spaces t.spaces (map.insert s.offers key write) (map.insert t.offers key write) l more seen
       (spaces_same s t Q l)
@@ -294,7 +304,7 @@ module _ (s t : State) (Q : ℕ → Bool) (q : ℕ) (mine : Q q ≡ true) (l : L
           ]
 
   accept_together : (giver giver_page page : ℕ) → map.contains_key s.offers (offer_of giver giver_page q) ≡ true
-      → LooksSameTo (after_accept s q giver giver_page page) (after_accept t q giver giver_page page) Q
+      → LooksSame (after_accept s q giver giver_page page) (after_accept t q giver giver_page page) Q
   accept_together giver giver_page page there =
       let stay : OfferKey → Bool = (λ k. not (same offer_order (offer_of giver giver_page q) k)) in
       looks s t Q (after_accept s q giver giver_page page).spaces (after_accept t q giver giver_page page).spaces
@@ -310,7 +320,7 @@ module _ (s t : State) (Q : ℕ → Bool) (q : ℕ) (mine : Q q ≡ true) (l : L
       or_yes true = refl
       or_yes false = refl
 
-  exit_together : LooksSameTo (after_exit s q) (after_exit t q) Q
+  exit_together : LooksSame (after_exit s q) (after_exit t q) Q
   exit_together =
       let stay : OfferKey → Bool = (λ (k : OfferKey). not ((k.offerer == q) || (k.target == q))) in
       let spaces = gone_same Q q mine (Sees s Q) own_pages s.spaces t.spaces (is_of q) own_slots (spaces_same s t Q l)
@@ -345,7 +355,7 @@ module _ (s t : State) (Q : ℕ → Bool) (q : ℕ) (mine : Q q ≡ true) (l : L
 abbrev grown : (ℕ → Bool) → ℕ → ℕ → Bool
 grown Q k p = Q p || (p == k)
 
-module _ (s t : State) (Q : ℕ → Bool) (q k quota : ℕ) (w : IsWellFormed s) (v : IsWellFormed t) (l : LooksSameTo s t Q)
+module _ (s t : State) (Q : ℕ → Bool) (q k quota : ℕ) (w : IsWellFormed s) (v : IsWellFormed t) (l : LooksSame s t Q)
     (free : is_live s k ≡ false) (S T : Spaces)
     (others : (slot : Slot) → slot.pid ≢ k → map.get S slot ≡ map.get s.spaces slot)
     (others_too : (slot : Slot) → slot.pid ≢ k → map.get T slot ≡ map.get t.spaces slot)
@@ -410,7 +420,7 @@ module _ (s t : State) (Q : ℕ → Bool) (q k quota : ℕ) (w : IsWellFormed s)
       ap (map.get s.offers) at ∙ no_offer_to s key.offerer key.page k w free
       ∙ sym (ap (map.get t.offers) at ∙ no_offer_to t key.offerer key.page k v free_t)
 
-  child_together : LooksSameTo (with_child s q k quota S) (with_child t q k quota T) (grown Q k)
+  child_together : LooksSame (with_child s q k quota S) (with_child t q k quota T) (grown Q k)
   child_together = record {
     live = λ p. ap is_some (get-insert s.book k child p) ∙ by_live (same nat_order p k) p
         ∙ sym (ap is_some (get-insert t.book k child p));
@@ -490,28 +500,28 @@ module _ (s t : State) (Q : ℕ → Bool) (q k quota : ℕ) (w : IsWellFormed s)
       ]
 
 module _ (s t : State) (Q : ℕ → Bool) (q quota : ℕ) (w : IsWellFormed s) (v : IsWellFormed t) (mine : Q q ≡ true)
-    (l : LooksSameTo s t Q) where
+    (l : LooksSame s t Q) where
   number_same : child_of s ≡ child_of t
-  number_same = child_same s t q (single s t Q q mine l)
+  number_same = child_is_same s t q (single s t Q q mine l) l.live
 
   spawn_together : spawn_refusal s q quota ≡ None
-      → LooksSameTo (after_spawn s q quota) (after_spawn t q quota) (grown Q (child_of s))
+      → LooksSame (after_spawn s q quota) (after_spawn t q quota) (grown Q (child_of s))
   spawn_together allowed =
       let k = child_of s in
       let free = child_free s q quota allowed in
       let none = no_page s k w free in
       let none_t = no_page t k v (sym (l.live k) ∙ free) in
-      subst (λ n. LooksSameTo (after_spawn s q quota) (with_child t q n quota t.spaces) (grown Q k)) number_same
+      subst (λ n. LooksSame (after_spawn s q quota) (with_child t q n quota t.spaces) (grown Q k)) number_same
       (child_together s t Q q k quota w v l free s.spaces t.spaces (λ slot d. refl) (λ slot d. refl)
       (λ page. ap (option_map flags_of) (none page ∙ sym (none_t page)))
       (λ page. ap (option_map shown_of) (none page ∙ sym (none_t page)))
       (none_lone s.spaces k none) (none_lone t.spaces k none_t))
 
-  fork_together : fork_refusal s q quota ≡ None → LooksSameTo (after_fork s q quota) (after_fork t q quota)
+  fork_together : fork_refusal s q quota ≡ None → LooksSame (after_fork s q quota) (after_fork t q quota)
       (grown Q (child_of s))
   fork_together allowed =
       let k = child_of s in
-      subst (λ n. LooksSameTo (after_fork s q quota) (with_child t q n quota (copied t.spaces q n)) (grown Q k))
+      subst (λ n. LooksSame (after_fork s q quota) (with_child t q n quota (copied t.spaces q n)) (grown Q k))
       number_same
       (child_together s t Q q k quota w v l (fork_free s q quota allowed) (copied s.spaces q k) (copied t.spaces q k)
       (λ slot d. copied-other s.spaces q k slot d) (λ slot d. copied-other t.spaces q k slot d)
@@ -536,8 +546,8 @@ abbrev Small : State → (ℕ → Bool) → (ℕ → Bool) → Call → Type 0
 Small s Q D c = (p : ℕ) → D p ≡ true → (Q p ≡ true) ⊎ ((p ≡ child_of s) × (makes_child c ≡ true))
 
 module _ (s t : State) (Q D : ℕ → Bool) (q : ℕ) (w : IsWellFormed s) (v : IsWellFormed t) (mine : Q q ≡ true)
-    (l : LooksSameTo s t Q) where
-  with_grown : (a b : State) (c : Call) → Small s Q D c → LooksSameTo a b (grown Q (child_of s)) → LooksSameTo a b D
+    (l : LooksSame s t Q) where
+  with_grown : (a b : State) (c : Call) → Small s Q D c → LooksSame a b (grown Q (child_of s)) → LooksSame a b D
   with_grown a b c small = weaken a b (grown Q (child_of s)) D (λ p h. elim (small p h) [
     | inl member ↦ ap (λ x. x || (p == child_of s)) member
     | inr born ↦ ap (λ x. Q p || x) (eq-eqb p (child_of s) born.0) ∙ or_yes (Q p)
@@ -547,14 +557,14 @@ module _ (s t : State) (Q D : ℕ → Bool) (q : ℕ) (w : IsWellFormed s) (v : 
       or_yes true = refl
       or_yes false = refl
 
-  with_same : (a b : State) (c : Call) → makes_child c ≡ false → Small s Q D c → LooksSameTo a b Q → LooksSameTo a b D
+  with_same : (a b : State) (c : Call) → makes_child c ≡ false → Small s Q D c → LooksSame a b Q → LooksSame a b D
   with_same a b c none small = weaken a b Q D (λ p h. elim (small p h) [
     | inl member ↦ member
     | inr born ↦ absurd (let x = born.1 in cc)
   ])
 
   after_together : (c : Call) → Small s Q D c → completes (answer_of s q c) ≡ true
-      → LooksSameTo (after s q c) (after t q c) D
+      → LooksSame (after s q c) (after t q c) D
   after_together (call.Load addr size) small h = with_same (after_load s q addr size) (after_load t q addr size)
       (call.Load addr size) refl small (load_together s t Q q mine l addr size)
   after_together (call.Store addr size value) small h =
@@ -623,13 +633,13 @@ members_see_the_same s t e Q w v l mine = by (completes (answer s e)) refl
     told : completes (answer s e) ≡ completes (answer t e)
     told = ap completes (members_told_the_same s t e Q l mine)
 
-    by : (b : Bool) → completes (answer s e) ≡ b → LooksSameTo (next s e) (next t e) (members_after s Q e)
+    by : (b : Bool) → completes (answer s e) ≡ b → LooksSame (next s e) (next t e) (members_after s Q e)
     by true h =
         let c = caller_live s e h in
-        subst (λ u. LooksSameTo u (next t e) (members_after s Q e)) (sym (next-goes s e h))
-        (subst (λ u. LooksSameTo (after s e.pid e.call) u (members_after s Q e)) (sym (next-goes t e (sym told ∙ h)))
+        subst (λ u. LooksSame u (next t e) (members_after s Q e)) (sym (next-goes s e h))
+        (subst (λ u. LooksSame (after s e.pid e.call) u (members_after s Q e)) (sym (next-goes t e (sym told ∙ h)))
         (after_together s t Q (members_after s Q e) e.pid w v mine l e.call (members_small s Q e h) c.1))
     by false h =
-        subst (λ u. LooksSameTo u (next t e) (members_after s Q e)) (sym (next-stays s e h))
-        (subst (λ u. LooksSameTo s u (members_after s Q e)) (sym (next-stays t e (sym told ∙ h)))
+        subst (λ u. LooksSame u (next t e) (members_after s Q e)) (sym (next-stays s e h))
+        (subst (λ u. LooksSame s u (members_after s Q e)) (sym (next-stays t e (sym told ∙ h)))
         (weaken s t Q (members_after s Q e) (members_stay s Q e h) l))

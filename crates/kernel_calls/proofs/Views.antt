@@ -1,4 +1,4 @@
--- What a process is told, and what it sees afterwards, depends on what it sees alone.
+-- What a process is told depends on what it has, but for what it is offered.
 use Rattle.std.proofs.Common.{
   ◌≡◌,
   ℕ,
@@ -65,16 +65,18 @@ use Rattle.page_sharing.specs.Offers.{OfferKey, offer_of, pending}
 use Rattle.table_walk.specs.declared.Access.{Access}
 use Rattle.table_walk.specs.declared.Access.TheVariants.{Read, Write}
 use Rattle.table_walk.specs.Walk.{is_write}
-use Rattle.process_table.specs.State.{State, is_mapped, has_no_room, lacks_room, room, child_of}
+use Rattle.process_table.specs.State.{State, is_live, is_mapped, has_no_room, lacks_room, room, child_of}
 use Rattle.process_table.specs.Calls.{protect_refusal, loaded}
 use Rattle.process_table.specs.declared.causes.Cause.TheVariants as cause
 use Rattle.fault_handler.specs.Plans.{plan_of, step_of, outside, fault_or}
 use Rattle.fault_handler.specs.declared.plans.PageStep.TheVariants as step
 use Rattle.fault_handler.specs.declared.plans.Plan.TheVariants as plan
-use Rattle.kernel_calls.specs.Authority.{Flags, flags_of, Shown, shown_of, sees, is_offered, LooksSame, ToldTheSame}
-use Rattle.kernel_calls.specs.Machine.{answer_of, refused_or, planned_or}
+use Rattle.kernel_calls.specs.Authority.{Flags, flags_of, Shown, shown_of, sees, is_offered}
+use Rattle.kernel_calls.specs.Own.{HasTheSame, reads_live, takes_offer, AcceptsReadTheirOffer}
+use Rattle.kernel_calls.specs.Machine.{answer, answer_of, refused_or, planned_or}
 use Rattle.kernel_calls.specs.declared.calls.Call.{Call}
 use Rattle.kernel_calls.specs.declared.calls.Call.TheVariants as call
+use Rattle.kernel_calls.specs.declared.calls.Event.{Event}
 use Rattle.kernel_calls.specs.declared.calls.Reply.{Reply}
 use Rattle.kernel_calls.specs.declared.calls.Reply.TheVariants as reply
 use borrow.Author.Tests.{eqb-true, eq-eqb}
@@ -93,8 +95,8 @@ shown_or : (x : Option Cell) (slot : Slot) → shown_of (unwrap_or x (fresh slot
 shown_or None slot = refl
 shown_or (Some c) slot = refl
 
-module _ (s t : State) (q : ℕ) (l : LooksSame s t q) where
-  pub mapped_same : (page : ℕ) → is_mapped s (at_page q page) ≡ is_mapped t (at_page q page)
+module _ (s t : State) (q : ℕ) (l : HasTheSame s t q) where
+  mapped_same : (page : ℕ) → is_mapped s (at_page q page) ≡ is_mapped t (at_page q page)
   mapped_same page = sym (is_some-map flags_of (map.get s.spaces (at_page q page))) ∙ ap is_some (l.flags page)
       ∙ is_some-map flags_of (map.get t.spaces (at_page q page))
 
@@ -125,8 +127,7 @@ module _ (s t : State) (q : ℕ) (l : LooksSame s t q) where
       (cell_or_fresh t.spaces (at_page q page))
   own_shown_same page =
       shown_or (map.get s.spaces (at_page q page)) (at_page q page)
-      ∙ ap (λ (x : Option Shown). unwrap_or x (shown_of (fresh (at_page q page) true)))
-      (l.pages (at_page q page) (sees_own s q page))
+      ∙ ap (λ (x : Option Shown). unwrap_or x (shown_of (fresh (at_page q page) true))) (l.pages page)
       ∙ sym (shown_or (map.get t.spaces (at_page q page)) (at_page q page))
 
   missing_same : (pages : List ℕ) → missing s.spaces q pages ≡ missing t.spaces q pages
@@ -143,12 +144,6 @@ module _ (s t : State) (q : ℕ) (l : LooksSame s t q) where
   loaded_same : (addr : ℕ) (size : Size) → loaded s q addr size ≡ loaded t q addr size
   loaded_same addr size = λ i. value_of (each (λ b.
       slice_index (own_shown_same (page_number b) i).bytes (offset_number b)) (covered addr size))
-
-  pub next_same : next_number s.book ≡ next_number t.book
-  next_same = λ i. find (λ p. not (l.live p i)) (range_with_len 0 64)
-
-  pub child_same : child_of s ≡ child_of t
-  child_same = λ i. unwrap_or (next_same i) 0
 
   pending_same : pending s.offers q ≡ pending t.offers q
   pending_same = same_map (pending s.offers q) (pending t.offers q) (λ key.
@@ -177,60 +172,82 @@ module _ (s t : State) (q : ℕ) (l : LooksSame s t q) where
       step_same : (page : ℕ) → step_of s q page ≡ step_of t q page
       step_same page = λ i. if mapped_same page i then step.Complete else step.MapZero
 
-  pub protect_same : (page : ℕ) (write : Bool) → protect_refusal s q page write ≡ protect_refusal t q page write
+  protect_same : (page : ℕ) (write : Bool) → protect_refusal s q page write ≡ protect_refusal t q page write
   protect_same page write = λ i. if not (is_user_page page) then Some cause.BadPage else if not (mapped_same page i)
       then Some cause.NotMapped else if write && not (own_flags_same page i).may then Some cause.Rights else None
 
-  pub answer_of_same : (c : Call) → answer_of s q c ≡ answer_of t q c
-  answer_of_same (call.Load addr size) = λ i. planned_or (plan_same addr size Read i)
-      (reply.Value (loaded_same addr size i))
-  answer_of_same (call.Store addr size value) = λ i. planned_or (plan_same addr size Write i) reply.Done
-  answer_of_same (call.Map page write) = λ i. refused_or
-      (if not (is_user_page page) then Some cause.BadPage else if mapped_same page i then Some cause.Mapped
+  -- what an accept is told, by the offer that it takes
+  accept_same : (giver giver_page page : ℕ) → map.get s.offers (offer_of giver giver_page q) ≡ map.get t.offers
+      (offer_of giver giver_page q) → answer_of s q (call.Accept giver giver_page page) ≡ answer_of t q
+      (call.Accept giver giver_page page)
+  accept_same giver giver_page page same_offer = λ i. refused_or
+      (if not (is_user_page page) then Some cause.BadPage else
+      if not (is_some (same_offer i)) then Some cause.NoOffer else
+      if mapped_same page i then Some cause.Mapped else
+      if no_room_same page i then Some cause.Quota else
+      None) reply.Done
+
+  next_same : ((p : ℕ) → is_live s p ≡ is_live t p) → next_number s.book ≡ next_number t.book
+  next_same lives = λ i. find (λ p. not (lives p i)) (range_with_len 0 64)
+
+  pub child_is_same : ((p : ℕ) → is_live s p ≡ is_live t p) → child_of s ≡ child_of t
+  child_is_same lives = λ i. unwrap_or (next_same lives i) 0
+
+  answer_of_same : (c : Call) → takes_offer c ≡ false → (reads_live c ≡ true → (p : ℕ) → is_live s p ≡ is_live t p)
+      → answer_of s q c ≡ answer_of t q c
+  answer_of_same (call.Load addr size) none lives = λ i.
+      planned_or (plan_same addr size Read i) (reply.Value (loaded_same addr size i))
+  answer_of_same (call.Store addr size value) none lives = λ i. planned_or (plan_same addr size Write i) reply.Done
+  answer_of_same (call.Map page write) none lives = λ i.
+      refused_or (if not (is_user_page page) then Some cause.BadPage else if mapped_same page i then Some cause.Mapped
       else if no_room_same page i then Some cause.Quota else None) reply.Done
-  answer_of_same (call.Unmap page) = λ i. refused_or
-      (if not (is_user_page page) then Some cause.BadPage else if not (mapped_same page i) then Some cause.NotMapped
-      else None) reply.Done
-  answer_of_same (call.Protect page write) = λ i. refused_or (protect_same page write i) reply.Done
-  answer_of_same (call.Info page) = λ i. refused_or (protect_same page false i)
-      (told (own_flags_same page i) (own_shown_same page i))
+  answer_of_same (call.Unmap page) none lives = λ i.
+      refused_or (if not (is_user_page page) then Some cause.BadPage else if not (mapped_same page i) then Some
+      cause.NotMapped else None) reply.Done
+  answer_of_same (call.Protect page write) none lives = λ i. refused_or (protect_same page write i) reply.Done
+  answer_of_same (call.Info page) none lives = λ i.
+      refused_or (protect_same page false i) (told (own_flags_same page i) (own_shown_same page i))
     where
       told : Flags → Shown → Reply
       told flags shown = reply.Info flags.write flags.may flags.accessed flags.dirty shown.holders
-  answer_of_same (call.Offer page target write) = λ i. refused_or
+  answer_of_same (call.Offer page target write) none lives = λ i. refused_or
       (if not (is_user_page page) then Some cause.BadPage else
       if not (mapped_same page i) then Some cause.NotMapped else
       if target == q then Some cause.SelfOffer else
-      if not (l.live target i) then Some cause.NoTarget else
+      if not (lives refl target i) then Some cause.NoTarget else
       if write && not (own_flags_same page i).may then Some cause.Rights else
       if is_some (l.made page target i) then Some cause.OfferPending else
       if nat_le 32 (map.len (pending_same i)) then Some cause.TooManyOffers else
       None) reply.Done
-  answer_of_same (call.Withdraw page target) = λ i.
+  answer_of_same (call.Withdraw page target) none lives = λ i.
       refused_or (if not (is_user_page page) then Some cause.BadPage else if not (is_some (l.made page target i))
       then Some cause.NoOffer else None) reply.Done
-  answer_of_same (call.Accept giver giver_page page) = λ i. refused_or
-      (if not (is_user_page page) then Some cause.BadPage else
-      if not (is_some (l.offered giver giver_page i)) then Some cause.NoOffer else
-      if mapped_same page i then Some cause.Mapped else
-      if no_room_same page i then Some cause.Quota else
-      None) reply.Done
-  answer_of_same (call.Spawn quota) = λ i. refused_or
+  answer_of_same (call.Accept giver giver_page page) none lives = cc
+  answer_of_same (call.Spawn quota) none lives = λ i. refused_or
       (if quota == 0 then Some cause.BadQuota else
-      if is_none (next_same i) then Some cause.TableFull else
+      if is_none (next_same (lives refl) i) then Some cause.TableFull else
       if nat_lt (room_same i) quota then Some cause.Quota else
-      None) (reply.Child (child_same i))
-  answer_of_same (call.Fork quota) = λ i. refused_or
+      None) (reply.Child (child_is_same (lives refl) i))
+  answer_of_same (call.Fork quota) none lives = λ i. refused_or
       (if quota == 0 then Some cause.BadQuota else
-      if is_none (next_same i) then Some cause.TableFull else
+      if is_none (next_same (lives refl) i) then Some cause.TableFull else
       if nat_lt quota (cost_same i) then Some cause.TooSmall else
       if nat_lt (room_same i) quota then Some cause.Quota else
-      None) (reply.Child (child_same i))
-  answer_of_same call.Exit = λ i. refused_or (if q == 0 then Some cause.RootExit else if nat_lt 0 (l.children i)
-      then Some cause.HasChildren else None) reply.Done
-  answer_of_same call.Quota = λ i. reply.Quota (l.quota i) (cost_same i) (l.given i)
+      None) (reply.Child (child_is_same (lives refl) i))
+  answer_of_same call.Exit none lives = λ i. refused_or
+      (if q == 0 then Some cause.RootExit else if nat_lt 0 (l.children i) then Some cause.HasChildren else None)
+      reply.Done
+  answer_of_same call.Quota none lives = λ i. reply.Quota (l.quota i) (cost_same i) (l.given i)
 
--- two states that look the same to a process tell it the same
-pub told_the_same : ToldTheSame
-told_the_same s t e l = λ i. if l.live e.pid i then answer_of_same s t e.pid l e.call i else reply.Refused
+-- any call but an accept is told the same, where it finds the same processes live if it reads that
+pub told_by_own : (s t : State) (e : Event) → HasTheSame s t e.pid → takes_offer e.call ≡ false
+    → (reads_live e.call ≡ true → (p : ℕ) → is_live s p ≡ is_live t p) → answer s e ≡ answer t e
+told_by_own s t e l none lives = λ i. if l.live i then answer_of_same s t e.pid l e.call none lives i else reply.Refused
     cause.NoProcess
+
+pub accepts_read_their_offer : AcceptsReadTheirOffer
+accepts_read_their_offer s t e giver giver_page page l is same_offer =
+    ap (λ c. if is_live s e.pid then answer_of s e.pid c else reply.Refused cause.NoProcess) is
+    ∙ (λ i. if l.live i then accept_same s t e.pid l giver giver_page page same_offer i else reply.Refused
+    cause.NoProcess)
+    ∙ sym (ap (λ c. if is_live t e.pid then answer_of t e.pid c else reply.Refused cause.NoProcess) is)

@@ -26,11 +26,11 @@ use Rattle.page_words.specs.declared.addresses.Size.{Size}
 use Rattle.page_words.specs.FiniteMap as map
 use Rattle.page_words.specs.FiniteSet as set
 use Rattle.address_space.specs.Spaces.{Slot, Cell, cost, cell_or_fresh, at_page, slot_at, is_of, bytes_of, copy_of}
-use Rattle.quota_tree.specs.Book.{Member, given, quota_of, number_of_children}
+use Rattle.quota_tree.specs.Book.{Member, given, number_of_children}
 use Rattle.page_sharing.specs.Offers.{OfferKey, offer_of}
 use Rattle.process_table.specs.State.{State, is_live, child_of}
 use Rattle.process_table.specs.WellFormed.{IsWellFormed}
-use Rattle.kernel_calls.specs.Machine.{answer, answers, next, end_of}
+use Rattle.kernel_calls.specs.Machine.{answer, next, end_of}
 use Rattle.kernel_calls.specs.declared.calls.Call.{Call}
 use Rattle.kernel_calls.specs.declared.calls.Call.TheVariants as call
 use Rattle.kernel_calls.specs.declared.calls.Event.{Event}
@@ -229,37 +229,6 @@ shown_of cell = record { bytes = cell.bytes; holders = set.len cell.holders }
 abbrev pub shown_at : State → Slot → Option Shown
 shown_at s slot = option_map shown_of (map.get s.spaces slot)
 
--- two states are one to q
-pub record LooksSame (s t : State) (q : ℕ) : Type 0 where
-  -- which processes are live
-  pub live : (p : ℕ) → is_live s p ≡ is_live t p
-  pub quota : quota_of s.book q ≡ quota_of t.book q
-  pub given : given s.book q ≡ given t.book q
-  pub children : number_of_children s.book q ≡ number_of_children t.book q
-  -- the flags of its own pages
-  pub flags : (page : ℕ) → flags_at s (at_page q page) ≡ flags_at t (at_page q page)
-  -- the offers that it made, and those that it was made
-  pub made : (page target : ℕ) → map.get s.offers (offer_of q page target) ≡ map.get t.offers (offer_of q page target)
-  pub offered : (giver page : ℕ) → map.get s.offers (offer_of giver page q) ≡ map.get t.offers (offer_of giver page q)
-  -- the pages that it sees, and which of them are one
-  pub pages : (slot : Slot) → sees s q slot ≡ true → shown_at s slot ≡ shown_at t slot
-  pub same_page : (slot other : Slot) → sees s q slot ≡ true → sees s q other ≡ true
-      → shares s slot other ≡ shares t slot other
-
--- it is told the same
-abbrev pub ToldTheSame : Type 0
-ToldTheSame = (s t : State) (e : Event) → LooksSame s t e.pid → answer s e ≡ answer t e
-
--- and what it does, it does in both
-abbrev pub SeesTheSame : Type 0
-SeesTheSame = (s t : State) (e : Event) → IsWellFormed s → IsWellFormed t → LooksSame s t e.pid
-    → LooksSame (next s e) (next t e) e.pid
-
--- so until another process acts, all its events are answered the same in both
-abbrev pub ToldTheSameInRuns : Type 0
-ToldTheSameInRuns = (s t : State) (q : ℕ) (events : List Event) → IsWellFormed s → IsWellFormed t → LooksSame s t q
-    → All (λ (e : Event). e.pid ≡ q) events → answers s events ≡ answers t events
-
 -- ---- What an event of another process changes of what q sees
 
 -- the event makes a child, as a spawn and a fork do
@@ -302,8 +271,3 @@ ForksAreCopies = (s : State) (e : Event) (quota child page : ℕ) → e.call ≡
     → answer s e ≡ reply.Child child
     → map.get (next s e).spaces (at_page child page)
     ≡ option_map (copy_of (at_page child page)) (map.get s.spaces (at_page e.pid page))
-
--- two states that look the same to the maker of a child look the same to the child, once it is made
-abbrev pub BornTheSame : Type 0
-BornTheSame = (s t : State) (e : Event) (child : ℕ) → IsWellFormed s → IsWellFormed t → LooksSame s t e.pid
-    → answer s e ≡ reply.Child child → LooksSame (next s e) (next t e) child

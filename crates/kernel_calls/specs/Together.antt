@@ -38,7 +38,7 @@ abbrev pub Sees : State → (ℕ → Bool) → Slot → Type 0
 Sees s Q slot = (q : ℕ) × (Q q ≡ true) × (sees s q slot ≡ true)
 
 -- two states are one to the members of Q together
-pub record LooksSameTo (s t : State) (Q : ℕ → Bool) : Type 0 where
+pub record LooksSame (s t : State) (Q : ℕ → Bool) : Type 0 where
   -- which processes are live
   pub live : (p : ℕ) → is_live s p ≡ is_live t p
   -- the members' quotas, and all that the book has of their children
@@ -55,13 +55,13 @@ pub record LooksSameTo (s t : State) (Q : ℕ → Bool) : Type 0 where
 
 -- a member is told the same
 abbrev pub MembersToldTheSame : Type 0
-MembersToldTheSame = (s t : State) (e : Event) (Q : ℕ → Bool) → LooksSameTo s t Q → Q e.pid ≡ true
+MembersToldTheSame = (s t : State) (e : Event) (Q : ℕ → Bool) → LooksSame s t Q → Q e.pid ≡ true
     → answer s e ≡ answer t e
 
 -- and after its event the two states look the same to all members, a child that it makes among them
 abbrev pub MembersSeeTheSame : Type 0
 MembersSeeTheSame = (s t : State) (e : Event) (Q : ℕ → Bool) → IsWellFormed s → IsWellFormed t
-    → LooksSameTo s t Q → Q e.pid ≡ true → LooksSameTo (next s e) (next t e) (members_after s Q e)
+    → LooksSame s t Q → Q e.pid ≡ true → LooksSame (next s e) (next t e) (members_after s Q e)
 
 -- ---- Channels from an outsider to members
 
@@ -90,7 +90,7 @@ IsQuiet s Q e = completes (answer s e) ≡ true → IsQuietCall s Q e.pid e.call
 -- the event of an outsider through no channel leaves what the members see
 abbrev pub OutsidersUnseen : Type 0
 OutsidersUnseen = (s : State) (e : Event) (Q : ℕ → Bool) → IsWellFormed s → Q e.pid ≡ false → IsQuiet s Q e
-    → LooksSameTo s (next s e) Q
+    → LooksSame s (next s e) Q
 
 -- ---- Runs
 
@@ -110,7 +110,7 @@ AllQuiet s Q (e ∷ events) = (Q e.pid ≡ false → IsQuiet s Q e) × AllQuiet 
 -- channel, they are told the same
 abbrev pub MembersHearTheSame : Type 0
 MembersHearTheSame = (s t : State) (Q : ℕ → Bool) (events others : List Event) → IsWellFormed s → IsWellFormed t
-    → ((q : ℕ) → Q q ≡ true → is_live s q ≡ true) → LooksSameTo s t Q → AllQuiet s Q events → AllQuiet t Q others
+    → ((q : ℕ) → Q q ≡ true → is_live s q ≡ true) → LooksSame s t Q → AllQuiet s Q events → AllQuiet t Q others
     → each (λ (x : Exchange). x.0) (heard s Q events) ≡ each (λ (x : Exchange). x.0) (heard t Q others)
     → heard s Q events ≡ heard t Q others
 
@@ -138,7 +138,7 @@ outside s C p = is_live s p && not (C p)
 -- ask the same, whatever the members have, and whatever they do in that way
 abbrev pub OutsidersHearNothing : Type 0
 OutsidersHearNothing = (s t : State) (C : ℕ → Bool) (events others : List Event) → IsWellFormed s → IsWellFormed t
-    → IsConfined s C → IsConfined t C → LooksSameTo s t (outside s C) → AllDiscreet s C events → AllDiscreet t C others
+    → IsConfined s C → IsConfined t C → LooksSame s t (outside s C) → AllDiscreet s C events → AllDiscreet t C others
     → each (λ (x : Exchange). x.0) (heard s (outside s C) events) ≡ each (λ (x : Exchange). x.0)
     (heard t (outside t C) others)
     → heard s (outside s C) events ≡ heard t (outside t C) others

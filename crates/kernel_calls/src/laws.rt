@@ -1,6 +1,6 @@
 //! Laws of the machine's runs. Each is the contract of a function that computes nothing.
 
-ghost use Rattle.kernel_calls.specs.Authority.{Integrity, NobodyTakesBack, SharingByConsent, OffersByOfferer, RightsStay, ToldTheSame, SeesTheSame, ToldTheSameInRuns, ShowsLittle, SharingStays, ExitsEnd, UnmapsEnd, OffersEnd, OffersStay, SpawnsAreEmpty, ForksAreCopies, BornTheSame};
+ghost use Rattle.kernel_calls.specs.Authority.{Integrity, NobodyTakesBack, SharingByConsent, OffersByOfferer, RightsStay, ShowsLittle, SharingStays, ExitsEnd, UnmapsEnd, OffersEnd, OffersStay, SpawnsAreEmpty, ForksAreCopies};
 ghost use Rattle.kernel_calls.specs.Confinement.{RunsStayConfined, FamiliesStayConfined, OutsidersLeaveMembers};
 ghost use Rattle.kernel_calls.specs.Own.{OwnIsEnough, AcceptsReadTheirOffer};
 ghost use Rattle.kernel_calls.specs.Together.{MembersToldTheSame, MembersSeeTheSame, OutsidersUnseen, MembersHearTheSame, OutsidersHearNothing};
@@ -59,21 +59,15 @@ pub fn what_is_given_up_goes()
     ensures stays { OffersStay }
 {}
 
-/// The child of a spawn has no page, that of a fork copies of its maker's; and what a child sees depends on what its
-/// maker saw alone. It computes nothing.
+/// The child of a spawn has no page, that of a fork copies of its maker's. It computes nothing.
 pub fn children_are_their_makers()
     ensures spawns { SpawnsAreEmpty }
     ensures forks { ForksAreCopies }
-    ensures born { BornTheSame }
 {}
 
-/// What a process is told, and what it sees after its own event, depends on what it sees alone; and the event
-/// of another changes no more of that than is listed. It computes nothing.
-pub fn processes_see_their_own()
-    ensures told { ToldTheSame }
-    ensures sees { SeesTheSame }
-    ensures runs { ToldTheSameInRuns }
-    ensures shows { ShowsLittle }
+/// The event of another changes no more of what a process sees than is listed. It computes nothing.
+pub fn others_show_little()
+    ensures { ShowsLittle }
 {}
 
 /// What a process is told by any call but an accept, and what it has afterwards, depends on what it has alone,

@@ -1,4 +1,5 @@
-use Rattle.kernel_calls.proofs.OwnViews.{own_is_enough, accepts_read_their_offer}
+use Rattle.kernel_calls.proofs.OwnViews.{own_is_enough}
+use Rattle.kernel_calls.proofs.Views.{accepts_read_their_offer}
 use Rattle.kernel_calls.proofs.laws.what_a_process_has_is_enough.Goals as goal
 
 pub returns-clause-own : goal.returns-clause-own
