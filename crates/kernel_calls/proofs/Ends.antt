@@ -87,7 +87,6 @@ use Rattle.process_table.proofs.CellLaws.{get-inserted, get-inserted_other, with
 use Rattle.process_table.proofs.Refusals.{may_accept}
 use Rattle.process_table.proofs.SharingLaws.{giver_mapped}
 use Rattle.fault_handler.specs.Plans.{goes_on, plan_at, step_at}
-use Rattle.fault_handler.specs.declared.plans.PageStep.{PageStep}
 use Rattle.fault_handler.specs.declared.plans.PageStep.TheVariants as step
 use Rattle.fault_handler.specs.declared.plans.Plan.TheVariants as plan
 use Rattle.fault_handler.proofs.Settled.{ready}

@@ -1,67 +1,13 @@
 -- No call clears a flag of a slot that stays mapped, but for a change of the right to write.
-use Rattle.std.proofs.Common.{
-  ◌≡◌,
-  ◌≢◌,
-  ℕ,
-  zero,
-  suc,
-  ◌+◌,
-  Bool,
-  true,
-  false,
-  not,
-  cond,
-  List,
-  [],
-  ◌∷◌,
-  refl,
-  ap,
-  sym,
-  ◌∙◌,
-  inl,
-  inr,
-  Option,
-  Some,
-  None,
-  unwrap_or,
-}
+use Rattle.std.proofs.Common.{◌≡◌, ℕ, ◌+◌, Bool, true, false, not, cond, List, [], ◌∷◌, refl, ap, sym, ◌∙◌, inl, inr, Option, Some, None, unwrap_or}
 use Rattle.std.specs.Prelude.{if◌then◌else◌, is_some}
 use Rattle.std.specs.Option.{option_map}
-use Rattle.page_words.specs.Addresses.{byte_count, touched, page_number, offset_number}
+use Rattle.page_words.specs.Addresses.{byte_count, touched, offset_number}
 use Rattle.page_words.specs.FiniteMap as map
 use Rattle.page_words.specs.FiniteSet as set
 use Rattle.page_words.specs.FiniteSet.{Set}
 use Rattle.page_words.proofs.MapLemmas.{get-insert, same_or_not, get-map_values}
-use Rattle.address_space.specs.Spaces.{
-  Slot,
-  slot_order,
-  Cell,
-  Spaces,
-  at_page,
-  slot_at,
-  is_slot,
-  is_of,
-  cell_or_fresh,
-  fresh,
-  with_bytes,
-  with_holders,
-  set_bytes,
-  set_holders,
-  accessed,
-  stored,
-  store_in,
-  write_at,
-  with_page,
-  with_pages,
-  all_accessed,
-  all_stored,
-  bytes_of,
-  protected,
-  joined,
-  without,
-  copied,
-  copied_at,
-}
+use Rattle.address_space.specs.Spaces.{Slot, slot_order, Cell, Spaces, at_page, slot_at, is_slot, is_of, cell_or_fresh, fresh, with_bytes, with_holders, set_bytes, set_holders, accessed, stored, write_at, with_page, with_pages, all_accessed, all_stored, bytes_of, protected, joined, without, copied}
 use Rattle.std.proofs.lemmas.Bool.{cases_eq}
 use Rattle.address_space.proofs.costs.Copied.{copied-other}
 use Rattle.process_table.specs.State.{State, child_of}

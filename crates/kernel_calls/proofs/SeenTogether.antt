@@ -39,23 +39,7 @@ use Rattle.page_words.specs.FiniteSet.{Set}
 use Rattle.page_words.proofs.MapLemmas.{same-true, get-insert}
 use Rattle.page_words.proofs.OptionLemmas.{no_value}
 use Rattle.page_words.proofs.SetLemmas.{same_cases, get-remove}
-use Rattle.address_space.specs.Spaces.{
-  Slot,
-  slot_order,
-  Cell,
-  Spaces,
-  fresh,
-  bytes_of,
-  without,
-  is_slot,
-  is_of,
-  at_page,
-  accessed,
-  with_pages,
-  all_accessed,
-  all_stored,
-  copied,
-}
+use Rattle.address_space.specs.Spaces.{Slot, slot_order, Cell, Spaces, fresh, bytes_of, without, is_slot, is_of, at_page, with_pages, all_accessed, all_stored, copied}
 use Rattle.address_space.proofs.costs.Copied.{copied-own, copied-other}
 use Rattle.quota_tree.specs.Book.{Member, children}
 use Rattle.quota_tree.proofs.Sums.{number-none}

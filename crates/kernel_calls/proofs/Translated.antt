@@ -1,32 +1,5 @@
 -- Which walks find the same frame after an event.
-use Rattle.std.proofs.Common.{
-  ◌≡◌,
-  ◌≢◌,
-  ◌<◌,
-  ◌^◌,
-  ℕ,
-  Bool,
-  true,
-  false,
-  not,
-  ◌&&◌,
-  ◌||◌,
-  ◌==◌,
-  List,
-  [],
-  ◌∷◌,
-  refl,
-  ap,
-  sym,
-  ◌∙◌,
-  subst,
-  arith,
-  inl,
-  inr,
-  Option,
-  Some,
-  None,
-}
+use Rattle.std.proofs.Common.{◌≡◌, ◌<◌, ◌^◌, ℕ, Bool, true, false, not, ◌&&◌, ◌||◌, ◌==◌, List, [], ◌∷◌, refl, ap, sym, ◌∙◌, subst, arith, Option, Some, None}
 use Rattle.std.specs.Prelude.{if◌then◌else◌, is_some, MatchBool, Ok}
 use Rattle.std.specs.Option.{option_map, unwrap_or}
 use Rattle.page_words.specs.Addresses.{IsUserPage, page_number, start_number, second_page}
@@ -39,18 +12,7 @@ use Rattle.table_walk.specs.declared.Access.TheVariants.{Read, Write}
 use Rattle.table_walk.specs.Walk.{walk_of, is_write, not_present, not_allowed}
 use Rattle.address_space.specs.Image as memory
 use Rattle.address_space.specs.Image.{directory_at, page_word, is_lazy_at, takes_stores, SlotStands}
-use Rattle.address_space.specs.Spaces.{
-  Slot,
-  slot_order,
-  Cell,
-  Spaces,
-  at_page,
-  slot_at,
-  is_slot,
-  is_of,
-  cell_or_fresh,
-  fresh,
-}
+use Rattle.address_space.specs.Spaces.{Slot, slot_order, Cell, at_page, slot_at, is_slot, cell_or_fresh, fresh}
 use Rattle.address_space.specs.Stays.{way_of, FramesStay, WaysAgree, of_lazy}
 use Rattle.address_space.specs.Walks.{FindsBytes, WalkEndsBy, WalksAgree}
 use Rattle.address_space.proofs.standing.FramesStand.{way_parts}
@@ -61,11 +23,10 @@ use Rattle.process_table.specs.WellFormed.{IsWellFormed}
 use Rattle.process_table.specs.declared.causes.Cause.TheVariants as cause
 use Rattle.fault_handler.specs.Plans.{goes_on, plan_at, step_at, takes_no_frame}
 use Rattle.fault_handler.specs.Fills.{lazy_second, lazy_touched}
-use Rattle.fault_handler.specs.declared.plans.PageStep.{PageStep}
 use Rattle.fault_handler.specs.declared.plans.PageStep.TheVariants as step
 use Rattle.fault_handler.specs.declared.plans.Plan.{Plan}
 use Rattle.fault_handler.proofs.Settled.{ready}
-use Rattle.kernel_calls.specs.Machine.{answer, answer_of, after, next, completes}
+use Rattle.kernel_calls.specs.Machine.{answer, answer_of, next, completes}
 use Rattle.kernel_calls.specs.Decisions.{decision_of, plan_of_call, plan_of_event}
 use Rattle.kernel_calls.specs.declared.calls.Decision.{Decision}
 use Rattle.process_table.proofs.Refusals.{may_accept}
@@ -93,7 +54,6 @@ use Rattle.kernel_calls.specs.Gone.{gone_of_call, gone_by}
 use Rattle.kernel_calls.specs.declared.calls.Call.{Call}
 use Rattle.kernel_calls.specs.declared.calls.Call.TheVariants as call
 use Rattle.kernel_calls.specs.declared.calls.Event.{Event}
-use Rattle.kernel_calls.specs.declared.calls.Reply.{Reply}
 use Rattle.kernel_calls.specs.declared.calls.Reply.TheVariants as reply
 use Rattle.kernel_calls.specs.declared.translations.Ended.TheVariants as end
 use Rattle.kernel_calls.proofs.Decided.{goes-event, goes-decided, next-stays, next-goes}
@@ -108,7 +68,6 @@ use Rattle.kernel_calls.proofs.Flags.{
   Spared,
   keeps_call,
 }
-use borrow.Author.Tests.{eqb-true, eq-eqb}
 
 -- ---- Tests
 

@@ -41,26 +41,7 @@ use Rattle.page_words.specs.FiniteSet.{Set}
 use Rattle.page_words.proofs.MapLemmas.{get-insert, get-map_values, contains-insert, get-retain_keys}
 use Rattle.page_words.proofs.OptionLemmas.{some_value, no_value, is_some-map}
 use Rattle.page_words.proofs.SetLemmas.{same_cases, same_apart, get-remove_other, get-removed}
-use Rattle.address_space.specs.Spaces.{
-  Slot,
-  slot_order,
-  Cell,
-  Spaces,
-  cost_of,
-  fresh,
-  cell_or_fresh,
-  with_holders,
-  set_holders,
-  bytes_of,
-  is_slot,
-  is_of,
-  at_page,
-  accessed,
-  with_pages,
-  all_stored,
-  joined,
-  copied,
-}
+use Rattle.address_space.specs.Spaces.{Slot, slot_order, Cell, Spaces, cost_of, fresh, cell_or_fresh, with_holders, set_holders, bytes_of, is_slot, is_of, at_page, with_pages, all_stored, joined, copied}
 use Rattle.address_space.proofs.costs.Costs.{same_pages}
 use Rattle.address_space.proofs.costs.Copied.{copied-other}
 use Rattle.quota_tree.specs.Book.{Member, given, is_child, number_of_children}

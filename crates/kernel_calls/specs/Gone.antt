@@ -1,6 +1,6 @@
 -- Which slots' ways go with an event, whatever was kept of them.
-use Rattle.std.proofs.Common.{ℕ, Bool, false, if◌then◌else◌}
-use Rattle.address_space.specs.Stays.{Gone, none_goes, of_page, of_process, of_lazy}
+use Rattle.std.proofs.Common.{ℕ, false, if◌then◌else◌}
+use Rattle.address_space.specs.Stays.{Gone, of_page, of_process, of_lazy}
 use Rattle.fault_handler.specs.Fills.{lazy_touched}
 use Rattle.process_table.specs.State.{State}
 use Rattle.kernel_calls.specs.Machine.{answer, completes}

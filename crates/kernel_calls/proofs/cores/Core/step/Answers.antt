@@ -2,8 +2,6 @@ use Rattle.std.proofs.Common.{◌≡◌, ◌∙◌, ap, refl, subst, is_some}
 use Rattle.address_space.specs.Stays.{FramesStay, none_goes}
 use Rattle.process_table.specs.Image.{memory_of}
 use Rattle.process_table.specs.View.{View}
-use Rattle.kernel_calls.specs.declared.calls.Event.{Event}
-use Rattle.kernel_calls.specs.declared.calls.Decision.{Decision}
 use Rattle.kernel_calls.specs.Machine.{next}
 use Rattle.kernel_calls.specs.Translations.{ended_by, TranslationsStay, EndsNoMore, FlagsStay}
 use Rattle.kernel_calls.proofs.Translated.{translations_stay, flags_stay}
