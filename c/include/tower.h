@@ -187,6 +187,21 @@ struct tower_walk {
     uint32_t code;
 };
 
+/* Which cached translations an event ends. What its kind does not tell is 0. */
+enum tower_ending {
+    TOWER_ENDS_NOTHING = 0,
+    TOWER_ENDS_PAGE = 1,     /* that of page first of process pid */
+    TOWER_ENDS_PAGES = 2,    /* those of its pages first and second */
+    TOWER_ENDS_SPACE = 3,    /* all of process pid, which is gone */
+};
+
+struct tower_ended {
+    uint32_t kind;
+    uint32_t pid;
+    uint32_t first;
+    uint32_t second;
+};
+
 /* The library's version. */
 uint32_t tower_version(void);
 
@@ -200,6 +215,11 @@ bool tower_step(struct tower *tower, const struct tower_event *event, struct tow
  * written then. */
 bool tower_run(struct tower *tower, const struct tower_event *events, size_t event_count,
                struct tower_reply *replies, size_t reply_count);
+
+/* Which cached translations an event will end: a processor that keeps what its walks gave invalidates these once
+ * the event is carried out, and no others. It changes nothing of the core. False where the handle has no core or
+ * the numbers are no event: nothing is written then. */
+bool tower_ends(const struct tower *tower, const struct tower_event *event, struct tower_ended *ended);
 
 /* How many frames the core has, and 0 where the handle has none. */
 uint32_t tower_frames(const struct tower *tower);

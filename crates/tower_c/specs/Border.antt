@@ -28,6 +28,10 @@ use Rattle.tower_c.specs.declared.numbers.TowerRole.{TowerRole}
 use Rattle.tower_c.specs.declared.numbers.TowerEvent.{TowerEvent}
 use Rattle.tower_c.specs.declared.numbers.TowerReply.{TowerReply}
 use Rattle.tower_c.specs.declared.numbers.TowerWalk.{TowerWalk}
+use Rattle.tower_c.specs.declared.numbers.TowerEnded.{TowerEnded}
+use Rattle.kernel_calls.specs.Translations.{ended_by}
+use Rattle.kernel_calls.specs.declared.translations.Ended.{Ended}
+use Rattle.kernel_calls.specs.declared.translations.Ended.TheVariants as end
 
 -- ---- Events
 
@@ -226,6 +230,18 @@ walk_numbers (Err Outside) = record { kind = 2; frame = 0; code = 0 }
 abbrev pub walk_in : Option View → ℕ → ℕ → Bool → Option TowerWalk
 walk_in (Some core) pid address write = option_map (λ directory. walk_numbers (walk_of core.bytes directory address (access_of write))) (directory_at core (pid_of pid))
 walk_in None pid address write = None
+
+abbrev pub ended_numbers : Ended → TowerEnded
+ended_numbers end.Nothing = record { kind = 0; pid = 0; first = 0; second = 0 }
+ended_numbers (end.Page pid page) = record { kind = 1; pid = pid; first = page; second = 0 }
+ended_numbers (end.Pages pid first second) = record { kind = 2; pid = pid; first = first; second = second }
+ended_numbers (end.Space pid) = record { kind = 3; pid = pid; first = 0; second = 0 }
+
+-- which cached translations an event ends, where there are a core and such an event
+abbrev pub ended_in : Option View → Option Event → Option TowerEnded
+ended_in (Some core) (Some event) = Some (ended_numbers (ended_by core event))
+ended_in (Some core) None = None
+ended_in None event = None
 
 -- ---- The version
 

@@ -9,7 +9,7 @@ ghost use Rattle.std.specs.Prelude.{◌≡◌, ◌≢◌, ◌↔◌, ◌≤◌, 
 ghost use Rattle.process_table.specs.State.{open_with};
 ghost use Rattle.process_table.specs.Image.{StandsFor, image_of};
 ghost use Rattle.phys_memory.specs.Bytes.{frame_bytes};
-ghost use Rattle.tower_c.specs.Border.{event_in, reply_in, state_after, is_carried_out, none_is_carried_out, replies_in, end_after, given, frames_in, directory_in, container_in, role_in, copy_in, walk_in, version};
+ghost use Rattle.tower_c.specs.Border.{event_in, reply_in, state_after, is_carried_out, none_is_carried_out, replies_in, end_after, given, frames_in, directory_in, container_in, role_in, copy_in, walk_in, ended_in, version};
 ghost use Rattle.tower_c.specs.Handle.{IsTower};
 
 mod handle;
@@ -23,9 +23,10 @@ use handle::{put, take};
 use kernel_calls::{BootFault, Core};
 pub use memory::{TowerMemory, tower_memory};
 use numbers::{
-    access_from, container_from, event_from, no_event, pid_from, role_from, told_from, walk_from,
+    access_from, container_from, ended_from, event_from, no_event, pid_from, role_from, told_from,
+    walk_from,
 };
-pub use numbers::{TowerContainer, TowerEvent, TowerReply, TowerRole, TowerWalk};
+pub use numbers::{TowerContainer, TowerEnded, TowerEvent, TowerReply, TowerRole, TowerWalk};
 use page_words::{Frame, Vaddr};
 use std::alloc::Global;
 use table_walk::walk;
@@ -111,6 +112,48 @@ pub extern "C" fn tower_step(
             *reply = step(&mut core, event);
             put(tower, core); // after a step
             true
+        }
+        None => false,
+    }
+}
+
+/// What an event ends on a core; None where the numbers are no event.
+fn ends(core: &Core, event: &TowerEvent) -> Option<TowerEnded>
+    ensures { result ≡ ended_in (Some core.now) (event_in event.now) }
+{
+    match event_from(event) {
+        Some(event) => Some(ended_from(core.ends(&event))),
+        None => None,
+    }
+}
+
+/// Which cached translations an event will end: a processor that keeps what its walks gave has to invalidate these
+/// once the event is carried out, and no others. It changes nothing. False where there is no core or the numbers are
+/// no event.
+#[unsafe(no_mangle)]
+pub extern "C" fn tower_ends(
+    alloc: Global,
+    tower: &mut Tower,
+    event: &TowerEvent,
+    ended: &mut TowerEnded,
+) -> bool
+    requires { IsTower tower.old }
+    ensures kept { IsTower tower.new }
+    ensures same { tower.new.hold.core ≡ tower.old.hold.core }
+    ensures ended { given result ended.new ≡ ended_in tower.old.hold.core (event_in event.now) }
+    ensures none { result ≡ false → ended.new ≡ ended.old }
+{
+    match take(alloc, tower) {
+        Some(core) => {
+            let found = ends(&core, event);
+            put(tower, core);
+            match found {
+                Some(found) => {
+                    *ended = found;
+                    true
+                }
+                None => false,
+            }
         }
         None => false,
     }

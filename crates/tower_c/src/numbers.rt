@@ -1,10 +1,10 @@
 //! Events and replies as the numbers that cross to C.
 
 ghost use Rattle.std.specs.Prelude.{◌≡◌};
-ghost use Rattle.tower_c.specs.Border.{size_of, right_of, pid_of, call_of, event_in, cause_number, numbers, no_event, reply_numbers, role_numbers, container_numbers, access_of, walk_numbers};
+ghost use Rattle.tower_c.specs.Border.{size_of, right_of, pid_of, call_of, event_in, cause_number, numbers, no_event, reply_numbers, role_numbers, container_numbers, access_of, walk_numbers, ended_numbers};
 
 use alloc_table::Role;
-use kernel_calls::{Call, Cause, Event, Reply};
+use kernel_calls::{Call, Cause, Ended, Event, Reply};
 use page_words::{Frame, Page, Pid, Size, Vaddr};
 use quota_tree::Container;
 use table_walk::{Access, WalkEnd};
@@ -301,4 +301,35 @@ pub fn walk_from(end: Result<Frame, WalkEnd>) -> TowerWalk
         Err(WalkEnd::Outside) => (2, 0, 0),
     };
     TowerWalk { kind, frame, code }
+}
+
+/// Which cached translations an event ends: kind 0 none, 1 that of one page, 2 those of two pages, 3 all of the
+/// process.
+#[repr(C)]
+#[derive(Clone, Copy)]
+pub struct TowerEnded {
+    pub kind: u32,
+    /// Whose they are.
+    pub pid: u32,
+    /// The page, or the first of the two.
+    pub first: u32,
+    pub second: u32,
+}
+
+/// What an event ends, as numbers.
+pub fn ended_from(ended: Ended) -> TowerEnded
+    ensures { result ≡ ended_numbers ended }
+{
+    let (kind, pid, first, second) = match ended {
+        Ended::Nothing => (0, 0, 0, 0),
+        Ended::Page { pid, page } => (1, u32::from(pid.number()), page.0, 0),
+        Ended::Pages { pid, first, second } => (2, u32::from(pid.number()), first.0, second.0),
+        Ended::Space { pid } => (3, u32::from(pid.number()), 0, 0),
+    };
+    TowerEnded {
+        kind,
+        pid,
+        first,
+        second,
+    }
 }
