@@ -215,7 +215,7 @@ module _ (w : View) (stands : StandsFor (image_of w) w.state) (walks : WalksAgre
 
 -- ---- By the event
 
-without_gone : (S : Spaces) (gone : Slot → Bool) (q : Slot) → gone q ≡ true
+pub without_gone : (S : Spaces) (gone : Slot → Bool) (q : Slot) → gone q ≡ true
     → is_some (map.get (without S gone) q) ≡ false
 without_gone S gone q is = by (map.get (without S gone) q) refl
   where

@@ -10,6 +10,7 @@ pub mod Flags
 pub mod GivenUp
 pub mod Hearing
 pub mod Isolated
+pub mod Leaving
 pub mod Outsiders
 pub mod OwnViews
 pub mod Planned

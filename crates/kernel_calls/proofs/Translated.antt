@@ -1,18 +1,56 @@
 -- Which walks find the same frame after an event.
-use Rattle.std.proofs.Common.{◌≡◌, ◌<◌, ◌^◌, ℕ, Bool, true, false, not, ◌&&◌, ◌||◌, ◌==◌, List, [], ◌∷◌, refl, ap, sym, ◌∙◌, subst, arith, Option, Some, None}
-use Rattle.std.specs.Prelude.{if◌then◌else◌, is_some, MatchBool, Ok}
-use Rattle.std.specs.Option.{option_map, unwrap_or}
-use Rattle.page_words.specs.Addresses.{IsUserPage, page_number, start_number, second_page}
+use Rattle.std.proofs.Common.{
+  ◌≡◌,
+  ◌≢◌,
+  ◌<◌,
+  ◌^◌,
+  ℕ,
+  Bool,
+  true,
+  false,
+  not,
+  ◌&&◌,
+  ◌||◌,
+  ◌==◌,
+  List,
+  [],
+  ◌∷◌,
+  refl,
+  ap,
+  sym,
+  ◌∙◌,
+  subst,
+  arith,
+  inl,
+  inr,
+  Option,
+  Some,
+  None,
+}
+use Rattle.std.specs.Prelude.{◌⊎◌, if◌then◌else◌, is_some, MatchBool, Ok}
+use Rattle.std.specs.Option.{option_map, option_and_then, unwrap_or}
+use Rattle.page_words.specs.Addresses.{IsUserPage, page_number, slot_number, index_number, second_page}
 use Rattle.page_words.specs.declared.addresses.Size.{Size}
 use Rattle.page_words.specs.FiniteMap as map
 use Rattle.page_words.proofs.MapLemmas.{same-true, same_itself}
-use Rattle.page_words.specs.Words.{frame_number}
+use Rattle.page_words.specs.Words.{frame_number, is_lazy}
 use Rattle.table_walk.specs.declared.Access.{Access}
 use Rattle.table_walk.specs.declared.Access.TheVariants.{Read, Write}
 use Rattle.table_walk.specs.Walk.{walk_of, is_write, not_present, not_allowed}
 use Rattle.address_space.specs.Image as memory
-use Rattle.address_space.specs.Image.{directory_at, page_word, is_lazy_at, takes_stores, SlotStands}
-use Rattle.address_space.specs.Spaces.{Slot, slot_order, Cell, at_page, slot_at, is_slot, cell_or_fresh, fresh}
+use Rattle.address_space.specs.Image.{directory_at, word_of, named_by, present_word, page_word, is_lazy_at, takes_stores, SlotStands}
+use Rattle.address_space.specs.Spaces.{
+  Slot,
+  slot_order,
+  Cell,
+  Spaces,
+  at_page,
+  slot_at,
+  is_slot,
+  is_of,
+  cell_or_fresh,
+  fresh,
+}
 use Rattle.address_space.specs.Stays.{way_of, FramesStay, WaysAgree, of_lazy}
 use Rattle.address_space.specs.Walks.{FindsBytes, WalkEndsBy, WalksAgree}
 use Rattle.address_space.proofs.standing.FramesStand.{way_parts}
@@ -29,25 +67,12 @@ use Rattle.fault_handler.proofs.Settled.{ready}
 use Rattle.kernel_calls.specs.Machine.{answer, answer_of, next, completes}
 use Rattle.kernel_calls.specs.Decisions.{decision_of, plan_of_call, plan_of_event}
 use Rattle.kernel_calls.specs.declared.calls.Decision.{Decision}
-use Rattle.process_table.proofs.Refusals.{may_accept}
+use Rattle.process_table.proofs.Refusals.{may_accept, may_unmap}
 use Rattle.process_table.proofs.SharingLaws.{giver_user}
 use Rattle.kernel_calls.specs.Walked.{finds_call, finds_event}
 use Rattle.fault_handler.specs.declared.plans.Plan.TheVariants as plan
 use Rattle.kernel_calls.specs.Translations.{
-  is_ended,
-  page_filled,
-  second_filled,
-  of_pages,
-  of_plan,
-  of_call,
-  ended_by,
-  TranslationsStay,
-  FlagsStay,
-  Translation,
-  IsGiven,
-  AreGiven,
-  left_by,
-  KeepsThrough,
+  is_ended, is_all_of, page_filled, second_filled, of_pages, of_plan, of_call, ended_by, TranslationsStay, FindsFrame, EndsFound, SlotsStay,
 }
 use Rattle.kernel_calls.specs.declared.translations.Ended.{Ended}
 use Rattle.kernel_calls.specs.Gone.{gone_of_call, gone_by}
@@ -381,68 +406,17 @@ flag_stays flag F alike v e slot w stays h = by (completes (answer v.state e)) r
         ∙ keeps_call flag F v.state e.pid e.call slot w (live_answer v.state e is).1
         (flag_spared flag F alike v e.pid e.call slot h k) h
 
-pub flags_stay : (v w : View) (e : Event) → IsWellFormed v.state → w.state ≡ next v.state e
-    → FlagsStay (ended_by v e) v.state w.state
-flags_stay v w e well state slot c stays there =
-    let mapped = flag_stays (λ _. true) (record {
-      accessed = λ c h. refl;
-      stored = λ c b h. refl;
-      bytes = λ c b.
-          refl;
-      holders = λ c g. refl;
-    }) (λ c w. refl) v e slot well stays (ap (has (λ _. true)) there) in
-    let cell = some_cell (map.get (next v.state e).spaces slot) mapped in (
-      cell.0,
-      ap (λ (t : State). map.get t.spaces slot) state ∙ cell.1,
-      λ h. sym (ap (has (λ c. c.accessed)) cell.1) ∙ flag_stays (λ c. c.accessed) accessed_is_flag (λ c w. refl) v e
-          slot
-          well stays (ap (has (λ c. c.accessed)) there ∙ h),
-      λ h. sym (ap (has (λ c. c.dirty)) cell.1) ∙ flag_stays (λ c. c.dirty) dirty_is_flag (λ c w. refl) v e slot well
-          stays (ap (has (λ c. c.dirty)) there ∙ h),
-    )
+-- a mapped slot that isn't ended is mapped afterwards
+pub slots_stay : (v w : View) (e : Event) → IsWellFormed v.state → w.state ≡ next v.state e → SlotsStay (ended_by v e) v.state w.state
+slots_stay v w e well state slot stays there =
+    let any : (x : Option Cell) → has (λ _. true) x ≡ is_some x = mapped_has in
+    ap (λ (t : State). is_some (map.get t.spaces slot)) state
+    ∙ sym (any (map.get (next v.state e).spaces slot))
+    ∙ flag_stays (λ _. true) (record { accessed = λ c h. refl; stored = λ c b h. refl; bytes = λ c b. refl; holders = λ c g. refl }) (λ c w. refl) v e slot well stays (any (map.get v.state.spaces slot) ∙ there)
   where
-    some_cell : (x : Option Cell) → has (λ _. true) x ≡ true → (d : Cell) × (x ≡ Some d)
-    some_cell None h = cc
-    some_cell (Some d) h = (d, refl)
-
--- ---- What is kept
-
--- what is given stays given, where it isn't invalidated
-given_stays : (ended : Ended) (old new : memory.Image) (t : Translation) → TranslationsStay ended old new
-    → is_ended ended t.slot ≡ false → IsGiven old t → IsGiven new t
-given_stays ended old new t stay spared given = record {
-  page = given.page;
-  directory = given.directory;
-  live = (stay t.slot.pid given.directory first t.frame Read given.live first_small (at first first_page)
-      (given.read first first_small first_page)).0;
-  read = λ a small page. (stay t.slot.pid given.directory a t.frame Read given.live small (at a page)
-      (given.read a small page)).1;
-  written = λ w a small page. (stay t.slot.pid given.directory a t.frame Write given.live small (at a page)
-      (given.written w a small page)).1;
-}
-  where
-    first : ℕ
-    first = start_number t.slot.page
-
-    first_small : first < 2 ^ 32
-    first_small = let l = given.page in omega (arith, l)
-
-    first_page : page_number first ≡ t.slot.page
-    first_page = omega arith
-
-    at : (a : ℕ) → page_number a ≡ t.slot.page → is_ended ended (slot_at t.slot.pid a) ≡ false
-    at a page = ap (λ n. is_ended ended (at_page t.slot.pid n)) page ∙ spared
-
-pub left_given : (ended : Ended) (old new : memory.Image) (kept : List Translation) → TranslationsStay ended old new
-    → AreGiven old kept → AreGiven new (left_by ended kept)
-left_given ended old new [] stay given = tt
-left_given ended old new (t ∷ kept) stay given =
-    by (is_ended ended t.slot) refl (left_given ended old new kept stay given.1)
-  where
-    by : (b : Bool) → is_ended ended t.slot ≡ b → AreGiven new (left_by ended kept)
-        → AreGiven new (if b then left_by ended kept else t ∷ left_by ended kept)
-    by true is rest = rest
-    by false is rest = (given_stays ended old new t stay is given.0, rest)
+    mapped_has : (x : Option Cell) → has (λ _. true) x ≡ is_some x
+    mapped_has None = refl
+    mapped_has (Some c) = refl
 
 -- ---- An access that a processor makes by its walk
 
@@ -504,9 +478,122 @@ accept_user v d giver giver_page page w decided goes accepts =
     giver_user v.state d.event.pid giver giver_page w
     (may_accept v.state d.event.pid giver giver_page page allowed).there
 
--- ---- One event after another
+-- ---- What is ended had a walk
 
-pub kept_through : KeepsThrough
-kept_through [] a b kept same given = subst (λ image. AreGiven image kept) same given
-kept_through (ended ∷ more) a b kept steps given =
-    kept_through more steps.0 b (left_by ended kept) steps.2 (left_given ended a steps.0 kept steps.1 given)
+module _ (v : View) (stands : StandsFor (image_of v) v.state) (walks : WalksAgree (memory_of v) v.state.spaces) (ways : WaysAgree (memory_of v)) where
+  -- a mapped slot has a walk that finds a frame
+  mapped_found : (p a : ℕ) → a < 2 ^ 32 → is_some (page_word (memory_of v) (slot_at p a)) ≡ true → FindsFrame (memory_of v) p a
+  mapped_found p a small there = by (directory_at (memory_of v) p) refl
+    where
+      none : directory_at (memory_of v) p ≡ None → page_word (memory_of v) (slot_at p a) ≡ None
+      none dead = ap (option_and_then {U = ℕ} (λ t. present_word (memory_of v) t (word_of (memory_of v) t (index_number (page_number a))))) (ap (option_and_then {U = ℕ} (λ d. named_by (slot_number (page_number a)) (word_of (memory_of v) d (slot_number (page_number a))))) dead)
+
+      by : (x : Option ℕ) → directory_at (memory_of v) p ≡ x → FindsFrame (memory_of v) p a
+      by None live = absurd (let k : false ≡ true = sym (ap is_some (none live)) ∙ there in cc)
+      by (Some d) live = at (page_word (memory_of v) (slot_at p a)) (map.get v.state.spaces (slot_at p a)) there (stands.memory.cells (slot_at p a)) (walks p d a Read live small)
+        where
+          at : (x : Option ℕ) (y : Option Cell) → is_some x ≡ true → SlotStands (memory_of v) (slot_at p a) x y → WalkEndsBy v.bytes d a Read (is_lazy_at (memory_of v) (slot_at p a)) y → FindsFrame (memory_of v) p a
+          at None y h s e = cc
+          at (Some w) None h s e = absurd s
+          at (Some w) (Some c) h s e = (d, e.frame, live, e.found)
+
+  -- a slot that has a cell has a word
+  cell_word : (slot : Slot) → is_some (map.get v.state.spaces slot) ≡ true → is_some (page_word (memory_of v) slot) ≡ true
+  cell_word slot h = by (page_word (memory_of v) slot) (map.get v.state.spaces slot) h (stands.memory.cells slot)
+    where
+      by : (x : Option ℕ) (y : Option Cell) → is_some y ≡ true → SlotStands (memory_of v) slot x y → is_some x ≡ true
+      by None None k s = cc
+      by None (Some c) k s = absurd s
+      by (Some w) y k s = refl
+
+  -- and so has one with a lazy page
+  lazy_word : (slot : Slot) → is_lazy_at (memory_of v) slot ≡ true → is_some (page_word (memory_of v) slot) ≡ true
+  lazy_word slot h = by (page_word (memory_of v) slot) h
+    where
+      by : (x : Option ℕ) → unwrap_or (option_map is_lazy x) false ≡ true → is_some x ≡ true
+      by None k = cc
+      by (Some w) k = refl
+
+  -- a page that a store fills is lazy
+  filled_lazy : (q page : ℕ) (slot : Slot) → named v stands walks ways q (page_filled page (step_at v q Write page)) slot ≡ true → is_lazy_at (memory_of v) slot ≡ true
+  filled_lazy q page slot h = by (is_mapped v.state (at_page q page)) (is_lazy_at (memory_of v) (at_page q page)) refl h
+    where
+      by : (x y : Bool) → is_lazy_at (memory_of v) (at_page q page) ≡ y → named v stands walks ways q (page_filled page (if not x then step.MapZero else if y then step.Fill else step.Complete)) slot ≡ true → is_lazy_at (memory_of v) slot ≡ true
+      by false y lazy k = cc
+      by true false lazy k = cc
+      by true true lazy k = sym (ap (is_lazy_at (memory_of v)) (same-true slot_order (at_page q page) slot k)) ∙ lazy
+
+  filled_pages : (q : ℕ) (x y : Option ℕ) (slot : Slot) → is_ended (of_pages q x y) slot ≡ true → (named v stands walks ways q x slot ≡ true) ⊎ (named v stands walks ways q y slot ≡ true)
+  filled_pages q None None slot h = cc
+  filled_pages q (Some page) None slot h = inl h
+  filled_pages q None (Some page) slot h = inr h
+  filled_pages q (Some first) (Some second) slot h = by (is_slot q first slot) refl h
+    where
+      by : (b : Bool) → is_slot q first slot ≡ b → (b || is_slot q second slot) ≡ true → (is_slot q first slot ≡ true) ⊎ (is_slot q second slot ≡ true)
+      by true is k = inl is
+      by false is k = inr k
+
+  -- a slot that a call which completes ends has a word, or its process goes
+  ended_word : (q : ℕ) (c : Call) (slot : Slot) → completes (answer_of v.state q c) ≡ true → ((addr : ℕ) (size : Size) (value : ℕ) → c ≡ call.Store addr size value → goes_on (plan_at v q addr size Write) ≡ true)
+      → is_ended (of_call v q c) slot ≡ true → (is_all_of (of_call v q c) slot.pid ≡ true) ⊎ (is_some (page_word (memory_of v) slot) ≡ true)
+  ended_word q (call.Load addr size) slot done goes h = cc
+  ended_word q (call.Store addr size value) slot done goes h =
+      let is = (ready (step_at v q Write) v.state q addr size Write (goes addr size value refl)).is in
+      let pages = filled_pages q (page_filled (page_number addr) (step_at v q Write (page_number addr))) (second_filled (second_page addr size) (option_map (step_at v q Write) (second_page addr size))) slot
+      (sym (ap (λ x. is_ended (of_plan q addr size x) slot) is) ∙ h) in
+      elim pages [
+        | inl first ↦ inr (lazy_word slot (filled_lazy q (page_number addr) slot first))
+        | inr second ↦ by (second_page addr size) second
+      ]
+    where
+      by : (x : Option ℕ) → named v stands walks ways q (second_filled x (option_map (step_at v q Write) x)) slot ≡ true → (is_all_of (of_call v q (call.Store addr size value)) slot.pid ≡ true) ⊎ (is_some (page_word (memory_of v) slot) ≡ true)
+      by None k = cc
+      by (Some page) k = inr (lazy_word slot (filled_lazy q page slot k))
+  ended_word q (call.Map page write) slot done goes h = cc
+  ended_word q (call.Unmap page) slot done goes h =
+      let here = same-true slot_order (at_page q page) slot h in
+      inr (cell_word slot (sym (ap (λ s. is_some (map.get v.state.spaces s)) here) ∙ may_unmap v.state q page (not_refused _ _ done)))
+  ended_word q (call.Protect page write) slot done goes h = by (not write) (takes_stores v.state.spaces (memory_of v) (at_page q page)) refl h
+    where
+      mapped : (x y : Bool) → (x && y) ≡ true → x ≡ true
+      mapped true y k = refl
+      mapped false y k = cc
+
+      by : (x y : Bool) → takes_stores v.state.spaces (memory_of v) (at_page q page) ≡ y → is_ended (if x && y then end.Page q page else end.Nothing) slot ≡ true
+          → (is_all_of (of_call v q (call.Protect page write)) slot.pid ≡ true) ⊎ (is_some (page_word (memory_of v) slot) ≡ true)
+      by false y takes k = cc
+      by true false takes k = cc
+      by true true takes k =
+          let here = same-true slot_order (at_page q page) slot k in
+          inr (cell_word slot (sym (ap (λ s. is_some (map.get v.state.spaces s)) here) ∙ mapped _ _ takes))
+  ended_word q (call.Info page) slot done goes h = cc
+  ended_word q (call.Offer page target write) slot done goes h = cc
+  ended_word q (call.Withdraw page target) slot done goes h = cc
+  ended_word q (call.Accept giver giver_page page) slot done goes h = by (is_lazy_at (memory_of v) (at_page giver giver_page)) refl h
+    where
+      by : (x : Bool) → is_lazy_at (memory_of v) (at_page giver giver_page) ≡ x → is_ended (if x then end.Page giver giver_page else end.Nothing) slot ≡ true
+          → (is_all_of (of_call v q (call.Accept giver giver_page page)) slot.pid ≡ true) ⊎ (is_some (page_word (memory_of v) slot) ≡ true)
+      by false lazy k = cc
+      by true lazy k = inr (lazy_word slot (sym (ap (is_lazy_at (memory_of v)) (same-true slot_order (at_page giver giver_page) slot k)) ∙ lazy))
+  ended_word q (call.Spawn quota) slot done goes h = cc
+  ended_word q (call.Fork quota) slot done goes h = cc
+  ended_word q call.Exit slot done goes h = inl (same_number slot.pid q h)
+    where
+      same_number : (a b : ℕ) → (a == b) ≡ true → (b == a) ≡ true
+      same_number a b k = let e : b ≡ a = sym (eqb-true a b k) in eq-eqb b a e
+  ended_word q call.Quota slot done goes h = cc
+
+  -- each page that an event ends had a walk that found a frame
+  pub found_by : (e : Event) → EndsFound (ended_by v e) (memory_of v)
+  found_by e p a small h = by (completes (answer v.state e)) refl h
+    where
+      by : (b : Bool) → completes (answer v.state e) ≡ b → is_ended (if b then of_call v e.pid e.call else end.Nothing) (slot_at p a) ≡ true
+          → (is_all_of (if b then of_call v e.pid e.call else end.Nothing) p ≡ true) ⊎ FindsFrame (memory_of v) p a
+      by false is k = cc
+      by true is k =
+          elim (ended_word e.pid e.call (slot_at p a) (live_answer v.state e is).1
+          (λ addr size value store.
+          sym (ap (λ c. goes_on (plan_of_call v e.pid c)) store) ∙ sym (ap (λ b. goes_on (if b then plan_of_call v e.pid e.call else plan.Refused cause.NoProcess)) (live_answer v.state e is).0) ∙ goes-event v e ∙ is) k) [
+            | inl all ↦ inl all
+            | inr word ↦ inr (mapped_found p a small word)
+          ]

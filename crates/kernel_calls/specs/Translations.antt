@@ -1,27 +1,8 @@
 -- Which translations an event ends: those that a walk gave before it and gives no more, so that a processor that keeps
 -- them has to invalidate them. A translation is what a walk gives for a page of a process: a frame, and whether a
 -- write is let through.
-use Rattle.std.proofs.Common.{
-  ◌≡◌,
-  ◌≢◌,
-  ◌<◌,
-  ◌^◌,
-  ℕ,
-  Bool,
-  true,
-  false,
-  not,
-  ◌&&◌,
-  ◌||◌,
-  if◌then◌else◌,
-  List,
-  [],
-  ◌∷◌,
-  Option,
-  Some,
-  None,
-  Ok,
-}
+use Rattle.std.specs.Prelude.{◌⊎◌}
+use Rattle.std.proofs.Common.{◌≡◌, ◌≢◌, ◌==◌, ◌<◌, ◌^◌, ℕ, Bool, true, false, not, ◌&&◌, ◌||◌, if◌then◌else◌, List, [], ◌∷◌, Option, Some, None, Ok}
 use Rattle.page_words.specs.FiniteMap as map
 use Rattle.page_words.specs.Addresses.{page_number, second_page}
 use Rattle.page_words.specs.declared.addresses.Size.{Size}
@@ -71,8 +52,7 @@ of_pages p None (Some page) = end.Page p page
 of_pages p (Some first) (Some second) = end.Pages p first second
 
 abbrev pub of_plan : ℕ → ℕ → Size → Plan → Ended
-of_plan p address size (plan.Ready first second) =
-    of_pages p (page_filled (page_number address) first) (second_filled (second_page address size) second)
+of_plan p address size (plan.Ready first second) = of_pages p (page_filled (page_number address) first) (second_filled (second_page address size) second)
 of_plan p address size _ = end.Nothing
 
 -- of a call that completes: an Unmap ends its page's, a Protect one that let writes through and lets none from then
@@ -80,10 +60,8 @@ of_plan p address size _ = end.Nothing
 abbrev pub of_call : View → ℕ → Call → Ended
 of_call v p (call.Store addr size value) = of_plan p addr size (plan_at v p addr size Write)
 of_call v p (call.Unmap page) = end.Page p page
-of_call v p (call.Protect page write) = if not write && takes_stores v.state.spaces (memory_of v) (at_page p page)
-    then end.Page p page else end.Nothing
-of_call v p (call.Accept giver giver_page page) =
-    if is_lazy_at (memory_of v) (at_page giver giver_page) then end.Page giver giver_page else end.Nothing
+of_call v p (call.Protect page write) = if not write && takes_stores v.state.spaces (memory_of v) (at_page p page) then end.Page p page else end.Nothing
+of_call v p (call.Accept giver giver_page page) = if is_lazy_at (memory_of v) (at_page giver giver_page) then end.Page giver giver_page else end.Nothing
 of_call v p call.Exit = end.Space p
 of_call v p _ = end.Nothing
 
@@ -91,69 +69,92 @@ of_call v p _ = end.Nothing
 abbrev pub ended_by : View → Event → Ended
 ended_by v e = if completes (answer v.state e) then of_call v e.pid e.call else end.Nothing
 
--- ---- What stays, and what doesn't
+-- ---- What an event ends, and what it leaves
+
+-- all translations of a process are ended
+abbrev pub is_all_of : Ended → ℕ → Bool
+is_all_of (end.Space p) q = p == q
+is_all_of _ q = false
 
 -- each walk that finds a frame, of a slot that isn't one of these, finds it afterwards too, from the same directory
 abbrev pub TranslationsStay : Ended → memory.Image → memory.Image → Type 0
-TranslationsStay ended old new = (p directory address frame : ℕ) (access : Access) → directory_at old p ≡ Some directory
-    → address < 2 ^ 32 → is_ended ended (slot_at p address) ≡ false
-    → walk_of old.bytes directory address access ≡ Ok frame
+TranslationsStay ended old new = (p directory address frame : ℕ) (access : Access) → directory_at old p ≡ Some directory → address < 2 ^ 32
+    → is_ended ended (slot_at p address) ≡ false → walk_of old.bytes directory address access ≡ Ok frame
     → (directory_at new p ≡ Some directory) × (walk_of new.bytes directory address access ≡ Ok frame)
 
 -- and none is ended for nothing: where a walk found a frame for a read of a slot that is one of these, there is a walk,
 -- for a read or for a write, that found the frame and doesn't any more
 abbrev pub EndsNoMore : Ended → memory.Image → memory.Image → Type 0
-EndsNoMore ended old new = (p directory address frame : ℕ) → directory_at old p ≡ Some directory → address < 2 ^ 32
-    → is_ended ended (slot_at p address) ≡ true
+EndsNoMore ended old new = (p directory address frame : ℕ) → directory_at old p ≡ Some directory → address < 2 ^ 32 → is_ended ended (slot_at p address) ≡ true
     → walk_of old.bytes directory address Read ≡ Ok frame
     → (access : Access) × (walk_of old.bytes directory address access ≡ Ok frame)
     × ((d : ℕ) → directory_at new p ≡ Some d → walk_of new.bytes d address access ≢ Ok frame)
 
--- each mapped slot that isn't one of these is mapped afterwards, and neither of its flags, accessed and dirty, was
--- cleared
-abbrev pub FlagsStay : Ended → State → State → Type 0
-FlagsStay ended s t = (slot : Slot) (c : Cell) → is_ended ended slot ≡ false → map.get s.spaces slot ≡ Some c
-    → (d : Cell) × (map.get t.spaces slot ≡ Some d) × (c.accessed ≡ true → d.accessed ≡ true)
-    × (c.dirty ≡ true → d.dirty ≡ true)
+-- a walk found a frame for a read of an address
+abbrev pub FindsFrame : memory.Image → ℕ → ℕ → Type 0
+FindsFrame image p address = (directory frame : ℕ) × (directory_at image p ≡ Some directory) × (walk_of image.bytes directory address Read ≡ Ok frame)
+
+-- each page that is named had such a walk, at each of its addresses; a process that exits is named as a whole, with its
+-- directory
+abbrev pub EndsFound : Ended → memory.Image → Type 0
+EndsFound ended image = (p address : ℕ) → address < 2 ^ 32 → is_ended ended (slot_at p address) ≡ true
+    → (is_all_of ended p ≡ true) ⊎ FindsFrame image p address
+
+-- each mapped slot that isn't one of these is mapped afterwards
+abbrev pub SlotsStay : Ended → State → State → Type 0
+SlotsStay ended s t = (slot : Slot) → is_ended ended slot ≡ false → map.contains_key s.spaces slot ≡ true → map.contains_key t.spaces slot ≡ true
+
+-- neither accessed nor dirty was cleared in a slot that is mapped before and afterwards, ended or not
+abbrev pub FlagsStay : State → State → Type 0
+FlagsStay s t = (slot : Slot) (c d : Cell) → map.get s.spaces slot ≡ Some c → map.get t.spaces slot ≡ Some d
+    → (c.accessed ≡ true → d.accessed ≡ true) × (c.dirty ≡ true → d.dirty ≡ true)
+
+-- what an event leaves of all that a processor may keep, where it ends these
+pub record Ends (ended : Ended) (v w : View) : Type 0 where
+  pub translations : TranslationsStay ended (memory_of v) (memory_of w)
+  pub no_more : EndsNoMore ended (memory_of v) (memory_of w)
+  pub found : EndsFound ended (memory_of v)
+  pub slots : SlotsStay ended v.state w.state
+  pub flags : FlagsStay v.state w.state
 
 -- ---- What a processor keeps
 
--- a translation that is kept: a page of a process, its frame, and whether a write was let through
+-- a translation that is kept: a page of a process, its frame, whether writes are let through, and whether dirty was set
 pub record Translation : Type 0 where
   pub slot : Slot
   pub frame : ℕ
   pub write : Bool
+  pub dirty : Bool
 
--- the walk gives it, at each address of its page
-pub record IsGiven (image : memory.Image) (t : Translation) : Type 0 where
+-- the walks give it, at each address of its page, and its flags are set: accessed, and dirty where that is kept
+pub record IsGiven (v : View) (t : Translation) : Type 0 where
   pub page : t.slot.page < 2 ^ 20
   pub directory : ℕ
-  pub live : directory_at image t.slot.pid ≡ Some directory
-  pub read : (address : ℕ) → address < 2 ^ 32 → page_number address ≡ t.slot.page
-      → walk_of image.bytes directory address Read ≡ Ok t.frame
-  pub written : t.write ≡ true → (address : ℕ) → address < 2 ^ 32 → page_number address ≡ t.slot.page
-      → walk_of image.bytes directory address Write ≡ Ok t.frame
+  pub live : directory_at (memory_of v) t.slot.pid ≡ Some directory
+  pub read : (address : ℕ) → address < 2 ^ 32 → page_number address ≡ t.slot.page → walk_of v.bytes directory address Read ≡ Ok t.frame
+  pub written : t.write ≡ true → (address : ℕ) → address < 2 ^ 32 → page_number address ≡ t.slot.page → walk_of v.bytes directory address Write ≡ Ok t.frame
+  pub cell : Cell
+  pub mapped : map.get v.state.spaces t.slot ≡ Some cell
+  pub accessed : cell.accessed ≡ true
+  pub dirty : t.dirty ≡ true → cell.dirty ≡ true
 
-abbrev pub AreGiven : memory.Image → List Translation → Type 0
-AreGiven image [] = Unit {0}
-AreGiven image (t ∷ kept) = IsGiven image t × AreGiven image kept
+abbrev pub AreGiven : View → List Translation → Type 0
+AreGiven v [] = Unit {0}
+AreGiven v (t ∷ kept) = IsGiven v t × AreGiven v kept
 
 -- what is left once these are invalidated
 abbrev pub left_by : Ended → List Translation → List Translation
 left_by ended [] = []
 left_by ended (t ∷ kept) = if is_ended ended t.slot then left_by ended kept else t ∷ left_by ended kept
 
--- what is left once those of several events, one after the other, are invalidated
-abbrev pub left_by_all : List Ended → List Translation → List Translation
-left_by_all [] kept = kept
-left_by_all (ended ∷ more) kept = left_by_all more (left_by ended kept)
+-- What processors do between two moments, one after another: an event ends some, which all of them invalidate before
+-- anything else, or one of them keeps a translation more, which a walk gives then.
+pub data Keeping : View → List Translation → View → List Translation → Type 0 where
+  nothing : {v : View} {kept : List Translation} → Keeping v kept v kept
+  event : {v w x : View} {kept last : List Translation} {ended : Ended} → Ends ended v w → Keeping w (left_by ended kept) x last → Keeping v kept x last
+  walk : {v x : View} {kept last : List Translation} {t : Translation} → IsGiven v t → Keeping v (t ∷ kept) x last → Keeping v kept x last
 
--- memory came to be another by steps that each ended these
-abbrev pub Steps : List Ended → memory.Image → memory.Image → Type 0
-Steps [] a b = a ≡ b
-Steps (ended ∷ more) a b = (c : memory.Image) × TranslationsStay ended a c × Steps more c b
-
--- over any such steps, what is left of kept translations that were given is given in the end
-abbrev pub KeepsThrough : Type 0
-KeepsThrough = (ended : List Ended) (a b : memory.Image) (kept : List Translation) → Steps ended a b → AreGiven a kept
-    → AreGiven b (left_by_all ended kept)
+-- then all that is kept is given by the walks of the last moment, as it was by those of the first: so at each moment, since
+-- each is the last of what came until then
+abbrev pub KeptAreGiven : Type 0
+KeptAreGiven = (v x : View) (kept last : List Translation) → Keeping v kept x last → AreGiven v kept → AreGiven x last

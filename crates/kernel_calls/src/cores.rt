@@ -21,7 +21,7 @@ ghost use Rattle.kernel_calls.specs.Machine.{answer, after, next, answers, end_o
 ghost use Rattle.kernel_calls.specs.Decisions.{decision_of, charge_in, charge_after, plan_of_event};
 ghost use Rattle.kernel_calls.specs.declared.translations.Ended.TheVariants as end;
 ghost use Rattle.kernel_calls.specs.Gone.{gone_of_call, gone_by};
-ghost use Rattle.kernel_calls.specs.Translations.{ended_by, TranslationsStay, EndsNoMore, FlagsStay};
+ghost use Rattle.kernel_calls.specs.Translations.{ended_by, Ends};
 ghost use Rattle.kernel_calls.specs.Walked.{finds_event, reply_found, bytes_accessed};
 
 use crate::calls::{Call, Decision, Event, Reply};
@@ -209,9 +209,7 @@ impl Core {
         ensures reply { result ≡ decision.reply }
         ensures state { self.new.state ≡ next self.old.state decision.event }
         ensures stands { StandsFor (image_of self.new) self.new.state }
-        ensures translations { TranslationsStay (ended_by self.old decision.event) (memory_of self.old) (memory_of self.new) }
-        ensures no_more { EndsNoMore (ended_by self.old decision.event) (memory_of self.old) (memory_of self.new) }
-        ensures flags { FlagsStay (ended_by self.old decision.event) self.old.state self.new.state }
+        ensures ends { Ends (ended_by self.old decision.event) self.old self.new }
         ensures kept { completes decision.reply ≡ false → self.new ≡ self.old }
     {
         self.follow(&decision);
@@ -224,9 +222,7 @@ impl Core {
         requires { decision.now ≡ decision_of self.old decision.now.event }
         ensures state { self.new.state ≡ next self.old.state decision.now.event }
         ensures stands { StandsFor (image_of self.new) self.new.state }
-        ensures translations { TranslationsStay (ended_by self.old decision.now.event) (memory_of self.old) (memory_of self.new) }
-        ensures no_more { EndsNoMore (ended_by self.old decision.now.event) (memory_of self.old) (memory_of self.new) }
-        ensures flags { FlagsStay (ended_by self.old decision.now.event) self.old.state self.new.state }
+        ensures ends { Ends (ended_by self.old decision.now.event) self.old self.new }
         ensures kept { completes decision.now.reply ≡ false → self.new ≡ self.old }
     {
         self.stands();
@@ -241,9 +237,7 @@ impl Core {
         ensures reply { result ≡ answer self.old.state event.now }
         ensures state { self.new.state ≡ next self.old.state event.now }
         ensures stands { StandsFor (image_of self.new) self.new.state }
-        ensures translations { TranslationsStay (ended_by self.old event.now) (memory_of self.old) (memory_of self.new) }
-        ensures no_more { EndsNoMore (ended_by self.old event.now) (memory_of self.old) (memory_of self.new) }
-        ensures flags { FlagsStay (ended_by self.old event.now) self.old.state self.new.state }
+        ensures ends { Ends (ended_by self.old event.now) self.old self.new }
         ensures kept { completes result ≡ false → self.new ≡ self.old }
     {
         self.stands();
@@ -260,9 +254,7 @@ impl Core {
         ensures charge { result.used_after ≡ charge_after self.old.state event.now }
         ensures state { self.new.state ≡ next self.old.state event.now }
         ensures stands { StandsFor (image_of self.new) self.new.state }
-        ensures translations { TranslationsStay (ended_by self.old event.now) (memory_of self.old) (memory_of self.new) }
-        ensures no_more { EndsNoMore (ended_by self.old event.now) (memory_of self.old) (memory_of self.new) }
-        ensures flags { FlagsStay (ended_by self.old event.now) self.old.state self.new.state }
+        ensures ends { Ends (ended_by self.old event.now) self.old self.new }
         ensures kept { completes result.reply ≡ false → self.new ≡ self.old }
     {
         self.stands();
@@ -280,9 +272,7 @@ impl Core {
         ensures reply { result ≡ answer self.old.state event.now }
         ensures state { self.new.state ≡ next self.old.state event.now }
         ensures stands { StandsFor (image_of self.new) self.new.state }
-        ensures translations { TranslationsStay (ended_by self.old event.now) (memory_of self.old) (memory_of self.new) }
-        ensures no_more { EndsNoMore (ended_by self.old event.now) (memory_of self.old) (memory_of self.new) }
-        ensures flags { FlagsStay (ended_by self.old event.now) self.old.state self.new.state }
+        ensures ends { Ends (ended_by self.old event.now) self.old self.new }
         ensures kept { completes result ≡ false → self.new ≡ self.old }
     {
         self.stands();
@@ -337,8 +327,7 @@ impl Core {
         ensures reply { result ≡ answer self.old.state event.now }
         ensures found { (directory : ℕ) → directory_of self.old.directories event.now.pid ≡ Some directory → result ≡ reply_found self.old.bytes directory event.now.call }
         ensures state { self.new.state ≡ next self.old.state event.now }
-        ensures translations { TranslationsStay end.Nothing (memory_of self.old) (memory_of self.new) }
-        ensures flags { FlagsStay end.Nothing self.old.state self.new.state }
+        ensures ends { Ends end.Nothing self.old self.new }
         ensures directories { self.new.directories ≡ self.old.directories }
         ensures roles { self.new.roles ≡ self.old.roles }
         ensures containers { (p : ℕ) → container_of self.new.state p ≡ container_of self.old.state p }
@@ -358,12 +347,14 @@ impl Core {
         requires live { is_live self.old.state pid ≡ true }
         requires user { IsUserPage page }
         ensures state { self.new.state ≡ self.old.state }
+        ensures ends { Ends end.Nothing self.old self.new }
         ensures directories { self.new.directories ≡ self.old.directories }
         ensures roles { self.new.roles ≡ self.old.roles }
         ensures bytes { (directory : ℕ) → directory_of self.old.directories pid ≡ Some directory → self.new.bytes ≡ with_walked self.old.bytes directory page walked }
         ensures stands { StandsFor (image_of self.new) self.new.state }
         ensures walks { WalksAgree (memory_of self.new) self.new.state.spaces }
     {
+        self.stands();
         self.processes.set_walked(pid, page, walked);
         self.stands();
     }

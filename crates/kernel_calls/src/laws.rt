@@ -6,7 +6,7 @@ ghost use Rattle.kernel_calls.specs.Own.{OwnIsEnough, AcceptsReadTheirOffer};
 ghost use Rattle.kernel_calls.specs.Together.{MembersToldTheSame, MembersSeeTheSame, OutsidersUnseen, MembersHearTheSame, OutsidersHearNothing};
 ghost use Rattle.kernel_calls.specs.Isolation.{RunsAreIsolated, OthersMakeNoDifference};
 ghost use Rattle.kernel_calls.specs.Laws.{RunsStayWellFormed};
-ghost use Rattle.kernel_calls.specs.Translations.{KeepsThrough};
+ghost use Rattle.kernel_calls.specs.Translations.{KeptAreGiven};
 
 /// Every state of a run of a machine that boots is well formed, and all its live processes together
 /// cost at most its root's quota, which is all frames but frame 0. It computes nothing.
@@ -24,11 +24,11 @@ pub fn processes_are_isolated()
     ensures others { OthersMakeNoDifference }
 {}
 
-/// Of translations that a processor keeps, and that the walks of memory gave, those that are left once what each of
-/// several events ends was invalidated are given by the walks of memory afterwards. Each event's step is one as
-/// `Core::step` says (`translations`). It computes nothing.
+/// Of translations that processors keep, and that the walks of memory gave: where each event's are invalidated on all
+/// of them before anything else is done, and more are kept only where a walk gives them, all that is kept is given by
+/// the walks of memory, at each moment. Each event leaves of them what `Core::step` says (`ends`). It computes nothing.
 pub fn kept_translations_are_given()
-    ensures { KeepsThrough }
+    ensures { KeptAreGiven }
 {}
 
 /// What an event of one process does to another that is live: it leaves its place in the book, its pages with

@@ -9,7 +9,7 @@ use Rattle.address_space.proofs.costs.Costs.{cost-insert}
 use Rattle.address_space.proofs.costs.Totals.{cost-joined}
 use Rattle.page_sharing.specs.Offers.{offer_of, pending}
 use Rattle.process_table.specs.State.{State, is_live, is_mapped, has_no_room}
-use Rattle.process_table.specs.Calls.{map_refusal, protect_refusal, offer_refusal, accept_refusal, offered, after_map, after_accept}
+use Rattle.process_table.specs.Calls.{map_refusal, unmap_refusal, protect_refusal, offer_refusal, accept_refusal, offered, after_map, after_accept}
 use Rattle.process_table.specs.TestAnswers.{first_cause, number_unless, map_answer, accept_answer}
 use Rattle.process_table.specs.declared.causes.Cause.{Cause}
 use Rattle.process_table.specs.declared.causes.Cause.TheVariants.{NoProcess, BadPage, Mapped, Quota, NoOffer}
@@ -33,6 +33,12 @@ may_map s p page h =
     let b = choice (is_mapped s (at_page p page)) _ _ a.1 in
     let c = choice (has_no_room s (at_page p page)) _ _ b.1 in
     record { user = not-false _ a.0; none = no_value _ b.0; room = c.0 }
+
+-- a page may be unmapped: it is mapped
+pub may_unmap : (s : State) (p page : ℕ) → unmap_refusal s p page ≡ None → is_some (map.get s.spaces (at_page p page)) ≡ true
+may_unmap s p page h =
+    let a = choice (not (is_user_page page)) _ _ h in
+    not-false _ (choice (not (is_mapped s (at_page p page))) _ _ a.1).0
 
 right_of_not : (write may : Bool) → (write && not may) ≡ false → write ≡ true → may ≡ true
 right_of_not true may h e = not-false may h

@@ -2,40 +2,24 @@ use Rattle.std.proofs.Common.{◌≡◌, ap, subst}
 use Rattle.address_space.specs.Stays.{FramesStay}
 use Rattle.process_table.specs.Image.{memory_of}
 use Rattle.process_table.specs.View.{View}
-use Rattle.kernel_calls.specs.Machine.{next}
-use Rattle.kernel_calls.specs.declared.calls.Event.{Event}
-use Rattle.kernel_calls.specs.declared.calls.Decision.{Decision}
 use Rattle.kernel_calls.specs.Gone.{gone_by}
-use Rattle.kernel_calls.proofs.Translated.{translations_stay, flags_stay}
-use Rattle.kernel_calls.proofs.Ends.{ends_no_more}
+use Rattle.kernel_calls.specs.Machine.{next}
+use Rattle.kernel_calls.specs.declared.calls.Decision.{Decision}
+use Rattle.kernel_calls.specs.declared.calls.Event.{Event}
+use Rattle.kernel_calls.proofs.Leaving.{event_ends, standing}
 use Rattle.kernel_calls.proofs.cores.Core.reply_planned.Goals as goal
 
-pub returns-clause-translations : goal.returns-clause-translations
-returns-clause-translations c =
-    translations_stay c.args.self.now c.carry_out.new.processes c.args.event.now c.stands.ensures.image
-    c.stands.ensures.walks c.stands.ensures.ways c.stands.ensures.well_formed c.stands-2.ensures.image
-    c.stands-2.ensures.walks c.stands-2.ensures.ways
-    (subst (λ (v : View). c.carry_out.new.processes.state ≡ next v.state c.args.event.now) c.self.view_is
-    (subst (λ (e : Event). c.carry_out.new.processes.state ≡ next c.self.inside.processes.state e)
-    (ap (λ (d : Decision). d.event) c.decide_on-decision.ensures) c.carry_out.ensures.state))
-    (subst (λ (v : View). FramesStay (gone_by v.state c.args.event.now) (memory_of v)
-    (memory_of c.carry_out.new.processes)) c.self.view_is
-    (subst (λ (e : Event). FramesStay (gone_by c.self.inside.processes.state e) (memory_of c.self.inside.processes)
-    (memory_of c.carry_out.new.processes)) (ap (λ (d : Decision). d.event) c.decide_on-decision.ensures)
-    c.carry_out.ensures.stay))
-
-pub returns-clause-no_more : goal.returns-clause-no_more
-returns-clause-no_more c =
-    ends_no_more c.args.self.now c.carry_out.new.processes c.args.event.now c.stands.ensures.image
-    c.stands.ensures.walks c.stands.ensures.ways c.stands.ensures.well_formed c.stands-2.ensures.image
-    c.stands-2.ensures.walks c.stands-2.ensures.ways
-    (subst (λ (v : View). c.carry_out.new.processes.state ≡ next v.state c.args.event.now) c.self.view_is
-    (subst (λ (e : Event). c.carry_out.new.processes.state ≡ next c.self.inside.processes.state e)
-    (ap (λ (d : Decision). d.event) c.decide_on-decision.ensures) c.carry_out.ensures.state))
-
-pub returns-clause-flags : goal.returns-clause-flags
-returns-clause-flags c =
-    flags_stay c.args.self.now c.carry_out.new.processes c.args.event.now c.stands.ensures.well_formed
-    (subst (λ (v : View). c.carry_out.new.processes.state ≡ next v.state c.args.event.now) c.self.view_is
-    (subst (λ (e : Event). c.carry_out.new.processes.state ≡ next c.self.inside.processes.state e)
-    (ap (λ (d : Decision). d.event) c.decide_on-decision.ensures) c.carry_out.ensures.state))
+pub returns-clause-ends : goal.returns-clause-ends
+returns-clause-ends c =
+    let now = c.stands.ensures in
+    let later = c.stands-2.ensures in
+    let inside = c.self.inside.processes in
+    let new = c.carry_out.new.processes in
+    let same = ap (λ (d : Decision). d.event) c.decide_on-decision.ensures in
+    let e = c.args.event.now in
+    event_ends c.args.self.now new e
+    (standing now.image now.walks now.ways now.well_formed) (standing later.image later.walks later.ways later.well_formed)
+    (subst (λ (v : View). new.state ≡ next v.state e) c.self.view_is
+    (subst (λ (x : Event). new.state ≡ next inside.state x) same c.carry_out.ensures.state))
+    (subst (λ (v : View). FramesStay (gone_by v.state e) (memory_of v) (memory_of new)) c.self.view_is
+    (subst (λ (x : Event). FramesStay (gone_by inside.state x) (memory_of inside) (memory_of new)) same c.carry_out.ensures.stay))

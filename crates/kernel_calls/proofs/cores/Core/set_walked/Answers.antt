@@ -1,0 +1,16 @@
+use Rattle.std.proofs.Common.{◌≡◌, subst}
+use Rattle.address_space.specs.Stays.{FramesStay, none_goes}
+use Rattle.process_table.specs.Image.{memory_of}
+use Rattle.process_table.specs.View.{View}
+use Rattle.kernel_calls.proofs.Leaving.{nothing_ends, standing}
+use Rattle.kernel_calls.proofs.cores.Core.set_walked.Goals as goal
+
+pub returns-clause-ends : goal.returns-clause-ends
+returns-clause-ends c =
+    let now = c.stands.ensures in
+    let later = c.stands-2.ensures in
+    let new = c.set_walked.new.processes in
+    nothing_ends c.args.self.now new
+    (standing now.image now.walks now.ways now.well_formed) (standing later.image later.walks later.ways later.well_formed)
+    (subst (λ (v : View). new.state ≡ v.state) c.self.view_is c.set_walked.ensures.state)
+    (subst (λ (v : View). FramesStay none_goes (memory_of v) (memory_of new)) c.self.view_is c.set_walked.ensures.stay)
