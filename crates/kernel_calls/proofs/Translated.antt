@@ -26,6 +26,8 @@ use Rattle.std.proofs.Common.{
   Option,
   Some,
   None,
+  eqb-true,
+  eq-eqb,
 }
 use Rattle.std.specs.Prelude.{◌⊎◌, if◌then◌else◌, is_some, MatchBool, Ok}
 use Rattle.std.specs.Option.{option_map, option_and_then, unwrap_or}
@@ -72,7 +74,18 @@ use Rattle.process_table.proofs.SharingLaws.{giver_user}
 use Rattle.kernel_calls.specs.Walked.{finds_call, finds_event}
 use Rattle.fault_handler.specs.declared.plans.Plan.TheVariants as plan
 use Rattle.kernel_calls.specs.Translations.{
-  is_ended, is_all_of, page_filled, second_filled, of_pages, of_plan, of_call, ended_by, TranslationsStay, FindsFrame, EndsFound, SlotsStay,
+  is_ended,
+  is_all_of,
+  page_filled,
+  second_filled,
+  of_pages,
+  of_plan,
+  of_call,
+  ended_by,
+  TranslationsStay,
+  FindsFrame,
+  EndsFound,
+  SlotsStay,
 }
 use Rattle.kernel_calls.specs.declared.translations.Ended.{Ended}
 use Rattle.kernel_calls.specs.Gone.{gone_of_call, gone_by}

@@ -9,7 +9,7 @@ pub returns-clause-ends : goal.returns-clause-ends
 returns-clause-ends c =
     let now = c.stands.ensures in
     let later = c.stands-2.ensures in
-    let new = c.set_walked.new.processes in
+    let new = c.set_walked.new.self in
     nothing_ends c.args.self.now new
     (standing now.image now.walks now.ways now.well_formed) (standing later.image later.walks later.ways later.well_formed)
     (subst (λ (v : View). new.state ≡ v.state) c.self.view_is c.set_walked.ensures.state)
