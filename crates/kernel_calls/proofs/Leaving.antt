@@ -20,7 +20,7 @@ use Rattle.process_table.specs.View.{View}
 use Rattle.process_table.specs.WellFormed.{IsWellFormed}
 use Rattle.kernel_calls.specs.Gone.{gone_by}
 use Rattle.kernel_calls.specs.Machine.{answer, answer_of, after, next, completes}
-use Rattle.kernel_calls.specs.Translations.{is_ended, is_all_of, of_call, ended_by, FindsFrame, EndsFound, SlotsStay, FlagsStay, Ends, Translation, IsGiven, AreGiven, left_by, Keeping, nothing, event, walk, KeptAreGiven}
+use Rattle.kernel_calls.specs.Translations.{is_ended, is_all_of, of_call, ended_by, FindsFrame, EndsFound, SlotsStay, FlagsStay, Ends, Translation, IsGiven, AreGiven, left_by, left_by_all, Keeping, nothing, event, walk, KeptAreGiven, EndAlong, KeptThroughRuns}
 use Rattle.kernel_calls.specs.declared.calls.Call.{Call}
 use Rattle.kernel_calls.specs.declared.calls.Call.TheVariants as call
 use Rattle.kernel_calls.specs.declared.calls.Event.{Event}
@@ -179,3 +179,10 @@ through (walk gives more) given = through more (gives, given)
 
 pub kept_given : KeptAreGiven
 kept_given v x kept last keeping given = through keeping given
+
+pub kept_through_runs : KeptThroughRuns
+kept_through_runs v w [] [] kept along given = subst (λ x. AreGiven x kept) along given
+kept_through_runs v w (e ∷ events) (x ∷ ended) kept along given =
+    kept_through_runs along.0 w events ended (left_by x kept) along.4 (left_given x v along.0 kept along.3 given)
+kept_through_runs v w [] (x ∷ ended) kept along given = absurd along
+kept_through_runs v w (e ∷ events) [] kept along given = absurd along

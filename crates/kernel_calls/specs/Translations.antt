@@ -20,7 +20,7 @@ use Rattle.fault_handler.specs.declared.plans.PageStep.{PageStep}
 use Rattle.fault_handler.specs.declared.plans.PageStep.TheVariants as step
 use Rattle.fault_handler.specs.declared.plans.Plan.{Plan}
 use Rattle.fault_handler.specs.declared.plans.Plan.TheVariants as plan
-use Rattle.kernel_calls.specs.Machine.{answer, completes}
+use Rattle.kernel_calls.specs.Machine.{answer, next, completes}
 use Rattle.kernel_calls.specs.declared.calls.Call.{Call}
 use Rattle.kernel_calls.specs.declared.calls.Call.TheVariants as call
 use Rattle.kernel_calls.specs.declared.calls.Event.{Event}
@@ -147,6 +147,11 @@ abbrev pub left_by : Ended → List Translation → List Translation
 left_by ended [] = []
 left_by ended (t ∷ kept) = if is_ended ended t.slot then left_by ended kept else t ∷ left_by ended kept
 
+-- what is left once those of several events, one after the other, are invalidated
+abbrev pub left_by_all : List Ended → List Translation → List Translation
+left_by_all [] kept = kept
+left_by_all (ended ∷ more) kept = left_by_all more (left_by ended kept)
+
 -- What processors do between two moments, one after another: an event ends some, which all of them invalidate before
 -- anything else, or one of them keeps a translation more, which a walk gives then.
 pub data Keeping : View → List Translation → View → List Translation → Type 0 where
@@ -158,3 +163,17 @@ pub data Keeping : View → List Translation → View → List Translation → T
 -- each is the last of what came until then
 abbrev pub KeptAreGiven : Type 0
 KeptAreGiven = (v x : View) (kept last : List Translation) → Keeping v kept x last → AreGiven v kept → AreGiven x last
+
+-- ---- Along a run
+
+-- events that were carried out one after another, and what each of them ended
+abbrev pub EndAlong : List Event → List Ended → View → View → Type 0
+EndAlong [] [] v w = v ≡ w
+EndAlong (e ∷ events) (x ∷ ended) v w = (u : View) × (x ≡ ended_by v e) × (u.state ≡ next v.state e) × Ends x v u × EndAlong events ended u w
+EndAlong [] (x ∷ ended) v w = ⊥
+EndAlong (e ∷ events) [] v w = ⊥
+
+-- what was given before a run, and was ended by none of its events, is given after it
+abbrev pub KeptThroughRuns : Type 0
+KeptThroughRuns = (v w : View) (events : List Event) (ended : List Ended) (kept : List Translation) → EndAlong events ended v w
+    → AreGiven v kept → AreGiven w (left_by_all ended kept)

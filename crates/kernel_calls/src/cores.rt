@@ -21,7 +21,7 @@ ghost use Rattle.kernel_calls.specs.Machine.{answer, after, next, answers, end_o
 ghost use Rattle.kernel_calls.specs.Decisions.{decision_of, charge_in, charge_after, plan_of_event};
 ghost use Rattle.kernel_calls.specs.declared.translations.Ended.TheVariants as end;
 ghost use Rattle.kernel_calls.specs.Gone.{gone_of_call, gone_by};
-ghost use Rattle.kernel_calls.specs.Translations.{ended_by, Ends};
+ghost use Rattle.kernel_calls.specs.Translations.{ended_by, EndAlong, Ends};
 ghost use Rattle.kernel_calls.specs.Walked.{finds_event, reply_found, bytes_accessed};
 
 use crate::calls::{Call, Decision, Event, Reply};
@@ -308,6 +308,38 @@ impl Core {
         for (i, event) in events.iter().enumerate() {
             replies[i] = self.step(event);
         }
+    }
+
+    /// Decides an event and carries it out, and tells which translations it ended: whoever keeps what the walks gave has
+    /// to invalidate these before anything else is done. The reply alone is for the process; what was ended is not.
+    pub fn step_ending(&mut self, event: &Event) -> (Reply, Ended)
+        ensures reply { result.0 ≡ answer self.old.state event.now }
+        ensures ended { result.1 ≡ ended_by self.old event.now }
+        ensures state { self.new.state ≡ next self.old.state event.now }
+        ensures stands { StandsFor (image_of self.new) self.new.state }
+        ensures ends { Ends result.1 self.old self.new }
+        ensures kept { completes result.0 ≡ false → self.new ≡ self.old }
+    {
+        let ended = self.ends(event);
+        let reply = self.step(event);
+        (reply, ended)
+    }
+
+    /// Carries out events in order, as `run` does, and tells of each which translations it ended.
+    pub fn run_ending(&mut self, events: &[Event], replies: &mut [Reply], ended: &mut [Ended])
+        requires replies { length events.now ≡ length replies.old }
+        requires ended { length events.now ≡ length ended.old }
+        ensures replies { replies.new ≡ answers self.old.state events.now }
+        ensures state { self.new.state ≡ end_of self.old.state events.now }
+        ensures stands { StandsFor (image_of self.new) self.new.state }
+        ensures ended { EndAlong events.now ended.new self.old self.new }
+    {
+        for (i, event) in events.iter().enumerate() {
+            let told = self.step_ending(event);
+            replies[i] = told.0;
+            ended[i] = told.1;
+        }
+        self.stands();
     }
 
     /// Whether a processor carries out an event by itself: it is a load or a store, and the walk of its process's

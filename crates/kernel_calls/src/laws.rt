@@ -6,7 +6,7 @@ ghost use Rattle.kernel_calls.specs.Own.{OwnIsEnough, AcceptsReadTheirOffer};
 ghost use Rattle.kernel_calls.specs.Together.{MembersToldTheSame, MembersSeeTheSame, OutsidersUnseen, MembersHearTheSame, OutsidersHearNothing};
 ghost use Rattle.kernel_calls.specs.Isolation.{RunsAreIsolated, OthersMakeNoDifference};
 ghost use Rattle.kernel_calls.specs.Laws.{RunsStayWellFormed};
-ghost use Rattle.kernel_calls.specs.Translations.{KeptAreGiven};
+ghost use Rattle.kernel_calls.specs.Translations.{KeptAreGiven, KeptThroughRuns};
 
 /// Every state of a run of a machine that boots is well formed, and all its live processes together
 /// cost at most its root's quota, which is all frames but frame 0. It computes nothing.
@@ -28,7 +28,8 @@ pub fn processes_are_isolated()
 /// of them before anything else is done, and more are kept only where a walk gives them, all that is kept is given by
 /// the walks of memory, at each moment. Each event leaves of them what `Core::step` says (`ends`). It computes nothing.
 pub fn kept_translations_are_given()
-    ensures { KeptAreGiven }
+    ensures moments { KeptAreGiven }
+    ensures runs { KeptThroughRuns }
 {}
 
 /// What an event of one process does to another that is live: it leaves its place in the book, its pages with

@@ -1,0 +1,14 @@
+use Rattle.std.proofs.Common.{◌≡◌, ◌++◌, List, take, drop}
+use Rattle.process_table.specs.View.{View}
+use Rattle.kernel_calls.specs.Machine.{answers, end_of}
+use Rattle.kernel_calls.specs.Translations.{EndAlong}
+use Rattle.kernel_calls.specs.declared.translations.Ended.{Ended}
+use Rattle.kernel_calls.proofs.cores.Core.run_ending.Given as goal
+
+-- the replies so far and those to what is left are those to all, and so is what was ended
+abbrev pub invariant-loop-i : goal.invariant-loop-i
+invariant-loop-i l = record {
+  told : take l.i l.replies ++ answers l.self.state (drop l.i l.events) ≡ answers l.fn.self.state l.events;
+  rest : end_of l.self.state (drop l.i l.events) ≡ end_of l.fn.self.state l.events;
+  along : (later : List Ended) (w : View) → EndAlong (drop l.i l.events) later l.self w → EndAlong l.events (take l.i l.ended ++ later) l.fn.self w;
+}
