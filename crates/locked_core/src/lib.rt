@@ -12,6 +12,7 @@ mod closing;
 mod cpu;
 mod faults;
 mod gate;
+mod head;
 mod kernel;
 mod locked;
 mod monitor;

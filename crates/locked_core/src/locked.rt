@@ -11,64 +11,19 @@ ghost use Rattle.locked_core.specs.Rules.{head_of};
 ghost use Rattle.memory_report.specs.declared.entries.LogEntry.{LogEntry};
 ghost use Rattle.process_table.specs.State.{open_with};
 
-use crate::book::{Add, Beginning, Coming, Front, Law, Look, Name, Nothing, Opened, no_entry};
+use crate::book::{Front, Name, Opened};
 use crate::call_log::{CallLog, entry_of};
 use crate::closing::{History, are_all};
 use crate::cpu::Cpu;
 use crate::faults::Fault;
+use crate::head::Head;
 use crate::publish::publish;
 use crate::rule::LogWriter;
 use kernel_calls::{Call, Core, Event, Reply};
-use logbook::{Offer, Word};
 use memory_image::Image;
-use memory_report::LogEntry;
 use page_words::Pid;
-use std::marker::{Model, PhantomData};
+use std::marker::Model;
 use std::sync::Wait;
-
-/// The length of the history, which is stored once. Only a call that is carried out adds to it.
-#[derive(Drop)]
-struct Book<N: Name> {
-    head: Word<LogEntry, u64, Law>,
-    of: PhantomData<N>,
-    ghost head_is: { head ≡ head_of N.book },
-}
-
-impl<N: Name> Book<N> {
-    /// How long the history is, of which a beginning was seen.
-    fn length(&self, mut seen: Beginning) -> u64
-        requires { seen.book ≡ N.book }
-        ensures { (history : List LogEntry) × StartsWith history seen.log × (length history ≡ result) }
-    {
-        let mut offer: Offer<LogEntry, u64, Law, Nothing> = seen.plain::<Nothing, LogEntry, Add>(
-            &no_entry(),
-        );
-        self.head.load::<Look, Nothing>(&mut seen, &mut offer)
-    }
-
-    /// Adds the entry of a call that comes to all that was seen, and says whether it did. It did not where the
-    /// history is longer.
-    fn add(&self, count: usize, seen: &mut Beginning, coming: &Coming<N>) -> bool
-        requires room { count + 1 < 2 ^ 64 }
-        requires seen { (count ≡ length seen.old.log) × (seen.old.book ≡ N.book) }
-        ensures { result ≡ true → (seen.new.book ≡ N.book) × (seen.new.log ≡ seen.old.log ++ entry_after N.frames coming.now.log.now coming.now.event.now.cpu coming.now.event.now.pid coming.now.event.now.call ∷ []) }
-    {
-        let mut offer: Offer<LogEntry, u64, Law, Nothing> = seen.plain::<Nothing, Coming<N>, Add>(
-            coming,
-        );
-        let mut pen = seen.no_pen();
-        let found = self
-            .head
-            .compare_exchange::<Add, Nothing>(
-                count as u64,
-                count as u64 + 1,
-                seen,
-                &mut offer,
-                &mut pen,
-            );
-        found == count as u64
-    }
-}
 
 /// A call that was judged under the lock: how many entries its CPU had then, and what it asks. It can be carried
 /// out on the log that it was judged on alone.
@@ -79,12 +34,12 @@ pub struct Ready {
 }
 
 /// The core, the log of all calls, the history that it is, and what publishes it. Contracts see the core
-/// and the log, which is a legal history: the core is in the state after it, what is published reports on
-/// it, and the side that is not published on a beginning of it.
+/// and the log, which is a legal history: the core is in the state after it, it is all that was added to the
+/// kernel's history, what is published reports on it, and the side that is not published on a beginning of it.
 pub struct Locked<N: Name> {
     core: Core,
     log: CallLog,
-    book: Book<N>,
+    head: Head<N>,
     writer: LogWriter,
 }
 
@@ -99,7 +54,7 @@ impl<N: Name> Model for Locked<N> {
 
     ghost view = { λ l. record { core = l.core; log = l.log.entries } };
 
-    ghost invariant = { λ l. Legal N.frames l.log.entries × (l.core.state ≡ state_after N.frames l.log.entries) × (l.writer.desk.shown.value ≡ page N.frames N.book l.log.entries) × (l.writer.desk.place.me.0.client ≡ view_of N.frames N.book) × LagsBehind l.writer.desk.spare.value (page N.frames N.book l.log.entries) };
+    ghost invariant = { λ l. Legal N.frames l.log.entries × (l.core.state ≡ state_after N.frames l.log.entries) × (l.writer.desk.shown.value ≡ page N.frames N.book l.log.entries) × (l.writer.desk.place.me.0.client ≡ view_of N.frames N.book) × LagsBehind l.writer.desk.spare.value (page N.frames N.book l.log.entries) × (l.head ≡ l.log.entries) };
 }
 
 impl<N: Name> Locked<N> {
@@ -114,14 +69,10 @@ impl<N: Name> Locked<N> {
         ensures log { result.log ≡ [] }
         ensures core { result.core.state ≡ open_with N.frames }
     {
-        let book = Book {
-            head: opened.into_head(),
-            of: PhantomData,
-        };
         Locked {
             core,
             log,
-            book,
+            head: Head::new(opened),
             writer,
         }
     }
@@ -136,7 +87,7 @@ impl<N: Name> Locked<N> {
         ensures refused { IfErr result (IsRefused N.frames self.now.log cpu.now) }
     {
         let published = self.writer.published();
-        if self.book.length(published.beginning()) != published.count() as u64 {
+        if self.head.length() != published.count() as u64 {
             return Err(Fault::Unread);
         }
         if !cpu.agrees(&self.log, &published.front::<N>()) {
@@ -207,21 +158,20 @@ impl<N: Name> Locked<N> {
         let Locked {
             core,
             log,
-            book,
+            head,
             writer,
         } = self;
         let Ready { nth, event } = ready;
         if log.reserve().is_err() {
             return Err(Fault::NoMemory);
         }
-        let mut seen = writer.published().beginning();
-        if !book.add(log.len(), &mut seen, &Coming::new(log.entries(), &event)) {
+        if !head.add(log, &event) {
             return Err(Fault::Unread);
         }
         let decision = core.carry_out(&event);
         let entry = entry_of(&event, nth, &decision);
         log.push(&entry);
-        publish(rt, writer, log.entries(), &seen);
+        publish(rt, writer, log.entries(), &head.all());
         Ok((entry.reply, writer.published().front::<N>()))
     }
 
@@ -238,7 +188,7 @@ impl<N: Name> Locked<N> {
         let Locked {
             core,
             log,
-            book: _book,
+            head: _head,
             writer,
         } = self;
         let front = writer.published().front::<N>();

@@ -19,8 +19,8 @@ publish-requires-clause-legal g c =
     let e : LogEntry = c.entry_of-entry.result in
     let stands = subst (Stands g.N.Name.frames) c.self.view_is (c.self.invariant.0, c.self.invariant.1) in
     let ends = judged g.N.Name.frames h c.args.ready.nth event c.carry_out-decision.result.reply c.carry_out-decision.result.used_after e stands c.requires.nth.1 (c.carry_out-decision.ensures.reply ∙ ap (λ (k : Held). answer k.core.state event) c.self.view_is) (c.carry_out-decision.ensures.charge ∙ ap (λ (k : Held). charge_after k.core.state event) c.self.view_is) c.entry_of-entry.ensures in
-    let grown : c.entries-2.result.now ≡ h.log ++ e ∷ [] = c.entries-2.ensures ∙ (c.push.ensures.entries ∙ ap (λ l. l ++ e ∷ []) (c.reserve.ensures.entries ∙ ap (λ (k : Held). k.log) c.self.view_is)) in
-    let legal : Legal g.N.Name.frames c.entries-2.result.now = subst (Legal g.N.Name.frames) (sym grown) ends.1 in
+    let grown : c.entries.result.now ≡ h.log ++ e ∷ [] = c.entries.ensures ∙ (c.push.ensures.entries ∙ ap (λ l. l ++ e ∷ []) (c.reserve.ensures.entries ∙ ap (λ (k : Held). k.log) c.self.view_is)) in
+    let legal : Legal g.N.Name.frames c.entries.result.now = subst (Legal g.N.Name.frames) (sym grown) ends.1 in
     rw (c.self.invariant.4.frames) legal
 
 pub invariant_of-self-2 : goal.invariant_of-self-2
@@ -35,10 +35,12 @@ invariant_of-self-2 g c =
     let grown : new ≡ h.log ++ e ∷ [] = longer ∙ ap (λ (k : Held). k.log ++ e ∷ []) c.self.view_is in
     let moved : c.carry_out-decision.new.self.state ≡ next h.core.state event = c.carry_out-decision.ensures.state ∙ ap (λ (k : Held). next k.core.state event) c.self.view_is in
     let all = logged g.N.Name.frames h.log new h.core.state c.carry_out-decision.new.self.state event.cpu event.pid event.call e stands.0 stands.1 ends.0 grown moved in
-    let book_is : c.add.new.seen.book ≡ g.N.Name.book = search rules in (
+    let book_is : c.all.result.book ≡ g.N.Name.book = c.all.ensures.1 in
+    let added : c.add.new.self ≡ new = search rules in (
       all.legal,
       all.stands,
-      c.publish.ensures.shown ∙ (λ i. page (c.self.invariant.4.frames i) (book_is i) (c.entries-2.ensures i)),
+      c.publish.ensures.shown ∙ (λ i. page (c.self.invariant.4.frames i) (book_is i) (c.entries.ensures i)),
       c.publish.ensures.view ∙ c.self.invariant.3,
       lags_by_one g.N.Name.frames g.N.Name.book c.self.inside.log.entries new e c.publish.new.writer.desk.spare.value (c.publish.ensures.spare ∙ c.self.invariant.2) longer,
+      added,
     )

@@ -15,4 +15,5 @@ invariant_of-result g c =
       w.0 ∙ ap (page g.N.Name.frames g.N.Name.book) (sym none),
       w.1,
       subst (λ (p : Page). LagsBehind p whole) (sym c.requires.spare) empty,
+      c.new.ensures ∙ sym none,
     )

@@ -1,11 +1,11 @@
 use Rattle.std.proofs.Common.{sym, ◌∙◌, ap}
 use Rattle.locked_core.proofs.Adding.{adds_moves}
 use Rattle.memory_report.specs.Histories.{entry_after}
-use Rattle.locked_core.proofs.locked.Book.add.Goals as goal
+use Rattle.locked_core.proofs.head.exchange.Goals as goal
 
 pub compare_exchange-found-requires : goal.compare_exchange-found-requires
 compare_exchange-found-requires g c =
-    let h = c.args.self.now.head_is in
+    let h = c.requires.word in
     let offer = c.plain-offer.ensures in
     let pen = c.no_pen-pen.ensures in
     let here = c.requires.seen.1 ∙ sym (ap (λ w. w.book) h) in (
