@@ -82,8 +82,8 @@ fn kept_now<N: Name>(cpu: &Cpu<N>, monitor: &mut Monitor<N>) -> Kept {
     }
 }
 
-fn check_kept<N: Name, R: Abort>(rt: &R, cpu: &Cpu<N>, monitor: &mut Monitor<N>, before: Kept) {
-    assert_eq!(rt; kept_now(cpu, monitor), before);
+fn check_kept<N: Name, R: Abort>(rt: &R, cpu: &Cpu<N>, monitor: &mut Monitor<N>, before: &Kept) {
+    assert_eq!(rt; &kept_now(cpu, monitor), before);
 }
 
 /// Makes a call of process 0, which must be answered so; whether there was memory for it.
@@ -91,12 +91,12 @@ fn is_made<N: Name, R: Wait + Abort>(
     rt: &R,
     kernel: &Kernel<N, OpenGate>,
     cpu: &mut Cpu<N>,
-    call: Call,
-    reply: Reply,
+    call: &Call,
+    reply: &Reply,
 ) -> bool {
-    match cpu.call(rt, kernel, process(rt, 0), call) {
+    match cpu.call(rt, kernel, process(rt, 0), *call) {
         Ok(given) => {
-            assert_eq!(rt; given, reply);
+            assert_eq!(rt; &given, reply);
             true
         }
         Err(fault) => {
@@ -111,8 +111,8 @@ fn check_made<N: Name, R: Wait + Abort>(
     rt: &R,
     kernel: &Kernel<N, OpenGate>,
     cpu: &mut Cpu<N>,
-    call: Call,
-    reply: Reply,
+    call: &Call,
+    reply: &Reply,
 ) {
     assert!(rt; is_made(rt, kernel, cpu, call, reply));
 }
@@ -128,10 +128,10 @@ fn called<N: Name, R: Wait + Abort + Print>(
     reply: Reply,
 ) {
     let before = kept_now(cpu, monitor);
-    if !is_made(rt, kernel, cpu, call, reply) {
-        check_kept(rt, cpu, monitor, before);
+    if !is_made(rt, kernel, cpu, &call, &reply) {
+        check_kept(rt, cpu, monitor, &before);
         say(rt, "NoMemory, and then a call");
-        check_made(rt, kernel, cpu, call, reply);
+        check_made(rt, kernel, cpu, &call, &reply);
     }
 }
 
