@@ -2,12 +2,11 @@
 
 ghost use Rattle.std.specs.Prelude.{◌≡◌};
 
-use guest_cpu::{End, Guest, run};
+use crate::kernels::{booted, closed, ended, opened, process, put, run_on, taken};
+use guest_cpu::{End, Guest, Instruction};
 use guest_race::{opening, program_of};
 use kernel_calls::{Core, Reply};
-use locked_core::{Blank, Boot, Cpu, CpuPort, Kernel, Name, OpenGate};
-use page_words::Pid;
-use std::alloc::Global;
+use locked_core::{Blank, Boot, Cpu, Kernel, Name, OpenGate};
 use std::marker::Brand;
 use std::process::Abort;
 use std::sync::Wait;
@@ -16,69 +15,81 @@ use std::test::Fail;
 /// How many turns each guest has: one that is alone has nothing to do after the first of them.
 const TURNS: u32 = 30_000;
 
-#[test]
-fn guests_one_after_the_other_run_out_of_turns(rt: HostRuntime) -> Result<(), Fail> {
-    let mut core = Core::boot(rt.alloc(), 16)?;
-    let child = Pid::new(1).ok_or("no process")?;
-    let replies = [Reply::Done, Reply::Child(child), Reply::Done, Reply::Done];
+/// The program of the guest of a process: that of process 0 begins with 0, the other with 1.
+fn program(number: u8) -> [Instruction; 13] {
+    program_of(if number == 0 { 0 } else { 1 })
+}
+
+/// The calls before the guests run, and what each is answered.
+fn open_core<R: Abort>(rt: &R, core: &mut Core) {
+    let replies = [
+        Reply::Done,
+        Reply::Child(process(rt, 1)),
+        Reply::Done,
+        Reply::Done,
+    ];
     for (event, reply) in opening().iter().zip(replies) {
         assert_eq!(rt; core.step(event), reply);
     }
-    for (number, first) in [(0, 0), (1, 1)] {
-        let pid = Pid::new(number).ok_or("no process")?;
-        let program = program_of(first);
-        let mut guest = Guest::new(number, pid);
-        let end = run(&mut guest, &program, TURNS, &mut core);
-        assert_eq!(rt; end, End::OutOfTurns, "process {number}");
-    }
+}
+
+fn check_end<R: Abort>(rt: &R, end: End, number: u8) {
+    assert_eq!(rt; end, End::OutOfTurns, "process {number}");
+}
+
+/// A guest of a process that runs alone on the core runs out of turns.
+fn check_on_core<R: Abort>(rt: &R, core: &mut Core, number: u8) {
+    let mut guest = Guest::new(number, process(rt, number));
+    let end = run_on(core, &mut guest, &program(number), TURNS);
+    check_end(rt, end, number);
+}
+
+#[test]
+fn guests_one_after_the_other_run_out_of_turns(rt: HostRuntime) -> Result<(), Fail> {
+    let mut core = Core::boot(rt.alloc(), 16)?;
+    open_core(&rt, &mut core);
+    check_on_core(&rt, &mut core, 0);
+    check_on_core(&rt, &mut core, 1);
     Ok(())
 }
 
-/// How a guest ends that runs alone on a CPU of the process's number, up to its turns.
-fn ends<N: Name, R: Wait + Abort>(
+/// The calls before the guests run, each of which is answered.
+fn open_kernel<N: Name, R: Wait + Abort>(rt: &R, kernel: &Kernel<N, OpenGate>, cpu: &mut Cpu<N>) {
+    for event in opening().iter() {
+        assert!(rt; cpu.call(rt, kernel, event.pid, event.call).is_ok());
+    }
+}
+
+/// A guest of a process that runs alone on a CPU runs out of turns.
+fn check_on_kernel<N: Name, R: Wait + Abort>(
     rt: &R,
     kernel: &Kernel<N, OpenGate>,
     cpu: &mut Cpu<N>,
     number: u8,
-) -> End {
-    let pid = Pid::new(number).expect(rt, "a process");
-    let program = program_of(if number == 0 { 0 } else { 1 });
-    let mut guest = Guest::new(cpu.number(), pid);
-    let mut port = CpuPort::new(rt, cpu, kernel);
-    run(&mut guest, &program, TURNS, &mut port)
+) {
+    let pid = process(rt, number);
+    let end = ended(rt, kernel, cpu, pid, &program(number), TURNS);
+    check_end(rt, end, number);
 }
 
 /// The calls before the guests run, and then one guest behind the other, each on its CPU.
-fn one_by_one<N: Name, R: Wait + Abort>(rt: &R, blank: Blank<OpenGate>, alloc: Global)
+fn one_by_one<N: Name, R: Wait + Abort>(rt: &R, blank: Blank<OpenGate>)
     requires { (blank.frames ≡ N.frames) × (blank.book ≡ N.book) }
 {
-    let Ok(boot) = blank.open::<N, R>(rt) else {
-        panic!(rt; "no memory")
-    };
     let Boot {
         kernel,
         mut cpus,
         monitors: _,
-    } = boot;
-    let mut second = cpus.pop().expect(rt, "two CPUs");
-    let mut first = cpus.pop().expect(rt, "two CPUs");
-    for event in opening().iter() {
-        assert!(rt; first.call(rt, &kernel, event.pid, event.call).is_ok());
-    }
-    assert_eq!(rt; ends(rt, &kernel, &mut first, 0), End::OutOfTurns);
-    assert_eq!(rt; ends(rt, &kernel, &mut second, 1), End::OutOfTurns);
-    let mut back = Vec::new(alloc);
-    back.push(first).expect(rt, "memory");
-    back.push(second).expect(rt, "memory");
-    assert!(rt; kernel.close(rt, back).is_ok());
+    } = opened::<N, OpenGate, R>(rt, blank);
+    let mut second = taken(rt, &mut cpus);
+    let mut first = taken(rt, &mut cpus);
+    open_kernel(rt, &kernel, &mut first);
+    check_on_kernel(rt, &kernel, &mut first, 0);
+    check_on_kernel(rt, &kernel, &mut second, 1);
+    closed(rt, kernel, put(rt, put(rt, cpus, first), second));
 }
 
 #[test]
-fn guests_of_a_kernel_one_after_the_other_run_out_of_turns(rt: HostRuntime) -> Result<(), Fail> {
-    let alloc = rt.alloc();
-    match Kernel::<Brand, OpenGate>::boot(&rt, alloc, 16, 2, 0, OpenGate) {
-        Ok(blank) => one_by_one::<Brand, HostRuntime>(&rt, blank, alloc),
-        Err(_) => panic!(rt; "not booted"),
-    }
-    Ok(())
+fn guests_of_a_kernel_one_after_the_other_run_out_of_turns(rt: HostRuntime) {
+    one_by_one::<Brand, HostRuntime>(&rt, booted(&rt, 16, 2, 0, OpenGate));
 }

@@ -1,15 +1,16 @@
 //! A call that is held under the lock, while two helpers in two threads audit an earlier snapshot.
 
-ghost use Rattle.std.specs.Prelude.{◌≡◌};
+ghost use Rattle.std.specs.Prelude.{◌≡◌, All};
 ghost use Rattle.integrity_checker.specs.Steps.{IsOf};
 
-use crate::two_helpers::{handed_back, stepped, taken};
+use crate::kernels::{answered, booted, check_length, closed, image_of, opened, process, store};
+use crate::two_helpers::{begun, check_sound, put, stepped};
+use crate::{kernels, two_helpers};
 use integrity_checker::{Audit, Helper};
-use kernel_calls::{Call, Reply};
+use kernel_calls::Reply;
 use locked_core::{Blank, Boot, Cpu, Gate, Kernel, Name, Point};
 use memory_image::Image;
-use page_words::{Pid, Size, Vaddr};
-use std::alloc::Global;
+use std::alloc::{AllocError, Global};
 use std::marker::Brand;
 use std::process::Abort;
 use std::sync::atomic::{AtomicU64, Ordering};
@@ -44,6 +45,18 @@ struct Flags {
     let_go: AtomicU64,
 }
 
+impl Flags {
+    /// No call is to be held, and nothing has ended.
+    fn new() -> Flags {
+        Flags {
+            armed: AtomicU64::new(0),
+            held: AtomicU64::new(0),
+            ended: AtomicU64::new(0),
+            let_go: AtomicU64::new(0),
+        }
+    }
+}
+
 /// Holds each call at Locked, from when it is armed, until two helpers have ended.
 #[derive(Drop)]
 struct HeldGate {
@@ -61,20 +74,14 @@ impl Gate for HeldGate {
     }
 }
 
-/// Stores a number as process 0: whether it was answered.
-fn store<N: Name, R: Wait>(
+/// Stores a number as process 0, which must be done.
+fn stored<N: Name, R: Wait + Abort>(
     rt: &R,
     kernel: &Kernel<N, HeldGate>,
     mut cpu: Cpu<N>,
-    pid: Pid,
-) -> (Cpu<N>, bool) {
-    let call = Call::Store {
-        addr: Vaddr(0x4000_0000),
-        size: Size::Four,
-        value: 7,
-    };
-    let done = cpu.call(rt, kernel, pid, call) == Ok(Reply::Done);
-    (cpu, done)
+) -> Cpu<N> {
+    answered(rt, kernel, &mut cpu, process(rt, 0), store(7), Reply::Done);
+    cpu
 }
 
 /// Waits for the held call, and judges processes until no number is left: whether the call was held, and how
@@ -113,91 +120,103 @@ fn judge_both<R: Threads + Sync>(
     )
 }
 
+/// The same, while a call of a CPU is held until they have ended.
+fn judge_beside<N: Name + Send + Sync, R: Threads + Wait + Abort + Sync>(
+    rt: &R,
+    kernel: &Kernel<N, HeldGate>,
+    cpu: Cpu<N>,
+    audit: &Audit,
+    one: Helper,
+    two: Helper,
+    flags: &Flags,
+) -> (Cpu<N>, ((Helper, bool, u64), (Helper, bool, u64)))
+    requires { IsOf audit.now one × IsOf audit.now two }
+    ensures { IsOf audit.now result.1.0.0 × IsOf audit.now result.1.1.0 }
+{
+    thread::join(
+        rt,
+        move || stored(rt, kernel, cpu),
+        move || -> ((Helper, bool, u64), (Helper, bool, u64))
+            requires { IsOf audit.now one × IsOf audit.now two }
+            ensures { IsOf audit.entry.now result.0.0 × IsOf audit.entry.now result.1.0 }
+        { judge_both(rt, audit, one, two, flags) },
+    )
+}
+
+/// Both helpers saw the held call, checked all 64 numbers together, and the call went on because they had ended.
+fn check_judged<R: Abort>(rt: &R, held: (bool, bool), checked: (u64, u64), flags: &Flags) {
+    assert_eq!(rt; held, (true, true));
+    assert_eq!(rt; checked.0.wrapping_add(checked.1), 64);
+    assert_eq!(rt; flags.let_go.load(Ordering::SeqCst), 1);
+}
+
+/// The helpers of an audit, one after the other, after they judged in two threads beside a held call.
+fn judged<N: Name + Send + Sync, R: Threads + Wait + Abort + Sync>(
+    rt: &R,
+    kernel: &Kernel<N, HeldGate>,
+    cpu: Cpu<N>,
+    audit: &Audit,
+    mut helpers: Vec<Helper>,
+    flags: &Flags,
+) -> (Cpu<N>, Vec<Helper>)
+    requires { All (λ h. IsOf audit.now h) helpers.items }
+    ensures { All (λ h. IsOf audit.now h) result.1.items }
+{
+    let two = two_helpers::taken(rt, audit, &mut helpers);
+    let one = two_helpers::taken(rt, audit, &mut helpers);
+    let (cpu, (first, second)) = judge_beside(rt, kernel, cpu, audit, one, two, flags);
+    check_judged(rt, (first.1, second.1), (first.2, second.2), flags);
+    let helpers = put(rt, audit, helpers, first.0);
+    (cpu, put(rt, audit, helpers, second.0))
+}
+
 /// Audits an image by two helpers in two threads, while a call of that CPU is held until they have ended.
-fn audit_beside<N: Name + Send + Sync, R: Threads + Wait + Abort + Sync>(
+fn audit_beside<N: Name + Send + Sync, R: AllocGlobal + Threads + Wait + Abort + Sync>(
     rt: &R,
     kernel: &Kernel<N, HeldGate>,
     cpu: Cpu<N>,
     image: Image,
-    alloc: Global,
     flags: &Flags,
 ) -> Cpu<N> {
-    let Ok((audit, mut helpers)) = Audit::new(alloc, image, 2) else {
-        panic!(rt; "no audit")
-    };
-    let two = taken(&audit, &mut helpers).expect(rt, "two helpers");
-    let one = taken(&audit, &mut helpers).expect(rt, "two helpers");
-    let shared = &audit;
-    let root = Pid::new(0).expect(rt, "process 0");
-    let ((cpu, answered), (first, second)) = thread::join(
-        rt,
-        move || store(rt, kernel, cpu, root),
-        move || -> ((Helper, bool, u64), (Helper, bool, u64))
-            requires { IsOf shared.now one × IsOf shared.now two }
-            ensures { IsOf shared.entry.now result.0.0 × IsOf shared.entry.now result.1.0 }
-        { judge_both(rt, shared, one, two, flags) },
-    );
-    assert_eq!(rt; (first.1, second.1), (true, true));
-    assert_eq!(rt; first.2.wrapping_add(second.2), 64);
-    assert_eq!(rt; (answered, flags.let_go.load(Ordering::SeqCst)), (true, 1));
-    let back = handed_back(alloc, &audit, first.0, second.0).expect(rt, "memory");
-    match audit.finish(back) {
-        Ok(verdict) => assert!(rt; verdict.sound()),
-        Err(_) => panic!(rt; "not finished"),
-    }
+    let (audit, helpers) = begun(rt, image);
+    let (cpu, helpers) = judged(rt, kernel, cpu, &audit, helpers, flags);
+    check_sound(rt, audit, helpers);
     cpu
 }
 
 /// A store, a snapshot, and a second store that is held while the snapshot is audited.
-fn held<N: Name + Send + Sync, R: Threads + Wait + Abort + Sync>(
+fn held<N: Name + Send + Sync, R: AllocGlobal + Threads + Wait + Abort + Sync>(
     rt: &R,
     blank: Blank<HeldGate>,
-    alloc: Global,
     flags: &Flags,
 )
     requires { (blank.frames ≡ N.frames) × (blank.book ≡ N.book) }
 {
-    let Ok(boot) = blank.open::<N, R>(rt) else {
-        panic!(rt; "no memory")
-    };
     let Boot {
         kernel,
         mut cpus,
         monitors: _,
-    } = boot;
-    let cpu = cpus.pop().expect(rt, "one CPU");
-    let root = Pid::new(0).expect(rt, "process 0");
-    let (mut cpu, answered) = store(rt, &kernel, cpu, root);
-    assert!(rt; answered);
-    let Ok(image) = kernel.snapshot(rt, &mut cpu) else {
-        panic!(rt; "no image")
-    };
+    } = opened::<N, HeldGate, R>(rt, blank);
+    let cpu = kernels::taken(rt, &mut cpus);
+    let mut cpu = stored(rt, &kernel, cpu);
+    let image = image_of(rt, &kernel, &mut cpu);
     flags.armed.store(1, Ordering::SeqCst);
-    let cpu = audit_beside(rt, &kernel, cpu, image, alloc, flags);
-    let mut back = Vec::new(alloc);
-    back.push(cpu).expect(rt, "memory");
-    let Ok(history) = kernel.close(rt, back) else {
-        panic!(rt; "not closed")
+    let cpu = audit_beside(rt, &kernel, cpu, image, flags);
+    check_length(rt, &closed(rt, kernel, kernels::put(rt, cpus, cpu)), 2);
+}
+
+/// A gate that holds no call yet, and what it shares with the test.
+fn new_gate(alloc: Global) -> Result<(Arc<Flags, Global>, HeldGate), AllocError> {
+    let flags = Arc::new(alloc, Flags::new())?;
+    let gate = HeldGate {
+        flags: Arc::try_clone(&flags)?,
     };
-    assert_eq!(rt; history.entries().len(), 2);
+    Ok((flags, gate))
 }
 
 #[test]
 fn two_helpers_audit_while_a_call_is_held(rt: HostRuntime) -> Result<(), Fail> {
-    let alloc = rt.alloc();
-    let flags = Flags {
-        armed: AtomicU64::new(0),
-        held: AtomicU64::new(0),
-        ended: AtomicU64::new(0),
-        let_go: AtomicU64::new(0),
-    };
-    let flags = Arc::new(alloc, flags)?;
-    let gate = HeldGate {
-        flags: Arc::try_clone(&flags)?,
-    };
-    match Kernel::<Brand, HeldGate>::boot(&rt, alloc, 16, 1, 0, gate) {
-        Ok(blank) => held::<Brand, HostRuntime>(&rt, blank, alloc, &flags),
-        Err(_) => panic!(rt; "not booted"),
-    }
+    let (flags, gate) = new_gate(rt.alloc())?;
+    held::<Brand, HostRuntime>(&rt, booted(&rt, 16, 1, 0, gate), &flags);
     Ok(())
 }

@@ -2,20 +2,21 @@
 
 ghost use Rattle.std.specs.Prelude.{◌≡◌};
 
-use guest_cpu::{End, Guest, Instruction, Reg, run};
-use kernel_calls::{Call, Event, Reply};
-use locked_core::{Blank, Boot, Cpu, CpuPort, History, Kernel, Name, OpenGate};
+use crate::kernels::{
+    answered, booted, check_length, closed, ended, load, opened, process, put, store, taken,
+};
+use guest_cpu::{End, Instruction, Reg};
+use kernel_calls::{Call, Reply};
+use locked_core::{Blank, Boot, Cpu, History, Kernel, Name, OpenGate};
 use memory_report::report_of;
-use page_words::{Page, Pid, Size, Vaddr};
-use std::alloc::Global;
+use page_words::{Page, Pid, Size};
 use std::marker::Brand;
 use std::process::Abort;
 use std::sync::Wait;
-use std::test::Fail;
 use std::thread;
 use std::thread::Threads;
 
-/// Where the word stands that the guests share, in all four processes.
+/// Where the word stands that the guests share, in all four processes: the first of the user range.
 const WORD: u32 = 0x4000_0000;
 
 /// The page of that word.
@@ -24,20 +25,22 @@ const PAGE: Page = Page(0x4_0000);
 /// How often each guest counts.
 const TIMES: u32 = 50;
 
-fn process<R: Abort>(rt: &R, number: u8) -> Pid {
-    Pid::new(number).expect(rt, "a process")
+/// Offers the shared page to a process.
+fn offer(target: Pid) -> Call {
+    Call::Offer {
+        page: PAGE,
+        target,
+        write: true,
+    }
 }
 
-/// Makes a call, which must be answered so.
-fn answered<N: Name, R: Wait + Abort>(
-    rt: &R,
-    kernel: &Kernel<N, OpenGate>,
-    cpu: &mut Cpu<N>,
-    pid: Pid,
-    call: Call,
-    reply: Reply,
-) {
-    assert_eq!(rt; cpu.call(rt, kernel, pid, call), Ok(reply));
+/// Takes the shared page from process 0.
+fn accept(giver: Pid) -> Call {
+    Call::Accept {
+        giver,
+        giver_page: PAGE,
+        page: PAGE,
+    }
 }
 
 /// Makes a process with a quota of 5, and gives it the shared page.
@@ -48,39 +51,18 @@ fn give_page<N: Name, R: Wait + Abort>(
     child: Pid,
 ) {
     let root = process(rt, 0);
-    let offer = Call::Offer {
-        page: PAGE,
-        target: child,
-        write: true,
-    };
-    let accept = Call::Accept {
-        giver: root,
-        giver_page: PAGE,
-        page: PAGE,
-    };
-    answered(
-        rt,
-        kernel,
-        cpu,
-        root,
-        Call::Spawn { quota: 5 },
-        Reply::Child(child),
-    );
-    answered(rt, kernel, cpu, root, offer, Reply::Done);
-    answered(rt, kernel, cpu, child, accept, Reply::Done);
+    let spawn = Call::Spawn { quota: 5 };
+    answered(rt, kernel, cpu, root, spawn, Reply::Child(child));
+    answered(rt, kernel, cpu, root, offer(child), Reply::Done);
+    answered(rt, kernel, cpu, child, accept(root), Reply::Done);
 }
 
 /// Stores 0 as process 0, and gives its page to processes 1, 2 and 3: ten calls.
 fn open_word<N: Name, R: Wait + Abort>(rt: &R, kernel: &Kernel<N, OpenGate>, cpu: &mut Cpu<N>) {
-    let store = Call::Store {
-        addr: Vaddr(WORD),
-        size: Size::Four,
-        value: 0,
-    };
-    answered(rt, kernel, cpu, process(rt, 0), store, Reply::Done);
-    for child in 1..4u8 {
-        give_page(rt, kernel, cpu, process(rt, child));
-    }
+    answered(rt, kernel, cpu, process(rt, 0), store(0), Reply::Done);
+    give_page(rt, kernel, cpu, process(rt, 1));
+    give_page(rt, kernel, cpu, process(rt, 2));
+    give_page(rt, kernel, cpu, process(rt, 3));
 }
 
 fn register<R: Abort>(rt: &R, number: u8) -> Reg {
@@ -109,20 +91,23 @@ fn counts_up<R: Abort>(rt: &R, number: u32) -> [Instruction; 11] {
     ]
 }
 
-/// Runs the guest of the process that has the CPU's number.
+fn check_halted<R: Abort>(rt: &R, end: End) {
+    assert_eq!(rt; end, End::Halted);
+}
+
+/// Runs the guest of the process that has the CPU's number, until it halts.
 fn count<N: Name, R: Wait + Abort>(
     rt: &R,
     kernel: &Kernel<N, OpenGate>,
     mut cpu: Cpu<N>,
-) -> (Cpu<N>, End) {
+) -> Cpu<N> {
     let number = cpu.number();
     let program = counts_up(rt, u32::from(number));
-    let mut guest = Guest::new(number, process(rt, number));
-    let end = {
-        let mut port = CpuPort::new(rt, &mut cpu, kernel);
-        run(&mut guest, &program, 1000, &mut port)
-    };
-    (cpu, end)
+    check_halted(
+        rt,
+        ended(rt, kernel, &mut cpu, process(rt, number), &program, 1000),
+    );
+    cpu
 }
 
 /// Runs two guests in two threads.
@@ -131,11 +116,25 @@ fn count_both<N: Name + Send + Sync, R: Threads + Wait + Abort + Sync>(
     kernel: &Kernel<N, OpenGate>,
     one: Cpu<N>,
     two: Cpu<N>,
-) -> ((Cpu<N>, End), (Cpu<N>, End)) {
+) -> (Cpu<N>, Cpu<N>) {
     thread::join(
         rt,
         move || count(rt, kernel, one),
         move || count(rt, kernel, two),
+    )
+}
+
+/// Runs four guests in four threads.
+fn count_all<N: Name + Send + Sync, R: Threads + Wait + Abort + Sync>(
+    rt: &R,
+    kernel: &Kernel<N, OpenGate>,
+    low: (Cpu<N>, Cpu<N>),
+    high: (Cpu<N>, Cpu<N>),
+) -> ((Cpu<N>, Cpu<N>), (Cpu<N>, Cpu<N>)) {
+    thread::join(
+        rt,
+        move || count_both(rt, kernel, low.0, low.1),
+        move || count_both(rt, kernel, high.0, high.1),
     )
 }
 
@@ -150,69 +149,39 @@ fn entries_by_cpu(history: &History) -> [u64; 8] {
     counts
 }
 
+/// A history has so many entries of each CPU, and the processes use 12 frames behind it.
+fn check_history<R: Abort>(rt: &R, history: &History) {
+    assert_eq!(rt; entries_by_cpu(history), [111, 100, 100, 100, 0, 0, 0, 0]);
+    assert_eq!(rt; report_of(history.core()).total(), 12);
+}
+
 /// Four guests count at once, and the word has all that they counted.
 fn four_count<N: Name + Send + Sync, R: Threads + Wait + Abort + Sync>(
     rt: &R,
     blank: Blank<OpenGate>,
-    alloc: Global,
 )
     requires { (blank.frames ≡ N.frames) × (blank.book ≡ N.book) }
 {
-    let Ok(boot) = blank.open::<N, R>(rt) else {
-        panic!(rt; "no memory")
-    };
     let Boot {
         kernel,
         mut cpus,
         monitors: _,
-    } = boot;
-    let three = cpus.pop().expect(rt, "four CPUs");
-    let two = cpus.pop().expect(rt, "four CPUs");
-    let one = cpus.pop().expect(rt, "four CPUs");
-    let mut zero = cpus.pop().expect(rt, "four CPUs");
+    } = opened::<N, OpenGate, R>(rt, blank);
+    let three = taken(rt, &mut cpus);
+    let two = taken(rt, &mut cpus);
+    let one = taken(rt, &mut cpus);
+    let mut zero = taken(rt, &mut cpus);
     open_word(rt, &kernel, &mut zero);
-    let shared = &kernel;
-    let (low, high) = thread::join(
-        rt,
-        move || count_both(rt, shared, zero, one),
-        move || count_both(rt, shared, two, three),
-    );
-    let ((mut zero, first), (one, second)) = low;
-    let ((two, third), (three, fourth)) = high;
-    for end in [first, second, third, fourth] {
-        assert_eq!(rt; end, End::Halted);
-    }
-    let load = Call::Load {
-        addr: Vaddr(WORD),
-        size: Size::Four,
-    };
-    answered(
-        rt,
-        &kernel,
-        &mut zero,
-        process(rt, 0),
-        load,
-        Reply::Value(0x3232_3232),
-    );
-    let mut back = Vec::new(alloc);
-    back.push(zero).expect(rt, "memory");
-    back.push(one).expect(rt, "memory");
-    back.push(two).expect(rt, "memory");
-    back.push(three).expect(rt, "memory");
-    let Ok(history) = kernel.close(rt, back) else {
-        panic!(rt; "not closed")
-    };
-    assert_eq!(rt; history.entries().len(), 411);
-    assert_eq!(rt; entries_by_cpu(&history), [111, 100, 100, 100, 0, 0, 0, 0]);
-    assert_eq!(rt; report_of(history.core()).total(), 12);
+    let ((mut zero, one), (two, three)) = count_all(rt, &kernel, (zero, one), (two, three));
+    let sum = Reply::Value(0x3232_3232);
+    answered(rt, &kernel, &mut zero, process(rt, 0), load(), sum);
+    let low = put(rt, put(rt, cpus, zero), one);
+    let history = closed(rt, kernel, put(rt, put(rt, low, two), three));
+    check_length(rt, &history, 411);
+    check_history(rt, &history);
 }
 
 #[test]
-fn four_guests_count_in_one_word(rt: HostRuntime) -> Result<(), Fail> {
-    let alloc = rt.alloc();
-    match Kernel::<Brand, OpenGate>::boot(&rt, alloc, 32, 4, 0, OpenGate) {
-        Ok(blank) => four_count::<Brand, HostRuntime>(&rt, blank, alloc),
-        Err(_) => panic!(rt; "not booted"),
-    }
-    Ok(())
+fn four_guests_count_in_one_word(rt: HostRuntime) {
+    four_count::<Brand, HostRuntime>(&rt, booted(&rt, 32, 4, 0, OpenGate));
 }

@@ -2,53 +2,35 @@
 
 use guest_race::RoundFault;
 use locked_core::{BootFault, Fault};
-use std::test::Fail;
+use std::fmt::Display;
+use std::process::Abort;
 
-#[test]
-fn faults_of_a_boot_have_texts(rt: HostRuntime) -> Result<(), Fail> {
-    let texts = [
-        (BootFault::BadSize, "not 16 to 4096 frames"),
-        (
-            BootFault::BadCount,
-            "not 1 to 8 CPUs, or more than 8 monitors",
-        ),
-        (BootFault::NoMemory, "out of memory"),
-    ];
-    for (fault, expected) in texts {
-        let text = format!(in rt.alloc(); "{fault}")?;
-        assert_eq!(rt; text.as_str(), expected);
-    }
-    Ok(())
+/// A fault has that text.
+fn check_text<F: Display, R: AllocGlobal + Abort>(rt: &R, fault: &F, expected: &str) {
+    let text = format!(in rt.alloc(); "{fault}").expect(rt, "memory");
+    assert_eq!(rt; text.as_str(), expected);
 }
 
 #[test]
-fn faults_of_a_call_have_texts(rt: HostRuntime) -> Result<(), Fail> {
-    let texts = [
-        (Fault::NoMemory, "out of memory"),
-        (
-            Fault::Stale { front: 3 },
-            "the log of 3 entries is not what the CPU has seen",
-        ),
-        (Fault::Unread, "the history is longer than the log"),
-        (Fault::Disagree, "the CPUs do not agree with the log"),
-    ];
-    for (fault, expected) in texts {
-        let text = format!(in rt.alloc(); "{fault}")?;
-        assert_eq!(rt; text.as_str(), expected);
-    }
-    Ok(())
+fn faults_of_a_boot_have_texts(rt: HostRuntime) {
+    let counts = "not 1 to 8 CPUs, or more than 8 monitors";
+    check_text(&rt, &BootFault::BadSize, "not 16 to 4096 frames");
+    check_text(&rt, &BootFault::BadCount, counts);
+    check_text(&rt, &BootFault::NoMemory, "out of memory");
 }
 
 #[test]
-fn faults_of_a_round_have_texts(rt: HostRuntime) -> Result<(), Fail> {
-    let texts = [
-        (RoundFault::NoMemory, "out of memory"),
-        (RoundFault::Turns, "a guest ran out of turns"),
-        (RoundFault::Failed, "the round failed"),
-    ];
-    for (fault, expected) in texts {
-        let text = format!(in rt.alloc(); "{fault}")?;
-        assert_eq!(rt; text.as_str(), expected);
-    }
-    Ok(())
+fn faults_of_a_call_have_texts(rt: HostRuntime) {
+    let stale = "the log of 3 entries is not what the CPU has seen";
+    check_text(&rt, &Fault::NoMemory, "out of memory");
+    check_text(&rt, &Fault::Stale { front: 3 }, stale);
+    check_text(&rt, &Fault::Unread, "the history is longer than the log");
+    check_text(&rt, &Fault::Disagree, "the CPUs do not agree with the log");
+}
+
+#[test]
+fn faults_of_a_round_have_texts(rt: HostRuntime) {
+    check_text(&rt, &RoundFault::NoMemory, "out of memory");
+    check_text(&rt, &RoundFault::Turns, "a guest ran out of turns");
+    check_text(&rt, &RoundFault::Failed, "the round failed");
 }

@@ -2,6 +2,10 @@
 
 ghost use Rattle.std.specs.Prelude.{◌≡◌};
 
+use crate::kernels;
+use crate::kernels::{
+    booted, check_front, check_length, closed, opened, process, put, taken, tell, watcher,
+};
 use kernel_calls::Call;
 use locked_core::{Blank, Boot, Cpu, Gate, Kernel, Monitor, Name, Point};
 use page_words::Pid;
@@ -107,47 +111,64 @@ fn report_beside<N: Name>(
     (monitor, held, front)
 }
 
+/// A call that was held was answered, and went on because it might.
+fn check_let_go<R: Abort>(rt: &R, answered: bool, flags: &Flags) {
+    assert_eq!(rt; (answered, flags.let_go.load(Ordering::SeqCst)), (true, 1));
+}
+
+/// A call is held until a monitor in another thread has reported so many entries.
+fn called_beside<N: Name + Send + Sync, R: Threads + Wait + Abort + Sync>(
+    rt: &R,
+    kernel: &Kernel<N, HeldGate>,
+    cpu: Cpu<N>,
+    monitor: Monitor<N>,
+    flags: &Flags,
+    reported: usize,
+) -> (Cpu<N>, Monitor<N>) {
+    let root = process(rt, 0);
+    let ((cpu, answered), (monitor, held, front)) = thread::join(
+        rt,
+        move || call(rt, kernel, cpu, root),
+        move || report_beside(monitor, flags),
+    );
+    assert_eq!(rt; (held, front), (true, Some(reported)));
+    check_let_go(rt, answered, flags);
+    (cpu, monitor)
+}
+
+/// Makes a Quota call of process 0, which must be answered.
+fn check_answered<N: Name, R: Wait + Abort>(
+    rt: &R,
+    kernel: &Kernel<N, HeldGate>,
+    cpu: &mut Cpu<N>,
+) {
+    assert!(rt; cpu.call(rt, kernel, process(rt, 0), Call::Quota).is_ok());
+}
+
 /// Three calls, and a fourth that is held until a monitor in another thread has reported so many entries.
 fn held<N: Name + Send + Sync, R: Threads + Wait + Abort + Sync>(
     rt: &R,
     blank: Blank<HeldGate>,
-    alloc: Global,
     flags: &Flags,
     reported: usize,
 )
     requires { (blank.frames ≡ N.frames) × (blank.book ≡ N.book) }
 {
-    let Ok(boot) = blank.open::<N, R>(rt) else {
-        panic!(rt; "no memory")
-    };
     let Boot {
         kernel,
         mut cpus,
         mut monitors,
-    } = boot;
-    let mut cpu = cpus.pop().expect(rt, "one CPU");
-    let monitor = monitors.pop().expect(rt, "one monitor");
-    let shared = &kernel;
-    let root = Pid::new(0).expect(rt, "process 0");
-    for _ in 0..3u64 {
-        assert!(rt; cpu.call(rt, shared, root, Call::Quota).is_ok());
-    }
+    } = opened::<N, HeldGate, R>(rt, blank);
+    let mut cpu = taken(rt, &mut cpus);
+    let monitor = watcher(rt, &mut monitors);
+    check_answered(rt, &kernel, &mut cpu);
+    check_answered(rt, &kernel, &mut cpu);
+    check_answered(rt, &kernel, &mut cpu);
     flags.armed.store(1, Ordering::SeqCst);
-    let ((cpu, answered), (mut monitor, held, front)) = thread::join(
-        rt,
-        move || call(rt, shared, cpu, root),
-        move || report_beside(monitor, flags),
-    );
-    assert_eq!(rt; (held, front), (true, Some(reported)));
-    assert_eq!(rt; (answered, flags.let_go.load(Ordering::SeqCst)), (true, 1));
-    monitor.learn(cpu.tell());
-    assert_eq!(rt; monitor.report().map(|seen| seen.front), Some(4));
-    let mut back = Vec::new(alloc);
-    back.push(cpu).expect(rt, "memory");
-    let Ok(history) = kernel.close(rt, back) else {
-        panic!(rt; "not closed")
-    };
-    assert_eq!(rt; history.entries().len(), 4);
+    let (cpu, mut monitor) = called_beside(rt, &kernel, cpu, monitor, flags, reported);
+    tell(&cpu, &mut monitor);
+    check_front(rt, &kernels::reported(rt, &mut monitor), 4);
+    check_length(rt, &closed(rt, kernel, put(rt, cpus, cpu)), 4);
 }
 
 /// A gate that holds a call at that point, and what it shares with the test.
@@ -162,23 +183,15 @@ fn gate_at(alloc: Global, at: Point) -> Result<(Arc<Flags, Global>, HeldGate), A
 
 #[test]
 fn a_monitor_reports_while_a_call_is_held(rt: HostRuntime) -> Result<(), Fail> {
-    let alloc = rt.alloc();
-    let (flags, gate) = gate_at(alloc, Point::Locked)?;
-    match Kernel::<Brand, HeldGate>::boot(&rt, alloc, 16, 1, 1, gate) {
-        Ok(blank) => held::<Brand, HostRuntime>(&rt, blank, alloc, &flags, 3),
-        Err(_) => panic!(rt; "not booted"),
-    }
+    let (flags, gate) = gate_at(rt.alloc(), Point::Locked)?;
+    held::<Brand, HostRuntime>(&rt, booted(&rt, 16, 1, 1, gate), &flags, 3);
     Ok(())
 }
 
 #[test]
 fn a_call_is_published_before_it_is_back(rt: HostRuntime) -> Result<(), Fail> {
-    let alloc = rt.alloc();
-    let (flags, gate) = gate_at(alloc, Point::Published)?;
-    match Kernel::<Brand, HeldGate>::boot(&rt, alloc, 16, 1, 1, gate) {
-        Ok(blank) => held::<Brand, HostRuntime>(&rt, blank, alloc, &flags, 4),
-        Err(_) => panic!(rt; "not booted"),
-    }
+    let (flags, gate) = gate_at(rt.alloc(), Point::Published)?;
+    held::<Brand, HostRuntime>(&rt, booted(&rt, 16, 1, 1, gate), &flags, 4);
     Ok(())
 }
 
@@ -207,57 +220,68 @@ fn look_for_the_second(flags: &Flags) -> (bool, bool) {
     (started, back)
 }
 
+/// The second CPU's call, and who looks for it, in two threads: the call was answered while another was held, and it
+/// was called but not back then.
+fn called_second<N: Name + Send + Sync, R: Threads + Wait + Abort + Sync>(
+    rt: &R,
+    kernel: &Kernel<N, HeldGate>,
+    cpu: Cpu<N>,
+    flags: &Flags,
+) -> Cpu<N> {
+    let root = process(rt, 0);
+    let ((cpu, held, answered), looked) = thread::join(
+        rt,
+        move || call_second(rt, kernel, cpu, root, flags),
+        move || look_for_the_second(flags),
+    );
+    assert_eq!(rt; (held, looked), (true, (true, false)));
+    assert!(rt; answered);
+    cpu
+}
+
+/// A call of the first CPU that is held, while the second makes one.
+fn called_both<N: Name + Send + Sync, R: Threads + Wait + Abort + Sync>(
+    rt: &R,
+    kernel: &Kernel<N, HeldGate>,
+    first: Cpu<N>,
+    second: Cpu<N>,
+    flags: &Flags,
+) -> (Cpu<N>, Cpu<N>) {
+    let root = process(rt, 0);
+    let ((first, answered), second) = thread::join(
+        rt,
+        move || call(rt, kernel, first, root),
+        move || called_second(rt, kernel, second, flags),
+    );
+    check_let_go(rt, answered, flags);
+    (first, second)
+}
+
 /// A call of CPU 0 that is held, while CPU 1 makes one.
 fn waited<N: Name + Send + Sync, R: Threads + Wait + Abort + Sync>(
     rt: &R,
     blank: Blank<HeldGate>,
-    alloc: Global,
     flags: &Flags,
 )
     requires { (blank.frames ≡ N.frames) × (blank.book ≡ N.book) }
 {
-    let Ok(boot) = blank.open::<N, R>(rt) else {
-        panic!(rt; "no memory")
-    };
     let Boot {
         kernel,
         mut cpus,
         monitors: _,
-    } = boot;
-    let second = cpus.pop().expect(rt, "two CPUs");
-    let first = cpus.pop().expect(rt, "two CPUs");
-    let shared = &kernel;
-    let root = Pid::new(0).expect(rt, "process 0");
+    } = opened::<N, HeldGate, R>(rt, blank);
+    let second = taken(rt, &mut cpus);
+    let first = taken(rt, &mut cpus);
     flags.armed.store(1, Ordering::SeqCst);
-    let ((first, answered), ((second, held, second_answered), looked)) = thread::join(
-        rt,
-        move || call(rt, shared, first, root),
-        move || thread::join(
-            rt,
-            move || call_second(rt, shared, second, root, flags),
-            move || look_for_the_second(flags),
-        ),
-    );
-    assert_eq!(rt; (held, looked), (true, (true, false)));
-    assert_eq!(rt; (answered, second_answered), (true, true));
-    assert_eq!(rt; flags.let_go.load(Ordering::SeqCst), 1);
-    let mut back = Vec::new(alloc);
-    back.push(first).expect(rt, "memory");
-    back.push(second).expect(rt, "memory");
-    let Ok(history) = kernel.close(rt, back) else {
-        panic!(rt; "not closed")
-    };
-    assert_eq!(rt; history.entries().len(), 2);
+    let (first, second) = called_both(rt, &kernel, first, second, flags);
+    let back = put(rt, put(rt, cpus, first), second);
+    check_length(rt, &closed(rt, kernel, back), 2);
 }
 
 /// Whether a second CPU waits while a call is held at that point.
 fn waits_at<R: AllocGlobal + Threads + Wait + Abort + Sync>(rt: &R, at: Point) -> Result<(), Fail> {
-    let alloc = rt.alloc();
-    let (flags, gate) = gate_at(alloc, at)?;
-    match Kernel::<Brand, HeldGate>::boot(rt, alloc, 16, 2, 0, gate) {
-        Ok(blank) => waited::<Brand, R>(rt, blank, alloc, &flags),
-        Err(_) => panic!(rt; "not booted"),
-    }
+    let (flags, gate) = gate_at(rt.alloc(), at)?;
+    waited::<Brand, R>(rt, booted(rt, 16, 2, 0, gate), &flags);
     Ok(())
 }
 

@@ -3,10 +3,11 @@
 ghost use Rattle.std.specs.Prelude.{◌≡◌, true, if◌then◌else◌, Ok, Err};
 ghost use Rattle.kernel_calls.specs.declared.calls.Reply.TheVariants.{Value};
 
+use crate::kernels::run_on;
 use guest_cpu::{End, Guest, Instruction, Port, PortFault, Reg, run};
 use kernel_calls::{Call, Cause, Core, Event, Reply};
 use page_words::{Pid, Size, Vaddr};
-use std::test::Fail;
+use std::process::Abort;
 
 /// Answers its first call with 7, and fails at each one after that.
 #[derive(Drop)]
@@ -29,22 +30,30 @@ impl Port for AnswersOnce {
 }
 
 /// A guest of the root on CPU 0, which has not begun.
-fn root_guest() -> Option<Guest> {
-    Some(Guest::new(0, Pid::new(0)?))
+fn root_guest<R: Abort>(rt: &R) -> Guest {
+    Guest::new(0, Pid::new(0).expect(rt, "process 0"))
+}
+
+fn register<R: Abort>(rt: &R, number: u8) -> Reg {
+    Reg::new(number).expect(rt, "a register")
 }
 
 /// The registers 0 to 7.
-fn registers() -> Option<[Reg; 8]> {
-    Some([
-        Reg::new(0)?,
-        Reg::new(1)?,
-        Reg::new(2)?,
-        Reg::new(3)?,
-        Reg::new(4)?,
-        Reg::new(5)?,
-        Reg::new(6)?,
-        Reg::new(7)?,
-    ])
+fn registers<R: Abort>(rt: &R) -> [Reg; 8] {
+    [
+        register(rt, 0),
+        register(rt, 1),
+        register(rt, 2),
+        register(rt, 3),
+        register(rt, 4),
+        register(rt, 5),
+        register(rt, 6),
+        register(rt, 7),
+    ]
+}
+
+fn booted<R: AllocGlobal + Abort>(rt: &R) -> Core {
+    Core::boot(rt.alloc(), 16).ok().expect(rt, "memory")
 }
 
 /// Stores 7 at an address and loads it again, in five instructions.
@@ -58,39 +67,6 @@ fn stores_and_loads(address: u32, r: &[Reg; 8]) -> [Instruction; 5] {
     ]
 }
 
-#[test]
-fn names_eight_registers(rt: HostRuntime) {
-    for number in 0..8 {
-        assert_eq!(rt; Reg::new(number).map(Reg::number), Some(number));
-    }
-    assert_eq!(rt; Reg::new(8), None);
-    assert_eq!(rt; Reg::new(255), None);
-}
-
-#[test]
-fn begins_with_zeros(rt: HostRuntime) -> Result<(), Fail> {
-    let guest = root_guest().ok_or("no root")?;
-    for register in registers().ok_or("no registers")? {
-        assert_eq!(rt; guest.register(register), 0);
-    }
-    assert_eq!(rt; guest.counter(), 0);
-    Ok(())
-}
-
-#[test]
-fn stores_and_loads_within_its_turns(rt: HostRuntime) -> Result<(), Fail> {
-    let r = registers().ok_or("no registers")?;
-    let program = stores_and_loads(0x4000_0000, &r);
-    for (turns, end) in [(5, End::Halted), (4, End::OutOfTurns)] {
-        let mut core = Core::boot(rt.alloc(), 16)?;
-        let mut guest = root_guest().ok_or("no root")?;
-        assert_eq!(rt; run(&mut guest, &program, turns, &mut core), end);
-        assert_eq!(rt; guest.register(r[3]), 7);
-        assert_eq!(rt; guest.counter(), 4);
-    }
-    Ok(())
-}
-
 /// What a guest of the root comes to: how it ended, its counter, and what is in some of its registers.
 #[derive(Clone, Copy, Debug, PartialEq, Eq)]
 struct Outcome {
@@ -99,26 +75,90 @@ struct Outcome {
     values: [u32; 2],
 }
 
+/// What a guest came to, by two registers.
+fn came_to(guest: &Guest, end: End, looked_at: [Reg; 2]) -> Outcome {
+    Outcome {
+        end,
+        counter: guest.counter(),
+        values: looked_at.map(|register| guest.register(register)),
+    }
+}
+
 /// Runs a program on a core of 16 frames for so many turns, and looks at two registers.
-fn ran<R: AllocGlobal>(
+fn ran<R: AllocGlobal + Abort>(
     rt: &R,
     program: &[Instruction],
     turns: u32,
     looked_at: [Reg; 2],
-) -> Result<Outcome, Fail> {
-    let mut core = Core::boot(rt.alloc(), 16)?;
-    let mut guest = root_guest().ok_or("no root")?;
-    let end = run(&mut guest, program, turns, &mut core);
-    Ok(Outcome {
-        end,
-        counter: guest.counter(),
-        values: looked_at.map(|register| guest.register(register)),
-    })
+) -> Outcome {
+    let mut core = booted(rt);
+    let mut guest = root_guest(rt);
+    let end = run_on(&mut core, &mut guest, program, turns);
+    came_to(&guest, end, looked_at)
+}
+
+/// A program comes to that on a core of 16 frames.
+fn check_run<R: AllocGlobal + Abort>(
+    rt: &R,
+    program: &[Instruction],
+    turns: u32,
+    looked_at: [Reg; 2],
+    want: Outcome,
+) {
+    assert_eq!(rt; ran(rt, program, turns, looked_at), want);
 }
 
 #[test]
-fn stops_at_a_fault(rt: HostRuntime) -> Result<(), Fail> {
-    let r = registers().ok_or("no registers")?;
+fn names_eight_registers(rt: HostRuntime) {
+    let numbers = [0, 1, 2, 3, 4, 5, 6, 7, 8, 255].map(|number| Reg::new(number).map(Reg::number));
+    assert_eq!(rt;
+        numbers,
+        [
+            Some(0),
+            Some(1),
+            Some(2),
+            Some(3),
+            Some(4),
+            Some(5),
+            Some(6),
+            Some(7),
+            None,
+            None
+        ]
+    );
+}
+
+/// A guest that has not begun has zeros.
+fn check_zeros<R: Abort>(rt: &R, guest: &Guest, registers: [Reg; 8]) {
+    let values = registers.map(|register| guest.register(register));
+    assert_eq!(rt; (values, guest.counter()), ([0; 8], 0));
+}
+
+#[test]
+fn begins_with_zeros(rt: HostRuntime) {
+    check_zeros(&rt, &root_guest(&rt), registers(&rt));
+}
+
+#[test]
+fn stores_and_loads_within_its_turns(rt: HostRuntime) {
+    let r = registers(&rt);
+    let program = stores_and_loads(0x4000_0000, &r);
+    let halted = Outcome {
+        end: End::Halted,
+        counter: 4,
+        values: [7, 7],
+    };
+    let out_of_turns = Outcome {
+        end: End::OutOfTurns,
+        ..halted
+    };
+    check_run(&rt, &program, 5, [r[2], r[3]], halted);
+    check_run(&rt, &program, 4, [r[2], r[3]], out_of_turns);
+}
+
+#[test]
+fn stops_at_a_fault(rt: HostRuntime) {
+    let r = registers(&rt);
     let program = stores_and_loads(0x3fff_fffc, &r);
     let fault = Reply::Fault {
         addr: Vaddr(0x3fff_fffc),
@@ -129,81 +169,112 @@ fn stops_at_a_fault(rt: HostRuntime) -> Result<(), Fail> {
         counter: 2,
         values: [0, 0],
     };
-    assert_eq!(rt; ran(&rt, &program, 5, [r[3], r[4]])?, want);
-    Ok(())
+    check_run(&rt, &program, 5, [r[3], r[4]], want);
 }
 
 #[test]
-fn sees_what_is_left_of_its_quota(rt: HostRuntime) -> Result<(), Fail> {
-    let r = registers().ok_or("no registers")?;
+fn sees_what_is_left_of_its_quota(rt: HostRuntime) {
+    let r = registers(&rt);
     let program = [
         Instruction::Sys(r[1], Call::Spawn { quota: 5 }),
         Instruction::Sys(r[2], Call::Quota),
         Instruction::Jump(1000),
     ];
-    let mut core = Core::boot(rt.alloc(), 16)?;
-    let mut guest = root_guest().ok_or("no root")?;
-    assert_eq!(rt; run(&mut guest, &program, 3, &mut core), End::Halted);
-    assert_eq!(rt; guest.register(r[1]), 1);
-    assert_eq!(rt; guest.register(r[2]), 9);
-    assert_eq!(rt; guest.counter(), 1000);
-    Ok(())
+    let want = Outcome {
+        end: End::Halted,
+        counter: 1000,
+        values: [1, 9],
+    };
+    check_run(&rt, &program, 3, [r[1], r[2]], want);
 }
 
 #[test]
-fn stops_at_a_refusal(rt: HostRuntime) -> Result<(), Fail> {
-    let r = registers().ok_or("no registers")?;
+fn stops_at_a_refusal(rt: HostRuntime) {
+    let r = registers(&rt);
     let program = [Instruction::Sys(r[1], Call::Exit)];
     let want = Outcome {
         end: End::Stopped(Reply::Refused(Cause::RootExit)),
         counter: 0,
         values: [0, 0],
     };
-    assert_eq!(rt; ran(&rt, &program, 1, [r[1], r[2]])?, want);
-    Ok(())
+    check_run(&rt, &program, 1, [r[1], r[2]], want);
+}
+
+/// Runs a program on a port that answers once, for so many turns, and looks at two registers.
+fn ran_once<R: Abort>(rt: &R, program: &[Instruction], turns: u32, looked_at: [Reg; 2]) -> Outcome {
+    let mut port = AnswersOnce {
+        has_answered: false,
+    };
+    let mut guest = root_guest(rt);
+    let end = run(&mut guest, program, turns, &mut port);
+    came_to(&guest, end, looked_at)
+}
+
+/// A program comes to that on a port that answers once.
+fn check_once<R: Abort>(
+    rt: &R,
+    program: &[Instruction],
+    turns: u32,
+    looked_at: [Reg; 2],
+    want: Outcome,
+) {
+    assert_eq!(rt; ran_once(rt, program, turns, looked_at), want);
 }
 
 #[test]
-fn ends_where_its_port_fails(rt: HostRuntime) -> Result<(), Fail> {
-    let r = registers().ok_or("no registers")?;
+fn ends_where_its_port_fails(rt: HostRuntime) {
+    let r = registers(&rt);
     let program = [
         Instruction::Load(Size::Four, r[1], r[0]),
         Instruction::Load(Size::Four, r[2], r[0]),
     ];
-    let mut port = AnswersOnce {
-        has_answered: false,
+    let want = Outcome {
+        end: End::PortFault(PortFault(9)),
+        counter: 1,
+        values: [7, 0],
     };
-    let mut guest = root_guest().ok_or("no root")?;
-    let end = run(&mut guest, &program, 2, &mut port);
-    assert_eq!(rt; end, End::PortFault(PortFault(9)));
-    assert_eq!(rt; guest.register(r[1]), 7);
-    assert_eq!(rt; guest.register(r[2]), 0);
-    assert_eq!(rt; guest.counter(), 1);
-    Ok(())
+    check_once(&rt, &program, 2, [r[1], r[2]], want);
 }
 
-/// How a guest ends that runs five turns, one at a time, with a run of none before the last.
-fn in_single_turns(core: &mut Core, guest: &mut Guest, program: &[Instruction]) -> [End; 6] {
-    [1, 1, 1, 1, 0, 1].map(|turns| run(guest, program, turns, core))
+/// How a guest ends that runs five turns on a core, one at a time, with a run of none before the last.
+fn in_single_turns<R: AllocGlobal + Abort>(
+    rt: &R,
+    guest: &mut Guest,
+    program: &[Instruction],
+) -> [End; 6] {
+    let mut core = booted(rt);
+    [1, 1, 1, 1, 0, 1].map(|turns| run_on(&mut core, guest, program, turns))
+}
+
+/// A program runs out of turns five times so, and then halts; what the guest came to, by two registers.
+fn check_single_turns<R: AllocGlobal + Abort>(
+    rt: &R,
+    program: &[Instruction],
+    looked_at: [Reg; 2],
+    want: Outcome,
+) {
+    let mut guest = root_guest(rt);
+    let mut ends = [End::OutOfTurns; 6];
+    ends[5] = End::Halted;
+    assert_eq!(rt; in_single_turns(rt, &mut guest, program), ends);
+    assert_eq!(rt; came_to(&guest, End::Halted, looked_at), want);
 }
 
 #[test]
-fn runs_on_where_it_ran_out(rt: HostRuntime) -> Result<(), Fail> {
-    let r = registers().ok_or("no registers")?;
+fn runs_on_where_it_ran_out(rt: HostRuntime) {
+    let r = registers(&rt);
     let program = stores_and_loads(0x4000_0000, &r);
-    let mut core = Core::boot(rt.alloc(), 16)?;
-    let mut guest = root_guest().ok_or("no root")?;
-    let mut want = [End::OutOfTurns; 6];
-    want[5] = End::Halted;
-    assert_eq!(rt; in_single_turns(&mut core, &mut guest, &program), want);
-    assert_eq!(rt; guest.register(r[3]), 7);
-    assert_eq!(rt; guest.counter(), 4);
-    Ok(())
+    let want = Outcome {
+        end: End::Halted,
+        counter: 4,
+        values: [7, 7],
+    };
+    check_single_turns(&rt, &program, [r[2], r[3]], want);
 }
 
 #[test]
-fn fills_its_quota(rt: HostRuntime) -> Result<(), Fail> {
-    let r = registers().ok_or("no registers")?;
+fn fills_its_quota(rt: HostRuntime) {
+    let r = registers(&rt);
     let program = [
         Instruction::Set(r[1], 0x4000_0000),
         Instruction::Set(r[2], 0x1000),
@@ -216,13 +287,12 @@ fn fills_its_quota(rt: HostRuntime) -> Result<(), Fail> {
         counter: 2,
         values: [0x4000_d000, 0x1000],
     };
-    assert_eq!(rt; ran(&rt, &program, 1000, [r[1], r[2]])?, want);
-    Ok(())
+    check_run(&rt, &program, 1000, [r[1], r[2]], want);
 }
 
 #[test]
-fn jumps_where_two_are_equal(rt: HostRuntime) -> Result<(), Fail> {
-    let r = registers().ok_or("no registers")?;
+fn jumps_where_two_are_equal(rt: HostRuntime) {
+    let r = registers(&rt);
     let program = [
         Instruction::Set(r[1], 0xffff_ffff),
         Instruction::Set(r[2], 2),
@@ -231,10 +301,10 @@ fn jumps_where_two_are_equal(rt: HostRuntime) -> Result<(), Fail> {
         Instruction::Set(r[4], 1),
         Instruction::JumpEq(r[3], r[4], 9),
     ];
-    let mut core = Core::boot(rt.alloc(), 16)?;
-    let mut guest = root_guest().ok_or("no root")?;
-    assert_eq!(rt; run(&mut guest, &program, 6, &mut core), End::Halted);
-    assert_eq!(rt; guest.register(r[3]), 1);
-    assert_eq!(rt; guest.counter(), 9);
-    Ok(())
+    let want = Outcome {
+        end: End::Halted,
+        counter: 9,
+        values: [2, 1],
+    };
+    check_run(&rt, &program, 6, [r[2], r[3]], want);
 }

@@ -2,136 +2,109 @@
 
 ghost use Rattle.std.specs.Prelude.{◌≡◌};
 
+use crate::kernels::{
+    answered, booted, check_front, check_length, check_not_closed, check_report, check_two_entries,
+    closed, load, opened, process, put, reported, store, taken, tell, watcher,
+};
 use guest_cpu::{Port, PortFault};
 use kernel_calls::{Call, Event, Reply};
-use locked_core::{Blank, Boot, BootFault, Cpu, CpuPort, Fault, Kernel, Monitor, Name, OpenGate};
-use page_words::{Pid, Size, Vaddr};
-use std::alloc::Global;
+use locked_core::{Blank, Boot, BootFault, Cpu, CpuPort, Kernel, Monitor, Name, OpenGate, Seen};
+use page_words::Pid;
 use std::marker::Brand;
 use std::process::Abort;
 use std::sync::Wait;
-use std::test::Fail;
 use std::thread;
 use std::thread::Threads;
 
-fn root<R: Abort>(rt: &R) -> Pid {
-    Pid::new(0).expect(rt, "process 0")
-}
-
-fn store(value: u32) -> Call {
-    Call::Store {
-        addr: Vaddr(0x4000_0000),
-        size: Size::Four,
-        value,
-    }
-}
-
-fn load() -> Call {
-    Call::Load {
-        addr: Vaddr(0x4000_0000),
-        size: Size::Four,
+/// No kernel is booted of so many frames, CPUs and monitors.
+fn check_refused<R: AllocGlobal + Wait + Abort>(
+    rt: &R,
+    frames: u32,
+    cpus: u8,
+    monitors: u8,
+    fault: BootFault,
+) {
+    match Kernel::<Brand, OpenGate>::boot(rt, rt.alloc(), frames, cpus, monitors, OpenGate) {
+        Ok(blank) => {
+            empty::<Brand, R>(rt, blank);
+            panic!(rt; "{frames} frames, {cpus} CPUs and {monitors} monitors were taken");
+        }
+        Err(refused) => assert_eq!(rt; refused, fault),
     }
 }
 
 #[test]
-fn refuses_sizes_and_counts(rt: HostRuntime) -> Result<(), Fail> {
-    let alloc = rt.alloc();
-    for (frames, cpus, monitors, fault) in [
-        (15, 0, 0, BootFault::BadSize),
-        (4097, 1, 1, BootFault::BadSize),
-        (16, 0, 0, BootFault::BadCount),
-        (16, 9, 0, BootFault::BadCount),
-        (16, 1, 9, BootFault::BadCount),
-    ] {
-        match Kernel::<Brand, OpenGate>::boot(&rt, alloc, frames, cpus, monitors, OpenGate) {
-            Ok(blank) => {
-                empty::<Brand, HostRuntime>(&rt, blank, alloc);
-                panic!(rt; "{frames} frames, {cpus} CPUs and {monitors} monitors were taken");
-            }
-            Err(refused) => assert_eq!(rt; refused, fault),
-        }
-    }
-    Ok(())
+fn refuses_sizes_and_counts(rt: HostRuntime) {
+    check_refused(&rt, 15, 0, 0, BootFault::BadSize);
+    check_refused(&rt, 4097, 1, 1, BootFault::BadSize);
+    check_refused(&rt, 16, 0, 0, BootFault::BadCount);
+    check_refused(&rt, 16, 9, 0, BootFault::BadCount);
+    check_refused(&rt, 16, 1, 9, BootFault::BadCount);
+}
+
+/// A report is on so many entries, and its rows use so much.
+fn check_seen<R: Abort>(rt: &R, seen: &Seen, front: usize, total: u64) {
+    assert_eq!(rt; (seen.front, seen.report.total()), (front, total));
+}
+
+/// A process uses so much by a report.
+fn check_used<R: Abort>(rt: &R, seen: &Seen, pid: Pid, used: u32) {
+    assert_eq!(rt; seen.report.row(pid).map(|row| row.used), Some(used));
+}
+
+/// A CPU made so many calls, and has seen so many entries.
+fn check_calls<N: Name, R: Abort>(rt: &R, cpu: &Cpu<N>, calls: usize) {
+    assert_eq!(rt; (cpu.tell().front(), cpu.calls()), (calls, calls));
 }
 
 /// One CPU stores and loads, and one monitor reports before and after.
-fn stored_and_loaded<N: Name, R: Wait + Abort>(rt: &R, blank: Blank<OpenGate>, alloc: Global)
+fn stored_and_loaded<N: Name, R: Wait + Abort>(rt: &R, blank: Blank<OpenGate>)
     requires { (blank.frames ≡ N.frames) × (blank.book ≡ N.book) }
 {
-    let Ok(boot) = blank.open::<N, R>(rt) else {
-        panic!(rt; "no memory")
-    };
     let Boot {
         kernel,
         mut cpus,
         mut monitors,
-    } = boot;
-    let mut cpu = cpus.pop().expect(rt, "one CPU");
-    let mut monitor = monitors.pop().expect(rt, "one monitor");
-    let first = monitor.report().expect(rt, "a report");
-    let stored = cpu.call(rt, &kernel, root(rt), store(7));
-    let loaded = cpu.call(rt, &kernel, root(rt), load());
-    let told = cpu.tell();
-    let front = told.front();
-    monitor.learn(told);
-    let second = monitor.report().expect(rt, "a report");
-    let calls = cpu.calls();
-    let mut back = Vec::new(alloc);
-    back.push(cpu).expect(rt, "memory");
-    let Ok(history) = kernel.close(rt, back) else {
-        panic!(rt; "not closed")
-    };
-    assert_eq!(rt; (stored, loaded), (Ok(Reply::Done), Ok(Reply::Value(7))));
-    assert_eq!(rt; (first.front, first.report.total()), (0, 1));
-    assert_eq!(rt; (front, calls), (2, 2));
-    assert_eq!(rt; (second.front, second.report.total()), (2, 3));
-    assert_eq!(rt; second.report.row(root(rt)).map(|row| row.used), Some(3));
-    assert_eq!(rt; second.report, memory_report::report_of(history.core()));
-    let mut nth = 0;
-    for entry in history.entries() {
-        assert_eq!(rt; (entry.cpu, entry.nth, entry.used_after), (0, nth, 3));
-        nth = 1;
-    }
-    assert_eq!(rt; history.entries().len(), 2);
+    } = opened::<N, OpenGate, R>(rt, blank);
+    let mut cpu = taken(rt, &mut cpus);
+    let mut monitor = watcher(rt, &mut monitors);
+    let root = process(rt, 0);
+    check_seen(rt, &reported(rt, &mut monitor), 0, 1);
+    answered(rt, &kernel, &mut cpu, root, store(7), Reply::Done);
+    answered(rt, &kernel, &mut cpu, root, load(), Reply::Value(7));
+    check_calls(rt, &cpu, 2);
+    tell(&cpu, &mut monitor);
+    let seen = reported(rt, &mut monitor);
+    let history = closed(rt, kernel, put(rt, cpus, cpu));
+    check_seen(rt, &seen, 2, 3);
+    check_used(rt, &seen, root, 3);
+    check_report(rt, &seen, &history);
+    check_two_entries(rt, &history);
 }
 
 #[test]
-fn one_cpu_and_one_monitor(rt: HostRuntime) -> Result<(), Fail> {
-    let alloc = rt.alloc();
-    match Kernel::<Brand, OpenGate>::boot(&rt, alloc, 16, 1, 1, OpenGate) {
-        Ok(blank) => stored_and_loaded::<Brand, HostRuntime>(&rt, blank, alloc),
-        Err(_) => panic!(rt; "not booted"),
-    }
-    Ok(())
+fn one_cpu_and_one_monitor(rt: HostRuntime) {
+    stored_and_loaded::<Brand, HostRuntime>(&rt, booted(&rt, 16, 1, 1, OpenGate));
 }
 
 /// Closes a kernel without its CPUs.
-fn empty<N: Name, R: Wait + Abort>(rt: &R, blank: Blank<OpenGate>, alloc: Global)
+fn empty<N: Name, R: AllocGlobal + Wait + Abort>(rt: &R, blank: Blank<OpenGate>)
     requires { (blank.frames ≡ N.frames) × (blank.book ≡ N.book) }
 {
-    let Ok(boot) = blank.open::<N, R>(rt) else {
-        panic!(rt; "no memory")
-    };
     let Boot {
         kernel,
         cpus: _,
         monitors: _,
-    } = boot;
-    let closed = kernel.close(rt, Vec::new(alloc));
-    assert_eq!(rt; closed.err(), Some(Fault::Disagree));
+    } = opened::<N, OpenGate, R>(rt, blank);
+    check_not_closed(rt, kernel, Vec::new(rt.alloc()));
 }
 
 #[test]
-fn closes_with_all_cpus_alone(rt: HostRuntime) -> Result<(), Fail> {
-    let alloc = rt.alloc();
-    match Kernel::<Brand, OpenGate>::boot(&rt, alloc, 16, 1, 0, OpenGate) {
-        Ok(blank) => empty::<Brand, HostRuntime>(&rt, blank, alloc),
-        Err(_) => panic!(rt; "not booted"),
-    }
-    Ok(())
+fn closes_with_all_cpus_alone(rt: HostRuntime) {
+    empty::<Brand, HostRuntime>(&rt, booted(&rt, 16, 1, 0, OpenGate));
 }
 
-/// What a port of CPU 0 answers to an event of CPU 1, and then to one of CPU 0.
+/// What one port of CPU 0 answers to an event of CPU 1, and then to one of CPU 0.
 fn calls_of_two<N: Name, R: Wait + Abort>(
     rt: &R,
     cpu: &mut Cpu<N>,
@@ -140,50 +113,51 @@ fn calls_of_two<N: Name, R: Wait + Abort>(
     let mut port = CpuPort::new(rt, cpu, kernel);
     let other = port.call(Event {
         cpu: 1,
-        pid: root(rt),
+        pid: process(rt, 0),
         call: store(7),
     });
     let own = port.call(Event {
         cpu: 0,
-        pid: root(rt),
+        pid: process(rt, 0),
         call: store(7),
     });
     (other, own)
 }
 
 /// A port takes the events of its own CPU, and makes no call for those of another.
-fn ported<N: Name, R: Wait + Abort>(rt: &R, blank: Blank<OpenGate>, alloc: Global)
+fn check_port<N: Name, R: Wait + Abort>(rt: &R, cpu: &mut Cpu<N>, kernel: &Kernel<N, OpenGate>) {
+    let answers = calls_of_two(rt, cpu, kernel);
+    assert_eq!(rt; answers, (Err(PortFault(6)), Ok(Reply::Done)));
+    assert_eq!(rt; cpu.calls(), 1);
+}
+
+/// A port of a kernel's one CPU, whose one call is in the history.
+fn ported<N: Name, R: Wait + Abort>(rt: &R, blank: Blank<OpenGate>)
     requires { (blank.frames ≡ N.frames) × (blank.book ≡ N.book) }
 {
-    let Ok(boot) = blank.open::<N, R>(rt) else {
-        panic!(rt; "no memory")
-    };
     let Boot {
         kernel,
         mut cpus,
         monitors: _,
-    } = boot;
-    let mut cpu = cpus.pop().expect(rt, "one CPU");
-    let (other, own) = calls_of_two(rt, &mut cpu, &kernel);
-    assert_eq!(rt; other, Err(PortFault(6)));
-    assert_eq!(rt; own, Ok(Reply::Done));
-    assert_eq!(rt; cpu.calls(), 1);
-    let mut back = Vec::new(alloc);
-    back.push(cpu).expect(rt, "memory");
-    let Ok(history) = kernel.close(rt, back) else {
-        panic!(rt; "not closed")
-    };
-    assert_eq!(rt; history.entries().len(), 1);
+    } = opened::<N, OpenGate, R>(rt, blank);
+    let mut cpu = taken(rt, &mut cpus);
+    check_port(rt, &mut cpu, &kernel);
+    check_length(rt, &closed(rt, kernel, put(rt, cpus, cpu)), 1);
 }
 
 #[test]
-fn ports_take_their_own_events(rt: HostRuntime) -> Result<(), Fail> {
-    let alloc = rt.alloc();
-    match Kernel::<Brand, OpenGate>::boot(&rt, alloc, 16, 1, 0, OpenGate) {
-        Ok(blank) => ported::<Brand, HostRuntime>(&rt, blank, alloc),
-        Err(_) => panic!(rt; "not booted"),
-    }
-    Ok(())
+fn ports_take_their_own_events(rt: HostRuntime) {
+    ported::<Brand, HostRuntime>(&rt, booted(&rt, 16, 1, 0, OpenGate));
+}
+
+/// Makes a Quota call: 1 where it was answered.
+fn asked<N: Name, R: Wait>(
+    rt: &R,
+    kernel: &Kernel<N, OpenGate>,
+    cpu: &mut Cpu<N>,
+    pid: Pid,
+) -> u64 {
+    u64::from(cpu.call(rt, kernel, pid, Call::Quota).is_ok())
 }
 
 /// Makes a thousand Quota calls of process 0: how many were answered.
@@ -195,208 +169,229 @@ fn work<N: Name, R: Wait>(
 ) -> (Cpu<N>, u64) {
     let mut done = 0u64;
     for _ in 0..1000u64 {
-        if cpu.call(rt, kernel, pid, Call::Quota).is_ok() {
-            done = done.wrapping_add(1);
-        }
+        done = done.wrapping_add(asked(rt, kernel, &mut cpu, pid));
     }
     (cpu, done)
 }
 
+/// What a monitor that reports again and again came to.
+#[derive(Clone, Copy, Drop)]
+struct Watched {
+    /// How many reports there were.
+    seen: u64,
+    /// How often a front was lower than the one before.
+    fell: u64,
+    /// The last front.
+    last: usize,
+}
+
+/// Takes one report more.
+fn watch_once<N: Name>(monitor: &mut Monitor<N>, before: Watched) -> Watched {
+    match monitor.report() {
+        Some(now) => Watched {
+            seen: before.seen.wrapping_add(1),
+            fell: before.fell.wrapping_add(u64::from(now.front < before.last)),
+            last: now.front,
+        },
+        None => before,
+    }
+}
+
 /// Takes a thousand reports: how many there were, and how often a front was lower than the one before.
 fn watch<N: Name>(mut monitor: Monitor<N>) -> (Monitor<N>, u64, u64) {
-    let mut seen = 0u64;
-    let mut fell = 0u64;
-    let mut last = 0;
+    let mut watched = Watched {
+        seen: 0,
+        fell: 0,
+        last: 0,
+    };
     for _ in 0..1000u64 {
-        if let Some(now) = monitor.report() {
-            seen = seen.wrapping_add(1);
-            if now.front < last {
-                fell = fell.wrapping_add(1);
-            }
-            last = now.front;
-        }
+        watched = watch_once(&mut monitor, watched);
     }
-    (monitor, seen, fell)
+    (monitor, watched.seen, watched.fell)
+}
+
+/// A CPU was answered a thousand times.
+fn check_worked<R: Abort>(rt: &R, done: u64) {
+    assert_eq!(rt; done, 1000);
+}
+
+/// A monitor reported a thousand times, and no front was lower than the one before.
+fn check_watched<R: Abort>(rt: &R, seen: u64, fell: u64) {
+    assert_eq!(rt; (seen, fell), (1000, 0));
+}
+
+/// Two CPUs call in two threads, a thousand times each.
+fn both_worked<N: Name + Send + Sync, R: Threads + Wait + Abort + Sync>(
+    rt: &R,
+    kernel: &Kernel<N, OpenGate>,
+    one: Cpu<N>,
+    two: Cpu<N>,
+) -> (Cpu<N>, Cpu<N>) {
+    let pid = process(rt, 0);
+    let (one, two) = thread::join(
+        rt,
+        move || work(rt, kernel, one, pid),
+        move || work(rt, kernel, two, pid),
+    );
+    check_worked(rt, one.1);
+    check_worked(rt, two.1);
+    (one.0, two.0)
+}
+
+/// The same, while a monitor reports in a third thread.
+fn all_worked<N: Name + Send + Sync, R: Threads + Wait + Abort + Sync>(
+    rt: &R,
+    kernel: &Kernel<N, OpenGate>,
+    one: Cpu<N>,
+    two: Cpu<N>,
+    monitor: Monitor<N>,
+) -> ((Cpu<N>, Cpu<N>), Monitor<N>) {
+    let (cpus, (monitor, seen, fell)) = thread::join(
+        rt,
+        move || both_worked(rt, kernel, one, two),
+        move || watch(monitor),
+    );
+    check_watched(rt, seen, fell);
+    (cpus, monitor)
 }
 
 /// Two CPUs call a thousand times each, in two threads, while a monitor reports in a third.
 fn in_threads<N: Name + Send + Sync, R: Threads + Wait + Abort + Sync>(
     rt: &R,
     blank: Blank<OpenGate>,
-    alloc: Global,
 )
     requires { (blank.frames ≡ N.frames) × (blank.book ≡ N.book) }
 {
-    let Ok(boot) = blank.open::<N, R>(rt) else {
-        panic!(rt; "no memory")
-    };
     let Boot {
         kernel,
         mut cpus,
         mut monitors,
-    } = boot;
-    let second = cpus.pop().expect(rt, "two CPUs");
-    let first = cpus.pop().expect(rt, "two CPUs");
-    let monitor = monitors.pop().expect(rt, "one monitor");
-    let shared = &kernel;
-    let pid = root(rt);
-    let ((one, two), three) = thread::join(
-        rt,
-        move || {
-            thread::join(
-                rt,
-                move || work(rt, shared, first, pid),
-                move || work(rt, shared, second, pid),
-            )
-        },
-        move || watch(monitor),
-    );
-    assert_eq!(rt; (one.1, two.1), (1000, 1000));
-    assert_eq!(rt; (three.1, three.2), (1000, 0));
-    let mut late = three.0;
-    let (first, second) = (one.0, two.0);
-    late.learn(first.tell());
-    late.learn(second.tell());
-    let end = late.report().expect(rt, "a report");
-    let mut back = Vec::new(alloc);
-    back.push(second).expect(rt, "memory");
-    back.push(first).expect(rt, "memory");
-    let Ok(history) = kernel.close(rt, back) else {
-        panic!(rt; "not closed")
-    };
-    assert_eq!(rt; (history.entries().len(), end.front), (2000, 2000));
-    assert_eq!(rt; end.report, memory_report::report_of(history.core()));
+    } = opened::<N, OpenGate, R>(rt, blank);
+    let second = taken(rt, &mut cpus);
+    let first = taken(rt, &mut cpus);
+    let monitor = watcher(rt, &mut monitors);
+    let ((first, second), mut late) = all_worked(rt, &kernel, first, second, monitor);
+    tell(&first, &mut late);
+    tell(&second, &mut late);
+    let end = reported(rt, &mut late);
+    let back = put(rt, put(rt, cpus, second), first);
+    let history = closed(rt, kernel, back);
+    check_length(rt, &history, 2000);
+    check_front(rt, &end, 2000);
+    check_report(rt, &end, &history);
 }
 
 #[test]
-fn two_cpus_and_a_monitor_in_threads(rt: HostRuntime) -> Result<(), Fail> {
-    let alloc = rt.alloc();
-    match Kernel::<Brand, OpenGate>::boot(&rt, alloc, 16, 2, 1, OpenGate) {
-        Ok(blank) => in_threads::<Brand, HostRuntime>(&rt, blank, alloc),
-        Err(_) => panic!(rt; "not booted"),
-    }
-    Ok(())
+fn two_cpus_and_a_monitor_in_threads(rt: HostRuntime) {
+    in_threads::<Brand, HostRuntime>(&rt, booted(&rt, 16, 2, 1, OpenGate));
+}
+
+/// A call, of which the monitor learns, and then a report: 0 where it is on so many entries.
+fn wrong_in_turn<N: Name, R: Wait>(
+    rt: &R,
+    kernel: &Kernel<N, OpenGate>,
+    cpu: &mut Cpu<N>,
+    monitor: &mut Monitor<N>,
+    pid: Pid,
+    made: usize,
+) -> u64 {
+    let answered = asked(rt, kernel, cpu, pid);
+    tell(cpu, monitor);
+    let front = monitor.report().map(|seen| seen.front);
+    u64::from(answered != 1 || front != Some(made))
 }
 
 /// A thousand Quota calls of one CPU; after each the monitor learns, and reports so many entries.
-fn in_turn<N: Name, R: Wait + Abort>(rt: &R, blank: Blank<OpenGate>, alloc: Global)
+fn check_in_turn<N: Name, R: Wait + Abort>(
+    rt: &R,
+    kernel: &Kernel<N, OpenGate>,
+    cpu: &mut Cpu<N>,
+    monitor: &mut Monitor<N>,
+) {
+    let pid = process(rt, 0);
+    let mut wrong = 0u64;
+    for made in 1..1001usize {
+        wrong = wrong.wrapping_add(wrong_in_turn(rt, kernel, cpu, monitor, pid, made));
+    }
+    assert_eq!(rt; wrong, 0);
+}
+
+/// A kernel with a thousand calls of one CPU, each of which the monitor reports at once.
+fn in_turn<N: Name, R: Wait + Abort>(rt: &R, blank: Blank<OpenGate>)
     requires { (blank.frames ≡ N.frames) × (blank.book ≡ N.book) }
 {
-    let Ok(boot) = blank.open::<N, R>(rt) else {
-        panic!(rt; "no memory")
-    };
     let Boot {
         kernel,
         mut cpus,
         mut monitors,
-    } = boot;
-    let mut cpu = cpus.pop().expect(rt, "one CPU");
-    let mut monitor = monitors.pop().expect(rt, "one monitor");
-    let mut wrong = 0u64;
-    for made in 1..1001usize {
-        let answered = cpu.call(rt, &kernel, root(rt), Call::Quota).is_ok();
-        monitor.learn(cpu.tell());
-        let front = monitor.report().map(|seen| seen.front);
-        if !answered || front != Some(made) {
-            wrong = wrong.wrapping_add(1);
-        }
-    }
-    let mut back = Vec::new(alloc);
-    back.push(cpu).expect(rt, "memory");
-    let Ok(history) = kernel.close(rt, back) else {
-        panic!(rt; "not closed")
-    };
-    assert_eq!(rt; (wrong, history.entries().len()), (0, 1000));
+    } = opened::<N, OpenGate, R>(rt, blank);
+    let mut cpu = taken(rt, &mut cpus);
+    let mut monitor = watcher(rt, &mut monitors);
+    check_in_turn(rt, &kernel, &mut cpu, &mut monitor);
+    check_length(rt, &closed(rt, kernel, put(rt, cpus, cpu)), 1000);
 }
 
 #[test]
-fn a_monitor_reports_each_call(rt: HostRuntime) -> Result<(), Fail> {
-    let alloc = rt.alloc();
-    match Kernel::<Brand, OpenGate>::boot(&rt, alloc, 16, 1, 1, OpenGate) {
-        Ok(blank) => in_turn::<Brand, HostRuntime>(&rt, blank, alloc),
-        Err(_) => panic!(rt; "not booted"),
-    }
-    Ok(())
+fn a_monitor_reports_each_call(rt: HostRuntime) {
+    in_turn::<Brand, HostRuntime>(&rt, booted(&rt, 16, 1, 1, OpenGate));
 }
 
 /// One CPU calls a thousand times, while a monitor in another thread takes a thousand reports.
-fn beside<N: Name + Send + Sync, R: Threads + Wait + Abort + Sync>(
+fn worked_beside<N: Name + Send + Sync, R: Threads + Wait + Abort + Sync>(
     rt: &R,
-    blank: Blank<OpenGate>,
-    alloc: Global,
-)
+    kernel: &Kernel<N, OpenGate>,
+    cpu: Cpu<N>,
+    monitor: Monitor<N>,
+) -> Cpu<N> {
+    let pid = process(rt, 0);
+    let (called, watched) = thread::join(
+        rt,
+        move || work(rt, kernel, cpu, pid),
+        move || watch(monitor),
+    );
+    check_worked(rt, called.1);
+    check_watched(rt, watched.1, watched.2);
+    called.0
+}
+
+/// A kernel of one CPU with a monitor beside its calls.
+fn beside<N: Name + Send + Sync, R: Threads + Wait + Abort + Sync>(rt: &R, blank: Blank<OpenGate>)
     requires { (blank.frames ≡ N.frames) × (blank.book ≡ N.book) }
 {
-    let Ok(boot) = blank.open::<N, R>(rt) else {
-        panic!(rt; "no memory")
-    };
     let Boot {
         kernel,
         mut cpus,
         mut monitors,
-    } = boot;
-    let cpu = cpus.pop().expect(rt, "one CPU");
-    let monitor = monitors.pop().expect(rt, "one monitor");
-    let shared = &kernel;
-    let pid = root(rt);
-    let (called, watched) = thread::join(
-        rt,
-        move || work(rt, shared, cpu, pid),
-        move || watch(monitor),
-    );
-    assert_eq!(rt; called.1, 1000);
-    assert_eq!(rt; (watched.1, watched.2), (1000, 0));
-    let mut back = Vec::new(alloc);
-    back.push(called.0).expect(rt, "memory");
-    let Ok(history) = kernel.close(rt, back) else {
-        panic!(rt; "not closed")
-    };
-    assert_eq!(rt; history.entries().len(), 1000);
+    } = opened::<N, OpenGate, R>(rt, blank);
+    let cpu = taken(rt, &mut cpus);
+    let monitor = watcher(rt, &mut monitors);
+    let cpu = worked_beside(rt, &kernel, cpu, monitor);
+    check_length(rt, &closed(rt, kernel, put(rt, cpus, cpu)), 1000);
 }
 
 #[test]
-fn a_monitor_reports_beside_the_calls(rt: HostRuntime) -> Result<(), Fail> {
-    let alloc = rt.alloc();
-    match Kernel::<Brand, OpenGate>::boot(&rt, alloc, 16, 1, 1, OpenGate) {
-        Ok(blank) => beside::<Brand, HostRuntime>(&rt, blank, alloc),
-        Err(_) => panic!(rt; "not booted"),
-    }
-    Ok(())
+fn a_monitor_reports_beside_the_calls(rt: HostRuntime) {
+    beside::<Brand, HostRuntime>(&rt, booted(&rt, 16, 1, 1, OpenGate));
 }
 
 /// Two CPUs make a call each, and only one of them comes back.
-fn one_missing<N: Name, R: Wait + Abort>(rt: &R, blank: Blank<OpenGate>, alloc: Global)
+fn one_missing<N: Name, R: Wait + Abort>(rt: &R, blank: Blank<OpenGate>)
     requires { (blank.frames ≡ N.frames) × (blank.book ≡ N.book) }
 {
-    let Ok(boot) = blank.open::<N, R>(rt) else {
-        panic!(rt; "no memory")
-    };
     let Boot {
         kernel,
         mut cpus,
         monitors: _,
-    } = boot;
-    let mut second = cpus.pop().expect(rt, "two CPUs");
-    let mut first = cpus.pop().expect(rt, "two CPUs");
-    assert_eq!(rt;
-        first.call(rt, &kernel, root(rt), store(7)),
-        Ok(Reply::Done)
-    );
-    assert_eq!(rt;
-        second.call(rt, &kernel, root(rt), load()),
-        Ok(Reply::Value(7))
-    );
-    let mut back = Vec::new(alloc);
-    back.push(first).expect(rt, "memory");
-    assert_eq!(rt; kernel.close(rt, back).err(), Some(Fault::Disagree));
+    } = opened::<N, OpenGate, R>(rt, blank);
+    let mut second = taken(rt, &mut cpus);
+    let mut first = taken(rt, &mut cpus);
+    let root = process(rt, 0);
+    answered(rt, &kernel, &mut first, root, store(7), Reply::Done);
+    answered(rt, &kernel, &mut second, root, load(), Reply::Value(7));
+    check_not_closed(rt, kernel, put(rt, cpus, first));
 }
 
 #[test]
-fn does_not_close_with_one_of_two_cpus(rt: HostRuntime) -> Result<(), Fail> {
-    let alloc = rt.alloc();
-    match Kernel::<Brand, OpenGate>::boot(&rt, alloc, 16, 2, 0, OpenGate) {
-        Ok(blank) => one_missing::<Brand, HostRuntime>(&rt, blank, alloc),
-        Err(_) => panic!(rt; "not booted"),
-    }
-    Ok(())
+fn does_not_close_with_one_of_two_cpus(rt: HostRuntime) {
+    one_missing::<Brand, HostRuntime>(&rt, booted(&rt, 16, 2, 0, OpenGate));
 }

@@ -19,6 +19,8 @@ mod guest_tests;
 #[cfg(test)]
 mod kernel_tests;
 #[cfg(test)]
+mod kernels;
+#[cfg(test)]
 mod memory_tests;
 #[cfg(test)]
 mod round_tests;

@@ -6,47 +6,39 @@
 
 ghost use Rattle.std.specs.Prelude.{◌≡◌};
 
+use crate::kernels::{
+    check_length, check_two_entries, closed, load, process, put, store, taken, watcher,
+};
 use guest_cpu::{Port, PortFault};
 use kernel_calls::{Call, Event, Reply};
 use locked_core::{Blank, Boot, BootFault, Cpu, CpuPort, Fault, Kernel, Monitor, Name, OpenGate};
-use memory_image::Image;
-use page_words::{Pid, Size, Vaddr};
-use std::alloc::Global;
 use std::marker::Brand;
 use std::process::Abort;
 use std::sync::Wait;
-use std::test::Fail;
 
-fn root<R: Abort>(rt: &R) -> Pid {
-    Pid::new(0).expect(rt, "process 0")
+/// Says what was refused, and what follows.
+fn say<R: Print>(rt: &R, line: &str) {
+    let _ = println!(rt; "{line}");
 }
 
-fn store() -> Call {
-    Call::Store {
-        addr: Vaddr(0x4000_0000),
-        size: Size::Four,
-        value: 7,
-    }
-}
-
-fn load() -> Call {
-    Call::Load {
-        addr: Vaddr(0x4000_0000),
-        size: Size::Four,
+/// A kernel of one CPU and one monitor; None where memory was refused.
+fn new_blank<R: AllocGlobal + Wait + Abort>(rt: &R) -> Option<Blank<OpenGate>> {
+    match Kernel::<Brand, OpenGate>::boot(rt, rt.alloc(), 16, 1, 1, OpenGate) {
+        Ok(blank) => Some(blank),
+        Err(fault) => {
+            assert_eq!(rt; fault, BootFault::NoMemory);
+            None
+        }
     }
 }
 
 /// Boots a kernel of one CPU and one monitor, again where memory was refused.
-fn booted<R: Wait + Abort + Print>(rt: &R, alloc: Global) -> Blank<OpenGate> {
-    match Kernel::<Brand, OpenGate>::boot(rt, alloc, 16, 1, 1, OpenGate) {
-        Ok(blank) => blank,
-        Err(fault) => {
-            assert_eq!(rt; fault, BootFault::NoMemory);
-            let _ = println!(rt; "NoMemory, and then a blank");
-            let Ok(blank) = Kernel::<Brand, OpenGate>::boot(rt, alloc, 16, 1, 1, OpenGate) else {
-                panic!(rt; "not booted")
-            };
-            blank
+fn booted<R: AllocGlobal + Wait + Abort + Print>(rt: &R) -> Blank<OpenGate> {
+    match new_blank(rt) {
+        Some(blank) => blank,
+        None => {
+            say(rt, "NoMemory, and then a blank");
+            new_blank(rt).expect(rt, "not booted")
         }
     }
 }
@@ -62,7 +54,7 @@ fn opened<N: Name, R: Wait + Abort + Print>(
         Ok(boot) => Some(boot),
         Err(fault) => {
             assert_eq!(rt; fault, BootFault::NoMemory);
-            let _ = println!(rt; "NoMemory, and then a kernel of a new blank");
+            say(rt, "NoMemory, and then a kernel of a new blank");
             None
         }
     }
@@ -74,15 +66,55 @@ fn reported<N: Name>(monitor: &mut Monitor<N>) -> Option<(usize, u64)> {
     Some((seen.front, seen.report.total()))
 }
 
-/// Stores as process 0, or loads.
-fn made<N: Name, R: Wait + Abort>(
+/// What must stay where memory is refused: the CPU's calls, how much it has seen, and what the monitor reports.
+#[derive(Clone, Copy, Debug, PartialEq, Eq)]
+struct Kept {
+    calls: usize,
+    front: usize,
+    shown: Option<(usize, u64)>,
+}
+
+fn kept_now<N: Name>(cpu: &Cpu<N>, monitor: &mut Monitor<N>) -> Kept {
+    Kept {
+        calls: cpu.calls(),
+        front: cpu.tell().front(),
+        shown: reported(monitor),
+    }
+}
+
+fn check_kept<N: Name, R: Abort>(rt: &R, cpu: &Cpu<N>, monitor: &mut Monitor<N>, before: &Kept) {
+    assert_eq!(rt; &kept_now(cpu, monitor), before);
+}
+
+/// Makes a call of process 0, which must be answered so; whether there was memory for it.
+fn is_made<N: Name, R: Wait + Abort>(
     rt: &R,
     kernel: &Kernel<N, OpenGate>,
     cpu: &mut Cpu<N>,
-    stores: bool,
-) -> Result<Reply, Fault> {
-    let call = if stores { store() } else { load() };
-    cpu.call(rt, kernel, root(rt), call)
+    call: &Call,
+    reply: &Reply,
+) -> bool {
+    match cpu.call(rt, kernel, process(rt, 0), *call) {
+        Ok(given) => {
+            assert_eq!(rt; &given, reply);
+            true
+        }
+        Err(fault) => {
+            assert_eq!(rt; fault, Fault::NoMemory);
+            false
+        }
+    }
+}
+
+/// The same with memory.
+fn check_made<N: Name, R: Wait + Abort>(
+    rt: &R,
+    kernel: &Kernel<N, OpenGate>,
+    cpu: &mut Cpu<N>,
+    call: &Call,
+    reply: &Reply,
+) {
+    assert!(rt; is_made(rt, kernel, cpu, call, reply));
 }
 
 /// Makes a call, again where memory was refused: then the CPU has the calls and has seen what it had, and the
@@ -92,63 +124,59 @@ fn called<N: Name, R: Wait + Abort + Print>(
     kernel: &Kernel<N, OpenGate>,
     cpu: &mut Cpu<N>,
     monitor: &mut Monitor<N>,
-    stores: bool,
-) -> Result<Reply, Fault> {
-    let before = (cpu.calls(), cpu.tell().front());
-    let shown = reported(monitor);
-    let answered = made(rt, kernel, cpu, stores);
-    if answered.is_ok() {
-        return answered;
+    call: Call,
+    reply: Reply,
+) {
+    let before = kept_now(cpu, monitor);
+    if !is_made(rt, kernel, cpu, &call, &reply) {
+        check_kept(rt, cpu, monitor, &before);
+        say(rt, "NoMemory, and then a call");
+        check_made(rt, kernel, cpu, &call, &reply);
     }
-    assert_eq!(rt; answered, Err(Fault::NoMemory));
-    assert_eq!(rt; (cpu.calls(), cpu.tell().front()), before);
-    assert_eq!(rt; reported(monitor), shown);
-    let _ = println!(rt; "NoMemory, and then a call");
-    made(rt, kernel, cpu, stores)
 }
 
-/// One CPU stores and loads; whether the kernel was opened.
-fn stored_and_loaded<N: Name, R: Wait + Abort + Print>(rt: &R, blank: Blank<OpenGate>) -> bool
-    requires { (blank.frames ≡ N.frames) × (blank.book ≡ N.book) }
-{
-    let Some(boot) = opened::<N, R>(rt, blank) else {
-        return false;
-    };
+/// One CPU stores and loads.
+fn store_and_load<N: Name, R: Wait + Abort + Print>(rt: &R, boot: Boot<N, OpenGate>) {
     let Boot {
         kernel,
         mut cpus,
         mut monitors,
     } = boot;
-    let mut cpu = cpus.pop().expect(rt, "one CPU");
-    let mut monitor = monitors.pop().expect(rt, "one monitor");
-    let stored = called(rt, &kernel, &mut cpu, &mut monitor, true);
-    let loaded = called(rt, &kernel, &mut cpu, &mut monitor, false);
-    assert_eq!(rt; (stored, loaded), (Ok(Reply::Done), Ok(Reply::Value(7))));
-    cpus.push(cpu).expect(rt, "a place");
-    let Ok(history) = kernel.close(rt, cpus) else {
-        panic!(rt; "not closed")
-    };
-    let mut nth = 0;
-    for entry in history.entries() {
-        assert_eq!(rt; (entry.cpu, entry.nth, entry.used_after), (0, nth, 3));
-        nth = 1;
+    let mut cpu = taken(rt, &mut cpus);
+    let mut monitor = watcher(rt, &mut monitors);
+    called(rt, &kernel, &mut cpu, &mut monitor, store(7), Reply::Done);
+    called(rt, &kernel, &mut cpu, &mut monitor, load(), Reply::Value(7));
+    check_two_entries(rt, &closed(rt, kernel, put(rt, cpus, cpu)));
+}
+
+/// The same; whether the kernel was opened.
+fn stored_and_loaded<N: Name, R: Wait + Abort + Print>(rt: &R, blank: Blank<OpenGate>) -> bool
+    requires { (blank.frames ≡ N.frames) × (blank.book ≡ N.book) }
+{
+    match opened::<N, R>(rt, blank) {
+        Some(boot) => {
+            store_and_load(rt, boot);
+            true
+        }
+        None => false,
     }
-    assert_eq!(rt; history.entries().len(), 2);
-    true
 }
 
 /// The same on a kernel that it boots.
-fn is_stored_and_loaded<R: Wait + Abort + Print>(rt: &R, alloc: Global) -> bool {
-    let blank = booted(rt, alloc);
-    stored_and_loaded::<Brand, R>(rt, blank)
+fn is_stored_and_loaded<R: AllocGlobal + Wait + Abort + Print>(rt: &R) -> bool {
+    stored_and_loaded::<Brand, R>(rt, booted(rt))
+}
+
+/// The same, again where the kernel was not opened.
+fn check_stored_and_loaded<R: AllocGlobal + Wait + Abort + Print>(rt: &R) {
+    if !is_stored_and_loaded(rt) {
+        assert!(rt; is_stored_and_loaded(rt));
+    }
 }
 
 #[test]
-fn calls_go_on_after_want_of_memory(rt: HostRuntime) -> Result<(), Fail> {
-    if !is_stored_and_loaded(&rt, rt.alloc()) {
-        assert!(rt; is_stored_and_loaded(&rt, rt.alloc()));
-    }
-    Ok(())
+fn calls_go_on_after_want_of_memory(rt: HostRuntime) {
+    check_stored_and_loaded(&rt);
 }
 
 /// Makes a store by a port of CPU 0.
@@ -160,82 +188,134 @@ fn port_call<N: Name, R: Wait + Abort>(
     let mut port = CpuPort::new(rt, cpu, kernel);
     port.call(Event {
         cpu: 0,
-        pid: root(rt),
-        call: store(),
+        pid: process(rt, 0),
+        call: store(7),
     })
 }
 
-/// What a port of CPU 0 answers to a store, again where memory was refused: then the CPU has the calls that it
-/// had.
+/// Makes a store by a port, which must be done; whether there was memory for it.
+fn is_ported<N: Name, R: Wait + Abort>(
+    rt: &R,
+    kernel: &Kernel<N, OpenGate>,
+    cpu: &mut Cpu<N>,
+) -> bool {
+    match port_call(rt, cpu, kernel) {
+        Ok(reply) => {
+            assert_eq!(rt; reply, Reply::Done);
+            true
+        }
+        Err(fault) => {
+            assert_eq!(rt; fault, PortFault(1));
+            false
+        }
+    }
+}
+
+/// The same with memory, behind a refusal: the CPU has the calls that it had.
+fn check_ported<N: Name, R: Wait + Abort>(
+    rt: &R,
+    kernel: &Kernel<N, OpenGate>,
+    cpu: &mut Cpu<N>,
+    calls: usize,
+) {
+    assert_eq!(rt; cpu.calls(), calls);
+    assert!(rt; is_ported(rt, kernel, cpu));
+}
+
+/// A store by a port of CPU 0, again where memory was refused: then the CPU has the calls that it had.
 fn ported<N: Name, R: Wait + Abort + Print>(
     rt: &R,
     kernel: &Kernel<N, OpenGate>,
     cpu: &mut Cpu<N>,
-) -> Result<Reply, PortFault> {
+) {
     let calls = cpu.calls();
-    match port_call(rt, cpu, kernel) {
-        Ok(reply) => Ok(reply),
-        Err(fault) => {
-            assert_eq!(rt; fault, PortFault(1));
-            assert_eq!(rt; cpu.calls(), calls);
-            let _ = println!(rt; "PortFault(1), and then a call");
-            port_call(rt, cpu, kernel)
-        }
+    if !is_ported(rt, kernel, cpu) {
+        say(rt, "PortFault(1), and then a call");
+        check_ported(rt, kernel, cpu, calls);
     }
 }
 
-/// Takes the image of a kernel, again where memory was refused: then the CPU has the calls that it had.
-fn taken<N: Name, R: Wait + Abort + Print>(
+/// Takes the image of a kernel of 16 frames; whether there was memory for it.
+fn is_taken<N: Name, R: Wait + Abort>(
     rt: &R,
     kernel: &Kernel<N, OpenGate>,
     cpu: &mut Cpu<N>,
-) -> Result<Image, Fault> {
-    let calls = cpu.calls();
+) -> bool {
     match kernel.snapshot(rt, cpu) {
-        Ok(image) => Ok(image),
+        Ok(image) => {
+            assert_eq!(rt; image.frames(), 16);
+            true
+        }
         Err(fault) => {
             assert_eq!(rt; fault, Fault::NoMemory);
-            assert_eq!(rt; cpu.calls(), calls);
-            let _ = println!(rt; "NoMemory, and then a snapshot");
-            kernel.snapshot(rt, cpu)
+            false
         }
     }
 }
 
-/// A port's call and a snapshot; whether the kernel was opened.
-fn ported_and_taken<N: Name, R: Wait + Abort + Print>(rt: &R, blank: Blank<OpenGate>) -> bool
-    requires { (blank.frames ≡ N.frames) × (blank.book ≡ N.book) }
-{
-    let Some(boot) = opened::<N, R>(rt, blank) else {
-        return false;
-    };
+/// The same with memory, behind a refusal: the CPU has the calls that it had.
+fn check_taken<N: Name, R: Wait + Abort>(
+    rt: &R,
+    kernel: &Kernel<N, OpenGate>,
+    cpu: &mut Cpu<N>,
+    calls: usize,
+) {
+    assert_eq!(rt; cpu.calls(), calls);
+    assert!(rt; is_taken(rt, kernel, cpu));
+}
+
+/// Takes the image of a kernel, again where memory was refused: then the CPU has the calls that it had.
+fn snapped<N: Name, R: Wait + Abort + Print>(
+    rt: &R,
+    kernel: &Kernel<N, OpenGate>,
+    cpu: &mut Cpu<N>,
+) {
+    let calls = cpu.calls();
+    if !is_taken(rt, kernel, cpu) {
+        say(rt, "NoMemory, and then a snapshot");
+        check_taken(rt, kernel, cpu, calls);
+    }
+}
+
+/// A port's call and a snapshot.
+fn port_and_take<N: Name, R: Wait + Abort + Print>(rt: &R, boot: Boot<N, OpenGate>) {
     let Boot {
         kernel,
         mut cpus,
         monitors: _,
     } = boot;
-    let mut cpu = cpus.pop().expect(rt, "one CPU");
-    assert_eq!(rt; ported(rt, &kernel, &mut cpu), Ok(Reply::Done));
-    let image = taken(rt, &kernel, &mut cpu);
-    assert_eq!(rt; image.ok().map(|image| image.frames()), Some(16));
-    cpus.push(cpu).expect(rt, "a place");
-    let Ok(history) = kernel.close(rt, cpus) else {
-        panic!(rt; "not closed")
-    };
-    assert_eq!(rt; history.entries().len(), 1);
-    true
+    let mut cpu = taken(rt, &mut cpus);
+    ported(rt, &kernel, &mut cpu);
+    snapped(rt, &kernel, &mut cpu);
+    check_length(rt, &closed(rt, kernel, put(rt, cpus, cpu)), 1);
+}
+
+/// The same; whether the kernel was opened.
+fn ported_and_taken<N: Name, R: Wait + Abort + Print>(rt: &R, blank: Blank<OpenGate>) -> bool
+    requires { (blank.frames ≡ N.frames) × (blank.book ≡ N.book) }
+{
+    match opened::<N, R>(rt, blank) {
+        Some(boot) => {
+            port_and_take(rt, boot);
+            true
+        }
+        None => false,
+    }
 }
 
 /// The same on a kernel that it boots.
-fn is_ported_and_taken<R: Wait + Abort + Print>(rt: &R, alloc: Global) -> bool {
-    let blank = booted(rt, alloc);
-    ported_and_taken::<Brand, R>(rt, blank)
+fn is_ported_and_taken<R: AllocGlobal + Wait + Abort + Print>(rt: &R) -> bool {
+    ported_and_taken::<Brand, R>(rt, booted(rt))
+}
+
+/// The same, again where the kernel was not opened.
+fn check_ported_and_taken<R: AllocGlobal + Wait + Abort + Print>(rt: &R) {
+    if !is_ported_and_taken(rt) {
+        assert!(rt; is_ported_and_taken(rt));
+    }
 }
 
 #[test]
-fn ports_and_snapshots_go_on_after_want_of_memory(rt: HostRuntime) -> Result<(), Fail> {
-    if !is_ported_and_taken(&rt, rt.alloc()) {
-        assert!(rt; is_ported_and_taken(&rt, rt.alloc()));
-    }
-    Ok(())
+fn ports_and_snapshots_go_on_after_want_of_memory(rt: HostRuntime) {
+    check_ported_and_taken(&rt);
 }

@@ -3,26 +3,34 @@
 use guest_race::{Referee, RoundFault, round, round_by};
 use integrity_checker::{Audit, AuditFault, Helper, Verdict};
 use locked_core::{Monitor, Name, Seen};
-use std::test::Fail;
+use std::process::Abort;
+use std::sync::Wait;
+use std::thread::Threads;
 
-#[test]
-fn a_round_ends_with_two_processes(rt: HostRuntime) -> Result<(), Fail> {
-    for frames in [16, 4096] {
-        let Ok(report) = round(&rt, rt.alloc(), frames) else {
-            return Err("a round".into());
-        };
-        assert_eq!(rt; report.total(), 6, "{frames} frames");
-    }
-    Ok(())
+/// A round on so many frames ends, and its processes use 6 of them.
+fn check_round<R: AllocGlobal + Threads + Wait + Abort + Sync>(rt: &R, frames: u32) {
+    let report = round(rt, rt.alloc(), frames).expect(rt, "a round");
+    assert_eq!(rt; report.total(), 6, "{frames} frames");
 }
 
 #[test]
-fn no_round_on_a_size_that_no_kernel_has(rt: HostRuntime) -> Result<(), Fail> {
-    for frames in [0, 15, 4097, u32::MAX] {
-        let ended = round(&rt, rt.alloc(), frames).err();
-        assert_eq!(rt; ended, Some(RoundFault::Failed), "{frames} frames");
-    }
-    Ok(())
+fn a_round_ends_with_two_processes(rt: HostRuntime) {
+    check_round(&rt, 16);
+    check_round(&rt, 4096);
+}
+
+/// No round on so many frames.
+fn check_failed<R: AllocGlobal + Threads + Wait + Abort + Sync>(rt: &R, frames: u32) {
+    let ended = round(rt, rt.alloc(), frames).err();
+    assert_eq!(rt; ended, Some(RoundFault::Failed), "{frames} frames");
+}
+
+#[test]
+fn no_round_on_a_size_that_no_kernel_has(rt: HostRuntime) {
+    check_failed(&rt, 0);
+    check_failed(&rt, 15);
+    check_failed(&rt, 4097);
+    check_failed(&rt, u32::MAX);
 }
 
 /// Asks, and counts how often.
@@ -50,16 +58,24 @@ impl Referee for Counts {
     }
 }
 
+/// One round more, by whose end the referee was asked for so many reports and verdicts.
+fn check_asked<R: AllocGlobal + Threads + Wait + Abort + Sync>(
+    rt: &R,
+    referee: &mut Counts,
+    rounds: u32,
+) {
+    let ended = round_by(rt, rt.alloc(), 16, referee);
+    assert!(rt; ended.is_ok(), "round {rounds}");
+    assert_eq!(rt; (referee.reports, referee.verdicts), (rounds, rounds));
+}
+
 #[test]
-fn a_referee_is_asked_in_each_round(rt: HostRuntime) -> Result<(), Fail> {
+fn a_referee_is_asked_in_each_round(rt: HostRuntime) {
     let mut referee = Counts {
         reports: 0,
         verdicts: 0,
     };
-    for rounds in 1..4 {
-        let ended = round_by(&rt, rt.alloc(), 16, &mut referee);
-        assert!(rt; ended.is_ok(), "round {rounds}");
-        assert_eq!(rt; (referee.reports, referee.verdicts), (rounds, rounds));
-    }
-    Ok(())
+    check_asked(&rt, &mut referee, 1);
+    check_asked(&rt, &mut referee, 2);
+    check_asked(&rt, &mut referee, 3);
 }

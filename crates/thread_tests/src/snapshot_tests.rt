@@ -2,96 +2,82 @@
 
 ghost use Rattle.std.specs.Prelude.{◌≡◌};
 
-use kernel_calls::{Call, Core, Reply};
-use locked_core::{Blank, Boot, Cpu, Kernel, Name, OpenGate};
+use crate::kernels::{
+    answered, booted, check_length, closed, image_of, opened, process, put, store, taken,
+};
+use kernel_calls::{Core, Reply};
+use locked_core::{Blank, Boot, Cpu, History, Kernel, Monitor, Name, OpenGate};
 use memory_image::Image;
-use page_words::{Frame, Pid, Size, Vaddr};
-use std::alloc::Global;
+use page_words::Frame;
 use std::marker::Brand;
 use std::process::Abort;
 use std::sync::Wait;
-use std::test::Fail;
 
-fn root<R: Abort>(rt: &R) -> Pid {
-    Pid::new(0).expect(rt, "process 0")
-}
-
-/// Stores a number as process 0.
-fn store<N: Name, R: Wait + Abort>(
+/// The image of the kernel after process 0 stored a number; the CPU keeps its calls.
+fn stored<N: Name, R: Wait + Abort>(
     rt: &R,
     kernel: &Kernel<N, OpenGate>,
     cpu: &mut Cpu<N>,
     value: u32,
-) {
-    let call = Call::Store {
-        addr: Vaddr(0x4000_0000),
-        size: Size::Four,
-        value,
-    };
-    assert_eq!(rt; cpu.call(rt, kernel, root(rt), call), Ok(Reply::Done));
-}
-
-/// The image of the kernel; the CPU keeps its calls.
-fn taken<N: Name, R: Wait + Abort>(
-    rt: &R,
-    kernel: &Kernel<N, OpenGate>,
-    cpu: &mut Cpu<N>,
 ) -> Image {
+    answered(rt, kernel, cpu, process(rt, 0), store(value), Reply::Done);
     let calls = cpu.calls();
-    let Ok(image) = kernel.snapshot(rt, cpu) else {
-        panic!(rt; "no image")
-    };
+    let image = image_of(rt, kernel, cpu);
     assert_eq!(rt; cpu.calls(), calls);
     image
+}
+
+/// Whether a frame has another role in the image than in the core.
+fn differs(image: &Image, core: &Core, frame: Frame) -> bool {
+    image.role(frame) != Some(core.role(frame))
 }
 
 /// Whether the image has the core's bytes and roles.
 fn shows<R: Abort>(rt: &R, image: &Image, core: &Core) -> bool {
     let mut same = image.bytes() == core.memory().bytes();
     for frame in 0..core.frames() {
-        if image.role(Frame(frame)) != Some(core.role(Frame(frame))) {
-            same = false;
-        }
+        same &= !differs(image, core, Frame(frame));
     }
     assert_eq!(rt; image.frames(), core.frames());
     same
 }
 
+/// Whether the image is of the memory that the kernel was closed with.
+fn check_shows<R: Abort>(rt: &R, image: &Image, history: &History, is_shown: bool) {
+    assert_eq!(rt; shows(rt, image, history.core()), is_shown);
+}
+
+/// By the image process 0 uses 3 frames.
+fn check_used<R: Abort>(rt: &R, image: &Image) {
+    let used = image.process(process(rt, 0)).map(|process| process.used);
+    assert_eq!(rt; used, Some(3));
+}
+
+fn check_no_monitors<N: Name, R: Abort>(rt: &R, monitors: &Vec<Monitor<N>>) {
+    assert_eq!(rt; monitors.len(), 0);
+}
+
 /// An image before a store, and one after it: the second one is of the memory that the kernel is closed with.
-fn before_and_after<N: Name, R: Wait + Abort>(rt: &R, blank: Blank<OpenGate>, alloc: Global)
+fn before_and_after<N: Name, R: Wait + Abort>(rt: &R, blank: Blank<OpenGate>)
     requires { (blank.frames ≡ N.frames) × (blank.book ≡ N.book) }
 {
-    let Ok(boot) = blank.open::<N, R>(rt) else {
-        panic!(rt; "no memory")
-    };
     let Boot {
         kernel,
         mut cpus,
         monitors,
-    } = boot;
-    assert_eq!(rt; monitors.len(), 0);
-    let mut cpu = cpus.pop().expect(rt, "one CPU");
-    store(rt, &kernel, &mut cpu, 7);
-    let early = taken(rt, &kernel, &mut cpu);
-    store(rt, &kernel, &mut cpu, 9);
-    let late = taken(rt, &kernel, &mut cpu);
-    let mut back = Vec::new(alloc);
-    back.push(cpu).expect(rt, "memory");
-    let Ok(history) = kernel.close(rt, back) else {
-        panic!(rt; "not closed")
-    };
-    assert_eq!(rt; history.entries().len(), 2);
-    assert!(rt; !shows(rt, &early, history.core()));
-    assert!(rt; shows(rt, &late, history.core()));
-    assert_eq!(rt; late.process(root(rt)).map(|process| process.used), Some(3));
+    } = opened::<N, OpenGate, R>(rt, blank);
+    check_no_monitors(rt, &monitors);
+    let mut cpu = taken(rt, &mut cpus);
+    let early = stored(rt, &kernel, &mut cpu, 7);
+    let late = stored(rt, &kernel, &mut cpu, 9);
+    let history = closed(rt, kernel, put(rt, cpus, cpu));
+    check_length(rt, &history, 2);
+    check_shows(rt, &early, &history, false);
+    check_shows(rt, &late, &history, true);
+    check_used(rt, &late);
 }
 
 #[test]
-fn a_snapshot_is_of_the_last_call(rt: HostRuntime) -> Result<(), Fail> {
-    let alloc = rt.alloc();
-    match Kernel::<Brand, OpenGate>::boot(&rt, alloc, 16, 1, 0, OpenGate) {
-        Ok(blank) => before_and_after::<Brand, HostRuntime>(&rt, blank, alloc),
-        Err(_) => panic!(rt; "not booted"),
-    }
-    Ok(())
+fn a_snapshot_is_of_the_last_call(rt: HostRuntime) {
+    before_and_after::<Brand, HostRuntime>(&rt, booted(&rt, 16, 1, 0, OpenGate));
 }

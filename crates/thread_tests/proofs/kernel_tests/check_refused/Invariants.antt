@@ -1,4 +1,4 @@
-use Rattle.thread_tests.proofs.kernel_tests.refuses_sizes_and_counts.Given as goal
+use Rattle.thread_tests.proofs.kernel_tests.check_refused.Given as goal
 
 -- the kernel that was just booted
 abbrev pub ghosts-empty : goal.ghosts-empty
