@@ -3,7 +3,7 @@
 ghost use Rattle.std.specs.Prelude.{All, IfOk, IfSome};
 ghost use Rattle.integrity_checker.specs.Steps.{IsOf};
 
-use crate::check_tests::shared_both_ways;
+use crate::common::shared_both_ways;
 use crate::images::{UNCHANGED, changed_image, put};
 use image_check::{Verdict, check};
 use integrity_checker::{Audit, AuditFault, Helper, Step};
@@ -387,7 +387,7 @@ fn helpers_find_a_core_sound(rt: HostRuntime) -> Result<(), Fail> {
 
 #[test]
 fn helpers_find_a_core_of_a_shared_page_sound(rt: HostRuntime) -> Result<(), Fail> {
-    let core = shared_both_ways(&rt)?;
+    let core = shared_both_ways(&rt);
     is_sound(&rt, rt.alloc(), &core, 16, &[1, 2, 3, 4, 5, 6, 7, 8])
 }
 

@@ -1,5 +1,8 @@
 //! Verdicts on the images of cores, on images that were changed, and on those of another kernel.
 
+use crate::common::{
+    booted, check_sound, image_in, image_of, process, same_bytes, say, text_on, verdict_on,
+};
 use crate::damaged_tests::{Frames, a_page_turned_to_a_table, frames_of, image_bytes, lines_of};
 use crate::images::{PAGE_WORDS, UNCHANGED, changed_image, other_image, place_of, put, word};
 use base_tests::streams::{BrokenWriter, Pieces};
@@ -7,59 +10,11 @@ use image_check::{
     FrameClause, Image, ImageFault, NoMemory, ProcessClause, Verdict, WriteFailed, check,
     read_image, write_image,
 };
-use kernel_calls::{BootFault, Call, Core, Event};
-use page_words::{Frame, Page, Pid, Size, Vaddr};
+use kernel_calls::Core;
+use page_words::Frame;
 use std::alloc::Global;
 use std::process::Abort;
 use std::test::Fail;
-
-const SOUND: &[u8] = b"sound\n";
-
-const PAGE: Page = Page(0x40000);
-
-/// The second page that process 1 has of process 0's.
-const OTHER_PAGE: Page = Page(0x50000);
-
-fn process(rt: &impl Abort, number: u8) -> Pid {
-    Pid::new(number).expect(rt, "a number below 64")
-}
-
-fn call(core: &mut Core, pid: Pid, call: Call) {
-    core.step(&Event { cpu: 0, pid, call });
-}
-
-fn store(core: &mut Core, pid: Pid, addr: Vaddr, value: u32) {
-    let size = Size::Four;
-    call(core, pid, Call::Store { addr, size, value });
-}
-
-/// Process 1 gets a page of process 0, at another place, and each stores to it.
-fn share_both_ways(core: &mut Core, root: Pid, child: Pid) {
-    let offer = Call::Offer {
-        page: PAGE,
-        target: child,
-        write: true,
-    };
-    let accept = Call::Accept {
-        giver: root,
-        giver_page: PAGE,
-        page: OTHER_PAGE,
-    };
-    store(core, root, Vaddr(0x4000_0000), 7);
-    call(core, root, Call::Spawn { quota: 5 });
-    call(core, root, offer);
-    call(core, child, accept);
-    store(core, child, Vaddr(0x5000_0000), 9);
-    let (addr, size) = (Vaddr(0x4000_0000), Size::Four);
-    call(core, root, Call::Load { addr, size });
-}
-
-/// A core of 16 frames on which two processes share a page.
-pub(crate) fn shared_both_ways<R: AllocGlobal + Abort>(rt: &R) -> Result<Core, BootFault> {
-    let mut core = Core::boot(rt.alloc(), 16)?;
-    share_both_ways(&mut core, process(rt, 0), process(rt, 1));
-    Ok(core)
-}
 
 /// The bytes of a core's image.
 fn bytes_of(alloc: Global, core: &Core) -> Result<Vec<u8>, Fail> {
@@ -91,19 +46,16 @@ fn text_of(alloc: Global, core: &Core) -> Result<Vec<u8>, Fail> {
 
 #[test]
 fn a_booted_core_is_sound(rt: HostRuntime) -> Result<(), Fail> {
-    let core = Core::boot(rt.alloc(), 16)?;
+    let core = booted(&rt, 16);
     let text = text_of(rt.alloc(), &core)?;
-    assert_eq!(rt; text.as_slice(), SOUND);
+    same_bytes(&rt, &text, b"sound\n");
     Ok(())
 }
 
 #[test]
-fn the_largest_core_is_sound(rt: HostRuntime) -> Result<(), Fail> {
-    let core = Core::boot(rt.alloc(), 4096)?;
-    let image = Image::of(rt.alloc(), &core)?;
-    let told = check(rt.alloc(), &image)?;
-    assert!(rt; told.sound());
-    Ok(())
+fn the_largest_core_is_sound(rt: HostRuntime) {
+    let image = image_of(&rt, &booted(&rt, 4096));
+    check_sound(&rt, &verdict_on(&rt, &image), true);
 }
 
 /// Process 1 alone fails, with this clause.
@@ -153,19 +105,19 @@ fn a_page_turned_to_a_table_is_told(rt: HostRuntime) -> Result<(), Fail> {
 
 /// The verdict on an image that the bytes spell has this text.
 fn check_text<R: AllocGlobal + Abort>(rt: &R, bytes: &[u8], expected: &[u8]) {
-    let image = read_image(rt.alloc(), bytes).ok().expect(rt, "an image");
-    let told = check(rt.alloc(), &image).ok().expect(rt, "a verdict");
-    let mut text = Vec::new(rt.alloc());
-    assert_eq!(rt; told.write_text(&mut text), Ok(()));
-    assert_eq!(rt; text.as_slice(), expected);
+    let told = verdict_on(rt, &image_in(rt, bytes));
+    same_bytes(rt, &text_on(rt, &told), expected);
 }
 
-/// The other kernel's image of version 2, in which one word is changed, has a verdict of this text.
+/// The other kernel's image of version 2, in which one word is changed.
+fn changed<R: AllocGlobal + Abort>(rt: &R, place: usize, word: u32) -> Vec<u8> {
+    let bytes = changed_image(rt.alloc(), (place, word));
+    bytes.ok().expect(rt, "memory for an image")
+}
+
+/// It has a verdict of this text.
 fn check_changed<R: AllocGlobal + Abort>(rt: &R, place: usize, word: u32, expected: &str) {
-    let bytes = changed_image(rt.alloc(), (place, word))
-        .ok()
-        .expect(rt, "memory for an image");
-    check_text(rt, &bytes, expected.as_bytes());
+    check_text(rt, &changed(rt, place, word), expected.as_bytes());
 }
 
 /// The other kernel's image of a version, with this word for a page, has a verdict of this text.
@@ -214,8 +166,8 @@ const CASES: [(usize, u32, &str); 14] = [
 
 #[test]
 fn a_changed_word_fails_its_clauses(rt: HostRuntime) {
-    for (place, changed, expected) in CASES {
-        check_changed(&rt, place, changed, expected);
+    for (place, word, expected) in CASES {
+        check_changed(&rt, place, word, expected);
     }
 }
 
@@ -263,27 +215,27 @@ fn a_lazy_page_is_sound_in_version_2_alone(rt: HostRuntime) {
     check_lazy(&rt, 2, PAGE_WORDS[2], "sound\n");
 }
 
-#[test]
-fn a_verdict_stops_where_a_write_fails(rt: HostRuntime) -> Result<(), Fail> {
-    let bytes = changed_image(rt.alloc(), (44, 2))?;
-    let told = verdict(rt.alloc(), &bytes)?;
+/// A writer that fails behind 20 bytes has so much of the verdict's text.
+fn check_broken(rt: &impl Abort, told: &Verdict, expected: &[u8]) {
     let mut writer = BrokenWriter::new(20, Pieces::Whole);
     assert_eq!(rt; told.write_text(&mut writer), Err(WriteFailed));
-    assert_eq!(rt;
-        writer.written.as_slice(),
-        b"process 0 P6\nprocess".as_slice()
-    );
-    Ok(())
+    same_bytes(rt, writer.written.as_slice(), expected);
+}
+
+#[test]
+fn a_verdict_stops_where_a_write_fails(rt: HostRuntime) {
+    let bytes = changed(&rt, 44, 2);
+    let told = verdict_on(&rt, &image_in(&rt, &bytes));
+    check_broken(&rt, &told, b"process 0 P6\nprocess");
 }
 
 /// The verdict on an image. Where memory is refused it is asked for again, and a line is printed that says so.
-fn told_again(rt: &HostRuntime, image: &Image) -> Result<Verdict, Fail> {
+fn told_again<R: AllocGlobal + Abort + Print>(rt: &R, image: &Image) -> Verdict {
     match check(rt.alloc(), image) {
-        Ok(told) => Ok(told),
+        Ok(told) => told,
         Err(NoMemory) => {
-            println!(rt; "NoMemory, and then a verdict")?;
-            let told = check(rt.alloc(), image)?;
-            Ok(told)
+            say(rt, "NoMemory, and then a verdict");
+            verdict_on(rt, image)
         }
     }
 }
@@ -292,10 +244,7 @@ fn told_again(rt: &HostRuntime, image: &Image) -> Result<Verdict, Fail> {
 /// of the core, then come two of `Image::of` and three of `check`. A call of `check` that meets a refusal answers
 /// NoMemory, and the same call with memory then succeeds.
 #[test]
-fn goes_on_after_want_of_memory(rt: HostRuntime) -> Result<(), Fail> {
-    let core = Core::boot(rt.alloc(), 16)?;
-    let image = Image::of(rt.alloc(), &core)?;
-    let told = told_again(&rt, &image)?;
-    assert!(rt; told.sound());
-    Ok(())
+fn goes_on_after_want_of_memory(rt: HostRuntime) {
+    let image = image_of(&rt, &booted(&rt, 16));
+    check_sound(&rt, &told_again(&rt, &image), true);
 }

@@ -13,6 +13,8 @@ mod command_memory_tests;
 #[cfg(test)]
 mod command_tests;
 #[cfg(test)]
+mod common;
+#[cfg(test)]
 mod damaged_tests;
 #[cfg(test)]
 mod images;

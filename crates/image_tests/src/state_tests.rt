@@ -1,13 +1,12 @@
 //! What an image stands for: one pair of spaces and book at most. So what is compared is the processes with what
 //! they have, and the mapped pages with their flags, bytes and groups.
 
-use crate::check_tests::shared_both_ways;
+use crate::common::{image_of, process, shared_both_ways};
 use crate::images::{PAGE_WORDS, UNCHANGED, other_image, put};
 use image_check::{Image, read_image};
 use page_words::{DirWord, Frame, Pid, TableWord};
 use std::alloc::{AllocError, Global};
 use std::process::Abort;
-use std::test::Fail;
 
 /// What an image says of one mapped page of a process.
 #[derive(Clone, Copy, Debug, PartialEq, Eq)]
@@ -112,10 +111,6 @@ fn pages_of(
     Ok(pages)
 }
 
-fn process(rt: &impl Abort, number: u8) -> Pid {
-    Pid::new(number).expect(rt, "a number below 64")
-}
-
 /// The bytes of a frame of an image.
 fn bytes_in(image: &Image, frame: Frame) -> Option<&[u8]> {
     let start = (frame.0 as usize).wrapping_mul(4096);
@@ -213,23 +208,19 @@ fn check_processes(rt: &impl Abort, alloc: Global, own: &Image, change: (usize, 
 }
 
 #[test]
-fn another_kernels_images_stand_for_the_same_state(rt: HostRuntime) -> Result<(), Fail> {
-    let core = shared_both_ways(&rt)?;
-    let own = Image::of(rt.alloc(), &core)?;
+fn another_kernels_images_stand_for_the_same_state(rt: HostRuntime) {
+    let own = image_of(&rt, &shared_both_ways(&rt));
     check_pages(&rt, rt.alloc(), &own, UNCHANGED, true);
     check_processes(&rt, rt.alloc(), &own, UNCHANGED, true);
-    Ok(())
 }
 
 /// One byte of the shared page, one flag, one page moved, or one number of a process: another state.
 #[test]
-fn a_changed_image_stands_for_another_state(rt: HostRuntime) -> Result<(), Fail> {
-    let core = shared_both_ways(&rt)?;
-    let own = Image::of(rt.alloc(), &core)?;
+fn a_changed_image_stands_for_another_state(rt: HostRuntime) {
+    let own = image_of(&rt, &shared_both_ways(&rt));
     check_pages(&rt, rt.alloc(), &own, (46_860, 8), false);
     check_pages(&rt, rt.alloc(), &own, (50_956, 0xb265), false);
     check_pages(&rt, rt.alloc(), &own, (50_956, 0xb227), false);
     check_pages(&rt, rt.alloc(), &own, (50_956, 0), false);
     check_processes(&rt, rt.alloc(), &own, (44, 6), false);
-    Ok(())
 }

@@ -1,0 +1,100 @@
+//! Cores, images and bytes that tests make, and comparisons that assert. So a test is a list of calls.
+
+use image_check::{Verdict, check};
+use kernel_calls::{Call, Core, Event};
+use memory_image::{Image, read_image};
+use page_words::{Page, Pid, Size, Vaddr};
+use std::process::Abort;
+
+const PAGE: Page = Page(0x40000);
+
+/// The second page that process 1 has of process 0's.
+const OTHER_PAGE: Page = Page(0x50000);
+
+/// The process of a number.
+pub(crate) fn process(rt: &impl Abort, number: u8) -> Pid {
+    Pid::new(number).expect(rt, "a number below 64")
+}
+
+/// A freshly booted core of so many frames.
+pub(crate) fn booted<R: AllocGlobal + Abort>(rt: &R, frames: u32) -> Core {
+    Core::boot(rt.alloc(), frames).ok().expect(rt, "a core")
+}
+
+/// A process's call, on CPU 0.
+pub(crate) fn call(core: &mut Core, pid: Pid, call: Call) {
+    core.step(&Event { cpu: 0, pid, call });
+}
+
+/// A process stores four bytes.
+pub(crate) fn store(core: &mut Core, pid: Pid, addr: Vaddr, value: u32) {
+    let size = Size::Four;
+    call(core, pid, Call::Store { addr, size, value });
+}
+
+/// Process 1 gets a page of process 0, at another place, and each stores to it.
+fn share_both_ways(core: &mut Core, root: Pid, child: Pid) {
+    let offer = Call::Offer {
+        page: PAGE,
+        target: child,
+        write: true,
+    };
+    let accept = Call::Accept {
+        giver: root,
+        giver_page: PAGE,
+        page: OTHER_PAGE,
+    };
+    store(core, root, Vaddr(0x4000_0000), 7);
+    call(core, root, Call::Spawn { quota: 5 });
+    call(core, root, offer);
+    call(core, child, accept);
+    store(core, child, Vaddr(0x5000_0000), 9);
+    let (addr, size) = (Vaddr(0x4000_0000), Size::Four);
+    call(core, root, Call::Load { addr, size });
+}
+
+/// A core of 16 frames on which two processes share a page.
+pub(crate) fn shared_both_ways<R: AllocGlobal + Abort>(rt: &R) -> Core {
+    let mut core = booted(rt, 16);
+    share_both_ways(&mut core, process(rt, 0), process(rt, 1));
+    core
+}
+
+/// The image of a core.
+pub(crate) fn image_of<R: AllocGlobal + Abort>(rt: &R, core: &Core) -> Image {
+    let image = Image::of(rt.alloc(), core);
+    image.ok().expect(rt, "an image of a core")
+}
+
+/// The image that bytes spell.
+pub(crate) fn image_in<R: AllocGlobal + Abort>(rt: &R, bytes: &[u8]) -> Image {
+    let image = read_image(rt.alloc(), bytes);
+    image.ok().expect(rt, "an image of bytes")
+}
+
+/// The verdict on an image.
+pub(crate) fn verdict_on<R: AllocGlobal + Abort>(rt: &R, image: &Image) -> Verdict {
+    check(rt.alloc(), image).ok().expect(rt, "a verdict")
+}
+
+/// A verdict's text.
+pub(crate) fn text_on<R: AllocGlobal + Abort>(rt: &R, told: &Verdict) -> Vec<u8> {
+    let mut text = Vec::new(rt.alloc());
+    told.write_text(&mut text).ok().expect(rt, "a text");
+    text
+}
+
+/// A verdict that nothing fails, or that something does.
+pub(crate) fn check_sound(rt: &impl Abort, told: &Verdict, expected: bool) {
+    assert_eq!(rt; told.sound(), expected);
+}
+
+/// These bytes are the expected ones.
+pub(crate) fn same_bytes(rt: &impl Abort, bytes: &[u8], expected: &[u8]) {
+    assert_eq!(rt; bytes, expected);
+}
+
+/// Prints a line.
+pub(crate) fn say<R: Abort + Print>(rt: &R, line: &str) {
+    println!(rt; "{line}").ok().expect(rt, "standard output");
+}
