@@ -1,5 +1,5 @@
 //! A core by its calls.
-use kernel_calls::{BootFault, Call, Core, Event, Frame, Pid, Reply, Role};
+use kernel_calls::{BootFault, Call, Core, Ended, Event, Frame, Pid, Reply, Role};
 use page_words::{Page, Size, Vaddr};
 use process_table::Cause;
 use std::process::Abort;
@@ -131,6 +131,33 @@ fn carries_out_at_once_or_by_its_plan(rt: HostRuntime) -> Result<(), Fail> {
     carry_out(&rt, &mut core, load(across), 4, Reply::Value(0xdead_beef));
     carry_out(&rt, &mut core, load(first), 4, Reply::Value(7));
     carry_out(&rt, &mut core, load(addr), 4, fault);
+    Ok(())
+}
+
+fn page_ended(ended: &Ended) -> Option<Page> {
+    match ended {
+        Ended::Page { page, .. } => Some(*page),
+        _ => None,
+    }
+}
+
+/// A call of the root is done, and ends the translations of that page, or none of one page.
+fn ends(rt: &impl Abort, core: &mut Core, call: Call, page: Option<Page>) {
+    let told = core.step_ending(&event(root(rt), call));
+    assert_eq!(rt; told.0, Reply::Done);
+    assert_eq!(rt; page_ended(&told.1), page);
+}
+
+#[test]
+fn tells_which_translations_end(rt: HostRuntime) -> Result<(), Fail> {
+    let mut core = Core::boot(rt.alloc(), 16)?;
+    let page = PAGE;
+    ends(&rt, &mut core, Call::Map { page, write: true }, None);
+    ends(&rt, &mut core, store(Vaddr(0x4000_0000), 7), Some(page));
+    ends(&rt, &mut core, store(Vaddr(0x4000_0004), 7), None);
+    ends(&rt, &mut core, Call::Protect { page, write: false }, Some(page));
+    ends(&rt, &mut core, Call::Protect { page, write: false }, None);
+    ends(&rt, &mut core, Call::Unmap { page }, Some(page));
     Ok(())
 }
 
