@@ -155,7 +155,12 @@ fn tells_which_translations_end(rt: HostRuntime) -> Result<(), Fail> {
     ends(&rt, &mut core, Call::Map { page, write: true }, None);
     ends(&rt, &mut core, store(Vaddr(0x4000_0000), 7), Some(page));
     ends(&rt, &mut core, store(Vaddr(0x4000_0004), 7), None);
-    ends(&rt, &mut core, Call::Protect { page, write: false }, Some(page));
+    ends(
+        &rt,
+        &mut core,
+        Call::Protect { page, write: false },
+        Some(page),
+    );
     ends(&rt, &mut core, Call::Protect { page, write: false }, None);
     ends(&rt, &mut core, Call::Unmap { page }, Some(page));
     Ok(())

@@ -90,10 +90,11 @@ pub fn members_see_their_own()
     ensures runs { MembersHearTheSame }
 {}
 
-/// A set of processes that has no page in common with others and offers them none, and that from then on makes
-/// no offer but to members and takes none but of members, stays so in every run, as a set of numbers and with
-/// all children that its members make; no run of events of others changes what a member has; and as long as members
-/// make no process and end none, others learn nothing of what members have and do. It computes nothing.
+/// A set of processes that has no page in common with others and offers them none, and that from then on asks for no
+/// offer but to members and for no accept but from members, refused ones too, stays so in every run, as a set of numbers
+/// and with all children that its members make; no run of events of others changes a member's place in the book, its
+/// pages or the offers that it made; and as long as members ask for no process and no exit, others learn nothing of what
+/// members have and do. It computes nothing.
 pub fn confined_processes_stay_confined()
     ensures stay { RunsStayConfined }
     ensures grow { FamiliesStayConfined }
