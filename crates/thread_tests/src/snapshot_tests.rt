@@ -27,16 +27,13 @@ fn stored<N: Name, R: Wait + Abort>(
     image
 }
 
-/// Whether a frame has another role in the image than in the core.
-fn differs(image: &Image, core: &Core, frame: Frame) -> bool {
-    image.role(frame) != Some(core.role(frame))
-}
-
 /// Whether the image has the core's bytes and roles.
 fn shows<R: Abort>(rt: &R, image: &Image, core: &Core) -> bool {
     let mut same = image.bytes() == core.memory().bytes();
     for frame in 0..core.frames() {
-        same &= !differs(image, core, Frame(frame));
+        if image.role(Frame(frame)) != Some(core.role(Frame(frame))) {
+            same = false;
+        }
     }
     assert_eq!(rt; image.frames(), core.frames());
     same
