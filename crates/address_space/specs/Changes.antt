@@ -12,7 +12,7 @@ use Rattle.page_words.specs.FiniteMap as map
 use Rattle.page_words.specs.FiniteSet as set
 use Rattle.address_space.specs.Spaces.{cell_or_fresh, Slot, Spaces, need, fresh, joined, without, is_slot, is_of, at_page, copy_of, copied}
 use Rattle.address_space.specs.Cells.{holders_of}
-use Rattle.address_space.specs.Stays.{EntriesStay, none_goes, of_page, of_process, of_lazy}
+use Rattle.address_space.specs.Stays.{PlacesStay, none_goes, of_page, of_process, of_lazy}
 use Rattle.address_space.specs.View.{table_in, total_cost, spaces_in, entries_in, entry_in, directory_of}
 use Rattle.address_space.specs.Sound.{InUse, IsSound, InUseAt, weight_in, IsSpaces}
 
@@ -27,6 +27,9 @@ pub record TableGiven (directories : List (Option ℕ)) (p s : ℕ) (bytes : Lis
   pub entries : entries_in (directory_of directories) (frame_bytes bytes') ≡ entries_in (directory_of directories) (frame_bytes bytes)
   pub spaces : spaces_in directories bytes' ≡ spaces_in directories bytes
   pub table : (t : ℕ) × (table_in (directory_of directories) (frame_bytes bytes') p s ≡ Some t)
+  -- each table that was there is there
+  pub tables : (q r t : ℕ) → table_in (directory_of directories) (frame_bytes bytes) q r ≡ Some t
+      → table_in (directory_of directories) (frame_bytes bytes') q r ≡ Some t
   pub weight : weight_in directories bytes' roles' ≡ weight_in directories bytes roles + table_need (table_in (directory_of directories) (frame_bytes bytes) p s)
   pub length : length roles' ≡ length roles
   pub others : (q r : ℕ) → (q ≡ p → r ≡ s → ⊥) → InUseAt (directory_of directories) (frame_bytes bytes) q r → InUseAt (directory_of directories) (frame_bytes bytes') q r
@@ -39,8 +42,7 @@ pub record SlotAdded (directories : List (Option ℕ)) (p page : ℕ) (bytes : L
   pub length : length roles' ≡ length roles
   pub own : InUseAt (directory_of directories) (frame_bytes bytes') p (slot_number page)
   pub others : (q r : ℕ) → (q ≡ p → r ≡ slot_number page → ⊥) → InUseAt (directory_of directories) (frame_bytes bytes) q r → InUseAt (directory_of directories) (frame_bytes bytes') q r
-  pub stay : EntriesStay none_goes (entries_in (directory_of directories) (frame_bytes bytes))
-      (entries_in (directory_of directories) (frame_bytes bytes'))
+  pub stay : PlacesStay none_goes (directory_of directories) (frame_bytes bytes) (directory_of directories) (frame_bytes bytes')
 
 -- a page of zeros was mapped
 pub record PageAdded (directories : List (Option ℕ)) (p page : ℕ) (write : Bool) (bytes : List ℕ) (roles : List Role) (bytes' : List ℕ) (roles' : List Role) : Type 0 where
@@ -76,8 +78,7 @@ pub record Touched (directories : List (Option ℕ)) (spaces' : Spaces) (bytes :
   -- the same slots are lazy: those that name frame 0
   pub lazy : holders_of (entries_in (directory_of directories) (frame_bytes bytes')) 0 ≡ holders_of (entries_in (directory_of directories) (frame_bytes bytes)) 0
   -- and each is on the frame that it was on
-  pub stay : EntriesStay none_goes (entries_in (directory_of directories) (frame_bytes bytes))
-      (entries_in (directory_of directories) (frame_bytes bytes'))
+  pub stay : PlacesStay none_goes (directory_of directories) (frame_bytes bytes) (directory_of directories) (frame_bytes bytes')
 
 -- a lazy page got a frame of its own
 pub record PageFilled (directories : List (Option ℕ)) (p page : ℕ) (bytes : List ℕ) (roles : List Role) (bytes' : List ℕ) (roles' : List Role) : Type 0 where
@@ -86,8 +87,7 @@ pub record PageFilled (directories : List (Option ℕ)) (p page : ℕ) (bytes : 
   pub real : (e : PageEntry) × (entry_in (directory_of directories) (frame_bytes bytes') (at_page p page) ≡ Some e) × (e.lazy ≡ false)
   -- no other slot became lazy
   pub fewer : (q : Slot) → set.contains (holders_of (entries_in (directory_of directories) (frame_bytes bytes)) 0) q ≡ false → set.contains (holders_of (entries_in (directory_of directories) (frame_bytes bytes')) 0) q ≡ false
-  pub stay : EntriesStay (of_lazy p page) (entries_in (directory_of directories) (frame_bytes bytes))
-      (entries_in (directory_of directories) (frame_bytes bytes'))
+  pub stay : PlacesStay (of_lazy p page) (directory_of directories) (frame_bytes bytes) (directory_of directories) (frame_bytes bytes')
   pub length : length roles' ≡ length roles
 
 -- a process got a blank directory
@@ -97,8 +97,7 @@ pub record SpaceAdded (directories : List (Option ℕ)) (p : ℕ) (bytes : List 
   pub cost : total_cost directories' (spaces_in directories' bytes') ≡ total_cost directories (spaces_in directories bytes) + 1
   pub live : is_some (directory_of directories' p) ≡ true
   pub others : (q : ℕ) → q ≢ p → directory_of directories' q ≡ directory_of directories q
-  pub stay : EntriesStay none_goes (entries_in (directory_of directories) (frame_bytes bytes))
-      (entries_in (directory_of directories') (frame_bytes bytes'))
+  pub stay : PlacesStay none_goes (directory_of directories) (frame_bytes bytes) (directory_of directories') (frame_bytes bytes')
   pub length : length roles' ≡ length roles
 
 -- a table that was unlinked is free
@@ -115,8 +114,7 @@ pub record EntryLeft (roles : List Role) (e : PageEntry) (roles' : List Role) : 
 pub record SlotRemoved (directories : List (Option ℕ)) (p page : ℕ) (bytes : List ℕ) (roles : List Role) (bytes' : List ℕ) (roles' : List Role) : Type 0 where
   pub after : IsSpaces directories bytes' roles'
   pub spaces : spaces_in directories bytes' ≡ without (spaces_in directories bytes) (is_slot p page)
-  pub stay : EntriesStay (of_page p page) (entries_in (directory_of directories) (frame_bytes bytes))
-      (entries_in (directory_of directories) (frame_bytes bytes'))
+  pub stay : PlacesStay (of_page p page) (directory_of directories) (frame_bytes bytes) (directory_of directories) (frame_bytes bytes')
   pub length : length roles' ≡ length roles
 
 -- a process has this directory
@@ -132,8 +130,7 @@ IsEmptySpace spaces p = (page : ℕ) → map.get spaces (at_page p page) ≡ Non
 pub record DroppedBelow (directories : List (Option ℕ)) (p from : ℕ) (bytes : List ℕ) (roles : List Role) (bytes' : List ℕ) (roles' : List Role) : Type 0 where
   pub after : IsSpaces directories bytes' roles'
   pub spaces : without (spaces_in directories bytes') (is_of p) ≡ without (spaces_in directories bytes) (is_of p)
-  pub stay : EntriesStay (of_process p) (entries_in (directory_of directories) (frame_bytes bytes))
-      (entries_in (directory_of directories) (frame_bytes bytes'))
+  pub stay : PlacesStay (of_process p) (directory_of directories) (frame_bytes bytes) (directory_of directories) (frame_bytes bytes')
   pub below : (page : ℕ) → page < from → map.get (spaces_in directories bytes') (at_page p page) ≡ None
   pub length : length roles' ≡ length roles
   pub low : 0x40000 ≤ from
@@ -143,8 +140,7 @@ pub record DroppedBelow (directories : List (Option ℕ)) (p from : ℕ) (bytes 
 pub record PagesDropped (directories : List (Option ℕ)) (p : ℕ) (bytes : List ℕ) (roles : List Role) (bytes' : List ℕ) (roles' : List Role) : Type 0 where
   pub after : IsSpaces directories bytes' roles'
   pub spaces : spaces_in directories bytes' ≡ without (spaces_in directories bytes) (is_of p)
-  pub stay : EntriesStay (of_process p) (entries_in (directory_of directories) (frame_bytes bytes))
-      (entries_in (directory_of directories) (frame_bytes bytes'))
+  pub stay : PlacesStay (of_process p) (directory_of directories) (frame_bytes bytes) (directory_of directories) (frame_bytes bytes')
   pub empty : IsEmptySpace (spaces_in directories bytes') p
   pub length : length roles' ≡ length roles
 
@@ -154,8 +150,7 @@ pub record DirectoryDropped (directories : List (Option ℕ)) (p : ℕ) (bytes :
   pub spaces : spaces_in directories' bytes ≡ spaces_in directories bytes
   pub none : directory_of directories' p ≡ None
   pub others : (q : ℕ) → q ≢ p → directory_of directories' q ≡ directory_of directories q
-  pub stay : EntriesStay none_goes (entries_in (directory_of directories) (frame_bytes bytes))
-      (entries_in (directory_of directories') (frame_bytes bytes))
+  pub stay : PlacesStay none_goes (directory_of directories) (frame_bytes bytes) (directory_of directories') (frame_bytes bytes)
   pub length : length roles' ≡ length roles
 
 -- a process's space went
@@ -164,8 +159,7 @@ pub record SpaceDropped (directories : List (Option ℕ)) (p : ℕ) (bytes : Lis
   pub spaces : spaces_in directories' bytes' ≡ without (spaces_in directories bytes) (is_of p)
   pub none : directory_of directories' p ≡ None
   pub others : (q : ℕ) → q ≢ p → directory_of directories' q ≡ directory_of directories q
-  pub stay : EntriesStay (of_process p) (entries_in (directory_of directories) (frame_bytes bytes))
-      (entries_in (directory_of directories') (frame_bytes bytes'))
+  pub stay : PlacesStay (of_process p) (directory_of directories) (frame_bytes bytes) (directory_of directories') (frame_bytes bytes')
   pub length : length roles' ≡ length roles
 
 -- a page of a process has a copy at the same page of another, which is lazy where the page is
@@ -179,8 +173,7 @@ pub record PageCopied (directories : List (Option ℕ)) (from to page : ℕ) (by
   pub after : IsSpaces directories bytes' roles'
   pub spaces : spaces_in directories bytes' ≡ map.insert (spaces_in directories bytes) (at_page to page) (copy_of (at_page to page) (cell_or_fresh (spaces_in directories bytes) (at_page from page)))
   pub entries : (e : PageEntry) × (entries_in (directory_of directories) (frame_bytes bytes') ≡ map.insert (entries_in (directory_of directories) (frame_bytes bytes)) (at_page to page) e) × (e.lazy ≡ is_lazy_entry (entry_in (directory_of directories) (frame_bytes bytes) (at_page from page)))
-  pub stay : EntriesStay none_goes (entries_in (directory_of directories) (frame_bytes bytes))
-      (entries_in (directory_of directories) (frame_bytes bytes'))
+  pub stay : PlacesStay none_goes (directory_of directories) (frame_bytes bytes) (directory_of directories) (frame_bytes bytes')
   pub length : length roles' ≡ length roles
 
 -- the pages of a process below one have copies at another's, which had none
@@ -190,6 +183,7 @@ pub record CopiedBelow (directories : List (Option ℕ)) (from to next : ℕ) (b
   pub below : (page : ℕ) → page < next → map.get (spaces_in directories bytes') (at_page to page) ≡ option_map (copy_of (at_page to page)) (map.get (spaces_in directories bytes) (at_page from page))
   pub rest : (page : ℕ) → next ≤ page → map.get (spaces_in directories bytes') (at_page to page) ≡ None
   pub other_entries : (slot : Slot) → slot.pid ≢ to → map.get (entries_in (directory_of directories) (frame_bytes bytes')) slot ≡ map.get (entries_in (directory_of directories) (frame_bytes bytes)) slot
+  pub stay : PlacesStay none_goes (directory_of directories) (frame_bytes bytes) (directory_of directories) (frame_bytes bytes')
   pub lazy : (page : ℕ) → page < next → is_lazy_entry (map.get (entries_in (directory_of directories) (frame_bytes bytes')) (at_page to page)) ≡ is_lazy_entry (map.get (entries_in (directory_of directories) (frame_bytes bytes)) (at_page from page))
   pub length : length roles' ≡ length roles
   pub low : 0x40000 ≤ next
@@ -200,6 +194,5 @@ pub record PagesCopied (directories : List (Option ℕ)) (from to : ℕ) (bytes 
   pub after : IsSpaces directories bytes' roles'
   pub spaces : spaces_in directories bytes' ≡ copied (spaces_in directories bytes) from to
   pub lazy : (page : ℕ) → is_lazy_entry (entry_in (directory_of directories) (frame_bytes bytes') (at_page to page)) ≡ is_lazy_entry (entry_in (directory_of directories) (frame_bytes bytes) (at_page from page))
-  pub stay : EntriesStay none_goes (entries_in (directory_of directories) (frame_bytes bytes))
-      (entries_in (directory_of directories) (frame_bytes bytes'))
+  pub stay : PlacesStay none_goes (directory_of directories) (frame_bytes bytes) (directory_of directories) (frame_bytes bytes')
   pub length : length roles' ≡ length roles

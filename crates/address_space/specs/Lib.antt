@@ -5,6 +5,7 @@ pub mod Codes
 pub mod Counts
 pub mod Finds
 pub mod Image
+pub mod Kept
 pub mod Seen
 pub mod Shown
 pub mod Slots

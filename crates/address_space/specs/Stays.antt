@@ -6,7 +6,10 @@ use Rattle.page_words.specs.FiniteMap as map
 use Rattle.page_map.specs.declared.PageEntry.{PageEntry}
 use Rattle.address_space.specs.Spaces.{Slot, slot_at, is_slot, is_of}
 use Rattle.address_space.specs.Cells.{Entries}
-use Rattle.address_space.specs.Image.{Image, directory_at, page_word, is_lazy_at}
+use Rattle.address_space.specs.Image.{Image, directory_at, table_at, page_word, is_lazy_at}
+use Rattle.address_space.specs.View.{Directories, entries_in, table_in}
+use Rattle.page_map.specs.Entries.{Frames}
+use Rattle.page_words.specs.Addresses.{slot_number}
 use Rattle.table_walk.specs.declared.Access.{Access}
 use Rattle.table_walk.specs.Walk.{walk_of}
 
@@ -35,10 +38,18 @@ of_process p slot frame = is_of p slot
 abbrev pub of_lazy : ℕ → ℕ → Gone
 of_lazy p page slot frame = is_slot p page slot && (frame == 0)
 
--- each way leads to the same frame afterwards, but for those that go
-abbrev pub FramesStay : Gone → Image → Image → Type 0
-FramesStay gone old new = (slot : Slot) (directory frame : ℕ) → gone slot frame ≡ false
-    → way_of old slot ≡ Some (directory, frame) → way_of new slot ≡ Some (directory, frame)
+-- what a change leaves of the ways that walks go, but for those that go
+pub record FramesStay (gone : Gone) (old new : Image) : Type 0 where
+  -- a process that has a way that stays, of a mapped page or not, keeps its directory
+  pub directories : (slot : Slot) (directory frame : ℕ) → gone slot frame ≡ false
+      → directory_at old slot.pid ≡ Some directory → directory_at new slot.pid ≡ Some directory
+  -- each way leads through the same table afterwards
+  pub tables : (slot : Slot) (directory frame table : ℕ) → gone slot frame ≡ false
+      → way_of old slot ≡ Some (directory, frame) → table_at old slot.pid (slot_number slot.page) ≡ Some table
+      → table_at new slot.pid (slot_number slot.page) ≡ Some table
+  -- and to the same frame
+  pub ways : (slot : Slot) (directory frame : ℕ) → gone slot frame ≡ false
+      → way_of old slot ≡ Some (directory, frame) → way_of new slot ≡ Some (directory, frame)
 
 -- each walk that finds a frame goes the way of its slot, and the lazy slots, which are clean, are those whose way
 -- leads to frame 0
@@ -58,3 +69,14 @@ entry_frame entries slot = option_map (λ (e : PageEntry). e.frame) (map.get ent
 abbrev pub EntriesStay : Gone → Entries → Entries → Type 0
 EntriesStay gone old new = (slot : Slot) (frame : ℕ) → gone slot frame ≡ false → entry_frame old slot ≡ Some frame
     → entry_frame new slot ≡ Some frame
+
+-- the table of a slot's region, where the slot's process has one
+abbrev pub slot_table : Directories → Frames → Slot → Option ℕ
+slot_table D m slot = table_in D m slot.pid (slot_number slot.page)
+
+-- each entry stays on its frame, and in its table
+pub record PlacesStay (gone : Gone) (D : Directories) (m : Frames) (D' : Directories) (m' : Frames) : Type 0 where
+  pub entries : EntriesStay gone (entries_in D m) (entries_in D' m')
+  pub tables : (slot : Slot) (frame table : ℕ) → gone slot frame ≡ false
+      → entry_frame (entries_in D m) slot ≡ Some frame → slot_table D m slot ≡ Some table
+      → slot_table D' m' slot ≡ Some table

@@ -8,6 +8,7 @@ ghost use Rattle.address_space.specs.ByWalk.{finds, finds_at, number_found, afte
 ghost use Rattle.address_space.specs.Image.{image_of, takes_stores};
 ghost use Rattle.address_space.specs.Spaces.{at_page, accessed, all_accessed, all_stored, bytes_of, number_of};
 ghost use Rattle.address_space.specs.Stays.{FramesStay, none_goes};
+ghost use Rattle.address_space.specs.Kept.{is_marked, written_at, LeadTo};
 ghost use Rattle.address_space.specs.View.{directory_of};
 
 use crate::{Spaces, space_of};
@@ -74,6 +75,21 @@ impl Spaces {
         ensures bytes { (directory : ℕ) → directory_of self.old.directories pid ≡ Some directory → self.new.bytes ≡ after_walked_store self.old.bytes directory address (bytes_of (byte_count size) value) }
     {
         self.paged.store_by_walk(pid, address, size, value);
+    }
+
+    /// A store as a processor makes it by translations that it kept: each byte is written where the walks lead, and no
+    /// word is read or marked. Accessed and dirty of each page are set already; it is the store that `write` makes.
+    pub fn store_kept(&mut self, pid: Pid, address: Vaddr, size: Size, value: u32)
+        requires finds { finds (image_of self.old) pid address size Access.Write ≡ true }
+        requires marked { EachTouched address size (λ page. is_marked self.old.spaces (at_page pid page) ≡ true) }
+        ensures takes { EachTouched address size (λ page. takes_stores self.old.spaces (image_of self.old) (at_page pid page) ≡ true) }
+        ensures spaces { self.new.spaces ≡ all_stored self.old.spaces pid address (bytes_of (byte_count size) value) }
+        ensures stay { FramesStay none_goes (image_of self.old) (image_of self.new) }
+        ensures directories { self.new.directories ≡ self.old.directories }
+        ensures roles { self.new.roles ≡ self.old.roles }
+        ensures bytes { (directory : ℕ) (frames : ℕ → ℕ) → directory_of self.old.directories pid ≡ Some directory → LeadTo self.old.bytes directory Access.Write frames address size → self.new.bytes ≡ written_at frames self.old.bytes address (bytes_of (byte_count size) value) }
+    {
+        self.paged.store_kept(pid, address, size, value);
     }
 
     /// Sets or clears accessed in the directory word that leads to a page, where it is present. Nothing that a space

@@ -27,6 +27,7 @@ mod copies;
 mod drops;
 mod fills;
 mod group_sizes;
+mod kept;
 mod links;
 mod lookup;
 mod mappings;

@@ -3,8 +3,8 @@ use Rattle.std.proofs.Common.{◌≡◌, ℕ, Bool, true, false, ◌||◌, refl,
 use Rattle.page_words.specs.Addresses.{page_number, second_page}
 use Rattle.page_words.specs.declared.addresses.Size.{Size}
 use Rattle.address_space.specs.Image.{Image}
-use Rattle.address_space.specs.Spaces.{Slot}
 use Rattle.address_space.specs.Stays.{FramesStay, none_goes, of_lazy}
+use Rattle.address_space.proofs.standing.FramesStand.{stays_then, stays_more}
 use Rattle.fault_handler.specs.Fills.{lazy_second, lazy_touched}
 
 pub neither : (a b : Bool) → (a || b) ≡ false → (a ≡ false) × (b ≡ false)
@@ -14,14 +14,14 @@ neither true b h = cc
 
 pub fills_one : (p address : ℕ) (size : Size) (page : ℕ) (a b : Image) → page ≡ page_number address
     → FramesStay (of_lazy p page) a b → FramesStay (lazy_touched p address size) a b
-fills_one p address size page a b is stay slot d f stays way =
-    stay slot d f (ap (λ n. of_lazy p n slot f) is ∙ (neither (of_lazy p (page_number address) slot f) _ stays).0) way
+fills_one p address size page a b is stay =
+    stays_more (λ slot f stays. ap (λ n. of_lazy p n slot f) is
+    ∙ (neither (of_lazy p (page_number address) slot f) (lazy_second p (second_page address size) slot f) stays).0) stay
 
 pub fills_two : (p address : ℕ) (size : Size) (page second : ℕ) (a b c : Image) → page ≡ page_number address
     → second_page address size ≡ Some second
     → FramesStay (of_lazy p page) a b → FramesStay (of_lazy p second) b c → FramesStay (lazy_touched p address size) a c
-fills_two p address size page second a b c is other first then slot d f stays way =
-    let parts = neither (of_lazy p (page_number address) slot f) (lazy_second p (second_page address size) slot f) stays
-    in
-    then slot d f (sym (ap (λ x. lazy_second p x slot f) other) ∙ parts.1)
-    (first slot d f (ap (λ n. of_lazy p n slot f) is ∙ parts.0) way)
+fills_two p address size page second a b c is other one two = stays_then
+    (fills_one p address size page a b is one)
+    (stays_more (λ slot f stays. sym (ap (λ x. lazy_second p x slot f) other)
+    ∙ (neither (of_lazy p (page_number address) slot f) (lazy_second p (second_page address size) slot f) stays).1) two)

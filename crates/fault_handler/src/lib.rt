@@ -7,8 +7,9 @@
 
 ghost use Rattle.std.specs.Prelude.{◌≡◌, ◌≢◌, ◌≤◌, ◌↔◌, ℕ, true, false, not, IfSome, IsSome, IsNone, Some, None};
 ghost use Rattle.std.specs.Option.{option_map};
-ghost use Rattle.page_words.specs.Addresses.{page_number, second_page, touched, EachTouched, IsUserPage};
-ghost use Rattle.address_space.specs.Spaces.{at_page, page_need, with_page, with_pages};
+ghost use Rattle.page_words.specs.Addresses.{page_number, byte_count, second_page, touched, EachTouched, IsUserPage};
+ghost use Rattle.address_space.specs.Kept.{is_marked, written_at, LeadTo};
+ghost use Rattle.address_space.specs.Spaces.{at_page, bytes_of, page_need, with_page, with_pages};
 ghost use Rattle.process_table.specs.State.{container_of, is_live, is_mapped, lacks_room, room};
 ghost use Rattle.process_table.specs.Calls.{loaded, access_value, after_access, after_load, after_store};
 ghost use Rattle.address_space.specs.Image.{is_lazy_at};
@@ -201,6 +202,23 @@ pub fn complete_by_walk(
     ensures containers { (p : ℕ) → container_of processes.new.state p ≡ container_of processes.old.state p }
 {
     processes.access_by_walk(pid, address, size, access, value)
+}
+
+/// Makes a store as a processor does by translations that it kept, where accessed and dirty of each page that it
+/// touches are set already. Its plan completes as memory stands, so that it takes no frame.
+pub fn complete_kept(processes: &mut Processes, pid: Pid, address: Vaddr, size: Size, value: u32)
+    requires finds { finds (memory_of processes.old) pid address size Access.Write ≡ true }
+    requires marked { EachTouched address size (λ page. is_marked processes.old.state.spaces (at_page pid page) ≡ true) }
+    ensures live { is_live processes.old.state pid ≡ true }
+    ensures plan { takes_no_frame (plan_at processes.old pid address size Access.Write) ≡ true }
+    ensures state { processes.new.state ≡ after_access processes.old.state pid address size Access.Write value }
+    ensures stay { FramesStay none_goes (memory_of processes.old) (memory_of processes.new) }
+    ensures directories { processes.new.directories ≡ processes.old.directories }
+    ensures roles { processes.new.roles ≡ processes.old.roles }
+    ensures bytes { (directory : ℕ) (frames : ℕ → ℕ) → directory_of processes.old.directories pid ≡ Some directory → LeadTo processes.old.bytes directory Access.Write frames address size → processes.new.bytes ≡ written_at frames processes.old.bytes address (bytes_of (byte_count size) value) }
+    ensures containers { (p : ℕ) → container_of processes.new.state p ≡ container_of processes.old.state p }
+{
+    processes.store_kept(pid, address, size, value);
 }
 
 /// Whether the bytes of an access lie in one page of the user range.

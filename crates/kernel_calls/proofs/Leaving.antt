@@ -1,15 +1,16 @@
 -- What an event leaves of all that processors may keep.
-use Rattle.std.proofs.Common.{◌≡◌, ◌≢◌, ◌<◌, ◌^◌, ℕ, Bool, true, false, ◌||◌, List, [], ◌∷◌, refl, ap, sym, ◌∙◌, subst, inl, inr, arith, Option, Some, None}
+use Rattle.std.proofs.Common.{◌≡◌, ◌≢◌, ◌<◌, ◌^◌, ℕ, Bool, true, false, ◌&&◌, ◌||◌, ◌==◌, eq-eqb, List, [], ◌∷◌, refl, ap, sym, ◌∙◌, subst, inl, inr, arith, Option, Some, None}
 use Rattle.std.specs.Prelude.{◌⊎◌, if◌then◌else◌, is_some, MatchBool, Ok}
 use Rattle.std.specs.Option.{option_map, unwrap_or}
-use Rattle.page_words.specs.Addresses.{page_number, start_number, second_page}
+use Rattle.page_words.specs.Addresses.{page_number, slot_number, start_number, second_page}
 use Rattle.page_words.specs.declared.addresses.Size.{Size}
 use Rattle.page_words.specs.FiniteMap as map
 use Rattle.page_words.proofs.MapLemmas.{same-true}
+use Rattle.std.proofs.lemmas.Bool.{ne_eqb}
 use Rattle.table_walk.specs.declared.Access.{Access}
 use Rattle.table_walk.specs.declared.Access.TheVariants.{Read, Write}
 use Rattle.table_walk.specs.Walk.{walk_of}
-use Rattle.address_space.specs.Image.{directory_at, page_word, is_lazy_at, takes_stores, SlotStands}
+use Rattle.address_space.specs.Image.{directory_at, table_at, page_word, is_lazy_at, takes_stores, SlotStands}
 use Rattle.address_space.specs.Spaces.{Slot, slot_order, Cell, Spaces, at_page, slot_at, is_slot, is_of, cell_or_fresh, without}
 use Rattle.address_space.specs.Image as memory
 use Rattle.address_space.specs.Stays.{Gone, FramesStay, WaysAgree, none_goes}
@@ -20,14 +21,16 @@ use Rattle.process_table.specs.View.{View}
 use Rattle.process_table.specs.WellFormed.{IsWellFormed}
 use Rattle.kernel_calls.specs.Gone.{gone_by}
 use Rattle.kernel_calls.specs.Machine.{answer, answer_of, after, next, completes}
-use Rattle.kernel_calls.specs.Translations.{is_ended, is_all_of, of_call, ended_by, FindsFrame, EndsFound, SlotsStay, FlagsStay, Ends, Translation, IsGiven, AreGiven, left_by, left_by_all, Keeping, nothing, event, walk, KeptAreGiven, EndAlong, KeptThroughRuns}
+use Rattle.kernel_calls.specs.Translations.{is_ended, is_all_of, of_call, ended_by, FindsFrame, EndsFound, SlotsStay, FlagsStay, Ends, Translation, IsGiven, Kept, translation, directory_entry, IsRead, AreRead, ends_in_region, is_invalidated, left_by, left_by_all, Keeping, nothing, event, walk, KeptAreGiven, EndAlong, KeptThroughRuns}
 use Rattle.kernel_calls.specs.declared.calls.Call.{Call}
 use Rattle.kernel_calls.specs.declared.calls.Call.TheVariants as call
 use Rattle.kernel_calls.specs.declared.calls.Event.{Event}
 use Rattle.kernel_calls.specs.declared.translations.Ended.{Ended}
 use Rattle.kernel_calls.specs.declared.translations.Ended.TheVariants as end
 use Rattle.kernel_calls.proofs.Decided.{next-stays, next-goes}
+use Rattle.address_space.proofs.standing.FramesStand.{stays_most}
 use Rattle.kernel_calls.proofs.Ends.{ends_no_more, without_gone}
+use Rattle.kernel_calls.proofs.Linked.{directories_stay, tables_stay, tables_map}
 use Rattle.kernel_calls.proofs.Flags.{IsFlag, has, own, accessed_is_flag, dirty_is_flag, Spared, keeps_call}
 use Rattle.kernel_calls.proofs.Translated.{live_answer, translations_stay, slots_stay, found_by}
 
@@ -40,10 +43,6 @@ pub record Standing (v : View) : Type 0 where
 
 pub standing : {v : View} → StandsFor (image_of v) v.state → WalksAgree (memory_of v) v.state.spaces → WaysAgree (memory_of v) → IsWellFormed v.state → Standing v
 standing image walks ways well_formed = record { image = image; walks = walks; ways = ways; well_formed = well_formed }
-
--- where no way goes, none of these does
-pub stays_more : (gone : Gone) (old new : memory.Image) → FramesStay none_goes old new → FramesStay gone old new
-stays_more gone old new stay = λ slot directory frame spared way. stay slot directory frame refl way
 
 -- ---- Flags
 
@@ -103,6 +102,9 @@ event_ends v w e now later state stay = record {
   found = found_by v now.image now.walks now.ways e;
   slots = slots_stay v w e now.well_formed state;
   flags = flags_stay v.state w.state e now.well_formed state;
+  directories = directories_stay v w e stay;
+  tables = tables_stay v w e now.image now.walks now.ways stay;
+  linked = tables_map v now.image;
 }
 
 -- a call that asks for the quota, which changes nothing
@@ -127,7 +129,7 @@ asks_ends_none v = by (completes (answer v.state asks))
 pub nothing_ends : (v w : View) → Standing v → Standing w → w.state ≡ v.state → FramesStay none_goes (memory_of v) (memory_of w) → Ends end.Nothing v w
 nothing_ends v w now later state stay =
     subst (λ (x : Ended). Ends x v w) (asks_ends_none v)
-    (event_ends v w asks now later (state ∙ sym (asks_stays v.state)) (stays_more (gone_by v.state asks) (memory_of v) (memory_of w) stay))
+    (event_ends v w asks now later (state ∙ sym (asks_stays v.state)) (stays_most stay))
 
 -- ---- What is kept
 
@@ -164,25 +166,84 @@ given_stays ended v w t ends spared given = record {
     there : (d : Cell) × (map.get w.state.spaces t.slot ≡ Some d)
     there = some_cell (map.get w.state.spaces t.slot) (ends.slots t.slot spared (ap is_some given.mapped))
 
-left_given : (ended : Ended) (v w : View) (kept : List Translation) → Ends ended v w → AreGiven v kept → AreGiven w (left_by ended kept)
-left_given ended v w [] ends given = tt
-left_given ended v w (t ∷ kept) ends given = by (is_ended ended t.slot) refl (left_given ended v w kept ends given.1)
-  where
-    by : (b : Bool) → is_ended ended t.slot ≡ b → AreGiven w (left_by ended kept) → AreGiven w (if b then left_by ended kept else t ∷ left_by ended kept)
-    by true is rest = rest
-    by false is rest = (given_stays ended v w t ends is given.0, rest)
+-- a page of another region, or of another process
+page_apart : (q first p page : ℕ) → is_slot q first (at_page p page) ≡ true
+    → ((q == p) && (slot_number first == slot_number page)) ≡ false → ⊥
+page_apart q first p page is apart =
+    let here : at_page q first ≡ at_page p page = same-true slot_order (at_page q first) (at_page p page) is in
+    let one : (q == p) ≡ true = eq-eqb q p (ap (λ (s : Slot). s.pid) here) in
+    let two : (slot_number first == slot_number page) ≡ true =
+    eq-eqb (slot_number first) (slot_number page) (ap (λ (s : Slot). slot_number s.page) here) in
+    let k : true ≡ false = sym (λ i. one i && two i) ∙ apart in
+    cc
 
-through : {v x : View} {kept last : List Translation} → Keeping v kept x last → AreGiven v kept → AreGiven x last
+-- no slot of a region is ended, where none of its pages is
+region_spared : (ended : Ended) (p page : ℕ) → ends_in_region ended p (slot_number page) ≡ false
+    → is_ended ended (at_page p page) ≡ false
+region_spared end.Nothing p page spared = refl
+region_spared (end.Page q first) p page spared = by (is_slot q first (at_page p page)) refl
+  where
+    by : (b : Bool) → is_slot q first (at_page p page) ≡ b → is_slot q first (at_page p page) ≡ false
+    by false is = is
+    by true is = absurd (page_apart q first p page is spared)
+region_spared (end.Pages q first second) p page spared = by (is_slot q first (at_page p page)) refl
+    (is_slot q second (at_page p page)) refl
+  where
+    either : (a b c : Bool) → (a && (b || c)) ≡ false → ((a && b) ≡ false) × ((a && c) ≡ false)
+    either false b c h = (refl, refl)
+    either true false false h = (refl, refl)
+    either true false true h = cc
+    either true true c h = cc
+
+    parts : (((q == p) && (slot_number first == slot_number page)) ≡ false)
+        × (((q == p) && (slot_number second == slot_number page)) ≡ false)
+    parts = either (q == p) (slot_number first == slot_number page) (slot_number second == slot_number page) spared
+
+    by : (a : Bool) → is_slot q first (at_page p page) ≡ a → (b : Bool) → is_slot q second (at_page p page) ≡ b
+        → (is_slot q first (at_page p page) || is_slot q second (at_page p page)) ≡ false
+    by true is b other = absurd (page_apart q first p page is parts.0)
+    by false is true other = absurd (page_apart q second p page other parts.1)
+    by false is false other = (λ i. is i || other i)
+region_spared (end.Space q) p page spared = apart q p spared
+  where
+    apart : (q p : ℕ) → (q == p) ≡ false → (p == q) ≡ false
+    apart q p h = ne_eqb p q (λ e. let k : true ≡ false = sym (eq-eqb q p (sym e)) ∙ h in cc)
+
+-- so an entry of a directory stays where it isn't invalidated
+entry_stays : (ended : Ended) (v w : View) (p region table : ℕ) → Ends ended v w
+    → ends_in_region ended p region ≡ false
+    → table_at (memory_of v) p region ≡ Some table → table_at (memory_of w) p region ≡ Some table
+entry_stays ended v w p region table ends spared linked =
+    let m = ends.linked p region table linked in
+    let here : table_at (memory_of v) p (slot_number m.page) ≡ Some table = ap (table_at (memory_of v) p) m.inside ∙ linked in
+    sym (ap (table_at (memory_of w) p) m.inside)
+    ∙ ends.tables (at_page p m.page) table
+    (region_spared ended p m.page (ap (ends_in_region ended p) m.inside ∙ spared)) m.mapped here
+
+-- what is kept is read afterwards, where it isn't invalidated
+read_stays : (ended : Ended) (v w : View) (k : Kept) → Ends ended v w → is_invalidated ended k ≡ false → IsRead v k → IsRead w k
+read_stays ended v w (translation t) ends spared given = given_stays ended v w t ends spared given
+read_stays ended v w (directory_entry e) ends spared given = entry_stays ended v w e.pid e.region e.table ends spared given
+
+left_read : (ended : Ended) (v w : View) (kept : List Kept) → Ends ended v w → AreRead v kept → AreRead w (left_by ended kept)
+left_read ended v w [] ends given = tt
+left_read ended v w (k ∷ kept) ends given = by (is_invalidated ended k) refl (left_read ended v w kept ends given.1)
+  where
+    by : (b : Bool) → is_invalidated ended k ≡ b → AreRead w (left_by ended kept) → AreRead w (if b then left_by ended kept else k ∷ left_by ended kept)
+    by true is rest = rest
+    by false is rest = (read_stays ended v w k ends is given.0, rest)
+
+through : {v x : View} {kept last : List Kept} → Keeping v kept x last → AreRead v kept → AreRead x last
 through nothing given = given
-through {v} {x} {kept} {last} (event {w = w} {ended = ended} ends more) given = through more (left_given ended v w kept ends given)
+through {v} {x} {kept} {last} (event {w = w} {ended = ended} ends more) given = through more (left_read ended v w kept ends given)
 through (walk gives more) given = through more (gives, given)
 
 pub kept_given : KeptAreGiven
 kept_given v x kept last keeping given = through keeping given
 
 pub kept_through_runs : KeptThroughRuns
-kept_through_runs v w [] [] kept along given = subst (λ x. AreGiven x kept) along given
+kept_through_runs v w [] [] kept along given = subst (λ x. AreRead x kept) along given
 kept_through_runs v w (e ∷ events) (x ∷ ended) kept along given =
-    kept_through_runs along.0 w events ended (left_by x kept) along.4 (left_given x v along.0 kept along.3 given)
+    kept_through_runs along.0 w events ended (left_by x kept) along.4 (left_read x v along.0 kept along.3 given)
 kept_through_runs v w [] (x ∷ ended) kept along given = absurd along
 kept_through_runs v w (e ∷ events) [] kept along given = absurd along

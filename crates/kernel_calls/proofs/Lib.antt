@@ -10,7 +10,9 @@ pub mod Flags
 pub mod GivenUp
 pub mod Hearing
 pub mod Isolated
+pub mod KeptAccesses
 pub mod Leaving
+pub mod Linked
 pub mod Outsiders
 pub mod OwnViews
 pub mod Planned

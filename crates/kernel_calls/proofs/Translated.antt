@@ -288,7 +288,7 @@ module _ (v : View) (stands : StandsFor (image_of v) v.state) (walks : WalksAgre
   call_spared p call.Exit slot d f way goes stays = stays
   call_spared p call.Quota slot d f way goes stays = refl
 
-  event_spared : (e : Event) (slot : Slot) (d f : ℕ) → way_of (memory_of v) slot ≡ Some (d, f)
+  pub event_spared : (e : Event) (slot : Slot) (d f : ℕ) → way_of (memory_of v) slot ≡ Some (d, f)
       → is_ended (ended_by v e) slot ≡ false → gone_by v.state e slot f ≡ false
   event_spared e slot d f way stays = by (completes (answer v.state e)) refl stays
     where
@@ -369,7 +369,7 @@ translations_stay v w e stands walks ways well stands' walks' ways' state stay p
     let slot = slot_at p a in
     let way : way_of (memory_of v) slot ≡ Some (d, f) = ways.lead p d a f access live small walk in
     let way' : way_of (memory_of w) slot ≡ Some (d, f) =
-    stay slot d f (event_spared v stands walks ways e slot d f way stays) way in
+    stay.ways slot d f (event_spared v stands walks ways e slot d f way stays) way in
     let lazy : is_lazy_at (memory_of w) slot ≡ is_lazy_at (memory_of v) slot = ways'.lazy slot d f way'
     ∙ sym (ways.lazy slot d f way) in (
       (way_parts (memory_of w) slot d f way').live,

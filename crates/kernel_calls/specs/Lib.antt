@@ -3,6 +3,7 @@ pub mod Confinement
 pub mod Decisions
 pub mod Gone
 pub mod Isolation
+pub mod Kept
 pub mod Laws
 pub mod Machine
 pub mod Own

@@ -4,13 +4,13 @@
 use Rattle.std.specs.Prelude.{◌⊎◌}
 use Rattle.std.proofs.Common.{◌≡◌, ◌≢◌, ◌==◌, ◌<◌, ◌^◌, ℕ, Bool, true, false, not, ◌&&◌, ◌||◌, if◌then◌else◌, List, [], ◌∷◌, Option, Some, None, Ok}
 use Rattle.page_words.specs.FiniteMap as map
-use Rattle.page_words.specs.Addresses.{page_number, second_page}
+use Rattle.page_words.specs.Addresses.{page_number, slot_number, second_page}
 use Rattle.page_words.specs.declared.addresses.Size.{Size}
 use Rattle.table_walk.specs.declared.Access.{Access}
 use Rattle.table_walk.specs.declared.Access.TheVariants.{Read, Write}
 use Rattle.table_walk.specs.Walk.{walk_of}
 use Rattle.address_space.specs.Image as memory
-use Rattle.address_space.specs.Image.{directory_at, is_lazy_at, takes_stores}
+use Rattle.address_space.specs.Image.{directory_at, table_at, is_lazy_at, takes_stores}
 use Rattle.address_space.specs.Spaces.{Slot, Cell, at_page, slot_at, is_slot, is_of}
 use Rattle.process_table.specs.Image.{memory_of}
 use Rattle.process_table.specs.State.{State}
@@ -104,6 +104,28 @@ EndsFound ended image = (p address : ℕ) → address < 2 ^ 32 → is_ended ende
 abbrev pub SlotsStay : Ended → State → State → Type 0
 SlotsStay ended s t = (slot : Slot) → is_ended ended slot ≡ false → map.contains_key s.spaces slot ≡ true → map.contains_key t.spaces slot ≡ true
 
+-- a process keeps its directory, whether it has a mapped page or none, unless all of its translations are ended
+abbrev pub DirectoriesStay : Ended → memory.Image → memory.Image → Type 0
+DirectoriesStay ended old new = (p directory : ℕ) → is_all_of ended p ≡ false
+    → directory_at old p ≡ Some directory → directory_at new p ≡ Some directory
+
+-- the table that leads to a mapped slot which isn't one of these stays that of its region of 1,024 pages
+abbrev pub TablesStay : Ended → View → View → Type 0
+TablesStay ended v w = (slot : Slot) (table : ℕ) → is_ended ended slot ≡ false
+    → map.contains_key v.state.spaces slot ≡ true
+    → table_at (memory_of v) slot.pid (slot_number slot.page) ≡ Some table
+    → table_at (memory_of w) slot.pid (slot_number slot.page) ≡ Some table
+
+-- a slot of a region of a process that is mapped
+pub record MapsInRegion (s : State) (p region : ℕ) : Type 0 where
+  pub page : ℕ
+  pub inside : slot_number page ≡ region
+  pub mapped : map.contains_key s.spaces (at_page p page) ≡ true
+
+-- and no table is linked for nothing: each leads to a mapped slot
+abbrev pub TablesMap : View → Type 0
+TablesMap v = (p region table : ℕ) → table_at (memory_of v) p region ≡ Some table → MapsInRegion v.state p region
+
 -- neither accessed nor dirty was cleared in a slot that is mapped before and afterwards, ended or not
 abbrev pub FlagsStay : State → State → Type 0
 FlagsStay s t = (slot : Slot) (c d : Cell) → map.get s.spaces slot ≡ Some c → map.get t.spaces slot ≡ Some d
@@ -116,6 +138,9 @@ pub record Ends (ended : Ended) (v w : View) : Type 0 where
   pub found : EndsFound ended (memory_of v)
   pub slots : SlotsStay ended v.state w.state
   pub flags : FlagsStay v.state w.state
+  pub directories : DirectoriesStay ended (memory_of v) (memory_of w)
+  pub tables : TablesStay ended v w
+  pub linked : TablesMap v
 
 -- ---- What a processor keeps
 
@@ -138,31 +163,59 @@ pub record IsGiven (v : View) (t : Translation) : Type 0 where
   pub accessed : cell.accessed ≡ true
   pub dirty : t.dirty ≡ true → cell.dirty ≡ true
 
-abbrev pub AreGiven : View → List Translation → Type 0
-AreGiven v [] = Unit {0}
-AreGiven v (t ∷ kept) = IsGiven v t × AreGiven v kept
+-- an entry of a directory that is kept by itself: the table of a region of 1,024 pages of a process
+pub record DirectoryEntry : Type 0 where
+  pub pid : ℕ
+  pub region : ℕ
+  pub table : ℕ
+
+-- what a processor may keep: a translation, or an entry of a directory
+pub data Kept : Type 0 where
+  translation : Translation → Kept
+  directory_entry : DirectoryEntry → Kept
+
+-- it is what a walk reads: where the walk goes and what it finds, or the table that it goes through
+abbrev pub IsRead : View → Kept → Type 0
+IsRead v (translation t) = IsGiven v t
+IsRead v (directory_entry e) = table_at (memory_of v) e.pid e.region ≡ Some e.table
+
+abbrev pub AreRead : View → List Kept → Type 0
+AreRead v [] = Unit {0}
+AreRead v (k ∷ kept) = IsRead v k × AreRead v kept
+
+-- whether a page of a region of a process is one of these
+abbrev pub ends_in_region : Ended → ℕ → ℕ → Bool
+ends_in_region end.Nothing p region = false
+ends_in_region (end.Page q page) p region = (q == p) && (slot_number page == region)
+ends_in_region (end.Pages q first second) p region = (q == p) && ((slot_number first == region) || (slot_number second == region))
+ends_in_region (end.Space q) p region = q == p
+
+-- a processor that invalidates a translation drops the entry of the page's region too
+abbrev pub is_invalidated : Ended → Kept → Bool
+is_invalidated ended (translation t) = is_ended ended t.slot
+is_invalidated ended (directory_entry e) = ends_in_region ended e.pid e.region
 
 -- what is left once these are invalidated
-abbrev pub left_by : Ended → List Translation → List Translation
+abbrev pub left_by : Ended → List Kept → List Kept
 left_by ended [] = []
-left_by ended (t ∷ kept) = if is_ended ended t.slot then left_by ended kept else t ∷ left_by ended kept
+left_by ended (k ∷ kept) = if is_invalidated ended k then left_by ended kept else k ∷ left_by ended kept
 
 -- what is left once those of several events, one after the other, are invalidated
-abbrev pub left_by_all : List Ended → List Translation → List Translation
+abbrev pub left_by_all : List Ended → List Kept → List Kept
 left_by_all [] kept = kept
 left_by_all (ended ∷ more) kept = left_by_all more (left_by ended kept)
 
 -- What processors do between two moments, one after another: an event ends some, which all of them invalidate before
--- anything else, or one of them keeps a translation more, which a walk gives then.
-pub data Keeping : View → List Translation → View → List Translation → Type 0 where
-  nothing : {v : View} {kept : List Translation} → Keeping v kept v kept
-  event : {v w x : View} {kept last : List Translation} {ended : Ended} → Ends ended v w → Keeping w (left_by ended kept) x last → Keeping v kept x last
-  walk : {v x : View} {kept last : List Translation} {t : Translation} → IsGiven v t → Keeping v (t ∷ kept) x last → Keeping v kept x last
+-- anything else, or one of them keeps one more, which a walk reads then.
+pub data Keeping : View → List Kept → View → List Kept → Type 0 where
+  nothing : {v : View} {kept : List Kept} → Keeping v kept v kept
+  event : {v w x : View} {kept last : List Kept} {ended : Ended} → Ends ended v w → Keeping w (left_by ended kept) x last → Keeping v kept x last
+  walk : {v x : View} {kept last : List Kept} {k : Kept} → IsRead v k → Keeping v (k ∷ kept) x last → Keeping v kept x last
 
--- then all that is kept is given by the walks of the last moment, as it was by those of the first: so at each moment, since
--- each is the last of what came until then
+-- then all that is kept is what the walks of the last moment read, as it was at the first: so at each moment, since each
+-- is the last of what came until then
 abbrev pub KeptAreGiven : Type 0
-KeptAreGiven = (v x : View) (kept last : List Translation) → Keeping v kept x last → AreGiven v kept → AreGiven x last
+KeptAreGiven = (v x : View) (kept last : List Kept) → Keeping v kept x last → AreRead v kept → AreRead x last
 
 -- ---- Along a run
 
@@ -173,7 +226,7 @@ EndAlong (e ∷ events) (x ∷ ended) v w = (u : View) × (x ≡ ended_by v e) �
 EndAlong [] (x ∷ ended) v w = ⊥
 EndAlong (e ∷ events) [] v w = ⊥
 
--- what was given before a run, and was ended by none of its events, is given after it
+-- what was read before a run, and was ended by none of its events, is read after it
 abbrev pub KeptThroughRuns : Type 0
-KeptThroughRuns = (v w : View) (events : List Event) (ended : List Ended) (kept : List Translation) → EndAlong events ended v w
-    → AreGiven v kept → AreGiven w (left_by_all ended kept)
+KeptThroughRuns = (v w : View) (events : List Event) (ended : List Ended) (kept : List Kept) → EndAlong events ended v w
+    → AreRead v kept → AreRead w (left_by_all ended kept)

@@ -23,6 +23,8 @@ ghost use Rattle.kernel_calls.specs.declared.translations.Ended.TheVariants as e
 ghost use Rattle.kernel_calls.specs.Gone.{gone_of_call, gone_by};
 ghost use Rattle.kernel_calls.specs.Translations.{ended_by, EndAlong, Ends};
 ghost use Rattle.kernel_calls.specs.Walked.{finds_event, reply_found, bytes_accessed};
+ghost use Rattle.kernel_calls.specs.Kept.{ServesEvent, StoresMarked, bytes_kept};
+ghost use Rattle.kernel_calls.specs.declared.calls.Reply.TheVariants as reply;
 
 use crate::calls::{Call, Decision, Event, Reply};
 use crate::decisions::{answered, decide_on};
@@ -371,6 +373,29 @@ impl Core {
         let reply = walked::access_by_walk(&mut self.processes, event);
         self.stands();
         reply
+    }
+
+    /// Carries out a store as a processor does by translations that it kept, one for each page that it touches: its
+    /// bytes are written in their frames, and nothing else changes. It is what `step` makes of the event, so that
+    /// memory which a processor changed so is a core's after the event. Accessed and dirty of each page are set
+    /// already: a processor whose kept translation lets writes through without dirty marks the page first, as
+    /// `accessed` does.
+    pub fn store_kept(&mut self, event: &Event)
+        requires finds { finds_event self.old event.now ≡ true }
+        requires marked { StoresMarked self.old.state event.now.pid event.now.call }
+        ensures plan { takes_no_frame (plan_of_event self.old event.now) ≡ true }
+        ensures reply { answer self.old.state event.now ≡ reply.Done }
+        ensures state { self.new.state ≡ next self.old.state event.now }
+        ensures ends { Ends end.Nothing self.old self.new }
+        ensures directories { self.new.directories ≡ self.old.directories }
+        ensures roles { self.new.roles ≡ self.old.roles }
+        ensures bytes { (frames : ℕ → ℕ) → ServesEvent self.old frames event.now → self.new.bytes ≡ bytes_kept frames self.old.bytes event.now.call }
+        ensures stands { StandsFor (image_of self.new) self.new.state }
+        ensures walks { WalksAgree (memory_of self.new) self.new.state.spaces }
+    {
+        self.stands();
+        walked::store_kept(&mut self.processes, event);
+        self.stands();
     }
 
     /// Sets or clears accessed in the directory word that leads to a page of a live process, where it is present:

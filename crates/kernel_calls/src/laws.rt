@@ -6,6 +6,7 @@ ghost use Rattle.kernel_calls.specs.Own.{OwnIsEnough, AcceptsReadTheirOffer};
 ghost use Rattle.kernel_calls.specs.Together.{MembersToldTheSame, MembersSeeTheSame, OutsidersUnseen, MembersHearTheSame, OutsidersHearNothing};
 ghost use Rattle.kernel_calls.specs.Isolation.{RunsAreIsolated, OthersMakeNoDifference};
 ghost use Rattle.kernel_calls.specs.Laws.{RunsStayWellFormed};
+ghost use Rattle.kernel_calls.specs.Kept.{KeptFind, KeptReply, KeptLoads, KeptStores};
 ghost use Rattle.kernel_calls.specs.Translations.{KeptAreGiven, KeptThroughRuns};
 
 /// Every state of a run of a machine that boots is well formed, and all its live processes together
@@ -30,6 +31,16 @@ pub fn processes_are_isolated()
 pub fn kept_translations_are_given()
     ensures moments { KeptAreGiven }
     ensures runs { KeptThroughRuns }
+{}
+
+/// An access by kept translations, which the walks give still, is the event: the walks find a frame for each of its
+/// pages, so that a processor makes it by itself; a load finds what stands where the walks lead, and changes nothing;
+/// of a store accessed and dirty of each page are set already, as `Core::store_kept` asks. It computes nothing.
+pub fn kept_translations_serve_accesses()
+    ensures find { KeptFind }
+    ensures reply { KeptReply }
+    ensures loads { KeptLoads }
+    ensures stores { KeptStores }
 {}
 
 /// What an event of one process does to another that is live: it leaves its place in the book, its pages with

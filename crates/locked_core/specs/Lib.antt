@@ -1,4 +1,5 @@
 pub mod Counts
+pub mod Endings
 pub mod Faults
 pub mod Held
 pub mod Makers

@@ -1,6 +1,7 @@
 //! The CPUs, and what each has seen.
 
 ghost use Rattle.std.specs.Prelude.{◌≡◌, ◌≢◌, ◌+◌, ◌<◌, ◌^◌, ◌⊎◌, ◌↔◌, [], false, IfOk, IfErr, OnErr, IsTrue, length, List};
+ghost use Rattle.locked_core.specs.Endings.{EndsAtLast};
 ghost use Rattle.locked_core.specs.Makers.{Maker, maker, Makes, BeginOne, IsFit, IsRefused};
 ghost use Rattle.memory_report.specs.Histories.{AreIsolated, StartsWith, calls_of};
 ghost use Rattle.memory_report.specs.declared.entries.LogEntry.{LogEntry};
@@ -9,8 +10,9 @@ use crate::book::{Front, Name};
 use crate::call_log::CallLog;
 use crate::faults::Fault;
 use crate::gate::{Gate, Point};
+use crate::invalidate::Invalidate;
 use crate::kernel::Kernel;
-use kernel_calls::{Call, Reply};
+use kernel_calls::{Call, Ended, Reply};
 use page_words::Pid;
 use std::marker::Model;
 use std::sync::{MutexGuard, Wait};
@@ -167,5 +169,49 @@ impl<N: Name> Cpu<N> {
         kernel.gate.reach(Point::Published);
         MutexGuard::unlock(guard);
         Ok(reply)
+    }
+
+    /// Makes a call of a process as `call` does, and tells which translations it ended: to what invalidates them on
+    /// all processors, before the lock is let go, and with the reply. The reply alone is for the process.
+    ///
+    /// Refused as `call` is; nothing is ended then, and nothing told.
+    pub fn call_ending<G: Gate + Drop, I: Invalidate, R: Wait>(
+        &mut self,
+        rt: &R,
+        kernel: &Kernel<N, G>,
+        pid: Pid,
+        call: Call,
+        processors: &I,
+    ) -> Result<(Reply, Ended), Fault>
+        ensures made { IfOk result (λ r. Makes N.frames self.old pid call self.new r.0) }
+        ensures ended { IfOk result (λ r. EndsAtLast N.frames self.new.seen r.1) }
+        ensures isolated { IfOk result (λ _. AreIsolated N.frames self.new.seen) }
+        ensures number { self.new.number ≡ self.old.number }
+        ensures calls { IfOk result (λ _. calls_of self.new.number self.new.seen ≡ calls_of self.old.number self.old.seen + 1) }
+        ensures refused { IfErr result (λ f. (log : List LogEntry) × IsRefused N.frames log self.old f) }
+        ensures err { OnErr result (self.new ≡ self.old) }
+    {
+        let mut guard = kernel.taken(rt);
+        let ready = match guard.judge(self, pid, call) {
+            Ok(ready) => ready,
+            Err(fault) => {
+                MutexGuard::unlock(guard);
+                return Err(fault);
+            }
+        };
+        kernel.gate.reach(Point::Locked);
+        let ended = guard.ends(&ready);
+        let (reply, seen) = match guard.carry_out(rt, ready) {
+            Ok(carried) => carried,
+            Err(fault) => {
+                MutexGuard::unlock(guard);
+                return Err(fault);
+            }
+        };
+        self.made(seen);
+        processors.invalidate(&ended);
+        kernel.gate.reach(Point::Published);
+        MutexGuard::unlock(guard);
+        Ok((reply, ended))
     }
 }

@@ -1,6 +1,7 @@
 //! The value under the lock.
 
 ghost use Rattle.std.specs.Prelude.{◌≡◌, ◌≤◌, ◌<◌, ◌+◌, ◌==◌, ◌^◌, ◌++◌, [], ◌∷◌, IfOk, IfErr, OnErr, List, length, true};
+ghost use Rattle.kernel_calls.specs.Translations.{ended_by, Ends};
 ghost use Rattle.left_right.specs.Sides.{view};
 ghost use Rattle.locked_core.specs.Makers.{AreAll, Closes, IsRefused, Prevents};
 ghost use Rattle.locked_core.specs.Pages.{page};
@@ -19,7 +20,7 @@ use crate::faults::Fault;
 use crate::head::Head;
 use crate::publish::publish;
 use crate::rule::LogWriter;
-use kernel_calls::{Call, Core, Event, Reply};
+use kernel_calls::{Call, Core, Ended, Event, Reply};
 use memory_image::Image;
 use page_words::Pid;
 use std::marker::Model;
@@ -136,6 +137,14 @@ impl<N: Name> Locked<N> {
         Ok(Ready { nth, event })
     }
 
+    /// Which translations a call that was judged will end, on the memory as it stands.
+    pub(crate) fn ends(&self, ready: &Ready) -> Ended
+        ensures ended { result ≡ ended_by self.now.core ready.now.event }
+        ensures state { self.now.core.state ≡ state_after N.frames self.now.log }
+    {
+        self.core.ends(&ready.event)
+    }
+
     /// Carries out a call that was judged on this very log: makes room in the log, adds the call's entry to the
     /// history, decides and carries it out in one go, logs and publishes it. Its reply, and the log with its entry.
     ///
@@ -152,6 +161,8 @@ impl<N: Name> Locked<N> {
         ensures front { IfOk result (λ r. (r.1 ≡ self.new.log) × (length r.1 < 2 ^ 64)) }
         ensures legal { IfOk result (λ _. Legal N.frames self.new.log) }
         ensures calls { IfOk result (λ _. calls_of ready.event.cpu self.new.log ≡ calls_of ready.event.cpu self.old.log + 1) }
+        ensures state { IfOk result (λ _. self.new.core.state ≡ state_after N.frames self.new.log) }
+        ensures ends { IfOk result (λ _. Ends (ended_by self.old.core ready.event) self.old.core self.new.core) }
         ensures prevented { IfErr result Prevents }
         ensures err { OnErr result (self.new ≡ self.old) }
     {

@@ -6,6 +6,7 @@ mod charges;
 mod checks;
 mod laws;
 mod processes;
+mod walked;
 
 pub use causes::Cause;
 pub use charges::left_of;

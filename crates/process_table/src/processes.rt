@@ -51,7 +51,7 @@ pub enum ProcessesFault {
 /// All live processes: their address spaces, quotas and offers.
 #[derive(Drop)]
 pub struct Processes {
-    spaces: Spaces,
+    pub(crate) spaces: Spaces,
     quotas: Quotas,
     offers: Offers,
 }
@@ -297,37 +297,6 @@ fn complete_access(
         Access::Read => spaces.read(pid, address, size),
         Access::Write => {
             spaces.write(pid, address, size, value);
-            0
-        }
-    }
-}
-
-/// An access by the walk.
-fn walk_access(
-    spaces: &mut Spaces,
-    pid: Pid,
-    address: Vaddr,
-    size: Size,
-    access: Access,
-    value: u32,
-) -> u32
-    requires finds { finds (memory.image_of spaces.old) pid address size access ≡ true }
-    ensures kept { (quotas : Containers) → IsProcesses spaces.old quotas → IsProcesses spaces.new quotas }
-    ensures stay { FramesStay none_goes (memory.image_of spaces.old) (memory.image_of spaces.new) }
-    ensures mapped { EachTouched address size (λ page. is_some (map.get spaces.old.spaces (at_page pid page)) ≡ true) }
-    ensures takes { access ≡ Access.Write → EachTouched address size (λ page. takes_stores spaces.old.spaces (memory.image_of spaces.old) (at_page pid page) ≡ true) }
-    ensures value { (s : State) → s.spaces ≡ spaces.old.spaces → result ≡ access_value s pid address size access }
-    ensures state { (s : State) → s.spaces ≡ spaces.old.spaces → record s { spaces = spaces.new.spaces } ≡ after_access s pid address size access value }
-    ensures directories { spaces.new.directories ≡ spaces.old.directories }
-    ensures roles { spaces.new.roles ≡ spaces.old.roles }
-    ensures bytes { (directory : ℕ) → directory_of spaces.old.directories pid ≡ Some directory → spaces.new.bytes ≡ after_walked spaces.old.bytes directory address size access value }
-    ensures found { (directory : ℕ) → directory_of spaces.old.directories pid ≡ Some directory → result ≡ value_found spaces.old.bytes directory address size access }
-    ensures costs { (p : ℕ) → cost spaces.new.spaces p ≡ cost spaces.old.spaces p }
-{
-    match access {
-        Access::Read => spaces.load_by_walk(pid, address, size),
-        Access::Write => {
-            spaces.store_by_walk(pid, address, size, value);
             0
         }
     }
@@ -693,56 +662,6 @@ impl Processes {
         ensures roles { self.new.roles ≡ self.old.roles }
     {
         complete_access(&mut self.spaces, pid, address, size, access, value)
-    }
-
-    /// Whether a processor makes an access of a process by itself: the walk of the process's directory finds a
-    /// frame for each page that the access touches, one or two.
-    pub fn finds(&self, pid: Pid, address: Vaddr, size: Size, access: Access) -> bool
-        ensures { result ≡ finds (memory_of self.now) pid address size access }
-    {
-        self.spaces.finds(pid, address, size, access)
-    }
-
-    /// An access as a processor makes it, where the walks find a frame for each page that it touches: the words that
-    /// lead there are marked, and the value is read or its low bytes are written where they lead. It is what `access`
-    /// makes of it.
-    pub fn access_by_walk(
-        &mut self,
-        pid: Pid,
-        address: Vaddr,
-        size: Size,
-        access: Access,
-        value: u32,
-    ) -> u32
-        requires { finds (memory_of self.old) pid address size access ≡ true }
-        ensures live { is_live self.old.state pid ≡ true }
-        ensures user { EachTouched address size IsUserPage }
-        ensures mapped { EachTouched address size (λ page. is_mapped self.old.state (at_page pid page) ≡ true) }
-        ensures takes { access ≡ Access.Write → EachTouched address size (λ page. takes_stores self.old.state.spaces (memory_of self.old) (at_page pid page) ≡ true) }
-        ensures value { result ≡ access_value self.old.state pid address size access }
-        ensures state { self.new.state ≡ after_access self.old.state pid address size access value }
-        ensures stay { FramesStay none_goes (memory_of self.old) (memory_of self.new) }
-        ensures directories { self.new.directories ≡ self.old.directories }
-        ensures roles { self.new.roles ≡ self.old.roles }
-        ensures bytes { (directory : ℕ) → directory_of self.old.directories pid ≡ Some directory → self.new.bytes ≡ after_walked self.old.bytes directory address size access value }
-        ensures found { (directory : ℕ) → directory_of self.old.directories pid ≡ Some directory → result ≡ value_found self.old.bytes directory address size access }
-        ensures containers { (p : ℕ) → container_of self.new.state p ≡ container_of self.old.state p }
-    {
-        walk_access(&mut self.spaces, pid, address, size, access, value)
-    }
-
-    /// Sets or clears accessed in the directory word that leads to a page of a live process, where it is present.
-    /// Nothing else can be told.
-    pub fn set_walked(&mut self, pid: Pid, page: Page, walked: bool)
-        requires live { is_live self.old.state pid ≡ true }
-        requires user { IsUserPage page }
-        ensures state { self.new.state ≡ self.old.state }
-        ensures stay { FramesStay none_goes (memory_of self.old) (memory_of self.new) }
-        ensures directories { self.new.directories ≡ self.old.directories }
-        ensures roles { self.new.roles ≡ self.old.roles }
-        ensures bytes { (directory : ℕ) → directory_of self.old.directories pid ≡ Some directory → self.new.bytes ≡ with_walked self.old.bytes directory page walked }
-    {
-        self.spaces.set_walked(pid, page, walked);
     }
 
     /// Loads, as `access` does, where the bytes lie in one page of the user range and it is mapped. None where it

@@ -1,4 +1,4 @@
--- Entries on the same frame after a change.
+-- Entries on the same frame, and in the same table, after a change.
 use Rattle.std.proofs.Common.{◌≡◌, ◌≢◌, ℕ, Bool, true, false, cond, refl, ap, sym, ◌∙◌, inl, inr, Option, Some, None}
 use Rattle.std.specs.Option.{option_map}
 use Rattle.page_words.specs.FiniteMap as map
@@ -6,7 +6,16 @@ use Rattle.page_words.proofs.MapLemmas.{get-insert, same_or_not, same_itself}
 use Rattle.page_map.specs.declared.PageEntry.{PageEntry}
 use Rattle.address_space.specs.Spaces.{Slot, slot_order, at_page, is_slot}
 use Rattle.address_space.specs.Cells.{Entries}
-use Rattle.address_space.specs.Stays.{Gone, of_page, of_lazy, entry_frame, EntriesStay}
+use Rattle.page_words.specs.Addresses.{slot_number, index_number}
+use Rattle.phys_memory.specs.Bytes.{word_in}
+use Rattle.page_map.specs.Entries.{Frames, word_entry}
+use Rattle.std.specs.List.{list_any}
+use Rattle.std.specs.Option.{option_and_then}
+use Rattle.page_words.specs.FiniteMap.{same}
+use Rattle.address_space.specs.Slots.{user_slots}
+use Rattle.address_space.specs.View.{Directories, table_in, entry_in, entries_in}
+use Rattle.address_space.specs.Stays.{Gone, of_page, of_lazy, entry_frame, EntriesStay, slot_table, PlacesStay}
+use Rattle.address_space.proofs.entries.EntrySteps.{get-entries_in, entry_by_table}
 use Rattle.std.specs.Prelude.{◌&&◌}
 use borrow.Author.Tests.{eq-eqb}
 use Rattle.address_space.proofs.entries.Removal.{kept_other}
@@ -64,3 +73,46 @@ stay_filled E p page e e' there zero q f stays names =
 pub stay_removed : (E : Entries) (p page : ℕ) → EntriesStay (of_page p page) E (map.remove E (at_page p page))
 stay_removed E p page q f stays names = ap (option_map (λ (x : PageEntry). x.frame))
     (kept_other E (at_page p page) q (apart p page q stays)) ∙ names
+
+-- ---- With their tables
+
+-- where each table that was there is there
+pub places_by : (gone : Gone) (D : Directories) (m : Frames) (D' : Directories) (m' : Frames)
+    → EntriesStay gone (entries_in D m) (entries_in D' m')
+    → ((q r t : ℕ) → table_in D m q r ≡ Some t → table_in D' m' q r ≡ Some t) → PlacesStay gone D m D' m'
+places_by gone D m D' m' entries tables = record {
+  entries = entries;
+  tables = λ slot f t stays names is. tables slot.pid (slot_number slot.page) t is;
+}
+
+pub places_then : (gone : Gone) (D : Directories) (m : Frames) (D1 : Directories) (m1 : Frames) (D2 : Directories)
+    (m2 : Frames) → PlacesStay gone D m D1 m1 → PlacesStay gone D1 m1 D2 m2 → PlacesStay gone D m D2 m2
+places_then gone D m D1 m1 D2 m2 first second = record {
+  entries = stay_then gone (entries_in D m) (entries_in D1 m1) (entries_in D2 m2) first.entries second.entries;
+  tables = λ slot f t stays names is.
+      second.tables slot f t stays (first.entries slot f stays names) (first.tables slot f t stays names is);
+}
+
+-- where fewer go
+pub places_more : (gone gone' : Gone) (D : Directories) (m : Frames) (D' : Directories) (m' : Frames)
+    → ((slot : Slot) (frame : ℕ) → gone slot frame ≡ false → gone' slot frame ≡ false)
+    → PlacesStay gone' D m D' m' → PlacesStay gone D m D' m'
+places_more gone gone' D m D' m' fewer places = record {
+  entries = λ slot f stays names. places.entries slot f (fewer slot f stays) names;
+  tables = λ slot f t stays names is. places.tables slot f t (fewer slot f stays) names is;
+}
+
+-- a slot without a table has no entry
+pub entry_needs_table : (D : Directories) (m : Frames) (q : Slot) (f : ℕ) → slot_table D m q ≡ None
+    → entry_frame (entries_in D m) q ≡ Some f → ⊥
+entry_needs_table D m q f none names =
+    let nothing : entry_in D m q ≡ None = entry_by_table D m q
+    ∙ ap (option_and_then (λ table. word_entry (word_in (m table) (index_number q.page)))) none in
+    let k : None ≡ Some f = sym (ap (option_map (λ (x : PageEntry). x.frame))
+    (get-entries_in D m q ∙ ap (λ x. cond (list_any (same slot_order q) user_slots) x None) nothing
+    ∙ neither (list_any (same slot_order q) user_slots))) ∙ names in
+    cc
+  where
+    neither : (b : Bool) → cond {A = Option PageEntry} b None None ≡ None
+    neither true = refl
+    neither false = refl

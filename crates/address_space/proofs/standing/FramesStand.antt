@@ -1,21 +1,22 @@
 -- Slots whose walk leads to the same frame after a change.
-use Rattle.std.proofs.Common.{◌≡◌, ℕ, Bool, false, List, refl, ap, sym, ◌∙◌, inl, inr, Option, Some, None}
+use Rattle.std.proofs.Common.{◌≡◌, ℕ, Bool, true, false, List, refl, ap, sym, ◌∙◌, inl, inr, Option, Some, None}
 use Rattle.std.specs.Prelude.{◌&&◌, ◌==◌}
 use Rattle.std.specs.Option.{option_map, option_and_then}
 use Rattle.page_words.specs.Words.{frame_number}
+use Rattle.page_words.specs.Addresses.{slot_number}
 use Rattle.page_words.specs.FiniteMap as map
 use Rattle.page_words.proofs.MapLemmas.{same_or_not}
 use Rattle.phys_memory.specs.Bytes.{frame_bytes}
 use Rattle.alloc_table.specs.declared.Role.{Role}
 use Rattle.page_map.specs.declared.PageEntry.{PageEntry}
 use Rattle.page_map.specs.Entries.{entry_from}
-use Rattle.address_space.specs.Spaces.{Slot, slot_order, at_page}
+use Rattle.address_space.specs.Spaces.{Slot, slot_order, at_page, is_slot}
 use Rattle.address_space.specs.Image.{Image, directory_at, page_word}
 use Rattle.address_space.specs.View.{directory_of, entries_in, spaces_in}
 use Rattle.address_space.specs.Sound.{IsSound}
-use Rattle.address_space.specs.Stays.{way_of, Gone, FramesStay, none_goes, of_lazy, entry_frame, EntriesStay}
+use Rattle.address_space.specs.Stays.{way_of, Gone, FramesStay, none_goes, of_lazy, entry_frame, PlacesStay}
 use Rattle.address_space.proofs.entries.Refinement.{get-spaces_of}
-use Rattle.address_space.proofs.standing.Standing.{image_of, read_entry}
+use Rattle.address_space.proofs.standing.Standing.{image_of, read_entry, same_table}
 use Rattle.address_space.proofs.steps.Steps.{none_before}
 
 -- the frame of a slot's word is that of its entry
@@ -63,40 +64,79 @@ way_whole image slot directory frame way =
     by (Some w) h = let e : Some (frame_number w) ≡ Some frame = h in
         ap (option_map {U = ℕ × ℕ} (λ n. (directory, n))) e
 
--- where directories stay, and entries
+-- where directories stay, and entries with their tables
 pub frames_stay_by : (gone : Gone) (directories directories' : List (Option ℕ)) (bytes bytes' : List ℕ)
     (roles roles' : List Role) → IsSound directories bytes roles → IsSound directories' bytes' roles'
     → ((slot : Slot) (d f : ℕ) → gone slot f ≡ false → directory_of directories slot.pid ≡ Some d
     → directory_of directories' slot.pid ≡ Some d)
-    → EntriesStay gone (entries_in (directory_of directories) (frame_bytes bytes))
-    (entries_in (directory_of directories') (frame_bytes bytes'))
+    → PlacesStay gone (directory_of directories) (frame_bytes bytes) (directory_of directories') (frame_bytes bytes')
     → FramesStay gone (image_of directories bytes roles) (image_of directories' bytes' roles')
-frames_stay_by gone directories directories' bytes bytes' roles roles' sound sound' dirs stay slot d f stays way =
-    let was = way_parts (image_of directories bytes roles) slot d f way in
-    way_whole (image_of directories' bytes' roles') slot d f
-    (record {
-      live = dirs slot d f stays was.live;
-      names = sym (frame_read directories' bytes' roles' sound' slot)
-          ∙ stay slot f stays (frame_read directories bytes roles sound slot ∙ was.names);
-    })
+frames_stay_by gone directories directories' bytes bytes' roles roles' sound sound' dirs stay = record {
+  directories = dirs;
+  tables = λ slot d f t stays way is.
+      let was = way_parts (image_of directories bytes roles) slot d f way in
+      same_table directories' bytes' roles' sound' slot.pid (slot_number slot.page)
+      ∙ stay.tables slot f t stays (frame_read directories bytes roles sound slot ∙ was.names)
+      (sym (same_table directories bytes roles sound slot.pid (slot_number slot.page)) ∙ is);
+  ways = λ slot d f stays way.
+      let was = way_parts (image_of directories bytes roles) slot d f way in
+      way_whole (image_of directories' bytes' roles') slot d f
+      (record {
+        live = dirs slot d f stays was.live;
+        names = sym (frame_read directories' bytes' roles' sound' slot)
+            ∙ stay.entries slot f stays (frame_read directories bytes roles sound slot ∙ was.names);
+      });
+}
 
 -- where directories are the same
 pub frames_stay : (gone : Gone) (directories : List (Option ℕ)) (bytes bytes' : List ℕ) (roles roles' : List Role)
     → IsSound directories bytes roles → IsSound directories bytes' roles'
-    → EntriesStay gone (entries_in (directory_of directories) (frame_bytes bytes))
-    (entries_in (directory_of directories) (frame_bytes bytes'))
+    → PlacesStay gone (directory_of directories) (frame_bytes bytes) (directory_of directories) (frame_bytes bytes')
     → FramesStay gone (image_of directories bytes roles) (image_of directories bytes' roles')
 frames_stay gone directories bytes bytes' roles roles' sound sound' stay =
     frames_stay_by gone directories directories bytes bytes' roles roles' sound sound' (λ slot d f stays live. live)
     stay
 
+-- one change after another
+pub stays_then : {gone : Gone} {a b c : Image} → FramesStay gone a b → FramesStay gone b c → FramesStay gone a c
+stays_then first second = record {
+  directories = λ q d f stays live. second.directories q d f stays (first.directories q d f stays live);
+  tables = λ q d f t stays way is.
+      second.tables q d f t stays (first.ways q d f stays way) (first.tables q d f t stays way is);
+  ways = λ q d f stays way. second.ways q d f stays (first.ways q d f stays way);
+}
+
+-- where fewer go
+pub stays_more : {gone gone' : Gone} {a b : Image}
+    → ((slot : Slot) (frame : ℕ) → gone slot frame ≡ false → gone' slot frame ≡ false)
+    → FramesStay gone' a b → FramesStay gone a b
+stays_more fewer stay = record {
+  directories = λ q d f stays live. stay.directories q d f (fewer q f stays) live;
+  tables = λ q d f t stays way is. stay.tables q d f t (fewer q f stays) way is;
+  ways = λ q d f stays way. stay.ways q d f (fewer q f stays) way;
+}
+
+pub stays_most : {gone : Gone} {a b : Image} → FramesStay none_goes a b → FramesStay gone a b
+stays_most stay = stays_more (λ q f stays. refl) stay
+
 -- a slot that names no frame may get any
 pub stays_from_none : (p page : ℕ) (old new : Image) → way_of old (at_page p page) ≡ None
     → FramesStay (of_lazy p page) old new → FramesStay none_goes old new
-stays_from_none p page old new none stay q d f stays way = elim (same_or_not slot_order (at_page p page) q) [
-  | inl h ↦ absurd (let k : None ≡ Some (d, f) = sym (ap (way_of old) (sym h.0) ∙ none) ∙ way in cc)
-  | inr h ↦ stay q d f (ap (λ b. b && (f == 0)) h) way
-]
+stays_from_none p page old new none stay = record {
+  directories = λ q d f stays live. stay.directories q d 1 (not_first (is_slot p page q)) live;
+  tables = λ q d f t stays way is. stay.tables q d f t (apart q d f way) way is;
+  ways = λ q d f stays way. stay.ways q d f (apart q d f way) way;
+}
+  where
+    not_first : (b : Bool) → (b && false) ≡ false
+    not_first true = refl
+    not_first false = refl
+
+    apart : (q : Slot) (d f : ℕ) → way_of old q ≡ Some (d, f) → of_lazy p page q f ≡ false
+    apart q d f way = elim (same_or_not slot_order (at_page p page) q) [
+      | inl h ↦ absurd (let k : None ≡ Some (d, f) = sym (ap (way_of old) (sym h.0) ∙ none) ∙ way in cc)
+      | inr h ↦ ap (λ b. b && (f == 0)) h
+    ]
 
 -- a slot that isn't mapped has no way
 pub no_way : (directories : List (Option ℕ)) (bytes : List ℕ) (roles : List Role) (slot : Slot)

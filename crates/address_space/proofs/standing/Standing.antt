@@ -142,7 +142,7 @@ module _ (directories : List (Option ℕ)) (bytes : List ℕ) (roles : List Role
     | inr past ↦ past_end (m d) s (S.tables.long d (Directory p) (S.tables.directory p d live)) past
   ]
 
-  same_table : (p s : ℕ) → table_at image p s ≡ table_in D m p s
+  pub same_table : (p s : ℕ) → table_at image p s ≡ table_in D m p s
   same_table p s = by (D p) refl
     where
       at : (d : ℕ) → D p ≡ Some d → (b : Bool) → is_user_slot s ≡ b → (if b && is_present (dir_word m d s) then Some (frame_number (dir_word m d s)) else None) ≡ word_table (dir_word m d s)

@@ -29,7 +29,7 @@ use Rattle.address_space.proofs.costs.Costed.{Room, mapped}
 use Rattle.address_space.proofs.costs.Costs.{same_pages}
 use Rattle.address_space.proofs.costs.CostSteps.{total-entry, total-insert, sum_one}
 use Rattle.address_space.proofs.costs.Sizes.{cost-within}
-use Rattle.address_space.proofs.entries.EntrySteps.{Loose, get-entries_in, entries-insert, tables-entry, use_own, use_kept}
+use Rattle.address_space.proofs.entries.EntrySteps.{Loose, get-entries_in, entries-insert, tables-entry, tables_kept, use_own, use_kept}
 use Rattle.address_space.proofs.entries.Refinement.{get-spaces_of, lone_refines, alone_lazy, alone_real, cell_at}
 use Rattle.address_space.proofs.entries.Readings.{mapped_read}
 use Rattle.address_space.proofs.entries.UserSlots.{in_user_slots}
@@ -46,8 +46,8 @@ use borrow.Author.Tests.{eq-eqb}
 use Rattle.page_words.specs.Addresses.{IsUserPage}
 use Rattle.std.specs.Cmp.{nat_eq_equiv}
 use Rattle.std.proofs.lemmas.Bool.{ne_eqb}
-use Rattle.address_space.specs.Stays.{none_goes, entry_frame}
-use Rattle.address_space.proofs.entries.Staying.{stay_same, stay_then, stay_new}
+use Rattle.address_space.specs.Stays.{none_goes}
+use Rattle.address_space.proofs.entries.Staying.{stay_same, stay_then, stay_new, places_by, places_then}
 
 -- ---- One page
 
@@ -71,6 +71,7 @@ pub record IsReady (directories : List (Option ℕ)) (bytes : List ℕ) (roles :
   pub apart : (q : Slot) (x : PageEntry) → map.get (entries_in (directory_of directories) (frame_bytes bytes)) q ≡ Some x → (x.frame == 0) ≡ false → (f == x.frame) ≡ false
   pub weight : frames_weight roles' + lazy_count (map.insert (entries_in (directory_of directories) (frame_bytes bytes)) slot (copied_entry e f)) ≡ frames_weight roles + lazy_count (entries_in (directory_of directories) (frame_bytes bytes)) + 1
   pub used : (q r : ℕ) → InUseAt (directory_of directories) (frame_bytes bytes) q r → InUseAt (directory_of directories) (frame_bytes one) q r
+  pub linked : (q r : ℕ) → table_in (directory_of directories) (frame_bytes one) q r ≡ table_in (directory_of directories) (frame_bytes bytes) q r
 
 -- the entry was put in
 entry_copied : (directories : List (Option ℕ)) (bytes one two : List ℕ) (roles roles' : List Role) (from source p d page t f : ℕ) (e : PageEntry) → IsSound directories bytes roles
@@ -120,9 +121,13 @@ entry_copied directories bytes one two roles roles' from source p d page t f e s
         length = ready.length;
         own = subst (λ x. InUseAt D x p (slot_number page)) (sym is) (use_own D m1 R' Tb p d page t (entry_word e') live there_one (entry_word-lt e' ready.small) (entry_word-present e'));
         others = λ q r n use_at. subst (λ x. InUseAt D x q r) (sym is) (use_kept D m1 R' Tb p d page t (entry_word e') live there_one (entry_word-lt e' ready.small) (entry_word-present e') q r (ready.used q r use_at));
-        stay = stay_then none_goes E (map.insert E slot e') (entries_in D (frame_bytes two))
+        stay = places_by none_goes D m D (frame_bytes two)
+            (stay_then none_goes E (map.insert E slot e') (entries_in D (frame_bytes two))
             (stay_new none_goes E slot e' none) (stay_same none_goes (map.insert E slot e')
-            (entries_in D (frame_bytes two)) E2);
+            (entries_in D (frame_bytes two)) E2))
+            (λ q r g found. ap (λ x. table_in D x q r) is
+            ∙ tables_kept D m1 R' Tb p d page t (entry_word e') live there_one (entry_word-lt e' ready.small) q r
+            ∙ ready.linked q r ∙ found);
       };
       spaces =
           (λ i. spaces_of (E2 i) (is i)) ∙ lone_refines E m2 slot e' none ready.alone ready.apart
@@ -163,6 +168,7 @@ lazy_copied directories bytes two roles from source p d page t e sound home live
       apart = λ q x found real. ap (λ n. n == x.frame) zero ∙ nat_eq_equiv.symm 0 x.frame ∙ real;
       weight = omega (arith, more);
       used = λ q r u. u;
+      linked = λ q r. refl;
     })
     is_two long_two
 
@@ -215,6 +221,7 @@ real_copied directories bytes one two roles roles' from source p d page t f e so
       apart = λ q x found _. ne_eqb f x.frame (λ same. apart q x found (sym same));
       weight = omega (arith, heavier, as_many);
       used = λ q r u. subst (λ x. InUseAt D x q r) (sym is_one) (use_loose D m R T f new loose q r u);
+      linked = λ q r. ap (λ x. table_in D x q r) is_one ∙ loose-tables D m R T f new loose q r;
     })
     is_two long_two
   where
@@ -269,9 +276,10 @@ page_copied directories bytes bytes1 bytes2 roles roles1 roles2 from source to p
         made.entries.1 ∙ ap (λ x. map.insert x slot made.entries.0) given.entries,
         made.entries.2 ∙ ap is_lazy_entry (ap (option_and_then (λ x. entry_at (frame_bytes bytes1) x page)) home ∙ stays ∙ sym (ap (option_and_then (λ x. entry_at (frame_bytes bytes) x page)) home)),
       );
-      stay = stay_then none_goes (entries_in D (frame_bytes bytes)) (entries_in D (frame_bytes bytes1))
-          (entries_in D (frame_bytes bytes2)) (stay_same none_goes (entries_in D (frame_bytes bytes))
-          (entries_in D (frame_bytes bytes1)) given.entries) made.slot.stay;
+      stay = places_then none_goes D (frame_bytes bytes) D (frame_bytes bytes1) D (frame_bytes bytes2)
+          (places_by none_goes D (frame_bytes bytes) D (frame_bytes bytes1)
+          (stay_same none_goes (entries_in D (frame_bytes bytes)) (entries_in D (frame_bytes bytes1)) given.entries)
+          given.tables) made.slot.stay;
       length = made.slot.length ∙ given.length;
     }
 
@@ -298,6 +306,9 @@ copied_at_first directories bytes roles from to s empty = record {
   below = λ page l. empty page ∙ sym (ap (option_map (copy_of (at_page to page))) (no_cell_outside directories bytes roles from page s.sound (inl l)));
   rest = λ page l. empty page;
   other_entries = λ q n. refl;
+  stay = places_by none_goes (directory_of directories) (frame_bytes bytes) (directory_of directories)
+      (frame_bytes bytes) (stay_same none_goes (entries_in (directory_of directories) (frame_bytes bytes))
+      (entries_in (directory_of directories) (frame_bytes bytes)) refl) (λ q r t found. found);
   lazy = λ page l. ap is_lazy_entry (no_entry directories bytes (at_page to page) (empty page)) ∙ sym (ap is_lazy_entry (no_entry directories bytes (at_page from page) (no_cell_outside directories bytes roles from page s.sound (inl l))));
   length = refl;
   low = omega arith;
@@ -395,6 +406,8 @@ module _ (directories : List (Option ℕ)) (bytes one : List ℕ) (roles roles1 
         ];
         rest = λ other l. ap (λ x. map.get x (at_page to other)) made.spaces ∙ put_other S1 slot copy (at_page to other) (other_page other (λ same. omega (arith, l, same))) ∙ so_far.rest other (omega (arith, up, l));
         other_entries = λ q n. ap (λ x. map.get x q) made.entries.1 ∙ put_other E1 slot made.entries.0 q (other_process q n) ∙ so_far.other_entries q n;
+        stay = places_then none_goes (directory_of directories) (frame_bytes bytes) (directory_of directories)
+            (frame_bytes one) (directory_of directories) (frame_bytes two) so_far.stay made.stay;
         lazy = λ other l. ap (λ x. is_lazy_entry (map.get x (at_page to other))) made.entries.1 ∙ elim (cases_eq other page) [
           | inl same ↦
               ap (λ n. is_lazy_entry (map.get (map.insert E1 slot made.entries.0) (at_page to n))) same ∙ ap is_lazy_entry (put_here E1 slot made.entries.0) ∙ made.entries.2
@@ -439,7 +452,7 @@ copied_at_last directories bytes one roles roles1 from source to next s empty so
       ap is_lazy_entry (same_entry directories one roles1 so_far.after.sound (at_page to page) ∙ sym (read_entry directories one roles1 so_far.after.sound (at_page to page)))
       ∙ lazy_at page
       ∙ ap is_lazy_entry (read_entry directories bytes roles s.sound (at_page from page) ∙ sym (same_entry directories bytes roles s.sound (at_page from page)));
-  stay = λ q f stays names. stay_at q f names (cases_eq q.pid to);
+  stay = so_far.stay;
   length = so_far.length;
 }
   where
@@ -476,14 +489,6 @@ copied_at_last directories bytes one roles roles1 from source to next s empty so
       | inl less ↦ so_far.lazy page less
       | inr above ↦ ap is_lazy_entry (no_entry directories one (at_page to page) (so_far.rest page above)) ∙ sym (ap is_lazy_entry (no_entry directories bytes (at_page from page) (unmapped page above)))
     ]
-
-    stay_at : (q : Slot) (f : ℕ) → entry_frame E q ≡ Some f → (q.pid ≡ to) ⊎ (q.pid ≢ to) → entry_frame E1 q ≡ Some f
-    stay_at q f names (inl same) =
-        let here : q ≡ at_page to q.page = (λ i. record { pid = same i; page = q.page }) in
-        absurd (let k : None ≡ Some f = sym (ap (option_map (λ (x : PageEntry). x.frame))
-        (ap (map.get E) here ∙ no_entry directories bytes (at_page to q.page) (empty q.page))) ∙ names in cc)
-    stay_at q f names (inr differ) = ap (option_map (λ (x : PageEntry). x.frame)) (so_far.other_entries q differ)
-        ∙ names
 
     at : (q : Slot) → (q.pid ≡ to) ⊎ (q.pid ≢ to) → map.get S1 q ≡ copied_at S from to q
     at q (inl same) =

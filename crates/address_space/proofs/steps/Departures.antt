@@ -36,8 +36,8 @@ use Rattle.address_space.proofs.standing.Standing.{past_end}
 use Rattle.address_space.proofs.steps.Steps.{live_small, none_before, role_own, role_other}
 use borrow.Author.Tests.{eqb-true, eq-eqb}
 use Rattle.page_words.proofs.OptionLemmas.{no_value}
-use Rattle.address_space.specs.Stays.{none_goes, of_process}
-use Rattle.address_space.proofs.entries.Staying.{stay_same, stay_then}
+use Rattle.address_space.specs.Stays.{none_goes, of_page, of_process, PlacesStay}
+use Rattle.address_space.proofs.entries.Staying.{stay_same, places_by, places_then, places_more}
 
 -- ---- Slots that leave
 
@@ -169,8 +169,9 @@ pub dropped_at_first : (directories : List (Option ℕ)) (bytes : List ℕ) (rol
 dropped_at_first directories bytes roles p s = record {
   after = s;
   spaces = refl;
-  stay = stay_same (of_process p) (entries_in (directory_of directories) (frame_bytes bytes))
-      (entries_in (directory_of directories) (frame_bytes bytes)) refl;
+  stay = places_by (of_process p) (directory_of directories) (frame_bytes bytes) (directory_of directories)
+      (frame_bytes bytes) (stay_same (of_process p) (entries_in (directory_of directories) (frame_bytes bytes))
+      (entries_in (directory_of directories) (frame_bytes bytes)) refl) (λ q r t found. found);
   below = λ page l. no_cell_outside directories bytes roles p page s.sound (inl l);
   length = refl;
   low = omega arith;
@@ -186,10 +187,10 @@ dropped_next directories bytes one two roles roles1 roles2 p d from page so_far 
     record {
       after = gone.after;
       spaces = ap (λ x. without x (is_of p)) gone.spaces ∙ without-without S (is_slot p page) (is_of p) (slot_of_process p page) ∙ so_far.spaces;
-      stay = stay_then (of_process p) (entries_in (directory_of directories) (frame_bytes bytes))
-          (entries_in (directory_of directories) (frame_bytes one))
-          (entries_in (directory_of directories) (frame_bytes two)) so_far.stay
-          (λ q f stays names. gone.stay q f (slot_of_process p page q stays) names);
+      stay = places_then (of_process p) (directory_of directories) (frame_bytes bytes) (directory_of directories)
+          (frame_bytes one) (directory_of directories) (frame_bytes two) so_far.stay
+          (places_more (of_process p) (of_page p page) (directory_of directories) (frame_bytes one)
+          (directory_of directories) (frame_bytes two) (λ q f stays. slot_of_process p page q stays) gone.stay);
       below = λ other l. ap (λ x. map.get x (at_page p other)) gone.spaces ∙ get-without S (is_slot p page) (at_page p other) ∙ elim (cases_eq other page) [
         | inl same_page ↦ ap (λ b. cond (not b) (option_map (left (is_slot p page)) (map.get S (at_page p other))) None) (ap (λ n. same slot_order (at_page p page) (at_page p n)) same_page ∙ same_itself slot_order (at_page p page))
         | inr differ ↦ nothing_if (not (is_slot p page (at_page p other))) (left (is_slot p page)) (map.get S (at_page p other)) (elim (cases_lt other from) [
@@ -222,6 +223,20 @@ dropped_at_last directories bytes one roles roles1 p d from so_far live none =
     }
 
 -- ---- A directory goes
+
+-- the pages of a process went, and then its directory
+pub places_dropped : (directories last directories' : List (Option ℕ)) (bytes middle bytes' : List ℕ) (p : ℕ)
+    → last ≡ directories → bytes' ≡ middle
+    → PlacesStay (of_process p) (directory_of directories) (frame_bytes bytes) (directory_of directories) (frame_bytes middle)
+    → PlacesStay none_goes (directory_of last) (frame_bytes middle) (directory_of directories') (frame_bytes middle)
+    → PlacesStay (of_process p) (directory_of directories) (frame_bytes bytes) (directory_of directories') (frame_bytes bytes')
+places_dropped directories last directories' bytes middle bytes' p same left pages directory =
+    subst (λ b. PlacesStay (of_process p) (directory_of directories) (frame_bytes bytes) (directory_of directories') (frame_bytes b)) (sym left)
+    (places_then (of_process p) (directory_of directories) (frame_bytes bytes) (directory_of directories) (frame_bytes middle)
+    (directory_of directories') (frame_bytes middle) pages
+    (places_more (of_process p) none_goes (directory_of directories) (frame_bytes middle) (directory_of directories') (frame_bytes middle)
+    (λ q f stays. refl)
+    (subst (λ l. PlacesStay none_goes (directory_of l) (frame_bytes middle) (directory_of directories') (frame_bytes middle)) same directory)))
 
 forgotten : (directories : List (Option ℕ)) (p : ℕ) → p < length directories → directory_of (slice_set directories p None) p ≡ None
 forgotten directories p l = ap (λ x. unwrap_or x None) (get-set_same directories p None l)
@@ -363,6 +378,8 @@ directory_removed directories bytes roles roles' p d s live empty rel =
       spaces = spaces;
       none = none;
       others = others;
-      stay = stay_same none_goes (entries_in D m) (entries_in D' m) E;
+      stay = places_by none_goes D m D' m (stay_same none_goes (entries_in D m) (entries_in D' m) E)
+          (λ q r t found.
+          kept_tables D D' m R R' sound.tables p d live bare none others role kept q r ∙ found);
       length = same_length;
     }

@@ -25,7 +25,7 @@ use Rattle.address_space.proofs.frames.PageSteps.{same_bytes, no_directory}
 use Rattle.address_space.proofs.standing.Standing.{past_end}
 use Rattle.address_space.proofs.steps.Steps.{inside}
 use Rattle.address_space.specs.Stays.{none_goes}
-use Rattle.address_space.proofs.entries.Staying.{stay_same}
+use Rattle.address_space.proofs.entries.Staying.{stay_same, places_by}
 
 -- a directory word that names the same table, and is one of the kernel's where the first is
 pub record Alike (w w' : ℕ) : Type 0 where
@@ -193,7 +193,8 @@ dirs_touched directories bytes bytes' roles sound alike long =
       cost = ap (total_cost directories) S;
       in_use = use_dirs D m m' R T alike;
       lazy = ap (λ x. holders_of x 0) E;
-      stay = stay_same none_goes (entries_in D m) (entries_in D m') E;
+      stay = places_by none_goes D m D m' (stay_same none_goes (entries_in D m) (entries_in D m') E)
+          (λ q r t found. dirs-tables D m m' R T alike q r ∙ found);
     }
 
 -- one word of a directory was written

@@ -148,7 +148,7 @@ finds_each directories bytes roles p address size access sound h = by (directory
 
 -- ---- The number at the bytes
 
-same_each : (f g : ℕ → ℕ) (a n : ℕ) → ((i : ℕ) → i < n → f (a + i) ≡ g (a + i)) → each f (range_with_len a n) ≡ each g (range_with_len a n)
+pub same_each : (f g : ℕ → ℕ) (a n : ℕ) → ((i : ℕ) → i < n → f (a + i) ≡ g (a + i)) → each f (range_with_len a n) ≡ each g (range_with_len a n)
 same_each f g a zero is = refl
 same_each f g a (suc n) is =
     let z : a ≡ a + 0 = omega arith in

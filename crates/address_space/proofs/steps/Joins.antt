@@ -23,7 +23,7 @@ use Rattle.address_space.specs.View.{Directories, Roles, directory_of, table_in,
 use Rattle.address_space.specs.Sound.{Tables, Pages, IsSound, InUseAt, Names}
 use Rattle.address_space.specs.Changes.{SlotJoined}
 use Rattle.address_space.proofs.costs.CostSteps.{total-entry}
-use Rattle.address_space.proofs.entries.EntrySteps.{entries-insert, tables-entry, use_own, use_kept}
+use Rattle.address_space.proofs.entries.EntrySteps.{entries-insert, tables-entry, tables_kept, use_own, use_kept}
 use Rattle.address_space.proofs.frames.FrameSteps.{tables-role}
 use Rattle.address_space.proofs.frames.PageSteps.{same_bytes, pages-join, no_table, lazy-real}
 use Rattle.address_space.proofs.entries.Refinement.{get-spaces_of, join_refines}
@@ -31,7 +31,7 @@ use Rattle.address_space.proofs.steps.Steps.{inside, live_small, page_loose, non
 use Rattle.page_words.proofs.OptionLemmas.{some_value}
 use Rattle.std.proofs.lemmas.Bool.{ne_eqb}
 use Rattle.address_space.specs.Stays.{none_goes}
-use Rattle.address_space.proofs.entries.Staying.{stay_same, stay_then, stay_new}
+use Rattle.address_space.proofs.entries.Staying.{stay_same, stay_then, stay_new, places_by}
 
 pub slot_joined : (directories : List (Option ℕ)) (bytes two : List ℕ) (roles roles' : List Role) (giver giver_page p d page f c : ℕ) (right : Bool) → IsSound directories bytes roles → directory_of directories p ≡ Some d
     → 0x40000 ≤ page → page < 0xf0000 → map.get (spaces_in directories bytes) (at_page p page) ≡ None → is_some (table_of (frame_bytes bytes) d (slot_number page)) ≡ true
@@ -82,9 +82,12 @@ slot_joined directories bytes two roles roles' giver giver_page p d page f c rig
         length = same_length;
         own = subst (λ x. InUseAt D x p (slot_number page)) (sym is) (use_own D m R' Tb p d page t (entry_word e) live at.1 (entry_word-lt e in_memory.small) (entry_word-present e));
         others = λ q r n use_at. subst (λ x. InUseAt D x q r) (sym is) (use_kept D m R' Tb p d page t (entry_word e) live at.1 (entry_word-lt e in_memory.small) (entry_word-present e) q r use_at);
-        stay = stay_then none_goes E (map.insert E slot e) (entries_in D (frame_bytes two))
+        stay = places_by none_goes D m D (frame_bytes two)
+            (stay_then none_goes E (map.insert E slot e) (entries_in D (frame_bytes two))
             (stay_new none_goes E slot e none) (stay_same none_goes (map.insert E slot e)
-            (entries_in D (frame_bytes two)) E2);
+            (entries_in D (frame_bytes two)) E2))
+            (λ q r g found. ap (λ x. table_in D x q r) is
+            ∙ tables_kept D m R T p d page t (entry_word e) live at.1 (entry_word-lt e in_memory.small) q r ∙ found);
       };
       spaces = (λ i. spaces_of (E2 i) (is i)) ∙ (λ i. spaces_of (map.insert E slot (named i)) m2) ∙ join_refines E m2 (at_page giver giver_page) slot given.0 right given.1 (ne_eqb given.0.frame 0 (λ z. let s = given.2 in omega (arith, z, s, up))) none ∙ ap (λ x. joined x (at_page giver giver_page) slot right) (same_bytes E m m2 page_kept);
     }

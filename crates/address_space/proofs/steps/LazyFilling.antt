@@ -18,18 +18,18 @@ use Rattle.page_map.specs.Entries.{Frames, dir_word, table_of, entry_at, with_en
 use Rattle.page_map.proofs.WordLaws.{entry_word-names, entry_word-lt, entry_word-present, word_entry-entry_word}
 use Rattle.address_space.specs.Spaces.{Slot, at_page}
 use Rattle.address_space.specs.Cells.{Entries, names, lazy_count, spaces_of, holders_of}
-use Rattle.address_space.specs.View.{Directories, Roles, directory_of, entry_in, entries_in, spaces_in, total_cost}
+use Rattle.address_space.specs.View.{Directories, Roles, directory_of, table_in, entry_in, entries_in, spaces_in, total_cost}
 use Rattle.address_space.specs.Sound.{Tables, Pages, IsSpaces, InUseAt}
 use Rattle.address_space.specs.Changes.{PageFilled}
 use Rattle.address_space.proofs.costs.Costed.{free_where_light}
-use Rattle.address_space.proofs.entries.EntrySteps.{entries-insert, entry_own, tables-entry, use_kept}
+use Rattle.address_space.proofs.entries.EntrySteps.{entries-insert, entry_own, tables-entry, tables_kept, use_kept}
 use Rattle.address_space.proofs.frames.FrameSteps.{tables-role}
 use Rattle.address_space.proofs.frames.PageSteps.{same_bytes, pages-more, unused, unused_count, no_free, no_table, lazy-filled, lazy-fewer, holders-less}
 use Rattle.address_space.proofs.entries.Refinement.{fill_refines}
 use Rattle.address_space.proofs.steps.Steps.{inside, live_small, table_by_word, role_own, role_other, free_loose, page_loose}
 use Rattle.address_space.proofs.steps.Stores.{found, get_user, entry_rules, frame_written}
 use Rattle.std.proofs.lemmas.Bool.{ne_eqb}
-use Rattle.address_space.proofs.entries.Staying.{stay_same, stay_then, stay_filled}
+use Rattle.address_space.proofs.entries.Staying.{stay_same, stay_then, stay_filled, places_by}
 use Rattle.address_space.specs.Stays.{of_lazy}
 
 -- a lazy page leaves room for its frame
@@ -115,9 +115,13 @@ page_filled directories bytes one two roles roles' p d page f e s live low high 
       spaces = spaces;
       real = (e', ap (λ x. entry_in D x slot) is ∙ entry_own D m1 R' Tb p d page t (entry_word e') live here.there (entry_word-lt e' small) ∙ word_entry-entry_word e' small, refl);
       fewer = λ q was. ap (λ x. set.contains (holders_of x 0) q) E2 ∙ lazy-fewer E slot e' (λ z. omega (arith, z, up)) q was;
-      stay = stay_then (of_lazy p page) E (map.insert E slot e') (entries_in D (frame_bytes two))
+      stay = places_by (of_lazy p page) D m D (frame_bytes two)
+          (stay_then (of_lazy p page) E (map.insert E slot e') (entries_in D (frame_bytes two))
           (stay_filled E p page e e' there zero) (stay_same (of_lazy p page) (map.insert E slot e')
-          (entries_in D (frame_bytes two)) E2);
+          (entries_in D (frame_bytes two)) E2))
+          (λ q r g found. ap (λ x. table_in D x q r) is
+          ∙ tables_kept D m1 R' Tb p d page t (entry_word e') live here.there (entry_word-lt e' small) q r
+          ∙ w.tables q r ∙ found);
       length = same_length;
     }
   where

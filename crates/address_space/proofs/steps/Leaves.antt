@@ -33,8 +33,8 @@ use Rattle.address_space.proofs.steps.Steps.{live_small, page_loose, free_loose,
 use Rattle.address_space.proofs.steps.Stores.{Found, found, get_user, named_entry, page_of_name, page_held, entry_rules}
 use Rattle.address_space.proofs.entries.Removal.{put_back, removed, kept_other}
 use Rattle.address_space.proofs.entries.EntrySteps.{same_entries}
-use Rattle.address_space.proofs.entries.Staying.{stay_same, stay_then, stay_removed}
-use Rattle.address_space.specs.Stays.{of_page}
+use Rattle.address_space.proofs.entries.Staying.{stay_same, stay_then, stay_removed, places_by, entry_needs_table}
+use Rattle.address_space.specs.Stays.{of_page, EntriesStay, PlacesStay}
 
 -- the role after one holder less
 after_page : (c : ℕ) → (nat_lt 1 c ≡ true) ⊎ (nat_lt 1 c ≡ false)
@@ -248,6 +248,20 @@ slot_removed directories bytes two roles one last p d page e freed spaces live l
     costs : (m2 : Frames) → total_cost directories (spaces_of E m) ≡ total_cost directories (spaces_of (map.remove E slot) m2) + need (spaces_of (map.remove E slot) m2) p page
     costs m2 = ap (λ x. total_cost directories (spaces_of x m)) (sym (put_back E slot e there)) ∙ total-entry directories (map.remove E slot) m2 m slot e (cell_of E m slot e) d few live (removed E slot)
 
+    -- where the page's table went, each slot with an entry is in another
+    left_places : (m2 : Frames) → EntriesStay (of_page p page) E (entries_in D m2)
+        → table_in D m2 p (slot_number page) ≡ None
+        → ((q r : ℕ) → (q ≡ p → r ≡ slot_number page → ⊥) → table_in D m2 q r ≡ table_in D m q r)
+        → PlacesStay (of_page p page) D m D m2
+    left_places m2 entries own others = record {
+      entries = entries;
+      tables = λ q g t stays names found. elim (here_or_not p (slot_number page) q.pid (slot_number q.page)) [
+        | inl h ↦ absurd (entry_needs_table D m2 q g ((λ i. table_in D m2 (h.0 i) (h.1 i)) ∙ own)
+            (entries q g stays names))
+        | inr n ↦ others q.pid (slot_number q.page) n ∙ found
+      ];
+    }
+
     by : (x : Option ℕ) → freed ≡ x → SlotRemoved directories p page bytes roles two last
     by None none =
         let k = cleared.kept none in
@@ -269,9 +283,12 @@ slot_removed directories bytes two roles one last p d page e freed spaces live l
         let within = spaces.within in
         record {
           length = same_length;
-          stay = stay_then (of_page p page) E (map.remove E slot) (entries_in D (frame_bytes two))
+          stay = places_by (of_page p page) D m D (frame_bytes two)
+              (stay_then (of_page p page) E (map.remove E slot) (entries_in D (frame_bytes two))
               (stay_removed E p page) (stay_same (of_page p page) (map.remove E slot) (entries_in D (frame_bytes two))
-              E2);
+              E2))
+              (λ q r t found. ap (λ x. table_in D x q r) is
+              ∙ tables_kept D m R T p d page f.table 0 live f.there (omega arith) q r ∙ found);
           after = record {
             sound = record {
               size = same_bytes_length ∙ sound.size ∙ ap (λ n. 4096 * n) (sym same_length);
@@ -324,9 +341,14 @@ slot_removed directories bytes two roles one last p d page e freed spaces live l
         let within = spaces.within in
         record {
           length = same_length;
-          stay = stay_then (of_page p page) E (map.remove E slot) (entries_in D (frame_bytes two))
+          stay = left_places (frame_bytes two)
+              (stay_then (of_page p page) E (map.remove E slot) (entries_in D (frame_bytes two))
               (stay_removed E p page) (stay_same (of_page p page) (map.remove E slot) (entries_in D (frame_bytes two))
-              E2);
+              E2))
+              (ap (λ x. table_in D x p s) is ∙ unlinked-own D m1 Ra Tb p d s f.table live there1 s_small)
+              (λ q r n. ap (λ x. table_in D x q r) is
+              ∙ unlinked-others D m1 Ra Tb p d s f.table live there1 s_small q r n
+              ∙ tables_kept D m R T p d page f.table 0 live f.there (omega arith) q r);
           after = record {
             sound = record {
               size = same_bytes_length ∙ sound.size ∙ ap (λ n. 4096 * n) (sym same_length);

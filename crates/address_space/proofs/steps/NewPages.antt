@@ -42,6 +42,7 @@ table_stays directories bytes roles p d s t sound live there =
       entries = refl;
       spaces = refl;
       table = (t, named);
+      tables = λ q r g found. found;
       weight = omega (arith, n);
       length = refl;
       others = λ q r apart used. used;

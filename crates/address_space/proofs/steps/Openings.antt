@@ -37,7 +37,7 @@ use Rattle.address_space.proofs.entries.Refinement.{get-spaces_of}
 use Rattle.address_space.proofs.steps.Steps.{free_loose, live_small, role_own, role_other}
 use Rattle.phys_memory.proofs.Frames.{frame-blank}
 use Rattle.address_space.specs.Stays.{none_goes}
-use Rattle.address_space.proofs.entries.Staying.{stay_same}
+use Rattle.address_space.proofs.entries.Staying.{stay_same, places_by}
 
 zero_byte : (n k : ℕ) → ◌≡◌ {A = ℕ} (get_or (replicate n 0) k 0) 0
 zero_byte zero k = refl
@@ -192,7 +192,11 @@ space_added directories bytes one roles roles' p f s few none room taken is long
       cost = total;
       live = ap is_some own;
       others = others;
-      stay = stay_same none_goes E (entries_in D' (frame_bytes one)) E2;
+      stay = places_by none_goes D m D' (frame_bytes one)
+          (stay_same none_goes E (entries_in D' (frame_bytes one)) E2)
+          (λ q r t found. ap (λ x. table_in D' x q r) is
+          ∙ same_tables D D' m1 R R' Ta p f none free blank own others role kept q r
+          ∙ loose-tables D m R T f (replicate 4096 0) loose q r ∙ found);
       length = same_length;
     }
 

@@ -24,11 +24,11 @@ use Rattle.address_space.specs.View.{Directories, Roles, directory_of, table_in,
 use Rattle.address_space.specs.Sound.{Tables, Pages, HoldsPage, IsSound, InUseAt, Inside}
 use Rattle.address_space.specs.Changes.{TableGiven, PageAdded, table_need}
 use Rattle.address_space.proofs.costs.CostSteps.{total-entry}
-use Rattle.address_space.proofs.entries.EntrySteps.{Loose, entries-insert, entry_own, tables-entry, use_own, use_kept}
+use Rattle.address_space.proofs.entries.EntrySteps.{Loose, entries-insert, entry_own, tables-entry, tables_kept, use_own, use_kept}
 use Rattle.address_space.proofs.frames.FrameSteps.{tables-linked, linked-entries, linked-own, linked-others, linked-other, kept_table, loose-directory, tables-loose}
 use Rattle.address_space.proofs.frames.PageSteps.{same_bytes, pages-role, pages-lazy, lazy-more, no_free, no_table, no_directory}
 use Rattle.address_space.specs.Stays.{none_goes}
-use Rattle.address_space.proofs.entries.Staying.{stay_same, stay_then, stay_new}
+use Rattle.address_space.proofs.entries.Staying.{stay_same, stay_then, stay_new, places_by}
 
 -- a frame with a role lies in memory
 inside_by : (bytes : List ℕ) (roles : List Role) (f : ℕ) (r : Role) → length bytes ≡ 4096 * length roles → length roles ≤ 4096 → slice_get roles f ≡ Some r → Inside bytes f
@@ -93,6 +93,10 @@ table_given directories bytes bytes' roles roles' p d s t sound live low high no
       entries = E;
       spaces = ap (λ x. spaces_of x (frame_bytes bytes')) E ∙ same_bytes (entries_in D m) m (frame_bytes bytes') page_kept;
       table = (t, ap (λ x. table_in D x p s) is ∙ linked-own D m R T p d s t live none free small low high);
+      tables = λ q r g found. ap (λ x. table_in D x q r) is
+          ∙ linked-others D m R T p d s t live none free small low high q r
+          (λ a b. let k : None ≡ Some g = sym ((λ i. table_in D m (a i) (b i))
+          ∙ ap (option_and_then (λ x. table_of m x s)) live ∙ none) ∙ found in cc) ∙ found;
       weight =
           let w = weight-taken roles roles' t (Table p s) taken in
           let l : lazy_count (entries_in D (frame_bytes bytes')) ≡ lazy_count (entries_in D m) = ap lazy_count E in
@@ -189,9 +193,12 @@ page_added directories bytes two roles p d page t write sound live low high unma
         length = refl;
         own = subst (λ x. InUseAt D x p (slot_number page)) (sym is) (use_own D m R T p d page t (entry_word e) live there (entry_word-lt e small) (entry_word-present e));
         others = λ q r n use_at. subst (λ x. InUseAt D x q r) (sym is) (use_kept D m R T p d page t (entry_word e) live there (entry_word-lt e small) (entry_word-present e) q r use_at);
-        stay = stay_then none_goes E (map.insert E slot e) (entries_in D (frame_bytes two))
+        stay = places_by none_goes D m D (frame_bytes two)
+            (stay_then none_goes E (map.insert E slot e) (entries_in D (frame_bytes two))
             (stay_new none_goes E slot e none) (stay_same none_goes (map.insert E slot e)
-            (entries_in D (frame_bytes two)) E2);
+            (entries_in D (frame_bytes two)) E2))
+            (λ q r g found. ap (λ x. table_in D x q r) is
+            ∙ tables_kept D m R T p d page t (entry_word e) live there (entry_word-lt e small) q r ∙ found);
       };
       lazy = (e, ap (λ x. entry_in D x slot) is ∙ entry_own D m R T p d page t (entry_word e) live there (entry_word-lt e small) ∙ word_entry-entry_word e small, refl);
       spaces = (λ i. spaces_of (E2 i) (is i)) ∙ lazy_refines E m2 slot write none zero ∙ ap (λ x. map.insert x slot (fresh slot write)) (same_bytes E m m2 page_kept);

@@ -25,14 +25,14 @@ use Rattle.address_space.specs.View.{Directories, Roles, directory_of, table_in,
 use Rattle.address_space.specs.Sound.{Tables, Pages, HoldsPage, IsSound, InUseAt, Names, Inside, InUse}
 use Rattle.address_space.specs.Changes.{EntryPut, Touched, flagged}
 use Rattle.address_space.proofs.costs.CostSteps.{total-kept}
-use Rattle.address_space.proofs.entries.EntrySteps.{Loose, get-entries_in, entries-insert, tables-entry, use_kept}
-use Rattle.address_space.proofs.frames.FrameSteps.{loose-entry, loose-entries, tables-loose, use_loose}
+use Rattle.address_space.proofs.entries.EntrySteps.{Loose, get-entries_in, entries-insert, tables-entry, tables_kept, use_kept}
+use Rattle.address_space.proofs.frames.FrameSteps.{loose-entry, loose-entries, loose-tables, tables-loose, use_loose}
 use Rattle.address_space.proofs.frames.PageSteps.{same_bytes, pages-same, no_table, lazy-same}
 use Rattle.address_space.proofs.entries.Refinement.{insert_there, store_refines, flags_refine, cell_at}
 use Rattle.address_space.proofs.steps.Steps.{inside, holds_inside, live_small, page_loose, table_by_word}
 use Rattle.std.proofs.lemmas.Bool.{ne_eqb}
 use Rattle.address_space.specs.Stays.{none_goes}
-use Rattle.address_space.proofs.entries.Staying.{stay_same, stay_then, stay_put}
+use Rattle.address_space.proofs.entries.Staying.{stay_same, stay_then, stay_put, places_by}
 
 -- ---- Bytes
 
@@ -106,6 +106,7 @@ pub record EntrySet (directories : List (Option ℕ)) (p page : ℕ) (e e' : Pag
   pub entries : entries_in (directory_of directories) (frame_bytes bytes') ≡ map.insert (entries_in (directory_of directories) (frame_bytes bytes)) (at_page p page) e'
   pub spaces : spaces_in directories bytes' ≡ spaces_of (map.insert (entries_in (directory_of directories) (frame_bytes bytes)) (at_page p page) e') (frame_bytes bytes)
   pub in_use : InUse (directory_of directories) (frame_bytes bytes) → InUse (directory_of directories) (frame_bytes bytes')
+  pub tables : (q r : ℕ) → table_in (directory_of directories) (frame_bytes bytes') q r ≡ table_in (directory_of directories) (frame_bytes bytes) q r
 
 pub entry_set : (directories : List (Option ℕ)) (bytes two : List ℕ) (roles : List Role) (p d page : ℕ) (e e' : PageEntry) → IsSound directories bytes roles → directory_of directories p ≡ Some d
     → 0x40000 ≤ page → page < 0xf0000 → entry_at (frame_bytes bytes) d page ≡ Some e → IsKernelEntry e' → e'.frame ≡ e.frame
@@ -144,6 +145,7 @@ entry_set directories bytes two roles p d page e e' sound live low high is_entry
       entries = E2;
       spaces = (λ i. spaces_of (E2 i) (is i)) ∙ same_bytes (map.insert E slot e') m m2 page_kept;
       in_use = λ before q r. subst (λ x. InUseAt D x q r) (sym is) (use_kept D m R T p d page t (entry_word e') live f.there (entry_word-lt e' small) (entry_word-present e') q r (before q r));
+      tables = λ q r. ap (λ x. table_in D x q r) is ∙ tables_kept D m R T p d page t (entry_word e') live f.there (entry_word-lt e' small) q r;
     }
 
 -- the same, where an entry that stays isn't written
@@ -165,6 +167,7 @@ entry_put directories bytes two roles p d page e e' sound live low high is_entry
       entries = ap (λ b. entries_in D (frame_bytes b)) stays ∙ sym back;
       spaces = ap (spaces_in directories) stays ∙ ap (λ x. spaces_of x (frame_bytes bytes)) (sym back);
       in_use = λ before. subst (λ b. InUse D (frame_bytes b)) (sym stays) before;
+      tables = λ q r. ap (λ b. table_in D (frame_bytes b) q r) stays;
     }
 
 -- the bytes of a page's own frame were written
@@ -173,6 +176,7 @@ pub record FrameWritten (directories : List (Option ℕ)) (bytes : List ℕ) (ro
   pub entries : entries_in (directory_of directories) (frame_bytes one) ≡ entries_in (directory_of directories) (frame_bytes bytes)
   pub entry : (p d page : ℕ) → directory_of directories p ≡ Some d → entry_at (frame_bytes one) d page ≡ entry_at (frame_bytes bytes) d page
   pub in_use : InUse (directory_of directories) (frame_bytes bytes) → InUse (directory_of directories) (frame_bytes one)
+  pub tables : (q r : ℕ) → table_in (directory_of directories) (frame_bytes one) q r ≡ table_in (directory_of directories) (frame_bytes bytes) q r
 
 pub frame_written : (directories : List (Option ℕ)) (bytes one : List ℕ) (roles : List Role) (f : ℕ) (new : List ℕ) → IsSound directories bytes roles → Loose (slice_get roles) f → length new ≡ 4096
     → frame_bytes one ≡ with_frame (frame_bytes bytes) f new → length one ≡ length bytes → FrameWritten directories bytes roles one
@@ -195,6 +199,7 @@ frame_written directories bytes one roles f new sound loose long_new is long_one
           ap (λ x. entry_at x d page) is
           ∙ sym (ap (option_and_then (λ d. entry_at (with_frame m f new) d page)) live) ∙ loose-entry D m R T f new loose (at_page p page) ∙ ap (option_and_then (λ d. entry_at m d page)) live;
       in_use = λ before q r. subst (λ x. InUseAt D x q r) (sym is) (use_loose D m R T f new loose q r (before q r));
+      tables = λ q r. ap (λ x. table_in D x q r) is ∙ loose-tables D m R T f new loose q r;
     }
 
 -- an access that completes stores what the machine stores
@@ -224,9 +229,11 @@ page_stored directories bytes one two roles p d page at written e sound live low
       cost = (λ i. total_cost directories (spaces_of (E2 i) (frame_bytes two))) ∙ total-kept directories E m (frame_bytes two) slot e e' there;
       in_use = λ before. h.in_use (w.in_use before);
       lazy = ap (λ x. holders_of x 0) E2 ∙ lazy-same E slot e e' there refl;
-      stay = stay_then none_goes E (map.insert E slot e') (entries_in D (frame_bytes two))
+      stay = places_by none_goes D m D (frame_bytes two)
+          (stay_then none_goes E (map.insert E slot e') (entries_in D (frame_bytes two))
           (stay_put none_goes E slot e e' there refl) (stay_same none_goes (map.insert E slot e')
-          (entries_in D (frame_bytes two)) E2);
+          (entries_in D (frame_bytes two)) E2))
+          (λ q r t found. h.tables q r ∙ w.tables q r ∙ found);
     }
 
 -- flags of a slot's own cell set as in its entry
@@ -258,10 +265,12 @@ flags_set directories bytes two roles p d page e write accessed sound live low h
       cost = (λ i. total_cost directories (spaces_of (h.entries i) (frame_bytes two))) ∙ total-kept directories E m (frame_bytes two) slot e e' h.named;
       in_use = h.in_use;
       lazy = ap (λ x. holders_of x 0) h.entries ∙ lazy-same E slot e e' h.named refl;
-      stay = stay_then none_goes E (map.insert E slot e') (entries_in (directory_of directories) (frame_bytes two))
+      stay = places_by none_goes (directory_of directories) m (directory_of directories) (frame_bytes two)
+          (stay_then none_goes E (map.insert E slot e') (entries_in (directory_of directories) (frame_bytes two))
           (stay_put none_goes E slot e e' h.named refl)
           (stay_same none_goes (map.insert E slot e') (entries_in (directory_of directories) (frame_bytes two))
-          h.entries);
+          h.entries))
+          (λ q r t found. h.tables q r ∙ found);
     }
 
 pub length-bytes_of : (k v : ℕ) → length (bytes_of k v) ≡ k

@@ -27,6 +27,8 @@ use Rattle.page_map.proofs.PageLemmas.{user_cases}
 use Rattle.page_map.proofs.MarkProofs.{touched_names, entry_from-touched}
 use Rattle.page_map.proofs.WordLaws.{entry_word-names, entry_from-entry_word, with_flag_lt}
 use Rattle.address_space.specs.ByWalk.{byte_place}
+use Rattle.address_space.specs.Kept.{is_marked}
+use Rattle.std.proofs.lemmas.Bool.{and_parts}
 use Rattle.address_space.specs.Spaces.{Slot, Spaces, Cell, cell_or_fresh, accessed as accessed_in, stored, write_at, byte_at, at_page, slot_at}
 use Rattle.address_space.specs.View.{Directories, Roles, directory_of, table_in, entries_in, spaces_in}
 use Rattle.address_space.specs.Sound.{Tables, IsSound, Inside}
@@ -39,7 +41,7 @@ use Rattle.address_space.proofs.steps.Bytes.{write_at-nothing, stored-none, stor
 use Rattle.address_space.proofs.steps.Departures.{no_table_outside}
 use Rattle.address_space.proofs.steps.DirWords.{DirsAlike, flagged_alike, dirs_touched, one_dir_word, dirs-entry, dirs-table, dirs-tables}
 use Rattle.address_space.specs.Stays.{none_goes}
-use Rattle.address_space.proofs.entries.Staying.{stay_then}
+use Rattle.address_space.proofs.entries.Staying.{places_then}
 
 -- ---- What a walk finds
 
@@ -183,9 +185,8 @@ touched_then directories S1 S2 bytes half two roles a b = record {
   cost = b.cost ∙ a.cost;
   in_use = λ before. b.in_use (a.in_use before);
   lazy = b.lazy ∙ a.lazy;
-  stay = stay_then none_goes (entries_in (directory_of directories) (frame_bytes bytes))
-      (entries_in (directory_of directories) (frame_bytes half))
-      (entries_in (directory_of directories) (frame_bytes two)) a.stay b.stay;
+  stay = places_then none_goes (directory_of directories) (frame_bytes bytes) (directory_of directories)
+      (frame_bytes half) (directory_of directories) (frame_bytes two) a.stay b.stay;
 }
 
 -- a marked word is that of the entry with its flags set
@@ -389,4 +390,42 @@ byte_written directories bytes two roles p d address v sound live small ok walks
           ∙ same_ends two m1 a kind (entry_at (frame_bytes m1) d (page_number a)) long
           ∙ sym (walks_read_entries m1 d a kind (page_map_of directories m1 roles p d first.sound live) l)
           ∙ walks d a kind;
+    }
+
+-- the same without a mark, where both flags are set already
+pub byte_put : (directories : List (Option ℕ)) (bytes two : List ℕ) (roles : List Role) (p d address v : ℕ)
+    → IsSound directories bytes roles → directory_of directories p ≡ Some d → address < 2 ^ 32
+    → IsOk (walk_of bytes d address Write) → is_marked (spaces_in directories bytes) (slot_at p address) ≡ true
+    → two ≡ slice_set bytes (byte_place bytes d address) (v % 256) → length two ≡ length bytes
+    → ByteParts directories bytes roles p d address v two
+byte_put directories bytes two roles p d address v sound live small ok flags is long =
+    let page : ℕ = page_number address in
+    let at : ℕ = offset_number address in
+    let f = found_entry directories bytes roles p d sound live address Write small ok in
+    let e : PageEntry = f.entry in
+    let real = not_lazy e (f.right refl) in
+    let place = stored_place directories bytes roles p d page e sound live f.low f.high f.here real in
+    let within : at < 4096 = omega arith in
+    let long_page = place.long in
+    let frames : frame_bytes two ≡ with_frame (frame_bytes bytes) e.frame (write_at (frame_bytes bytes e.frame) at (v % 256 ∷ [])) =
+    ap frame_bytes is
+    ∙ ap (λ n. frame_bytes (slice_set bytes (4096 * n + at) (v % 256))) (named_frame directories bytes roles p d sound live address Write f)
+    ∙ frames-with_byte bytes e.frame at (v % 256) within place.inside.fits
+    ∙ ap (with_frame (frame_bytes bytes) e.frame) (byte_is_write (frame_bytes bytes e.frame) at v (omega (arith, long_page, within))) in
+    let long_new : length (write_at (frame_bytes bytes e.frame) at (v % 256 ∷ [])) ≡ 4096 =
+    length-write_at (frame_bytes bytes e.frame) at (v % 256 ∷ []) (omega (arith, long_page, within)) ∙ place.long in
+    let read = cell_read directories bytes p d page e live (live_small directories p d sound.pids live) f.low f.high f.here in
+    let set = and_parts (cell_or_fresh (spaces_in directories bytes) (at_page p page)).accessed (cell_or_fresh (spaces_in directories bytes) (at_page p page)).dirty flags in
+    let accessed : e.accessed ≡ true = sym (ap (λ (c : Cell). c.accessed) read) ∙ set.0 in
+    let dirty : e.dirty ≡ true = sym (ap (λ (c : Cell). c.dirty) read) ∙ set.1 in
+    let same : record e { accessed = true; dirty = true } ≡ e = (λ i. record e { accessed = sym accessed i; dirty = sym dirty i }) in
+    let touched = page_stored directories bytes two two roles p d page at (v % 256 ∷ []) e sound live f.low f.high f.here real long_new frames long (inl (same, refl)) refl in
+    let written = frame_written directories bytes two roles e.frame (write_at (frame_bytes bytes e.frame) at (v % 256 ∷ [])) sound place.loose long_new frames long in
+    record {
+      touched = touched;
+      walks = λ a kind l.
+          walks_read_entries two d a kind (page_map_of directories two roles p d touched.sound live) l
+          ∙ ap (end_at_entry two a kind) (written.entry p d (page_number a) live)
+          ∙ same_ends two bytes a kind (entry_at (frame_bytes bytes) d (page_number a)) long
+          ∙ sym (walks_read_entries bytes d a kind (page_map_of directories bytes roles p d sound live) l);
     }

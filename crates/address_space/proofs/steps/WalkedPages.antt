@@ -1,11 +1,11 @@
 -- Accesses that a processor makes by its walk, on what is kept.
-use Rattle.std.proofs.Common.{◌≡◌, ◌%◌, ◌^◌, ◌<◌, ℕ, Bool, true, false, List, [], ◌∷◌, length, refl, ap, sym, ◌∙◌, subst, arith, Option, Some}
-use Rattle.std.specs.Prelude.{◌&&◌, IsOk, nat_lt, slice_set}
+use Rattle.std.proofs.Common.{◌≡◌, ◌+◌, ◌*◌, ◌/◌, ◌%◌, ◌^◌, ◌<◌, ℕ, Bool, true, false, cond, if◌then◌else◌, List, [], ◌∷◌, length, refl, ap, sym, ◌∙◌, subst, arith, inl, inr, Option, Some, None}
+use Rattle.std.specs.Prelude.{◌&&◌, IsOk, Ok, nat_lt, slice_set}
 use Rattle.std.specs.Option.{option_map, unwrap_or}
 use Rattle.std.specs.Result.{is_ok}
 use Rattle.std.proofs.lemmas.Bool.{and_parts}
 use Rattle.std.proofs.lemmas.Bool.Decides.{nat_tests}
-use Rattle.page_words.specs.Addresses.{offset_number, start_number, second_page}
+use Rattle.page_words.specs.Addresses.{page_number, offset_number, start_number, second_page}
 use Rattle.page_words.specs.declared.addresses.Size.{Size}
 use Rattle.table_walk.specs.declared.Access.{Access}
 use Rattle.table_walk.specs.declared.Access.TheVariants.{Read, Write}
@@ -14,7 +14,11 @@ use Rattle.table_walk.specs.Marks.{marked}
 use Rattle.address_space.specs.declared.paged.Paged.{Paged}
 use Rattle.address_space.specs.ByWalk.{finds_at, finds, byte_place}
 use Rattle.address_space.specs.Image.{Image}
-use Rattle.address_space.specs.Spaces.{Slot, accessed, stored, cell_or_fresh, slot_at}
+use Rattle.address_space.specs.Spaces.{Slot, slot_order, Cell, Spaces, fresh, with_bytes, set_bytes, write_at, bytes_of, accessed, stored, cell_or_fresh, slot_at}
+use Rattle.address_space.specs.Kept.{is_marked, kept_place, written_at}
+use Rattle.page_words.specs.FiniteMap as map
+use Rattle.page_words.specs.FiniteSet as set
+use Rattle.page_words.proofs.MapLemmas.{get-insert, get-map_values, same_or_not}
 use Rattle.address_space.specs.View.{directory_of}
 use Rattle.address_space.specs.Changes.{Touched}
 use Rattle.address_space.specs.Finds.{IsKeptPaged, spaces_at, image_at}
@@ -24,7 +28,7 @@ use Rattle.address_space.proofs.standing.Standing.{lazy_kept}
 use Rattle.address_space.proofs.steps.Touches.{kept_touched}
 use Rattle.address_space.proofs.steps.Finding.{found_at, found_mapped}
 use Rattle.address_space.proofs.steps.FoundPages.{Left}
-use Rattle.address_space.proofs.steps.WalkSteps.{found_entry, load_marked, byte_written}
+use Rattle.address_space.proofs.steps.WalkSteps.{found_entry, load_marked, ByteParts, byte_written, byte_put, walk_named}
 use Rattle.address_space.specs.Stays.{FramesStay, none_goes}
 use Rattle.address_space.proofs.standing.FramesStand.{frames_stay}
 
@@ -79,13 +83,12 @@ finds_alike image image' p d kind at live same walks =
     ∙ ap is_ok (walks (omega (arith, small)))
     ∙ sym (ap (λ x. unwrap_or (option_map (λ directory. is_ok (walk_of image.bytes directory at kind)) x) false) live))
 
-pub byte_left : (paged : Paged) (p d address v : ℕ) (two : List ℕ) → IsKeptPaged paged → directory_of paged.directories p ≡ Some d → finds_at (image_at paged) p Write address ≡ true
-    → ((other at : ℕ) (kind : Access) → walk_of (marked paged.memory d address Write) other at kind ≡ walk_of paged.memory other at kind)
-    → two ≡ slice_set (marked paged.memory d address Write) (byte_place paged.memory d address) (v % 256) → length two ≡ length (marked paged.memory d address Write) → ByteLeft paged p address v two
-byte_left paged p d address v two before live test walks is long =
+left_by : (paged : Paged) (p d address v : ℕ) (two : List ℕ) → IsKeptPaged paged → directory_of paged.directories p ≡ Some d
+    → finds_at (image_at paged) p Write address ≡ true
+    → ByteParts paged.directories paged.memory paged.frames p d address v two → ByteLeft paged p address v two
+left_by paged p d address v two before live test parts =
     let sound = before.spaces.sound in
     let found = found_at (image_at paged) p d address Write live test in
-    let parts = byte_written paged.directories paged.memory two paged.frames p d address v sound live found.0 found.1 walks is long in
     let slot : Slot = slot_at p address in
     let S = spaces_at paged in
     record {
@@ -97,3 +100,90 @@ byte_left paged p d address v two before live test walks is long =
           ∙ kept S slot (cell_or_fresh S slot) (found_mapped paged.directories paged.memory paged.frames p d address Write sound live found.0 found.1) q);
       finds = λ kind at. finds_alike (image_at paged) (record { directories = paged.directories; bytes = two; roles = paged.frames }) p d kind at live refl (parts.walks at kind);
     }
+
+pub byte_left : (paged : Paged) (p d address v : ℕ) (two : List ℕ) → IsKeptPaged paged → directory_of paged.directories p ≡ Some d → finds_at (image_at paged) p Write address ≡ true
+    → ((other at : ℕ) (kind : Access) → walk_of (marked paged.memory d address Write) other at kind ≡ walk_of paged.memory other at kind)
+    → two ≡ slice_set (marked paged.memory d address Write) (byte_place paged.memory d address) (v % 256) → length two ≡ length (marked paged.memory d address Write) → ByteLeft paged p address v two
+byte_left paged p d address v two before live test walks is long =
+    let found = found_at (image_at paged) p d address Write live test in
+    left_by paged p d address v two before live test
+    (byte_written paged.directories paged.memory two paged.frames p d address v before.spaces.sound live found.0 found.1 walks is long)
+
+-- ---- A byte stored by a translation that was kept
+
+-- the slots that had both flags have them after a store
+pub marked_stored : (S : Spaces) (slot : Slot) (at : ℕ) (ys : List ℕ) (q : Slot) → is_marked S q ≡ true → is_marked (stored S slot at ys) q ≡ true
+marked_stored S slot at ys q h =
+    ap flags (get-insert T slot new q)
+    ∙ elim (same_or_not slot_order q slot) [
+      | inl k ↦ ap (λ b. flags (cond b (Some new) (map.get T q))) k.1
+      | inr k ↦ ap (λ b. flags (cond b (Some new) (map.get T q))) k
+          ∙ ap flags (get-map_values slot_order (λ s (c : Cell). if set.contains cell.holders s then with_bytes c bytes else c) S q)
+          ∙ by (map.get S q) (set.contains cell.holders q) h
+    ]
+  where
+    flags : Option Cell → Bool
+    flags x = (unwrap_or x (fresh q true)).accessed && (unwrap_or x (fresh q true)).dirty
+
+    cell : Cell
+    cell = cell_or_fresh S slot
+
+    bytes : List ℕ
+    bytes = write_at cell.bytes at ys
+
+    T : Spaces
+    T = set_bytes S cell.holders bytes
+
+    new : Cell
+    new = record cell { bytes = bytes; accessed = true; dirty = true }
+
+    by : (x : Option Cell) (b : Bool) → flags x ≡ true → flags (option_map (λ (c : Cell). if b then with_bytes c bytes else c) x) ≡ true
+    by None b h = h
+    by (Some c) true h = h
+    by (Some c) false h = h
+
+-- and the walks of the process go as before
+pub record BytePut (paged : Paged) (p d address v : ℕ) (two : List ℕ) : Type 0 where
+  pub left : ByteLeft paged p address v two
+  pub walks : (at : ℕ) (kind : Access) → at < 2 ^ 32 → walk_of two d at kind ≡ walk_of paged.memory d at kind
+
+pub byte_kept : (paged : Paged) (p d address v : ℕ) (two : List ℕ) → IsKeptPaged paged → directory_of paged.directories p ≡ Some d
+    → finds_at (image_at paged) p Write address ≡ true → is_marked (spaces_at paged) (slot_at p address) ≡ true
+    → two ≡ slice_set paged.memory (byte_place paged.memory d address) (v % 256) → length two ≡ length paged.memory → BytePut paged p d address v two
+byte_kept paged p d address v two before live test flags is long =
+    let found = found_at (image_at paged) p d address Write live test in
+    let parts = byte_put paged.directories paged.memory two paged.frames p d address v before.spaces.sound live found.0 found.1 flags is long in
+    record {
+      left = left_by paged p d address v two before live test parts;
+      walks = parts.walks;
+    }
+
+-- ---- Where kept translations lead
+
+-- memory with the lowest byte of a number at an address
+abbrev put_at : (ℕ → ℕ) → List ℕ → ℕ → ℕ → List ℕ
+put_at frames bytes a v = slice_set bytes (kept_place frames a) (v % 256)
+
+-- a byte that is written where the walk leads is written there
+pub put_led : (frames : ℕ → ℕ) (bytes two : List ℕ) (d a v : ℕ) → walk_of bytes d a Write ≡ Ok (frames (page_number a))
+    → two ≡ slice_set bytes (byte_place bytes d a) (v % 256) → two ≡ put_at frames bytes a v
+put_led frames bytes two d a v walk is = is
+    ∙ ap (λ n. slice_set bytes (4096 * n + offset_number a) (v % 256)) (sym (walk_named bytes d a (frames (page_number a)) Write walk))
+
+pub two_led : (frames : ℕ → ℕ) (m0 m1 m2 : List ℕ) (a b v w : ℕ) → b ≡ a + 1 → w ≡ v / 256
+    → m1 ≡ put_at frames m0 a v → m2 ≡ put_at frames m1 b w → m2 ≡ written_at frames m0 a (bytes_of 2 v)
+two_led frames m0 m1 m2 a b v w at rest first second = second ∙ (λ i. put_at frames (first i) (at i) (rest i))
+
+pub four_led : (frames : ℕ → ℕ) (m0 m1 m2 m3 m4 : List ℕ) (a b c d v w x y : ℕ) → b ≡ a + 1 → c ≡ b + 1 → d ≡ c + 1
+    → w ≡ v / 256 → x ≡ w / 256 → y ≡ x / 256
+    → m1 ≡ put_at frames m0 a v → m2 ≡ put_at frames m1 b w → m3 ≡ put_at frames m2 c x → m4 ≡ put_at frames m3 d y
+    → m4 ≡ written_at frames m0 a (bytes_of 4 v)
+four_led frames m0 m1 m2 m3 m4 a b c d v w x y at_b at_c at_d of_w of_x of_y first second third fourth =
+    let c_is : c ≡ a + 1 + 1 = at_c ∙ ap (λ n. n + 1) at_b in
+    let d_is : d ≡ a + 1 + 1 + 1 = at_d ∙ ap (λ n. n + 1) c_is in
+    let x_is : x ≡ v / 256 / 256 = of_x ∙ ap (λ n. n / 256) of_w in
+    let y_is : y ≡ v / 256 / 256 / 256 = of_y ∙ ap (λ n. n / 256) x_is in
+    let two : m2 ≡ put_at frames (put_at frames m0 a v) (a + 1) (v / 256) = second ∙ (λ i. put_at frames (first i) (at_b i) (of_w i)) in
+    let three : m3 ≡ put_at frames (put_at frames (put_at frames m0 a v) (a + 1) (v / 256)) (a + 1 + 1) (v / 256 / 256) =
+    third ∙ (λ i. put_at frames (two i) (c_is i) (x_is i)) in
+    fourth ∙ (λ i. put_at frames (three i) (d_is i) (y_is i))

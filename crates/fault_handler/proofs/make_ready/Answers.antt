@@ -5,6 +5,7 @@ use Rattle.address_space.proofs.costs.MapFirst.{touched-there}
 use Rattle.process_table.specs.State.{State, is_mapped}
 use Rattle.fault_handler.proofs.Settled.{second_mapped}
 use Rattle.fault_handler.proofs.make_ready.Goals as goal
+use Rattle.address_space.proofs.standing.FramesStand.{stays_then, stays_most}
 
 pub fill_pages-requires : goal.fill_pages-requires
 fill_pages-requires c = record {
@@ -19,4 +20,4 @@ map_pages-requires-clause-second c =
 
 pub returns-in-Write-clause-stay : goal.returns-in-Write-clause-stay
 returns-in-Write-clause-stay c = rw c.in-Write.is
-    (λ slot d f stays way. c.fill_pages.ensures.stay slot d f stays (c.map_pages.ensures.stay slot d f refl way))
+    (stays_then (stays_most c.map_pages.ensures.stay) c.fill_pages.ensures.stay)

@@ -5,6 +5,7 @@ use Rattle.address_space.specs.Spaces.{at_page, slot_at}
 use Rattle.address_space.specs.Image.{image_of, is_lazy_at}
 use Rattle.address_space.proofs.steps.Bytes.{each_byte, stored_four}
 use Rattle.address_space.proofs.Spaces.write_by_bytes.Goals as goal
+use Rattle.address_space.proofs.standing.FramesStand.{stays_then}
 
 pub write_byte-requires-in-Two-clause-real : goal.write_byte-requires-in-Two-clause-real
 write_byte-requires-in-Two-clause-real c =
@@ -58,10 +59,10 @@ returns-in-Four-clause-spaces c =
     c.write_byte-in-Four.ensures.spaces)
 
 pub returns-in-Two-clause-stay : goal.returns-in-Two-clause-stay
-returns-in-Two-clause-stay c = λ q d f stays way.
-    c.write_byte-in-Two.ensures.stay q d f stays (c.write_byte-second.ensures.stay q d f stays way)
+returns-in-Two-clause-stay c = stays_then c.write_byte-second.ensures.stay c.write_byte-in-Two.ensures.stay
 
 pub returns-in-Four-clause-stay : goal.returns-in-Four-clause-stay
-returns-in-Four-clause-stay c = λ q d f stays way.
-    c.write_byte-in-Four.ensures.stay q d f stays (c.write_byte-fourth.ensures.stay q d f stays
-    (c.write_byte-third.ensures.stay q d f stays (c.write_byte-second-in-Four.ensures.stay q d f stays way)))
+returns-in-Four-clause-stay c =
+    stays_then c.write_byte-second-in-Four.ensures.stay
+    (stays_then c.write_byte-third.ensures.stay
+    (stays_then c.write_byte-fourth.ensures.stay c.write_byte-in-Four.ensures.stay))

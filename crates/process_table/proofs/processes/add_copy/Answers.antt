@@ -10,6 +10,7 @@ use Rattle.process_table.proofs.Charged.{charged-one}
 use Rattle.process_table.proofs.Forks.{child-room, child-used}
 use Rattle.process_table.proofs.Spawns.{now_live, child-absent, child-has_none, nothing-mapped}
 use Rattle.process_table.proofs.processes.add_copy.Goals as goal
+use Rattle.address_space.proofs.standing.FramesStand.{stays_then}
 
 pub cost-cost-requires : goal.cost-cost-requires
 cost-cost-requires c =
@@ -69,5 +70,4 @@ returns-clause-kept c =
     (λ other n. ap (λ S. cost S other) c.copy_space.ensures.spaces ∙ cost-copied_other v.spaces p child other n))
 
 pub returns-clause-stay : goal.returns-clause-stay
-returns-clause-stay c = λ q d f stays way. c.copy_space.ensures.stay q d f stays
-    (c.add_process-child.ensures.stay q d f stays way)
+returns-clause-stay c = stays_then c.add_process-child.ensures.stay c.copy_space.ensures.stay

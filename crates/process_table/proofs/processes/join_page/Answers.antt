@@ -5,6 +5,7 @@ use Rattle.quota_tree.specs.Containers.{used_of}
 use Rattle.process_table.specs.View.{IsProcesses}
 use Rattle.process_table.proofs.Charged.{charged-one}
 use Rattle.process_table.proofs.processes.join_page.Goals as goal
+use Rattle.address_space.proofs.standing.FramesStand.{stays_then, stays_most}
 
 pub returns-clause-kept : goal.returns-clause-kept
 returns-clause-kept c =
@@ -21,4 +22,4 @@ returns-clause-kept c =
     (λ other n. ap (λ S. cost S other) spaces ∙ cost-joined_other v.spaces giver slot c.args.right other n))
 
 pub returns-clause-stay : goal.returns-clause-stay
-returns-clause-stay c = λ q d f stays way. c.join.ensures.stay q d f refl (c.fill.ensures.stay q d f stays way)
+returns-clause-stay c = stays_then c.fill.ensures.stay (stays_most c.join.ensures.stay)

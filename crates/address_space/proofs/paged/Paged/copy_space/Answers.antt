@@ -11,7 +11,8 @@ use Rattle.address_space.proofs.steps.Steps.{page_map_of}
 use Rattle.address_space.proofs.steps.Departures.{entry_mapped}
 use Rattle.address_space.proofs.steps.Copies.{copied_at_first, copied_next, copied_at_last, room_for_copy}
 use Rattle.address_space.proofs.paged.Paged.copy_space.Goals as goal
-use Rattle.address_space.specs.Stays.{none_goes, way_of}
+use Rattle.address_space.specs.Finds.{image_at}
+use Rattle.address_space.specs.Stays.{none_goes, FramesStay}
 use Rattle.address_space.proofs.standing.FramesStand.{frames_stay}
 
 pub loop-page-init : goal.loop-page-init
@@ -82,13 +83,10 @@ returns-clause-stay c =
     c.args.self.now.frames c.loop-page.self.frames c.args.from c.home-source.result c.args.to c.loop-page.next
     c.requires.kept.spaces c.requires.empty c.loop-page.invariant.so_far c.home-source.ensures c.in_default.ensures.none
     in
-    λ q d f stays way.
-    ap (λ (l : List (Option ℕ)). way_of (record {
+    subst (λ (l : List (Option ℕ)). FramesStay none_goes (image_at c.args.self.now) (record {
       directories = l;
       bytes = c.loop-page.self.memory;
-      roles =
-          c.loop-page.self.frames;
-    }) q) c.loop-page.invariant.same
-    ∙ frames_stay none_goes c.args.self.now.directories c.args.self.now.memory c.loop-page.self.memory
-    c.args.self.now.frames c.loop-page.self.frames c.requires.kept.spaces.sound copied.after.sound copied.stay q d f
-    stays way
+      roles = c.loop-page.self.frames;
+    })) (sym c.loop-page.invariant.same)
+    (frames_stay none_goes c.args.self.now.directories c.args.self.now.memory c.loop-page.self.memory
+    c.args.self.now.frames c.loop-page.self.frames c.requires.kept.spaces.sound copied.after.sound copied.stay)

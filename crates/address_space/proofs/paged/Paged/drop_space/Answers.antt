@@ -1,10 +1,10 @@
 use Rattle.std.proofs.Common.{◌∙◌, ℕ, List, Option, ap, sym, subst, refl, ◌≡◌, true, false}
-use Rattle.phys_memory.specs.Bytes.{frame_bytes}
-use Rattle.address_space.specs.Stays.{of_process, entry_frame}
-use Rattle.address_space.specs.View.{directory_of, entries_in, spaces_in}
+use Rattle.address_space.specs.Stays.{of_process}
+use Rattle.address_space.specs.View.{directory_of, spaces_in}
 use Rattle.address_space.specs.Changes.{IsEmptySpace}
 use Rattle.address_space.proofs.paged.Paged.drop_space.Goals as goal
 use Rattle.address_space.proofs.standing.FramesStand.{frames_stay_by}
+use Rattle.address_space.proofs.steps.Departures.{places_dropped}
 use borrow.Author.Tests.{eq-eqb}
 
 pub drop_directory-requires-clause-live : goal.drop_directory-requires-clause-live
@@ -24,12 +24,10 @@ returns-clause-dropped c =
           ∙ ap (λ (l : List (Option ℕ)). spaces_in l c.drop_pages.new.self.memory) same ∙ c.drop_pages.ensures.dropped.spaces;
       none = gone.none;
       others = λ q n. gone.others q n ∙ ap (λ (l : List (Option ℕ)). directory_of l q) same;
-      stay = λ q f stays names.
-          ap (λ (b : List ℕ). entry_frame (entries_in (directory_of c.drop_directory.new.self.directories)
-          (frame_bytes b)) q) c.drop_directory.ensures.memory
-          ∙ gone.stay q f refl (ap (λ (l : List (Option ℕ)).
-          entry_frame (entries_in (directory_of l) (frame_bytes c.drop_pages.new.self.memory)) q) same
-          ∙ c.drop_pages.ensures.dropped.stay q f stays names);
+      stay = places_dropped c.args.self.now.directories c.drop_pages.new.self.directories
+          c.drop_directory.new.self.directories c.args.self.now.memory c.drop_pages.new.self.memory
+          c.drop_directory.new.self.memory c.args.pid same c.drop_directory.ensures.memory
+          c.drop_pages.ensures.dropped.stay gone.stay;
       length = gone.length ∙ c.drop_pages.ensures.dropped.length;
     }
 
@@ -42,9 +40,7 @@ returns-clause-stay c =
     c.requires.kept.spaces.sound c.drop_directory.ensures.kept.spaces.sound
     (λ q d f stays live. gone.others q.pid (λ e. let k : true ≡ false = sym (eq-eqb q.pid c.args.pid e) ∙ stays in cc)
     ∙ ap (λ (l : List (Option ℕ)). directory_of l q.pid) same ∙ live)
-    (λ q f stays names.
-    ap (λ (b : List ℕ). entry_frame (entries_in (directory_of c.drop_directory.new.self.directories) (frame_bytes b)) q)
-    c.drop_directory.ensures.memory
-    ∙ gone.stay q f refl (ap (λ (l : List (Option ℕ)).
-    entry_frame (entries_in (directory_of l) (frame_bytes c.drop_pages.new.self.memory)) q) same
-    ∙ c.drop_pages.ensures.dropped.stay q f stays names))
+    (places_dropped c.args.self.now.directories c.drop_pages.new.self.directories
+    c.drop_directory.new.self.directories c.args.self.now.memory c.drop_pages.new.self.memory
+    c.drop_directory.new.self.memory c.args.pid same c.drop_directory.ensures.memory
+    c.drop_pages.ensures.dropped.stay gone.stay)

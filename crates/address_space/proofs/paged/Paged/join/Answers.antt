@@ -11,7 +11,7 @@ use Rattle.address_space.proofs.paged.Paged.join.Goals as goal
 use Rattle.address_space.specs.Stays.{none_goes}
 use Rattle.address_space.proofs.standing.FramesStand.{frames_stay}
 use Rattle.address_space.specs.View.{directory_of, entries_in}
-use Rattle.address_space.proofs.entries.Staying.{stay_same, stay_then}
+use Rattle.address_space.proofs.entries.Staying.{stay_same, places_by, places_then}
 
 pub give_table-table-requires-clause-map : goal.give_table-table-requires-clause-map
 give_table-table-requires-clause-map c = page_map_of c.args.self.now.directories c.args.self.now.memory c.args.self.now.frames c.args.pid c.home-directory.result c.requires.kept.spaces.sound c.home-directory.ensures
@@ -101,9 +101,11 @@ returns-clause-stay c =
     c.give_table-table.ensures in
     frames_stay none_goes c.args.self.now.directories c.args.self.now.memory c.put_entry.new.memory
     c.args.self.now.frames c.hold.new.self c.requires.kept.spaces.sound added.slot.sound
-    (stay_then none_goes (entries_in (directory_of c.args.self.now.directories) (frame_bytes c.args.self.now.memory))
-    (entries_in (directory_of c.args.self.now.directories) (frame_bytes c.give_table-table.new.memory))
-    (entries_in (directory_of c.args.self.now.directories) (frame_bytes c.put_entry.new.memory))
+    (places_then none_goes (directory_of c.args.self.now.directories) (frame_bytes c.args.self.now.memory)
+    (directory_of c.args.self.now.directories) (frame_bytes c.give_table-table.new.memory)
+    (directory_of c.args.self.now.directories) (frame_bytes c.put_entry.new.memory)
+    (places_by none_goes (directory_of c.args.self.now.directories) (frame_bytes c.args.self.now.memory)
+    (directory_of c.args.self.now.directories) (frame_bytes c.give_table-table.new.memory)
     (stay_same none_goes (entries_in (directory_of c.args.self.now.directories)
     (frame_bytes c.args.self.now.memory)) (entries_in (directory_of c.args.self.now.directories)
-    (frame_bytes c.give_table-table.new.memory)) given.entries) added.slot.stay)
+    (frame_bytes c.give_table-table.new.memory)) given.entries) given.tables) added.slot.stay)

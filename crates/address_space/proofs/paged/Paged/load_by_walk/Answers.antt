@@ -11,6 +11,7 @@ use Rattle.address_space.proofs.steps.WalkSteps.{found_apart}
 use Rattle.address_space.proofs.steps.Finding.{finds_live, found_at, found_each, found_fits, found_pages, number_is}
 use Rattle.address_space.proofs.steps.WalkedPages.{finds_first, finds_second, marked_left}
 use Rattle.address_space.proofs.paged.Paged.load_by_walk.Goals as goal
+use Rattle.address_space.proofs.standing.FramesStand.{stays_then}
 
 pub home-directory-requires : goal.home-directory-requires
 home-directory-requires c = finds_live (image_at c.args.self.now) c.args.pid c.args.address c.args.size Read c.requires.finds
@@ -138,4 +139,4 @@ returns-clause-stay c =
     let ok = ap is_ok (c.mark.ensures.walks c.home-directory.result c.start_of.result Read) ∙ two.1 in
     let second = marked_left middle c.args.pid c.home-directory.result c.start_of.result c.mark-2.new.memory first.kept
     c.home-directory.ensures two.0 ok c.mark-2.ensures.words in
-    λ q d f stays way. second.stay q d f stays (first.stay q d f stays way)
+    stays_then first.stay second.stay

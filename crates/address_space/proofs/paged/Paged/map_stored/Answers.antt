@@ -6,7 +6,7 @@ use Rattle.address_space.proofs.steps.FoundPages.{found_lies, room_found, found_
 use Rattle.address_space.proofs.paged.Paged.map_stored.Goals as goal
 use Rattle.address_space.specs.Finds.{image_at}
 use Rattle.address_space.specs.Stays.{of_lazy}
-use Rattle.address_space.proofs.standing.FramesStand.{frames_stay, stays_from_none, no_way}
+use Rattle.address_space.proofs.standing.FramesStand.{frames_stay, stays_from_none, stays_then, stays_most, no_way}
 
 pub give_frame-entry-requires-clause-lies : goal.give_frame-entry-requires-clause-lies
 give_frame-entry-requires-clause-lies c = found_lies c.map_found-found.new.self c.args.pid c.args.page c.map_found-found.result c.map_found-found.ensures.kept c.requires.user c.map_found-found.ensures.found
@@ -79,9 +79,8 @@ returns-clause-stay c =
     })
     (no_way c.args.self.now.directories c.args.self.now.memory c.args.self.now.frames (at_page c.args.pid c.args.page)
     c.requires.kept.spaces.sound c.requires.unmapped)
-    (λ q d f stays way. left.stay q d f refl
-    (frames_stay (of_lazy c.args.pid c.args.page) c.map_found-found.new.self.directories
+    (stays_then (stays_most c.map_found-found.ensures.stay)
+    (stays_then (frames_stay (of_lazy c.args.pid c.args.page) c.map_found-found.new.self.directories
     c.map_found-found.new.self.memory c.give_frame-entry.new.memory c.map_found-found.new.self.frames
-    c.give_frame-entry.new.frames c.map_found-found.ensures.kept.spaces.sound filled.after.sound filled.stay q d f
-    stays
-    (c.map_found-found.ensures.stay q d f refl way)))
+    c.give_frame-entry.new.frames c.map_found-found.ensures.kept.spaces.sound filled.after.sound filled.stay)
+    (stays_most left.stay)))

@@ -5,6 +5,7 @@ use Rattle.address_space.specs.ByWalk.{finds_at}
 use Rattle.address_space.specs.Finds.{spaces_at, image_at}
 use Rattle.address_space.proofs.steps.Bytes.{stored_four}
 use Rattle.address_space.proofs.paged.Paged.store_through.Goals as goal
+use Rattle.address_space.proofs.standing.FramesStand.{stays_then}
 
 pub returns-in-Four-clause-spaces : goal.returns-in-Four-clause-spaces
 returns-in-Four-clause-spaces c =
@@ -30,12 +31,11 @@ store_byte_by_walk-requires-in-Four-clause-finds c =
     ∙ ap (finds_at (image_at c.args.self.now) c.args.pid Write) at ∙ c.requires.finds 3 (omega (arith, count))
 
 pub returns-in-Two-clause-stay : goal.returns-in-Two-clause-stay
-returns-in-Two-clause-stay c = λ q d f stays way.
-    c.store_byte_by_walk-in-Two.ensures.stay q d f stays (c.store_byte_by_walk-second.ensures.stay q d f stays way)
+returns-in-Two-clause-stay c =
+    stays_then c.store_byte_by_walk-second.ensures.stay c.store_byte_by_walk-in-Two.ensures.stay
 
 pub returns-in-Four-clause-stay : goal.returns-in-Four-clause-stay
-returns-in-Four-clause-stay c = λ q d f stays way.
-    c.store_byte_by_walk-in-Four.ensures.stay q d f stays
-    (c.store_byte_by_walk-fourth.ensures.stay q d f stays
-    (c.store_byte_by_walk-third.ensures.stay q d f stays
-    (c.store_byte_by_walk-second-in-Four.ensures.stay q d f stays way)))
+returns-in-Four-clause-stay c =
+    stays_then c.store_byte_by_walk-second-in-Four.ensures.stay
+    (stays_then c.store_byte_by_walk-third.ensures.stay
+    (stays_then c.store_byte_by_walk-fourth.ensures.stay c.store_byte_by_walk-in-Four.ensures.stay))

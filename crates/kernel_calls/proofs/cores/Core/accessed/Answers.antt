@@ -4,11 +4,11 @@ use Rattle.process_table.specs.Image.{memory_of}
 use Rattle.process_table.specs.View.{View}
 use Rattle.fault_handler.specs.Plans.{takes_no_frame}
 use Rattle.kernel_calls.specs.Decisions.{plan_of_event}
-use Rattle.kernel_calls.specs.Gone.{gone_by}
 use Rattle.kernel_calls.specs.Machine.{next}
 use Rattle.kernel_calls.specs.Translations.{Ends}
 use Rattle.kernel_calls.specs.declared.translations.Ended.{Ended}
-use Rattle.kernel_calls.proofs.Leaving.{event_ends, standing, stays_more}
+use Rattle.address_space.proofs.standing.FramesStand.{stays_most}
+use Rattle.kernel_calls.proofs.Leaving.{event_ends, standing}
 use Rattle.kernel_calls.proofs.Translated.{accessed_ends_none}
 use Rattle.kernel_calls.proofs.cores.Core.accessed.Goals as goal
 
@@ -24,5 +24,5 @@ returns-clause-ends c =
     (event_ends old new e
     (standing now.image now.walks now.ways now.well_formed) (standing later.image later.walks later.ways later.well_formed)
     (subst (λ (v : View). new.state ≡ next v.state e) c.self.view_is c.access_by_walk-reply.ensures.state)
-    (stays_more (gone_by old.state e) (memory_of old) (memory_of new)
+    (stays_most
     (subst (λ (v : View). FramesStay none_goes (memory_of v) (memory_of new)) c.self.view_is c.access_by_walk-reply.ensures.stay)))

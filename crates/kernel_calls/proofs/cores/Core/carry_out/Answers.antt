@@ -2,12 +2,12 @@ use Rattle.std.proofs.Common.{◌≡◌, ◌∙◌, ap, subst, is_some}
 use Rattle.address_space.specs.Stays.{FramesStay, none_goes}
 use Rattle.process_table.specs.Image.{memory_of}
 use Rattle.process_table.specs.View.{View}
-use Rattle.kernel_calls.specs.Gone.{gone_by}
 use Rattle.kernel_calls.specs.Machine.{next}
 use Rattle.kernel_calls.specs.Translations.{ended_by, Ends}
 use Rattle.kernel_calls.specs.declared.calls.Decision.{Decision}
 use Rattle.kernel_calls.specs.declared.calls.Event.{Event}
-use Rattle.kernel_calls.proofs.Leaving.{event_ends, standing, stays_more}
+use Rattle.address_space.proofs.standing.FramesStand.{stays_most}
+use Rattle.kernel_calls.proofs.Leaving.{event_ends, standing}
 use Rattle.kernel_calls.proofs.cores.Core.carry_out.Goals as goal
 
 pub returns-in-Some-clause-ends : goal.returns-in-Some-clause-ends
@@ -19,7 +19,7 @@ returns-in-Some-clause-ends c =
     event_ends c.args.self.now new e
     (standing now.image now.walks now.ways now.well_formed) (standing later.image later.walks later.ways later.well_formed)
     (subst (λ (v : View). new.state ≡ next v.state e) c.self.view_is (c.at_once.ensures.state (ap is_some c.in-Some.is)))
-    (stays_more (gone_by c.args.self.now.state e) (memory_of c.args.self.now) (memory_of new)
+    (stays_most
     (subst (λ (v : View). FramesStay none_goes (memory_of v) (memory_of new)) c.self.view_is c.at_once.ensures.stay))
 
 pub returns-clause-ends : goal.returns-clause-ends
