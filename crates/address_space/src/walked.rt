@@ -32,7 +32,12 @@ fn place_in(frame: Frame, address: Vaddr) -> usize
 }
 
 /// The place to which the walk of an access leads.
-pub(crate) fn found_place(memory: &Memory, directory: Frame, address: Vaddr, access: Access) -> usize
+pub(crate) fn found_place(
+    memory: &Memory,
+    directory: Frame,
+    address: Vaddr,
+    access: Access,
+) -> usize
     requires found { IsOk (walk_of memory.now directory address access) }
     ensures place { result ≡ byte_place memory.now directory address }
     ensures inside { result < length memory.now }

@@ -375,6 +375,15 @@ impl Core {
         reply
     }
 
+    /// Whether an event is a store that a processor carries out by itself, as `finds` says, and accessed and dirty of
+    /// each page that it touches are set already, so that a processor which kept their translations marks nothing.
+    pub fn finds_marked(&self, event: &Event) -> bool
+        ensures find { result ≡ true → finds_event self.now event.now ≡ true }
+        ensures marked { result ≡ true → StoresMarked self.now.state event.now.pid event.now.call }
+    {
+        walked::finds_marked(&self.processes, event)
+    }
+
     /// Carries out a store as a processor does by translations that it kept, one for each page that it touches: its
     /// bytes are written in their frames, and nothing else changes. It is what `step` makes of the event, so that
     /// memory which a processor changed so is a core's after the event. Accessed and dirty of each page are set

@@ -2,6 +2,8 @@
 
 ghost use Rattle.std.specs.Prelude.{◌≡◌, ℕ, Some, true};
 ghost use Rattle.address_space.specs.View.{directory_of};
+ghost use Rattle.address_space.specs.Kept.{is_marked};
+ghost use Rattle.address_space.specs.Spaces.{at_page};
 ghost use Rattle.address_space.specs.Stays.{FramesStay, none_goes};
 ghost use Rattle.process_table.specs.Image.{memory_of};
 ghost use Rattle.process_table.specs.State.{container_of};
@@ -14,6 +16,7 @@ ghost use Rattle.kernel_calls.specs.declared.calls.Reply.TheVariants as reply;
 
 use crate::calls::{Call, Event, Reply};
 use fault_handler::{complete_by_walk, complete_kept};
+use page_words::{Page, Pid, in_user_range, page_of, second_page};
 use process_table::Processes;
 use table_walk::Access;
 
@@ -52,6 +55,38 @@ pub fn access_by_walk(processes: &mut Processes, event: &Event) -> Reply
             Reply::Done
         }
         _ => unreachable!(),
+    }
+}
+
+/// Whether accessed and dirty of a process's page are set.
+fn is_marked(processes: &Processes, pid: Pid, page: Page) -> bool
+    ensures { result ≡ true → is_marked processes.now.state.spaces (at_page pid page) ≡ true }
+{
+    if !in_user_range(page) {
+        return false;
+    }
+    match processes.seen(pid, page).cell() {
+        Some(cell) => cell.accessed && cell.dirty,
+        None => false,
+    }
+}
+
+/// Whether a processor carries out a store by itself, and has no word to mark for it.
+pub fn finds_marked(processes: &Processes, event: &Event) -> bool
+    ensures find { result ≡ true → finds_event processes.now event.now ≡ true }
+    ensures marked { result ≡ true → StoresMarked processes.now.state event.now.pid event.now.call }
+{
+    let pid = event.pid;
+    match event.call {
+        Call::Store { addr, size, .. } => {
+            finds(processes, event)
+                && is_marked(processes, pid, page_of(addr))
+                && match second_page(addr, size) {
+                    None => true,
+                    Some(page) => is_marked(processes, pid, page),
+                }
+        }
+        _ => false,
     }
 }
 
