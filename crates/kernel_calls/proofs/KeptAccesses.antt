@@ -1,5 +1,5 @@
 -- What kept translations that the walks give still make of an access.
-use Rattle.std.proofs.Common.{◌≡◌, ℕ, ◌+◌, ◌<◌, ◌^◌, Bool, true, false, List, refl, ap, sym, ◌∙◌, subst, arith, Option, Some, None}
+use Rattle.std.proofs.Common.{◌≡◌, ℕ, ◌+◌, ◌*◌, ◌<◌, ◌^◌, Bool, true, false, List, refl, ap, sym, ◌∙◌, subst, arith, Option, Some, None}
 use Rattle.std.specs.Prelude.{◌&&◌, if◌then◌else◌, is_some, nat_lt, IfSome, Ok, slice_index}
 use Rattle.std.specs.Option.{option_map, unwrap_or}
 use Rattle.std.specs.Result.{is_ok}
@@ -191,8 +191,8 @@ kept_stores v frames e served store = by e.call served store
   where
     marked : (page : ℕ) → Serves v e.pid page (frames page) Write → is_marked v.state.spaces (at_page e.pid page) ≡ true
     marked page s =
-        let t = touched_by v e.pid page (frames page) Write s in
-        let is : cell_or_fresh v.state.spaces (at_page e.pid page) ≡ t.cell = ap (λ x. unwrap_or x (fresh (at_page e.pid page) true)) t.there in
+        let there : map.get v.state.spaces (at_page e.pid page) ≡ Some s.given.cell = sym (ap (map.get v.state.spaces) s.of_page) ∙ s.given.mapped in
+        let is : cell_or_fresh v.state.spaces (at_page e.pid page) ≡ s.given.cell = ap (λ x. unwrap_or x (fresh (at_page e.pid page) true)) there in
         ap (λ (c : Cell). c.accessed && c.dirty) is ∙ (λ i. s.given.accessed i && s.given.dirty (s.written refl).1 i)
 
     by : (c : Call) → ServesCall v e.pid frames c → IsStore c → StoresMarked v.state e.pid c

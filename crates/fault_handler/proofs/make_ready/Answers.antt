@@ -21,3 +21,6 @@ map_pages-requires-clause-second c =
 pub returns-in-Write-clause-stay : goal.returns-in-Write-clause-stay
 returns-in-Write-clause-stay c = rw c.in-Write.is
     (stays_then (stays_most c.map_pages.ensures.stay) c.fill_pages.ensures.stay)
+
+pub returns-in-Read-clause-stay : goal.returns-in-Read-clause-stay
+returns-in-Read-clause-stay c = stays_most c.map_pages.ensures.stay

@@ -7,6 +7,7 @@ use Rattle.process_table.specs.State.{State, is_mapped, room}
 use Rattle.fault_handler.specs.Plans.{maps_page}
 use Rattle.fault_handler.proofs.Settled.{second_room, mapped_beside}
 use Rattle.fault_handler.proofs.map_pages.Goals as goal
+use Rattle.address_space.proofs.standing.FramesStand.{stays_then}
 
 pub map_by_step-requires-in-Some-clause-room : goal.map_by_step-requires-in-Some-clause-room
 map_by_step-requires-in-Some-clause-room c =
@@ -26,3 +27,6 @@ map_by_step-requires-in-Some-clause-how c =
     c.page_of.ensures.value)
     ∙ mapped_beside s.spaces c.args.pid (page_number c.args.address) c.in-Some.page (λ e. omega (arith, e, next))
     ∙ ap (λ (x : Option Bool). unwrap_or x true) (ap (option_map (λ page. is_mapped s (at_page c.args.pid page))) (sym there) ∙ c.requires.second ∙ ap (option_map (λ how. not (maps_page how))) c.unwrap.ensures)
+
+pub returns-in-Some-clause-stay : goal.returns-in-Some-clause-stay
+returns-in-Some-clause-stay c = stays_then c.map_by_step.ensures.stay c.map_by_step-in-Some.ensures.stay

@@ -8,6 +8,7 @@ use Rattle.process_table.specs.State.{State, is_mapped}
 use Rattle.fault_handler.specs.Plans.{goes_on, step_at}
 use Rattle.fault_handler.proofs.Settled.{ready, mapped_right, mapped_value, mapped_after}
 use Rattle.fault_handler.proofs.settle.Goals as goal
+use Rattle.address_space.proofs.standing.FramesStand.{stays_then, stays_most}
 
 pub access-requires-clause-mapped : goal.access-requires-clause-mapped
 access-requires-clause-mapped c =
@@ -30,3 +31,9 @@ pub returns-clause-state : goal.returns-clause-state
 returns-clause-state c =
     c.access.ensures.state ∙ ap (λ (t : State). after_access t c.args.pid c.args.address c.args.size c.args.access c.args.value) c.make_ready.ensures.state
     ∙ mapped_after c.args.processes.now.state c.args.pid c.args.address c.args.size c.args.access c.args.value
+
+pub returns-then-stores_in_new_page-clause-stay : goal.returns-then-stores_in_new_page-clause-stay
+returns-then-stores_in_new_page-clause-stay c = stays_most c.store_in_new_page.ensures.stay
+
+pub returns-clause-stay : goal.returns-clause-stay
+returns-clause-stay c = stays_then c.make_ready.ensures.stay (stays_most c.access.ensures.stay)

@@ -5,6 +5,7 @@ use Rattle.kernel_calls.specs.Gone.{gone_of_call}
 use Rattle.kernel_calls.specs.Machine.{answer, completes}
 use Rattle.kernel_calls.specs.declared.calls.Decision.{Decision}
 use Rattle.kernel_calls.proofs.Decided.{goes-decided, next-stays, next-goes}
+use Rattle.address_space.proofs.standing.FramesStand.{stays_more}
 use Rattle.kernel_calls.proofs.cores.carry_out.Goals as goal
 
 pub returns-in-Refused-clause-state : goal.returns-in-Refused-clause-state
@@ -35,10 +36,9 @@ returns-in-Ready-clause-kept c = λ stops.
     cc
 
 pub returns-in-Ready-clause-stay : goal.returns-in-Ready-clause-stay
-returns-in-Ready-clause-stay c = λ slot d f stays way.
-    let s = c.args.processes.now.state in
+returns-in-Ready-clause-stay c =
     let e = c.args.decision.now.event in
     let goes = goes-decided c.args.processes.now c.args.decision.now true c.requires.decided (ap goes_on c.in-Ready.is)
     in
-    c.complete.ensures.stay slot d f (sym (ap (λ b. if b then gone_of_call e.pid e.call slot f else false) goes)
-    ∙ stays) way
+    stays_more (λ slot f stays. sym (ap (λ b. if b then gone_of_call e.pid e.call slot f else false) goes) ∙ stays)
+    c.complete.ensures.stay
