@@ -46,6 +46,15 @@ fn check(rt: &impl Abort, core: &mut Core, event: &Event, reply: Reply, alone: b
     assert_eq!(rt; together(core, event), (reply, alone));
 }
 
+/// A processor makes a store by translations that it kept, where it has no word to mark for it: whether it did.
+fn kept(core: &mut Core, event: &Event) -> bool {
+    let is_marked = core.finds_marked(event);
+    if is_marked {
+        core.store_kept(event);
+    }
+    is_marked
+}
+
 /// Whether accessed is set in the directory word of a page of the root.
 fn is_walked(rt: &impl Abort, core: &Core, page: Page) -> bool {
     let directory = core.directory(root(rt)).expect(rt, "a directory");
@@ -76,5 +85,23 @@ fn a_directory_word_is_marked_by_itself(rt: HostRuntime) -> Result<(), Fail> {
     assert!(rt; is_walked(&rt, &core, page));
     walk_by(&mut core, root(&rt), page, false);
     assert!(rt; !is_walked(&rt, &core, page));
+    Ok(())
+}
+
+#[test]
+fn a_marked_page_takes_a_store_without_a_mark(rt: HostRuntime) -> Result<(), Fail> {
+    let mut core = Core::boot(rt.alloc(), 16)?;
+    let (page, first, second) = (
+        Page(0x40000),
+        store(root(&rt), 1),
+        store(root(&rt), 0x0403_0201),
+    );
+    core.step(&load(root(&rt)));
+    assert!(rt; !kept(&mut core, &first));
+    core.step(&first);
+    walk_by(&mut core, root(&rt), page, false);
+    assert!(rt; kept(&mut core, &second));
+    assert!(rt; !is_walked(&rt, &core, page));
+    assert_eq!(rt; core.step(&load(root(&rt))), Reply::Value(0x0403_0201));
     Ok(())
 }

@@ -191,6 +191,7 @@ impl<N: Name> Cpu<N> {
         ensures refused { IfErr result (λ f. (log : List LogEntry) × IsRefused N.frames log self.old f) }
         ensures err { OnErr result (self.new ≡ self.old) }
     {
+        let gate = &kernel.gate;
         let mut guard = kernel.taken(rt);
         let ready = match guard.judge(self, pid, call) {
             Ok(ready) => ready,
@@ -199,7 +200,7 @@ impl<N: Name> Cpu<N> {
                 return Err(fault);
             }
         };
-        kernel.gate.reach(Point::Locked);
+        gate.reach(Point::Locked);
         let ended = guard.ends(&ready);
         let (reply, seen) = match guard.carry_out(rt, ready) {
             Ok(carried) => carried,
@@ -210,7 +211,7 @@ impl<N: Name> Cpu<N> {
         };
         self.made(seen);
         processors.invalidate(&ended);
-        kernel.gate.reach(Point::Published);
+        gate.reach(Point::Published);
         MutexGuard::unlock(guard);
         Ok((reply, ended))
     }

@@ -7,7 +7,7 @@ use crate::kernels::{
     booted, check_front, check_length, closed, opened, process, put, taken, tell, watcher,
 };
 use kernel_calls::Call;
-use locked_core::{Blank, Boot, Cpu, Gate, Kernel, Monitor, Name, Point};
+use locked_core::{Blank, Boot, Cpu, Ended, Gate, Invalidate, Kernel, Monitor, Name, Point};
 use page_words::Pid;
 use std::alloc::{AllocError, Global};
 use std::marker::Brand;
@@ -68,6 +68,16 @@ impl Flags {
             let_go: AtomicU64::new(0),
         }
     }
+
+    /// Holds a call, where one is to be held, until it may go on.
+    fn hold(&self) {
+        if self.armed.swap(0, Ordering::SeqCst) == 1 {
+            self.reached.store(1, Ordering::SeqCst);
+            if is_set(&self.released) {
+                self.let_go.store(1, Ordering::SeqCst);
+            }
+        }
+    }
 }
 
 /// Holds one call at a point, once it is armed, until it is told to let it go on.
@@ -79,12 +89,21 @@ struct HeldGate {
 
 impl Gate for HeldGate {
     fn reach(&self, point: Point) {
-        if point == self.at && self.flags.armed.swap(0, Ordering::SeqCst) == 1 {
-            self.flags.reached.store(1, Ordering::SeqCst);
-            if is_set(&self.flags.released) {
-                self.flags.let_go.store(1, Ordering::SeqCst);
-            }
+        if point == self.at {
+            self.flags.hold();
         }
+    }
+}
+
+/// Holds one call as it invalidates what it ended, once it is armed, until it is told to let it go on.
+#[derive(Drop)]
+struct HeldProcessors {
+    flags: Arc<Flags, Global>,
+}
+
+impl Invalidate for HeldProcessors {
+    fn invalidate(&self, _ended: &Ended) {
+        self.flags.hold();
     }
 }
 
@@ -293,4 +312,64 @@ fn a_second_cpu_waits_while_a_call_is_held(rt: HostRuntime) -> Result<(), Fail> 
 #[test]
 fn a_second_cpu_waits_while_a_call_is_published(rt: HostRuntime) -> Result<(), Fail> {
     waits_at(&rt, Point::Published)
+}
+
+/// Makes one call that tells what it ended: whether it was answered.
+fn call_ending<N: Name, R: Wait>(
+    rt: &R,
+    kernel: &Kernel<N, HeldGate>,
+    mut cpu: Cpu<N>,
+    pid: Pid,
+    processors: &HeldProcessors,
+) -> (Cpu<N>, bool) {
+    let told = cpu.call_ending(rt, kernel, pid, Call::Quota, processors);
+    (cpu, told.is_ok())
+}
+
+/// A call of the first CPU that is held as it invalidates, while the second makes one.
+fn ended_both<N: Name + Send + Sync, R: Threads + Wait + Abort + Sync>(
+    rt: &R,
+    kernel: &Kernel<N, HeldGate>,
+    first: Cpu<N>,
+    second: Cpu<N>,
+    processors: &HeldProcessors,
+) -> (Cpu<N>, Cpu<N>) {
+    let root = process(rt, 0);
+    let flags = &*processors.flags;
+    let ((first, answered), second) = thread::join(
+        rt,
+        move || call_ending(rt, kernel, first, root, processors),
+        move || called_second(rt, kernel, second, flags),
+    );
+    check_let_go(rt, answered, flags);
+    (first, second)
+}
+
+/// A call of CPU 0 that is held as it invalidates, while CPU 1 makes one.
+fn ended<N: Name + Send + Sync, R: Threads + Wait + Abort + Sync>(
+    rt: &R,
+    blank: Blank<HeldGate>,
+    processors: &HeldProcessors,
+)
+    requires { (blank.frames ≡ N.frames) × (blank.book ≡ N.book) }
+{
+    let Boot {
+        kernel,
+        mut cpus,
+        monitors: _,
+    } = opened::<N, HeldGate, R>(rt, blank);
+    let second = taken(rt, &mut cpus);
+    let first = taken(rt, &mut cpus);
+    processors.flags.armed.store(1, Ordering::SeqCst);
+    let (first, second) = ended_both(rt, &kernel, first, second, processors);
+    let back = put(rt, put(rt, cpus, first), second);
+    check_length(rt, &closed(rt, kernel, back), 2);
+}
+
+#[test]
+fn a_second_cpu_waits_while_a_call_invalidates(rt: HostRuntime) -> Result<(), Fail> {
+    let (flags, gate) = gate_at(rt.alloc(), Point::Published)?;
+    let processors = HeldProcessors { flags };
+    ended::<Brand, HostRuntime>(&rt, booted(&rt, 16, 2, 0, gate), &processors);
+    Ok(())
 }

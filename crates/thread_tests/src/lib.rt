@@ -9,6 +9,8 @@ mod audit_gate_tests;
 #[cfg(test)]
 mod contention_tests;
 #[cfg(test)]
+mod ending_tests;
+#[cfg(test)]
 mod fault_tests;
 #[cfg(test)]
 mod fork_tests;

@@ -1,0 +1,97 @@
+//! What the calls of a CPU tell of the translations that they ended.
+
+ghost use Rattle.std.specs.Prelude.{◌≡◌};
+
+use crate::kernels::{booted, check_length, closed, opened, process, put, store, taken};
+use kernel_calls::Call;
+use locked_core::{Blank, Boot, Cpu, Ended, Invalidate, Kernel, Name, OpenGate};
+use page_words::{Page, Pid};
+use std::marker::Brand;
+use std::process::Abort;
+use std::sync::Wait;
+use std::sync::atomic::{AtomicU64, Ordering};
+use std::test::Fail;
+
+/// What was told of a call, as a number: 0 for nothing, else a kind, a process and its pages.
+fn number_of(ended: &Ended) -> u64 {
+    match ended {
+        Ended::Nothing => 0,
+        Ended::Page { pid, page } => 1 + 4 * u64::from(pid.number()) + 256 * u64::from(page.0),
+        Ended::Pages { pid, first, .. } => {
+            2 + 4 * u64::from(pid.number()) + 256 * u64::from(first.0)
+        }
+        Ended::Space { pid } => 3 + 4 * u64::from(pid.number()),
+    }
+}
+
+/// Keeps what was told last, and how often something was.
+#[derive(Drop)]
+struct Listener {
+    last: AtomicU64,
+    count: AtomicU64,
+}
+
+impl Invalidate for Listener {
+    fn invalidate(&self, ended: &Ended) {
+        self.last.store(number_of(ended), Ordering::SeqCst);
+        self.count.fetch_add(1, Ordering::SeqCst);
+    }
+}
+
+/// A call of process 0 tells the listener and its caller the same.
+fn check_ends<N: Name, R: Wait + Abort>(
+    rt: &R,
+    kernel: &Kernel<N, OpenGate>,
+    cpu: &mut Cpu<N>,
+    listener: &Listener,
+    call: Call,
+    ended: Ended,
+) {
+    let told = cpu.call_ending(rt, kernel, process(rt, 0), call, listener);
+    assert_eq!(rt; told.map(|told| told.1), Ok(ended));
+    assert_eq!(rt; listener.last.load(Ordering::SeqCst), number_of(&ended));
+}
+
+/// A page that is mapped is filled by a store, and unmapped: the store and the unmap end its translation.
+fn told<N: Name, R: Wait + Abort>(rt: &R, blank: Blank<OpenGate>, listener: &Listener)
+    requires { (blank.frames ≡ N.frames) × (blank.book ≡ N.book) }
+{
+    let Boot {
+        kernel,
+        mut cpus,
+        monitors: _,
+    } = opened::<N, OpenGate, R>(rt, blank);
+    let mut cpu = taken(rt, &mut cpus);
+    let (pid, page) = (process(rt, 0), Page(0x40000));
+    let filled = Ended::Page { pid, page };
+    check_ends(
+        rt,
+        &kernel,
+        &mut cpu,
+        listener,
+        Call::Map { page, write: true },
+        Ended::Nothing,
+    );
+    check_ends(rt, &kernel, &mut cpu, listener, store(7), filled);
+    check_ends(rt, &kernel, &mut cpu, listener, store(8), Ended::Nothing);
+    check_ends(
+        rt,
+        &kernel,
+        &mut cpu,
+        listener,
+        Call::Unmap { page },
+        filled,
+    );
+    assert_eq!(rt; listener.count.load(Ordering::SeqCst), 4);
+    check_length(rt, &closed(rt, kernel, put(rt, cpus, cpu)), 4);
+}
+
+#[test]
+fn a_call_tells_the_processors_what_it_ended(rt: HostRuntime) -> Result<(), Fail> {
+    let listener = Listener {
+        last: AtomicU64::new(9),
+        count: AtomicU64::new(0),
+    };
+    told::<Brand, HostRuntime>(&rt, booted(&rt, 16, 1, 0, OpenGate), &listener);
+    Ok(())
+}
