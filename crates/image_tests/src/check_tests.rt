@@ -1,14 +1,17 @@
 //! Verdicts on the images of cores, on images that were changed, and on those of another kernel.
 
 use crate::common::{
-    booted, check_sound, image_in, image_of, process, same_bytes, say, text_on, verdict_on,
+    booted, check_cut, check_sound, image_in, image_of, process, same_bytes, say, text_on,
+    verdict_on,
 };
-use crate::damaged_tests::{Frames, a_page_turned_to_a_table, frames_of, image_bytes, lines_of};
+use crate::damaged_tests::{
+    Frames, a_page_turned_to_a_table, damaged, frames_of, image_bytes, lines_of,
+};
 use crate::images::{PAGE_WORDS, UNCHANGED, changed_image, other_image, place_of, put, word};
 use base_tests::streams::{BrokenWriter, Pieces};
 use image_check::{
-    FrameClause, Image, ImageFault, NoMemory, ProcessClause, Verdict, WriteFailed, check,
-    read_image, write_image,
+    FrameClause, Image, NoMemory, ProcessClause, Verdict, WriteFailed, check, read_image,
+    write_image,
 };
 use kernel_calls::Core;
 use page_words::Frame;
@@ -75,32 +78,22 @@ fn check_frames(rt: &impl Abort, told: &Verdict, table: u32, page: u32) {
     }
 }
 
-/// An image that lacks its last byte is refused.
-fn check_cut<R: AllocGlobal + Abort>(rt: &R, bytes: &[u8]) {
-    let (_, front) = bytes.split_last().expect(rt, "a byte");
-    let fault = read_image(rt.alloc(), front).err();
-    assert_eq!(rt; fault, Some(ImageFault::BadLength));
-}
-
 /// The verdict on these bytes tells process 1 and two frames by their clauses.
 fn check_clauses<R: AllocGlobal + Abort>(rt: &R, bytes: &[u8], at: &Frames) {
-    let image = read_image(rt.alloc(), bytes).ok().expect(rt, "an image");
-    let told = check(rt.alloc(), &image).ok().expect(rt, "a verdict");
+    let told = verdict_on(rt, &image_in(rt, bytes));
     check_processes(rt, &told, ProcessClause::Pages);
     check_frames(rt, &told, at.own_table, at.shared);
 }
 
 #[test]
-fn a_page_turned_to_a_table_is_told(rt: HostRuntime) -> Result<(), Fail> {
-    let mut bytes = image_bytes(rt.alloc())?;
-    let at = frames_of(&bytes);
-    let damage = a_page_turned_to_a_table(&bytes, &at);
-    put(&mut bytes, damage.place, damage.word);
-    let lines = lines_of(rt.alloc(), &damage)?;
+fn a_page_turned_to_a_table_is_told(rt: HostRuntime) {
+    let sound = image_bytes(&rt);
+    let at = frames_of(&sound);
+    let damage = a_page_turned_to_a_table(&sound, &at);
+    let bytes = damaged(&rt, &damage);
     check_clauses(&rt, &bytes, &at);
-    check_text(&rt, &bytes, &lines);
+    check_text(&rt, &bytes, &lines_of(&rt, &damage));
     check_cut(&rt, &bytes);
-    Ok(())
 }
 
 /// The verdict on an image that the bytes spell has this text.

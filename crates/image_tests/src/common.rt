@@ -2,9 +2,10 @@
 
 use image_check::{Verdict, check};
 use kernel_calls::{Call, Core, Event};
-use memory_image::{Image, read_image};
+use memory_image::{Image, ImageFault, read_image};
 use page_words::{Page, Pid, Size, Vaddr};
 use std::process::Abort;
+use tower_jobs::write_script_image;
 
 const PAGE: Page = Page(0x40000);
 
@@ -66,6 +67,14 @@ pub(crate) fn image_of<R: AllocGlobal + Abort>(rt: &R, core: &Core) -> Image {
     image.ok().expect(rt, "an image of a core")
 }
 
+/// The bytes of the image of the state that a script ends in, on so many frames.
+pub(crate) fn image_after<R: AllocGlobal + Abort>(rt: &R, script: &str, frames: u32) -> Vec<u8> {
+    let mut bytes = Vec::new(rt.alloc());
+    let made = write_script_image(rt.alloc(), &mut script.as_bytes(), &mut bytes, frames);
+    made.ok().expect(rt, "an image after a script");
+    bytes
+}
+
 /// The image that bytes spell.
 pub(crate) fn image_in<R: AllocGlobal + Abort>(rt: &R, bytes: &[u8]) -> Image {
     let image = read_image(rt.alloc(), bytes);
@@ -92,6 +101,33 @@ pub(crate) fn check_sound(rt: &impl Abort, told: &Verdict, expected: bool) {
 /// These bytes are the expected ones.
 pub(crate) fn same_bytes(rt: &impl Abort, bytes: &[u8], expected: &[u8]) {
     assert_eq!(rt; bytes, expected);
+}
+
+/// Bytes are refused so as an image, or are one.
+pub(crate) fn check_fault<R: AllocGlobal + Abort>(
+    rt: &R,
+    bytes: &[u8],
+    expected: Option<ImageFault>,
+) {
+    let length = bytes.len();
+    assert_eq!(rt;
+        read_image(rt.alloc(), bytes).err(),
+        expected,
+        "{length} bytes"
+    );
+}
+
+/// An image that lacks its last byte is refused.
+pub(crate) fn check_cut<R: AllocGlobal + Abort>(rt: &R, bytes: &[u8]) {
+    let (_, front) = bytes.split_last().expect(rt, "a byte");
+    check_fault(rt, front, Some(ImageFault::BadLength));
+}
+
+/// Adds bytes to a text.
+pub(crate) fn add(rt: &impl Abort, text: &mut Vec<u8>, part: &[u8]) {
+    text.extend_from_slice(part)
+        .ok()
+        .expect(rt, "memory for a text");
 }
 
 /// Prints a line.

@@ -22,6 +22,13 @@ pub(crate) fn put(bytes: &mut [u8], place: usize, word: u32) {
     }
 }
 
+/// Puts words, each at its place.
+pub(crate) fn put_all(bytes: &mut [u8], words: &[(usize, u32)]) {
+    for (place, word) in words {
+        put(bytes, *place, *word);
+    }
+}
+
 /// Where the word of an index of a frame stands.
 pub(crate) fn place_of(frame: u32, index: u32) -> usize {
     let within = frame.wrapping_mul(4096).wrapping_add(index.wrapping_mul(4));
@@ -87,9 +94,7 @@ pub(crate) const UNCHANGED: (usize, u32) = (0, 0x4932_436d);
 /// The bytes of an image with these words.
 fn spelled(alloc: Global, words: &[(usize, u32)]) -> Result<Vec<u8>, AllocError> {
     let mut bytes = vec![in alloc; 0u8; 67_340]?;
-    for (place, word) in words {
-        put(&mut bytes, *place, *word);
-    }
+    put_all(&mut bytes, words);
     Ok(bytes)
 }
 
