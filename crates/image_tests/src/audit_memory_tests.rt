@@ -1,6 +1,6 @@
 //! What an audit answers where memory is refused.
 
-use crate::common::{booted, image_of, say};
+use crate::common::{booted, image_of, same, say};
 use integrity_checker::{Audit, AuditFault};
 use kernel_calls::Core;
 use std::process::Abort;
@@ -10,21 +10,17 @@ fn begun<R: AllocGlobal + Abort>(rt: &R, core: &Core) -> Result<usize, AuditFaul
     Audit::new(rt.alloc(), image_of(rt, core), 2).map(|made| made.1.len())
 }
 
-fn check_two(rt: &impl Abort, begun: Result<usize, AuditFault>) {
-    assert_eq!(rt; begun, Ok(2));
-}
-
 /// The fault is want of memory; the same call then gives two helpers, and a line is printed that says so.
 fn begin_again<R: AllocGlobal + Abort + Print>(rt: &R, core: &Core, fault: AuditFault) {
-    assert_eq!(rt; fault, AuditFault::NoMemory);
-    check_two(rt, begun(rt, core));
+    same(rt, &fault, &AuditFault::NoMemory);
+    same(rt, &begun(rt, core), &Ok(2));
     say(rt, "NoMemory, and then an audit");
 }
 
 /// An audit of a core has two helpers, at once or after want of memory.
 fn check_begun<R: AllocGlobal + Abort + Print>(rt: &R, core: &Core) {
     match begun(rt, core) {
-        Ok(helpers) => check_two(rt, Ok(helpers)),
+        Ok(helpers) => same(rt, &helpers, &2),
         Err(fault) => begin_again(rt, core, fault),
     }
 }

@@ -4,7 +4,8 @@ ghost use Rattle.std.specs.Prelude.{All, IfOk};
 ghost use Rattle.integrity_checker.specs.Steps.{IsOf};
 
 use crate::common::{
-    booted, check_sound, image_in, image_of, same_bytes, shared_both_ways, text_on, verdict_on,
+    booted, check_sound, image_in, image_of, same, same_bytes, shared_both_ways, text_on,
+    verdict_on,
 };
 use crate::images::{UNCHANGED, changed_image, put_all};
 use image_check::Verdict;
@@ -323,24 +324,20 @@ fn audited<R: AllocGlobal + Threads + Abort + Sync>(
 
 /// Each number was answered once, with the check's clause.
 fn check_answers(rt: &impl Abort, answers: &Answers, helpers: usize) {
-    assert_eq!(rt;
-        (answers.times, answers.wrong),
-        ([1; 64], 0),
-        "{helpers} helpers"
-    );
+    let found = (helpers, answers.times, answers.wrong);
+    same(rt, &found, &(helpers, [1; 64], 0));
 }
 
 /// A verdict tells the same as the check's of all processes and of so many frames.
 fn check_agrees(rt: &impl Abort, verdict: &Verdict, told: &Verdict, frames: u32, helpers: usize) {
-    assert_eq!(rt;
-        (
-            count_processes(told, verdict),
-            count_frames(told, verdict, frames),
-            verdict.sound(),
-        ),
-        (0, 0, told.sound()),
-        "{helpers} helpers"
+    let processes = count_processes(told, verdict);
+    let found = (
+        helpers,
+        processes,
+        count_frames(told, verdict, frames),
+        verdict.sound(),
     );
+    same(rt, &found, &(helpers, 0, 0, told.sound()));
 }
 
 /// By so many helpers, in turn or in threads, the verdict on an image is the check's, also of a frame that it has
@@ -392,7 +389,7 @@ fn check_cases<R: AllocGlobal + Threads + Abort + Sync>(rt: &R, in_threads: bool
 /// No audit has so many helpers.
 fn check_refused<R: AllocGlobal + Abort>(rt: &R, helpers: usize) {
     let fault = Audit::new(rt.alloc(), image_with(rt, &[]), helpers).err();
-    assert_eq!(rt; fault, Some(AuditFault::BadCount));
+    same(rt, &fault, &Some(AuditFault::BadCount));
 }
 
 #[test]
@@ -406,7 +403,7 @@ fn other_numbers_of_helpers_are_refused(rt: HostRuntime) {
 fn check_missing(rt: &impl Abort, audit: Audit, helpers: Vec<Helper>)
     requires { All (λ h. IsOf audit h) helpers.items }
 {
-    assert_eq!(rt; audit.finish(helpers).err(), Some(AuditFault::Missing));
+    same(rt, &audit.finish(helpers).err(), &Some(AuditFault::Missing));
 }
 
 #[test]
@@ -464,15 +461,11 @@ fn by_halves<R: AllocGlobal + Abort>(rt: &R, image: Image, told: &Verdict) -> (V
     (finished(rt, audit, helpers), [first, second, third])
 }
 
-fn check_numbers(rt: &impl Abort, numbers: [u64; 3]) {
-    assert_eq!(rt; numbers, [32, 32, 0]);
-}
-
 /// With a word at a place two helpers find what has this text, each by half of the numbers.
 fn check_halves<R: AllocGlobal + Abort>(rt: &R, place: usize, word: u32, text: &str) {
     let told = verdict_on(rt, &image_with(rt, &[(place, word)]));
     let (verdict, numbers) = by_halves(rt, image_with(rt, &[(place, word)]), &told);
-    check_numbers(rt, numbers);
+    same(rt, &numbers, &[32, 32, 0]);
     same_bytes(rt, &text_on(rt, &verdict), text.as_bytes());
 }
 

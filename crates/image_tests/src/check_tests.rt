@@ -1,7 +1,7 @@
 //! Verdicts on the images of cores, on images that were changed, and on those of another kernel.
 
 use crate::common::{
-    booted, check_cut, check_sound, image_in, image_of, process, same_bytes, say, text_on,
+    booted, check_cut, check_sound, image_in, image_of, process, same, same_bytes, say, text_on,
     verdict_on,
 };
 use crate::damaged_tests::{
@@ -65,7 +65,7 @@ fn the_largest_core_is_sound(rt: HostRuntime) {
 fn check_processes(rt: &impl Abort, told: &Verdict, clause: ProcessClause) {
     for number in 0..64 {
         let expected = (number == 1).then_some(clause);
-        assert_eq!(rt; told.process(process(rt, number)), expected);
+        same(rt, &told.process(process(rt, number)), &expected);
     }
 }
 
@@ -74,7 +74,7 @@ fn check_frames(rt: &impl Abort, told: &Verdict, table: u32, page: u32) {
     for number in 0..17 {
         let is_table = (number == table).then_some(FrameClause::Table);
         let is_page = (number == page).then_some(FrameClause::Page);
-        assert_eq!(rt; told.frame(Frame(number)), is_table.or(is_page));
+        same(rt, &told.frame(Frame(number)), &is_table.or(is_page));
     }
 }
 
@@ -211,7 +211,7 @@ fn a_lazy_page_is_sound_in_version_2_alone(rt: HostRuntime) {
 /// A writer that fails behind 20 bytes has so much of the verdict's text.
 fn check_broken(rt: &impl Abort, told: &Verdict, expected: &[u8]) {
     let mut writer = BrokenWriter::new(20, Pieces::Whole);
-    assert_eq!(rt; told.write_text(&mut writer), Err(WriteFailed));
+    same(rt, &told.write_text(&mut writer), &Err(WriteFailed));
     same_bytes(rt, writer.written.as_slice(), expected);
 }
 

@@ -1,6 +1,6 @@
 //! Command lines for the tests, and what came of one.
 
-use crate::common::same_bytes;
+use crate::common::{same, same_bytes};
 use std::env::FillError;
 use std::process::Abort;
 use std::rt::Env;
@@ -66,15 +66,17 @@ pub(crate) fn check_answer<R: AllocGlobal + Abort>(
     status: u8,
     errors: &str,
 ) {
-    assert_eq!(rt; status_of(answer), status);
+    same(rt, &status_of(answer), &status);
     same_bytes(rt, &told(rt, answer), errors.as_bytes());
 }
 
 /// Words came to this status, with nothing on standard output and something on standard error.
 pub(crate) fn check_nothing_done(rt: &impl Abort, ended: &Ended, status: u8, words: &[&str]) {
-    assert_eq!(rt;
-        (ended.status, ended.output.len(), ended.errors.is_empty()),
-        (status, 0, false),
-        "{words:?}"
+    let found = (
+        words,
+        ended.status,
+        ended.output.len(),
+        ended.errors.is_empty(),
     );
+    same(rt, &found, &(words, status, 0, false));
 }

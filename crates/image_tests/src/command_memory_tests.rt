@@ -5,7 +5,7 @@
 //! is printed that says so.
 
 use crate::command_lines::TwoWords;
-use crate::common::{same_bytes, say};
+use crate::common::{same, same_bytes, say};
 use clap::error::ErrorKind;
 use script_run::ScriptFault;
 use script_run::worked::sharing::SHARE_BOTH_WAYS;
@@ -27,12 +27,12 @@ fn check_race(rt: &impl Abort, asked: Result<Job<'static>, ErrorKind>) {
         frames: 64,
         rounds: 7,
     };
-    assert_eq!(rt; asked, Ok(race));
+    same(rt, &asked, &Ok(race));
 }
 
 /// Words were refused for want of memory; they are read again, and a line is printed that says so.
 fn ask_again<R: AllocGlobal + Abort + Print>(rt: &R, kind: ErrorKind) {
-    assert_eq!(rt; kind, ErrorKind::OutOfMemory);
+    same(rt, &kind, &ErrorKind::OutOfMemory);
     check_race(rt, race_asked(rt.alloc()));
     say(rt, "OutOfMemory, and then a job");
 }
@@ -56,21 +56,17 @@ fn count_words(alloc: Global) -> Result<usize, WordsFault> {
     words(&(line, alloc)).map(|words| words.len())
 }
 
-fn check_two(rt: &impl Abort, count: Result<usize, WordsFault>) {
-    assert_eq!(rt; count, Ok(2));
-}
-
 /// Words were not read for want of memory; they are read again, and a line is printed that says so.
 fn read_again<R: AllocGlobal + Abort + Print>(rt: &R, fault: WordsFault) {
-    assert_eq!(rt; fault, WordsFault::NoMemory);
-    check_two(rt, count_words(rt.alloc()));
+    same(rt, &fault, &WordsFault::NoMemory);
+    same(rt, &count_words(rt.alloc()), &Ok(2));
     say(rt, "NoMemory, and then words");
 }
 
 /// Two words are read, at once or after want of memory.
 fn check_read<R: AllocGlobal + Abort + Print>(rt: &R) {
     match count_words(rt.alloc()) {
-        Ok(count) => check_two(rt, Ok(count)),
+        Ok(count) => same(rt, &count, &2),
         Err(fault) => read_again(rt, fault),
     }
 }
@@ -86,14 +82,10 @@ fn imaged(alloc: Global, bytes: &mut Vec<u8>) -> Option<ScriptFault> {
     write_script_image(alloc, &mut reader, bytes, 16).err()
 }
 
-fn check_imaged<R: AllocGlobal + Abort>(rt: &R, bytes: &mut Vec<u8>) {
-    assert_eq!(rt; imaged(rt.alloc(), bytes), None);
-}
-
 /// Nothing was written of an image for want of memory; it is made again, and a line is printed that says so.
 fn image_again<R: AllocGlobal + Abort + Print>(rt: &R, bytes: &mut Vec<u8>, fault: ScriptFault) {
-    assert_eq!(rt; (fault, bytes.len()), (ScriptFault::NoMemory, 0));
-    check_imaged(rt, bytes);
+    same(rt, &(fault, bytes.len()), &(ScriptFault::NoMemory, 0));
+    same(rt, &imaged(rt.alloc(), bytes), &None);
     say(rt, "NoMemory, and then an image");
 }
 
@@ -105,11 +97,6 @@ fn make_image<R: AllocGlobal + Abort + Print>(rt: &R, bytes: &mut Vec<u8>) {
     }
 }
 
-/// An image was found to be sound.
-fn check_sound(rt: &impl Abort, told: Result<bool, ToolFault>) {
-    assert_eq!(rt; told, Ok(true));
-}
-
 /// Nothing was written of a verdict for want of memory; the image is checked again, and a line is printed that
 /// says so.
 fn judge_again<R: AllocGlobal + Abort + Print>(
@@ -118,15 +105,15 @@ fn judge_again<R: AllocGlobal + Abort + Print>(
     text: &mut Vec<u8>,
     fault: ToolFault,
 ) {
-    assert_eq!(rt; (fault, text.len()), (ToolFault::NoMemory, 0));
-    check_sound(rt, check_bytes(rt.alloc(), bytes, text));
+    same(rt, &(fault, text.len()), &(ToolFault::NoMemory, 0));
+    same(rt, &check_bytes(rt.alloc(), bytes, text), &Ok(true));
     say(rt, "NoMemory, and then a verdict");
 }
 
 /// Checks an image, at once or after want of memory.
 fn judge<R: AllocGlobal + Abort + Print>(rt: &R, bytes: &[u8], text: &mut Vec<u8>) {
     match check_bytes(rt.alloc(), bytes, text) {
-        Ok(sound) => check_sound(rt, Ok(sound)),
+        Ok(sound) => same(rt, &sound, &true),
         Err(fault) => judge_again(rt, bytes, text, fault),
     }
 }

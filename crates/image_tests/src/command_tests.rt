@@ -1,6 +1,7 @@
 //! Command lines, and words that are not text.
 
 use crate::command_lines::TwoWords;
+use crate::common::same;
 use clap::error::ErrorKind;
 use std::alloc::Global;
 use std::process::Abort;
@@ -20,7 +21,7 @@ fn check_asked<'a, R: AllocGlobal + Abort>(
     words: &'a [&'a str],
     expected: Result<Job<'a>, ErrorKind>,
 ) {
-    assert_eq!(rt; asked(rt.alloc(), words), expected, "{words:?}");
+    same(rt, &(words, asked(rt.alloc(), words)), &(words, expected));
 }
 
 /// These words are refused so.
@@ -113,18 +114,14 @@ fn refused_words(alloc: Global) -> Option<WordsFault> {
     words(&(line, alloc)).err()
 }
 
-fn check_fault(rt: &impl Abort, fault: Option<WordsFault>, expected: WordsFault) {
-    assert_eq!(rt; fault, Some(expected));
-}
-
 /// What comes of words that were not read has this status.
 fn check_status(rt: &impl Abort, fault: WordsFault, status: u8) {
-    assert_eq!(rt; status_of(&answer_of_words(fault)), status);
+    same(rt, &status_of(&answer_of_words(fault)), &status);
 }
 
 #[test]
 fn refuses_words_that_are_not_text(rt: HostRuntime) {
-    check_fault(&rt, refused_words(rt.alloc()), WordsFault::NotText);
+    same(&rt, &refused_words(rt.alloc()), &Some(WordsFault::NotText));
     check_status(&rt, WordsFault::NotText, 2);
     check_status(&rt, WordsFault::NoMemory, 1);
 }

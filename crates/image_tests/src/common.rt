@@ -4,6 +4,7 @@ use image_check::{Verdict, check};
 use kernel_calls::{Call, Core, Event};
 use memory_image::{Image, ImageFault, read_image};
 use page_words::{Page, Pid, Size, Vaddr};
+use std::fmt::Debug;
 use std::process::Abort;
 use tower_jobs::write_script_image;
 
@@ -95,7 +96,12 @@ pub(crate) fn text_on<R: AllocGlobal + Abort>(rt: &R, told: &Verdict) -> Vec<u8>
 
 /// A verdict that nothing fails, or that something does.
 pub(crate) fn check_sound(rt: &impl Abort, told: &Verdict, expected: bool) {
-    assert_eq!(rt; told.sound(), expected);
+    same(rt, &told.sound(), &expected);
+}
+
+/// What was found is what was expected.
+pub(crate) fn same<T: PartialEq + Debug>(rt: &impl Abort, found: &T, expected: &T) {
+    assert_eq!(rt; found, expected);
 }
 
 /// These bytes are the expected ones.
@@ -109,12 +115,8 @@ pub(crate) fn check_fault<R: AllocGlobal + Abort>(
     bytes: &[u8],
     expected: Option<ImageFault>,
 ) {
-    let length = bytes.len();
-    assert_eq!(rt;
-        read_image(rt.alloc(), bytes).err(),
-        expected,
-        "{length} bytes"
-    );
+    let fault = read_image(rt.alloc(), bytes).err();
+    same(rt, &(bytes.len(), fault), &(bytes.len(), expected));
 }
 
 /// An image that lacks its last byte is refused.

@@ -1,7 +1,9 @@
 //! Images that were damaged in one word, and images that were cut off: what the check and the command that
 //! checks a file find.
 
-use crate::common::{add, check_fault, image_after, image_in, same_bytes, text_on, verdict_on};
+use crate::common::{
+    add, check_fault, image_after, image_in, same, same_bytes, text_on, verdict_on,
+};
 use crate::images::{place_of, put, record_of, word};
 use image_check::ImageFault;
 use script_run::worked::sharing::SHARE_BOTH_WAYS;
@@ -203,10 +205,10 @@ fn a_changed_word_fails_the_same_for_both(rt: HostRuntime) {
 
 /// The command refuses so many bytes of an image, and writes nothing.
 fn check_command<R: AllocGlobal + Abort>(rt: &R, front: &[u8], fault: ToolFault) {
-    let length = front.len();
     let mut written = Vec::new(rt.alloc());
     let ended = check_bytes(rt.alloc(), front, &mut written).err();
-    assert_eq!(rt; (ended, written.len()), (Some(fault), 0), "{length} bytes");
+    let found = (front.len(), ended, written.len());
+    same(rt, &found, &(front.len(), Some(fault), 0));
 }
 
 /// Why so many bytes of an image are refused, by the read and by the command: fewer than four begin no image.
@@ -232,13 +234,9 @@ fn check_fronts<R: AllocGlobal + Abort>(rt: &R, bytes: &[u8]) {
     }
 }
 
-fn check_length(rt: &impl Abort, bytes: &[u8]) {
-    assert_eq!(rt; bytes.len(), 67_340);
-}
-
 #[test]
 fn an_image_that_is_cut_off_is_refused(rt: HostRuntime) {
     let bytes = image_bytes(&rt);
-    check_length(&rt, &bytes);
+    same(&rt, &bytes.len(), &67_340);
     check_fronts(&rt, &bytes);
 }

@@ -1,7 +1,7 @@
 //! The exit statuses of the program that draws maps, what it writes, and what it tells on standard error.
 
 use crate::command_lines::{Ended, check_answer, check_nothing_done, end_of};
-use crate::common::{image_after, same_bytes};
+use crate::common::{image_after, same, same_bytes};
 use crate::images::put;
 use base_tests::streams::FullWriter;
 use image_map::draw;
@@ -42,10 +42,8 @@ fn drawn_file<R: AllocGlobal + Files + Abort>(rt: &R, bytes: &[u8]) -> Ended {
 
 /// A command line came to this status, with this text at the end of standard output and this one on standard error.
 fn check_ended(rt: &impl Abort, ended: &Ended, status: u8, last: &str, errors: &str) {
-    assert_eq!(rt;
-        (ended.status, ended.output.ends_with(last.as_bytes())),
-        (status, true)
-    );
+    let found = (ended.status, ended.output.ends_with(last.as_bytes()));
+    same(rt, &found, &(status, true));
     same_bytes(rt, &ended.errors, errors.as_bytes());
 }
 
@@ -86,7 +84,11 @@ fn is_picture(output: &[u8]) -> bool {
 /// With this quota of process 0 a picture is drawn, with this status.
 fn check_pictured<R: AllocGlobal + Files + Abort>(rt: &R, quota: u32, status: u8) {
     let ended = pictured(rt, &image_with(rt, quota));
-    assert_eq!(rt; (ended.status, is_picture(&ended.output)), (status, true));
+    same(
+        rt,
+        &(ended.status, is_picture(&ended.output)),
+        &(status, true),
+    );
 }
 
 #[test]

@@ -1,10 +1,11 @@
 //! Maps of images, as text and as pictures: of small ones, of damaged ones, and of 4,096 frames.
 
-use crate::common::{add, image_after, same_bytes};
+use crate::common::{add, image_after, same, same_bytes};
 use crate::damaged_tests::{Damage, damaged, damages, frames_of, image_bytes, lines_of};
 use crate::images::{place_of, put, record_of, word};
+use crate::worked_tests::groups;
 use image_map::{Form, draw_bytes};
-use script_run::worked::{Worked, alone, forks, processes, sharing};
+use script_run::worked::Worked;
 use std::alloc::Global;
 use std::process::Abort;
 use tower_jobs::ToolFault;
@@ -175,25 +176,30 @@ fn check_scripts<R: AllocGlobal + Abort>(rt: &R, scripts: &[Worked]) {
     }
 }
 
+fn check_groups<R: AllocGlobal + Abort>(rt: &R, groups: &[&[Worked]]) {
+    for group in groups {
+        check_scripts(rt, group);
+    }
+}
+
 #[test]
 fn maps_after_worked_scripts_end_in_sound(rt: HostRuntime) {
-    check_scripts(&rt, alone::SCRIPTS.as_slice());
-    check_scripts(&rt, forks::SCRIPTS.as_slice());
-    check_scripts(&rt, processes::SCRIPTS.as_slice());
-    check_scripts(&rt, sharing::SCRIPTS.as_slice());
+    check_groups(&rt, &groups());
 }
 
 /// The picture of a damaged image has as many marks as these lines tell of frames and of processes.
 fn check_marks<R: AllocGlobal + Abort>(rt: &R, damage: &Damage, bytes: &[u8], lines: &[u8]) {
     let (picture, sound) = picture_of(rt, bytes);
     let place = damage.place;
-    let marks = (
-        times(&picture, b"; fails F"),
-        times(&picture, b">fails P"),
-        sound,
+    let frames = times(&picture, b"; fails F");
+    let marks = (place, frames, times(&picture, b">fails P"), sound);
+    let told = (
+        place,
+        times(lines, b"frame "),
+        times(lines, b"process "),
+        false,
     );
-    let told = (times(lines, b"frame "), times(lines, b"process "), false);
-    assert_eq!(rt; marks, told, "word at {place}");
+    same(rt, &marks, &told);
 }
 
 /// The map of a damaged image as text tells these lines of what fails, in its last lines.
@@ -259,7 +265,7 @@ fn tables_everywhere<R: AllocGlobal + Abort>(rt: &R) -> Vec<u8> {
 /// The map of an image as text goes on with a part at so many places, and is not sound.
 fn check_times<R: AllocGlobal + Abort>(rt: &R, bytes: &[u8], part: &[u8], expected: u64) {
     let (text, sound) = text_of(rt, bytes);
-    assert_eq!(rt; (times(&text, part), sound), (expected, false));
+    same(rt, &(times(&text, part), sound), &(expected, false));
 }
 
 /// The map of an image as text has fewer bytes than 64 frames.
@@ -306,13 +312,11 @@ fn check_sound<R: AllocGlobal + Abort>(rt: &R, image: &[u8]) {
 /// The picture of an image is whole, and has so many frames.
 fn check_picture<R: AllocGlobal + Abort>(rt: &R, image: &[u8], frames: u64) {
     let (picture, _) = picture_of(rt, image);
-    assert_eq!(rt;
-        (
-            times(&picture, b"<title>frame "),
-            picture.ends_with(b"</svg>\n")
-        ),
-        (frames, true)
+    let found = (
+        times(&picture, b"<title>frame "),
+        picture.ends_with(b"</svg>\n"),
     );
+    same(rt, &found, &(frames, true));
 }
 
 #[test]

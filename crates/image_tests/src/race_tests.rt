@@ -2,7 +2,7 @@
 
 ghost use Rattle.std.specs.Prelude.{◌≤◌};
 
-use crate::common::same_bytes;
+use crate::common::{same, same_bytes};
 use base_tests::streams::FullWriter;
 use std::process::Abort;
 use std::sync::Wait;
@@ -38,7 +38,7 @@ fn check_played<R: AllocGlobal + Threads + Wait + Abort + Sync>(
     requires { 1 ≤ rounds }
 {
     let (ended, written) = raced(rt, frames, rounds);
-    assert_eq!(rt; ended, Ok(()));
+    same(rt, &ended, &Ok(()));
     same_bytes(rt, &written, text);
 }
 
@@ -55,11 +55,8 @@ fn plays_on_the_largest_memory(rt: HostRuntime) {
 /// No race on so many frames, and nothing is written.
 fn check_refused<R: AllocGlobal + Threads + Wait + Abort + Sync>(rt: &R, frames: u32) {
     let (ended, written) = raced(rt, frames, 1);
-    assert_eq!(rt;
-        (ended, written.len()),
-        (Err(ToolFault::BadSize), 0),
-        "{frames} frames"
-    );
+    let found = (frames, ended, written.len());
+    same(rt, &found, &(frames, Err(ToolFault::BadSize), 0));
 }
 
 #[test]
@@ -84,7 +81,7 @@ fn cut_short<R: AllocGlobal + Threads + Wait + Sync>(
 /// Its text has 143 bytes. A writer that takes fewer fails, with all that it takes written.
 fn check_cut_short<R: AllocGlobal + Threads + Wait + Abort + Sync>(rt: &R, left: usize) {
     let fault = (left < THREE_ROUNDS.len()).then_some(ToolFault::WriteFailed);
-    assert_eq!(rt; cut_short(rt, left), (fault, true), "after {left} bytes");
+    same(rt, &(left, cut_short(rt, left)), &(left, (fault, true)));
 }
 
 #[test]

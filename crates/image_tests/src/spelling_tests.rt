@@ -1,7 +1,7 @@
 //! The image of a core, its bytes, and what is refused of bytes that were changed.
 
 use crate::common::{
-    booted, check_cut, check_fault, image_in, image_of, process, same_bytes, say, store,
+    booted, check_cut, check_fault, image_in, image_of, process, same, same_bytes, say, store,
 };
 use crate::images::{put, put_all, word};
 use base_tests::streams::{BrokenWriter, Pieces};
@@ -32,29 +32,36 @@ fn directory_of(rt: &impl Abort, core: &Core) -> u32 {
     core.directory(process(rt, 0)).expect(rt, "a directory").0
 }
 
-/// Bytes are as many as those of 16 frames, and begin as an image of version 2 does.
-fn check_heading(rt: &impl Abort, bytes: &[u8]) {
-    assert_eq!(rt; bytes.len(), LENGTH);
-    assert_eq!(rt;
-        bytes.get(..12),
-        Some(b"mC2I\x02\0\0\0\x10\0\0\0".as_slice())
-    );
+/// The first bytes.
+fn front<'a>(rt: &impl Abort, bytes: &'a [u8], length: usize) -> &'a [u8] {
+    bytes.get(..length).expect(rt, "a front")
 }
 
-/// The first record is that of the root, with its directory.
-fn check_root(rt: &impl Abort, bytes: &[u8], directory: u32) {
-    assert_eq!(rt;
-        [12, 16, 20, 24, 28, 32].map(|place| word(bytes, place)),
-        [1, 0, 15, 1, 0, directory]
-    );
+/// The words of the first record.
+fn first_record(bytes: &[u8]) -> [u32; 6] {
+    [
+        word(bytes, 12),
+        word(bytes, 16),
+        word(bytes, 20),
+        word(bytes, 24),
+        word(bytes, 28),
+        word(bytes, 32),
+    ]
+}
+
+/// Bytes begin as an image of version 2 and 16 frames does, with the record of the root and its directory.
+fn check_heading(rt: &impl Abort, bytes: &[u8], directory: u32) {
+    let heading = b"mC2I\x02\0\0\0\x10\0\0\0";
+    same_bytes(rt, front(rt, bytes, 12), heading);
+    same(rt, &first_record(bytes), &[1, 0, 15, 1, 0, directory]);
 }
 
 #[test]
 fn spells_a_booted_core(rt: HostRuntime) {
     let core = booted(&rt, 16);
     let bytes = spelled(&rt, &image_of(&rt, &core));
-    check_heading(&rt, &bytes);
-    check_root(&rt, &bytes, directory_of(&rt, &core));
+    same(&rt, &bytes.len(), &LENGTH);
+    check_heading(&rt, &bytes, directory_of(&rt, &core));
 }
 
 /// A core of 16 frames whose process 0 stored a word.
@@ -76,36 +83,18 @@ fn count_roles(image: &Image, core: &Core) -> u64 {
 
 /// An image is of version 2 and 16 frames, each with its role in the core, and has no role for a frame more.
 fn check_roles(rt: &impl Abort, image: &Image, core: &Core) {
-    assert_eq!(rt;
-        (image.version(), image.frames(), count_roles(image, core)),
-        (2, 16, 16)
-    );
-    assert_eq!(rt; image.role(Frame(16)), None);
-}
-
-/// Two images say the same of process 0.
-fn check_process(rt: &impl Abort, read: &Image, image: &Image) {
-    let root = process(rt, 0);
-    assert_eq!(rt; read.process(root), image.process(root));
-}
-
-/// An image has the bytes of the core's memory.
-fn check_memory(rt: &impl Abort, image: &Image, core: &Core) {
-    same_bytes(rt, image.bytes(), core.memory().bytes());
-}
-
-/// An image is spelled by these bytes.
-fn check_spelled<R: AllocGlobal + Abort>(rt: &R, image: &Image, bytes: &[u8]) {
-    same_bytes(rt, &spelled(rt, image), bytes);
+    let counts = (image.version(), image.frames(), count_roles(image, core));
+    same(rt, &counts, &(2, 16, 16));
+    same(rt, &image.role(Frame(16)), &None);
 }
 
 /// Bytes spell an image that agrees with the image that they are of, and with its core.
 fn check_read<R: AllocGlobal + Abort>(rt: &R, bytes: &[u8], image: &Image, core: &Core) {
-    let read = image_in(rt, bytes);
+    let (read, root) = (image_in(rt, bytes), process(rt, 0));
     check_roles(rt, &read, core);
-    check_process(rt, &read, image);
-    check_memory(rt, &read, core);
-    check_spelled(rt, &read, bytes);
+    same(rt, &read.process(root), &image.process(root));
+    same_bytes(rt, read.bytes(), core.memory().bytes());
+    same_bytes(rt, &spelled(rt, &read), bytes);
 }
 
 #[test]
@@ -188,14 +177,10 @@ fn check_frame_words<R: AllocGlobal + Abort>(rt: &R, bytes: &mut [u8]) {
     check_field(rt, bytes, 1800, 1);
 }
 
-fn check_version(rt: &impl Abort, image: &Image, version: u32) {
-    assert_eq!(rt; image.version(), version);
-}
-
 /// With another word at the place of the version the bytes spell an image of version 1.
 fn check_first_version<R: AllocGlobal + Abort>(rt: &R, bytes: &mut [u8]) {
     put(bytes, 4, 1);
-    check_version(rt, &image_in(rt, bytes), 1);
+    same(rt, &image_in(rt, bytes).version(), &1);
 }
 
 #[test]
@@ -221,7 +206,7 @@ fn with_roles<R: AllocGlobal + Abort>(rt: &R) -> Image {
 
 /// A frame of an image has this role.
 fn check_role(rt: &impl Abort, image: &Image, frame: u32, role: Role) {
-    assert_eq!(rt; image.role(Frame(frame)), Some(role));
+    same(rt, &image.role(Frame(frame)), &Some(role));
 }
 
 #[test]
@@ -235,8 +220,8 @@ fn tells_the_role_of_each_kind(rt: HostRuntime) {
 /// A writer that fails behind 40 bytes has the first 40 that spell the image.
 fn check_broken(rt: &impl Abort, image: &Image, bytes: &[u8]) {
     let mut writer = BrokenWriter::new(40, Pieces::Whole);
-    assert_eq!(rt; write_image(image, &mut writer), Err(WriteFailed));
-    assert_eq!(rt; Some(writer.written.as_slice()), bytes.get(..40));
+    same(rt, &write_image(image, &mut writer), &Err(WriteFailed));
+    same_bytes(rt, writer.written.as_slice(), front(rt, bytes, 40));
 }
 
 #[test]
@@ -250,7 +235,7 @@ fn check_text<R: AllocGlobal + Abort>(rt: &R, fault: ImageFault, expected: &str)
     let text = format!(in rt.alloc(); "{fault}")
         .ok()
         .expect(rt, "memory for a text");
-    assert_eq!(rt; text.as_str(), expected);
+    same_bytes(rt, text.as_bytes(), expected.as_bytes());
 }
 
 #[test]
@@ -274,36 +259,28 @@ fn made_again<R: AllocGlobal + Abort + Print>(rt: &R, core: &Core) -> Image {
     }
 }
 
-fn check_no_memory(rt: &impl Abort, fault: ImageFault) {
-    assert_eq!(rt; fault, ImageFault::NoMemory);
-}
-
 /// The image that bytes spell, in the same way.
 fn read_again<R: AllocGlobal + Abort + Print>(rt: &R, bytes: &[u8]) -> Image {
     match read_image(rt.alloc(), bytes) {
         Ok(image) => image,
         Err(fault) => {
-            check_no_memory(rt, fault);
+            same(rt, &fault, &ImageFault::NoMemory);
             say(rt, "NoMemory, and then an image of bytes");
             image_in(rt, bytes)
         }
     }
 }
 
-fn check_frames(rt: &impl Abort, image: &Image) {
-    assert_eq!(rt; image.frames(), 16);
-}
-
 /// `rt try --test --fail-alloc N` refuses the Nth allocation of this test alone. The first four are those
 /// of the core; then come two of `Image::of`, which answers NoMemory where it meets a refusal, and then succeeds.
 #[test]
 fn an_image_is_made_after_want_of_memory(rt: HostRuntime) {
-    check_frames(&rt, &made_again(&rt, &booted(&rt, 16)));
+    same(&rt, &made_again(&rt, &booted(&rt, 16)).frames(), &16);
 }
 
 /// The seventh allocation is that of the bytes; then come two of `read_image`, which answers NoMemory where it
 /// meets a refusal, and then reads the same bytes.
 #[test]
 fn an_image_is_read_after_want_of_memory(rt: HostRuntime) {
-    check_frames(&rt, &read_again(&rt, &booted_bytes(&rt)));
+    same(&rt, &read_again(&rt, &booted_bytes(&rt)).frames(), &16);
 }

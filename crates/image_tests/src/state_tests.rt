@@ -1,7 +1,7 @@
 //! What an image stands for: one pair of spaces and book at most. So what is compared is the processes with what
 //! they have, and the mapped pages with their flags, bytes and groups.
 
-use crate::common::{image_of, process, shared_both_ways};
+use crate::common::{image_of, process, same, shared_both_ways};
 use crate::images::{PAGE_WORDS, UNCHANGED, other_image, put};
 use image_check::{Image, read_image};
 use page_words::{DirWord, Frame, Pid, TableWord};
@@ -188,11 +188,9 @@ fn check_same(
     let theirs = pages_of(rt, alloc, other)
         .ok()
         .expect(rt, "memory for pages");
-    let same = have_same_pages(own, other, &mine, &theirs);
-    assert_eq!(rt;
-        (mine.len(), have_same_processes(rt, own, other), same),
-        (2, processes, pages)
-    );
+    let are_same = have_same_pages(own, other, &mine, &theirs);
+    let found = (mine.len(), have_same_processes(rt, own, other), are_same);
+    same(rt, &found, &(2, processes, pages));
 }
 
 /// The other kernel's image of version 1, with one word changed, says the same of processes, and of pages or not.

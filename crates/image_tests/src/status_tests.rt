@@ -1,7 +1,7 @@
 //! The four exit statuses, what goes to standard output, and what is told on standard error.
 
 use crate::command_lines::{Ended, check_answer, check_nothing_done, end_of};
-use crate::common::{image_after, same_bytes};
+use crate::common::{image_after, same, same_bytes};
 use crate::images::put;
 use base_tests::streams::FullWriter;
 use std::fs;
@@ -33,7 +33,7 @@ fn run<R: AllocGlobal + Files + Threads + Wait + Abort + Sync>(
 
 /// A command line came to this status, and these texts.
 fn check_ended(rt: &impl Abort, ended: &Ended, status: u8, output: &str, errors: &str) {
-    assert_eq!(rt; ended.status, status);
+    same(rt, &ended.status, &status);
     same_bytes(rt, &ended.output, output.as_bytes());
     same_bytes(rt, &ended.errors, errors.as_bytes());
 }

@@ -1,5 +1,6 @@
 //! Images of the states that worked scripts end in.
 
+use crate::common::{same, same_bytes};
 use script_run::worked::{Worked, alone, forks, processes, sharing};
 use std::alloc::Global;
 use std::process::Abort;
@@ -20,14 +21,15 @@ fn verdict_after(alloc: Global, script: &str, frames: u32) -> Result<Vec<u8>, To
 /// No image comes of a script with a malformed line.
 fn check_malformed<R: AllocGlobal + Abort>(rt: &R, worked: &Worked) {
     let verdict = verdict_after(rt.alloc(), worked.script, worked.frames);
-    assert_eq!(rt; verdict.err(), Some(ToolFault::NotImage), "{}", worked.name);
+    let found = (worked.name, verdict.err());
+    same(rt, &found, &(worked.name, Some(ToolFault::NotImage)));
 }
 
 /// The image after a script is sound.
 fn check_sound<R: AllocGlobal + Abort>(rt: &R, worked: &Worked) {
     let verdict = verdict_after(rt.alloc(), worked.script, worked.frames);
     let text = verdict.ok().expect(rt, worked.name);
-    assert_eq!(rt; text.as_slice(), b"sound\n".as_slice(), "{}", worked.name);
+    same_bytes(rt, &text, b"sound\n");
 }
 
 fn check_worked<R: AllocGlobal + Abort>(rt: &R, worked: &Worked) {
@@ -44,10 +46,23 @@ fn check_scripts<R: AllocGlobal + Abort>(rt: &R, scripts: &[Worked]) {
     }
 }
 
+/// The four groups of worked scripts.
+pub(crate) fn groups() -> [&'static [Worked]; 4] {
+    [
+        alone::SCRIPTS.as_slice(),
+        forks::SCRIPTS.as_slice(),
+        processes::SCRIPTS.as_slice(),
+        sharing::SCRIPTS.as_slice(),
+    ]
+}
+
+fn check_groups<R: AllocGlobal + Abort>(rt: &R, groups: &[&[Worked]]) {
+    for group in groups {
+        check_scripts(rt, group);
+    }
+}
+
 #[test]
 fn images_after_worked_scripts_are_sound(rt: HostRuntime) {
-    check_scripts(&rt, alone::SCRIPTS.as_slice());
-    check_scripts(&rt, forks::SCRIPTS.as_slice());
-    check_scripts(&rt, processes::SCRIPTS.as_slice());
-    check_scripts(&rt, sharing::SCRIPTS.as_slice());
+    check_groups(&rt, &groups());
 }
