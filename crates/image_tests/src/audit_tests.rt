@@ -4,10 +4,10 @@ ghost use Rattle.std.specs.Prelude.{All, IfOk};
 ghost use Rattle.integrity_checker.specs.Steps.{IsOf};
 
 use crate::common::{
-    booted, check_sound, image_in, image_of, same, same_bytes, shared_both_ways, text_on,
-    verdict_on,
+    booted, check_sound, image_in, image_of, other_bytes, same, same_bytes, shared_both_ways,
+    text_on, verdict_on,
 };
-use crate::images::{UNCHANGED, changed_image, put_all};
+use crate::images::PAGE_WORDS;
 use image_check::Verdict;
 use integrity_checker::{Audit, AuditFault, Helper, Step};
 use kernel_calls::Core;
@@ -69,11 +69,7 @@ const CASES: [(&[(usize, u32)], bool); 25] = [
 
 /// The image with these words put to it.
 fn image_with<R: AllocGlobal + Abort>(rt: &R, changes: &[(usize, u32)]) -> Image {
-    let mut bytes = changed_image(rt.alloc(), UNCHANGED)
-        .ok()
-        .expect(rt, "memory for an image");
-    put_all(&mut bytes, changes);
-    image_in(rt, &bytes)
+    image_in(rt, &other_bytes(rt, 2, PAGE_WORDS[2], changes))
 }
 
 /// What helpers answered: how often each number, and how often another clause than the check's.

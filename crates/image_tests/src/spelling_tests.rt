@@ -1,7 +1,8 @@
 //! The image of a core, its bytes, and what is refused of bytes that were changed.
 
 use crate::common::{
-    booted, check_cut, check_fault, image_in, image_of, process, same, same_bytes, say, store,
+    booted, check_cut, check_fault, image_in, image_of, process, same, same_bytes, say, spelled,
+    store,
 };
 use crate::images::{put, put_all, word};
 use base_tests::streams::{BrokenWriter, Pieces};
@@ -12,15 +13,6 @@ use std::process::Abort;
 
 /// How many bytes an image of 16 frames has.
 const LENGTH: usize = 67_340;
-
-/// The bytes that spell an image of 16 frames, in one allocation.
-fn spelled<R: AllocGlobal + Abort>(rt: &R, image: &Image) -> Vec<u8> {
-    let mut bytes = Vec::with_capacity(rt.alloc(), LENGTH)
-        .ok()
-        .expect(rt, "memory for an image");
-    write_image(image, &mut bytes).ok().expect(rt, "an image");
-    bytes
-}
 
 /// The bytes of the image of a freshly booted core of 16 frames.
 fn booted_bytes<R: AllocGlobal + Abort>(rt: &R) -> Vec<u8> {
