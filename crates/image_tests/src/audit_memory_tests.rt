@@ -1,26 +1,34 @@
 //! What an audit answers where memory is refused.
 
+use crate::common::{booted, image_of, same, say};
 use integrity_checker::{Audit, AuditFault};
 use kernel_calls::Core;
-use memory_image::Image;
-use std::test::Fail;
+use std::process::Abort;
+
+/// How many helpers there are, where an audit of a core is asked for two.
+fn begun<R: AllocGlobal + Abort>(rt: &R, core: &Core) -> Result<usize, AuditFault> {
+    Audit::new(rt.alloc(), image_of(rt, core), 2).map(|made| made.1.len())
+}
+
+/// The fault is want of memory; the same call then gives two helpers, and a line is printed that says so.
+fn begin_again<R: AllocGlobal + Abort + Print>(rt: &R, core: &Core, fault: AuditFault) {
+    same(rt, &fault, &AuditFault::NoMemory);
+    same(rt, &begun(rt, core), &Ok(2));
+    say(rt, "NoMemory, and then an audit");
+}
+
+/// An audit of a core has two helpers, at once or after want of memory.
+fn check_begun<R: AllocGlobal + Abort + Print>(rt: &R, core: &Core) {
+    match begun(rt, core) {
+        Ok(helpers) => same(rt, &helpers, &2),
+        Err(fault) => begin_again(rt, core, fault),
+    }
+}
 
 /// `rt try --test --fail-alloc N` refuses the Nth allocation of this test alone. The first six are those of
 /// the core and its image; the others are those of `Audit::new`. A call that meets a refusal answers
 /// NoMemory, the same call with memory then gives two helpers, and a line is printed that says so.
 #[test]
-fn goes_on_after_want_of_memory(rt: HostRuntime) -> Result<(), Fail> {
-    let core = Core::boot(rt.alloc(), 16)?;
-    let image = Image::of(rt.alloc(), &core)?;
-    let first = Audit::new(rt.alloc(), image, 2).map(|made| made.1.len());
-    if first.is_err() {
-        assert_eq!(rt; first, Err(AuditFault::NoMemory));
-        let image = Image::of(rt.alloc(), &core)?;
-        let again = Audit::new(rt.alloc(), image, 2).map(|made| made.1.len());
-        assert_eq!(rt; again, Ok(2));
-        println!(rt; "NoMemory, and then an audit")?;
-    } else {
-        assert_eq!(rt; first, Ok(2));
-    }
-    Ok(())
+fn goes_on_after_want_of_memory(rt: HostRuntime) {
+    check_begun(&rt, &booted(&rt, 16));
 }

@@ -1,18 +1,20 @@
 //! Audits by 1 to 8 helpers, in turn and in threads, against the check by one.
 
-ghost use Rattle.std.specs.Prelude.{All, IfOk, IfSome};
+ghost use Rattle.std.specs.Prelude.{All, IfOk};
 ghost use Rattle.integrity_checker.specs.Steps.{IsOf};
 
-use crate::common::shared_both_ways;
-use crate::images::{UNCHANGED, changed_image, put};
-use image_check::{Verdict, check};
+use crate::common::{
+    booted, check_sound, image_in, image_of, other_bytes, same, same_bytes, shared_both_ways,
+    text_on, verdict_on,
+};
+use crate::images::PAGE_WORDS;
+use image_check::Verdict;
 use integrity_checker::{Audit, AuditFault, Helper, Step};
 use kernel_calls::Core;
-use memory_image::{Image, read_image};
+use memory_image::Image;
 use page_words::{Frame, Pid};
-use std::alloc::Global;
+use std::alloc::{AllocError, Global};
 use std::process::Abort;
-use std::test::Fail;
 use std::thread;
 use std::thread::Threads;
 
@@ -66,13 +68,8 @@ const CASES: [(&[(usize, u32)], bool); 25] = [
 ];
 
 /// The image with these words put to it.
-fn image_with(alloc: Global, changes: &[(usize, u32)]) -> Result<Image, Fail> {
-    let mut bytes = changed_image(alloc, UNCHANGED)?;
-    for (place, word) in changes {
-        put(&mut bytes, *place, *word);
-    }
-    let image = read_image(alloc, &bytes)?;
-    Ok(image)
+fn image_with<R: AllocGlobal + Abort>(rt: &R, changes: &[(usize, u32)]) -> Image {
+    image_in(rt, &other_bytes(rt, 2, PAGE_WORDS[2], changes))
 }
 
 /// What helpers answered: how often each number, and how often another clause than the check's.
@@ -98,6 +95,23 @@ fn add_answers(into: &mut Answers, more: &Answers) {
     into.wrong = into.wrong.wrapping_add(more.wrong);
 }
 
+/// Adds one to the times of a number.
+fn count(times: &mut [u64; 64], number: u8) {
+    if let Some(count) = times.get_mut(number as usize) {
+        *count = count.wrapping_add(1);
+    }
+}
+
+/// Adds what a step answered.
+fn add_step(into: &mut Answers, step: Step, told: &Verdict) {
+    if let Step::Checked { pid, clause } = step {
+        count(&mut into.times, pid.number());
+        into.wrong = into
+            .wrong
+            .wrapping_add(u64::from(clause != told.process(pid)));
+    }
+}
+
 /// Some steps of a helper.
 fn steps(
     audit: &Audit,
@@ -110,14 +124,8 @@ fn steps(
     ensures { IsOf audit.now result }
 {
     for turn in 0..turns {
-        if let Step::Checked { pid, clause } = helper.step(audit) {
-            if let Some(count) = answers.times.get_mut(pid.number() as usize) {
-                *count = count.wrapping_add(1);
-            }
-            if clause != told.process(pid) {
-                answers.wrong = answers.wrong.wrapping_add(1);
-            }
-        }
+        let step = helper.step(audit);
+        add_step(answers, step, told);
     }
     helper
 }
@@ -131,7 +139,7 @@ fn round(
     turns: u64,
     first: usize,
     answers: &mut Answers,
-) -> Result<Vec<Helper>, Fail>
+) -> Result<Vec<Helper>, AllocError>
     requires { All (λ h. IsOf audit.now h) helpers.items }
     ensures { IfOk result (λ v. All (λ h. IsOf audit.now h) v.items) }
 {
@@ -143,21 +151,31 @@ fn round(
     Ok(back)
 }
 
-/// Whether two verdicts are the same, on images of so many frames.
-fn agree(one: &Verdict, other: &Verdict, frames: u32) -> bool {
+/// Whether two verdicts tell something else of the process of a number.
+fn differ(one: &Verdict, other: &Verdict, number: u8) -> bool {
+    match Pid::new(number) {
+        Some(pid) => one.process(pid) != other.process(pid),
+        None => true,
+    }
+}
+
+/// Of how many processes two verdicts tell something else.
+fn count_processes(one: &Verdict, other: &Verdict) -> u64 {
+    let mut differing = 0u64;
     for number in 0..64 {
-        if let Some(pid) = Pid::new(number) {
-            if one.process(pid) != other.process(pid) {
-                return false;
-            }
-        }
+        differing = differing.wrapping_add(u64::from(differ(one, other, number)));
     }
+    differing
+}
+
+/// Of how many of so many frames two verdicts tell something else.
+fn count_frames(one: &Verdict, other: &Verdict, frames: u32) -> u64 {
+    let mut differing = 0u64;
     for number in 0..frames {
-        if one.frame(Frame(number)) != other.frame(Frame(number)) {
-            return false;
-        }
+        let differs = one.frame(Frame(number)) != other.frame(Frame(number));
+        differing = differing.wrapping_add(u64::from(differs));
     }
-    one.sound() == other.sound()
+    differing
 }
 
 /// All steps of a helper, and what it answered.
@@ -176,7 +194,7 @@ fn threads<R: Threads + Sync>(
     audit: &Audit,
     helpers: Vec<Helper>,
     told: &Verdict,
-) -> Result<Vec<(Helper, Answers)>, Fail>
+) -> Result<Vec<(Helper, Answers)>, AllocError>
     requires { All (λ h. IsOf audit.now h) helpers.items }
     ensures { IfOk result (λ v. All (λ r. IsOf audit.now r.0) v.items) }
 {
@@ -194,7 +212,7 @@ fn handed_back(
     audit: &Audit,
     mut done: Vec<(Helper, Answers)>,
     answers: &mut Answers,
-) -> Result<Vec<Helper>, Fail>
+) -> Result<Vec<Helper>, AllocError>
     requires { All (λ r. IsOf audit.now r.0) done.items }
     ensures { IfOk result (λ v. All (λ h. IsOf audit.now h) v.items) }
 {
@@ -207,112 +225,202 @@ fn handed_back(
     Ok(back)
 }
 
+/// An audit of an image by so many helpers.
+fn begun<R: AllocGlobal + Abort>(rt: &R, image: Image, helpers: usize) -> (Audit, Vec<Helper>)
+    ensures { All (λ h. IsOf result.0 h) result.1.items }
+{
+    Audit::new(rt.alloc(), image, helpers).expect(rt, "an audit")
+}
+
+/// So many turns of the first helpers, one helper after the other.
+fn turned<R: AllocGlobal + Abort>(
+    rt: &R,
+    audit: &Audit,
+    helpers: Vec<Helper>,
+    told: &Verdict,
+    turns: u64,
+    first: usize,
+    answers: &mut Answers,
+) -> Vec<Helper>
+    requires { All (λ h. IsOf audit.now h) helpers.items }
+    ensures { All (λ h. IsOf audit.now h) result.items }
+{
+    round(rt.alloc(), audit, helpers, told, turns, first, answers).expect(rt, "a place")
+}
+
+/// All steps of all helpers in turn, at first five of each.
+fn stepped_in_turn<R: AllocGlobal + Abort>(
+    rt: &R,
+    audit: &Audit,
+    helpers: Vec<Helper>,
+    told: &Verdict,
+    answers: &mut Answers,
+) -> Vec<Helper>
+    requires { All (λ h. IsOf audit.now h) helpers.items }
+    ensures { All (λ h. IsOf audit.now h) result.items }
+{
+    let some = turned(rt, audit, helpers, told, 5, 8, answers);
+    turned(rt, audit, some, told, 65, 8, answers)
+}
+
+/// All steps of all helpers, each in a thread of its own.
+fn stepped_in_threads<R: AllocGlobal + Threads + Abort + Sync>(
+    rt: &R,
+    audit: &Audit,
+    helpers: Vec<Helper>,
+    told: &Verdict,
+    answers: &mut Answers,
+) -> Vec<Helper>
+    requires { All (λ h. IsOf audit.now h) helpers.items }
+    ensures { All (λ h. IsOf audit.now h) result.items }
+{
+    let done = threads(rt, audit, helpers, told).expect(rt, "a thread");
+    handed_back(rt.alloc(), audit, done, answers).expect(rt, "a place")
+}
+
+/// All steps of all helpers, in turn or each in a thread of its own.
+fn stepped<R: AllocGlobal + Threads + Abort + Sync>(
+    rt: &R,
+    audit: &Audit,
+    helpers: Vec<Helper>,
+    told: &Verdict,
+    in_threads: bool,
+    answers: &mut Answers,
+) -> Vec<Helper>
+    requires { All (λ h. IsOf audit.now h) helpers.items }
+    ensures { All (λ h. IsOf audit.now h) result.items }
+{
+    if in_threads {
+        return stepped_in_threads(rt, audit, helpers, told, answers);
+    }
+    stepped_in_turn(rt, audit, helpers, told, answers)
+}
+
+/// Ends an audit with its helpers.
+fn finished(rt: &impl Abort, audit: Audit, helpers: Vec<Helper>) -> Verdict
+    requires { All (λ h. IsOf audit h) helpers.items }
+{
+    audit.finish(helpers).expect(rt, "a verdict")
+}
+
 /// The verdict of an audit by so many helpers in turn, or each in a thread of its own, and what they
 /// answered.
-fn audited<R: Threads + Sync>(
+fn audited<R: AllocGlobal + Threads + Abort + Sync>(
     rt: &R,
-    alloc: Global,
     image: Image,
     count: usize,
     in_threads: bool,
     told: &Verdict,
-) -> Result<(Verdict, Answers), Fail> {
-    let (audit, helpers) = Audit::new(alloc, image, count)?;
+) -> (Verdict, Answers) {
+    let (audit, helpers) = begun(rt, image, count);
     let mut answers = no_answers();
-    if in_threads {
-        let done = threads(rt, &audit, helpers, told)?;
-        let back = handed_back(alloc, &audit, done, &mut answers)?;
-        let verdict = audit.finish(back)?;
-        return Ok((verdict, answers));
-    }
-    let some = round(alloc, &audit, helpers, told, 5, 8, &mut answers)?;
-    let all = round(alloc, &audit, some, told, 65, 8, &mut answers)?;
-    let verdict = audit.finish(all)?;
-    Ok((verdict, answers))
+    let back = stepped(rt, &audit, helpers, told, in_threads, &mut answers);
+    (finished(rt, audit, back), answers)
 }
 
-/// By 1 to 8 helpers, in turn or in threads, the verdict on an image is the check's, and each number was
-/// answered once, with the check's clause.
-fn each_number_of_helpers<R: Threads + Abort + Sync>(
+/// Each number was answered once, with the check's clause.
+fn check_answers(rt: &impl Abort, answers: &Answers, helpers: usize) {
+    let found = (helpers, answers.times, answers.wrong);
+    same(rt, &found, &(helpers, [1; 64], 0));
+}
+
+/// A verdict tells the same as the check's of all processes and of so many frames.
+fn check_agrees(rt: &impl Abort, verdict: &Verdict, told: &Verdict, frames: u32, helpers: usize) {
+    let processes = count_processes(told, verdict);
+    let found = (
+        helpers,
+        processes,
+        count_frames(told, verdict, frames),
+        verdict.sound(),
+    );
+    same(rt, &found, &(helpers, 0, 0, told.sound()));
+}
+
+/// By so many helpers, in turn or in threads, the verdict on an image is the check's, also of a frame that it has
+/// not, and each number was answered once, with the check's clause.
+fn check_audit<R: AllocGlobal + Threads + Abort + Sync>(
     rt: &R,
-    alloc: Global,
+    image: Image,
+    told: &Verdict,
+    helpers: usize,
+    in_threads: bool,
+) {
+    let frames = image.frames().wrapping_add(1);
+    let (verdict, answers) = audited(rt, image, helpers, in_threads, told);
+    check_answers(rt, &answers, helpers);
+    check_agrees(rt, &verdict, told, frames, helpers);
+}
+
+/// The same by 1 to 8 helpers, of the image with these words put to it.
+fn check_audits<R: AllocGlobal + Threads + Abort + Sync>(
+    rt: &R,
+    changes: &[(usize, u32)],
+    told: &Verdict,
+    in_threads: bool,
+) {
+    for helpers in 1..9usize {
+        check_audit(rt, image_with(rt, changes), told, helpers, in_threads);
+    }
+}
+
+/// The same, where the image is sound or not.
+fn check_case<R: AllocGlobal + Threads + Abort + Sync>(
+    rt: &R,
     changes: &[(usize, u32)],
     sound: bool,
     in_threads: bool,
-) -> Result<(), Fail> {
-    let told = check(alloc, &image_with(alloc, changes)?)?;
-    assert_eq!(rt; told.sound(), sound);
-    for count in 1..9usize {
-        let image = image_with(alloc, changes)?;
-        let (verdict, answers) = audited(rt, alloc, image, count, in_threads, &told)?;
-        assert_eq!(rt;
-            (answers.times, answers.wrong),
-            ([1; 64], 0),
-            "{count} helpers"
-        );
-        assert!(rt; agree(&told, &verdict, 17), "{count} helpers");
+) {
+    let told = verdict_on(rt, &image_with(rt, changes));
+    check_sound(rt, &told, sound);
+    check_audits(rt, changes, &told, in_threads);
+}
+
+/// The same of all cases.
+fn check_cases<R: AllocGlobal + Threads + Abort + Sync>(rt: &R, in_threads: bool) {
+    for (changes, sound) in CASES {
+        check_case(rt, changes, sound, in_threads);
     }
-    Ok(())
+}
+
+/// No audit has so many helpers.
+fn check_refused<R: AllocGlobal + Abort>(rt: &R, helpers: usize) {
+    let fault = Audit::new(rt.alloc(), image_with(rt, &[]), helpers).err();
+    same(rt, &fault, &Some(AuditFault::BadCount));
 }
 
 #[test]
-fn other_numbers_of_helpers_are_refused(rt: HostRuntime) -> Result<(), Fail> {
-    for helpers in [0, 9, usize::MAX] {
-        let image = image_with(rt.alloc(), &[])?;
-        let fault = Audit::new(rt.alloc(), image, helpers).err();
-        assert_eq!(rt; fault, Some(AuditFault::BadCount));
-    }
-    Ok(())
+fn other_numbers_of_helpers_are_refused(rt: HostRuntime) {
+    check_refused(&rt, 0);
+    check_refused(&rt, 9);
+    check_refused(&rt, usize::MAX);
+}
+
+/// An audit does not end with these helpers.
+fn check_missing(rt: &impl Abort, audit: Audit, helpers: Vec<Helper>)
+    requires { All (λ h. IsOf audit h) helpers.items }
+{
+    same(rt, &audit.finish(helpers).err(), &Some(AuditFault::Missing));
 }
 
 #[test]
-fn a_helper_that_was_not_stepped_is_missing(rt: HostRuntime) -> Result<(), Fail> {
-    let alloc = rt.alloc();
-    let image = image_with(alloc, &[])?;
-    let told = check(alloc, &image)?;
-    let (audit, helpers) = Audit::new(alloc, image, 2)?;
+fn a_helper_that_was_not_stepped_is_missing(rt: HostRuntime) {
+    let told = verdict_on(&rt, &image_with(&rt, &[]));
+    let (audit, helpers) = begun(&rt, image_with(&rt, &[]), 2);
     let mut answers = no_answers();
-    let back = round(alloc, &audit, helpers, &told, 65, 1, &mut answers)?;
-    assert_eq!(rt; (answers.times, answers.wrong), ([1; 64], 0));
-    assert_eq!(rt; audit.finish(back).err(), Some(AuditFault::Missing));
-    Ok(())
+    let back = turned(&rt, &audit, helpers, &told, 65, 1, &mut answers);
+    check_answers(&rt, &answers, 1);
+    check_missing(&rt, audit, back);
 }
 
 #[test]
-fn helpers_in_turn_find_what_one_finds(rt: HostRuntime) -> Result<(), Fail> {
-    for (changes, sound) in CASES {
-        each_number_of_helpers(&rt, rt.alloc(), changes, sound, false)?;
-    }
-    Ok(())
+fn helpers_in_turn_find_what_one_finds(rt: HostRuntime) {
+    check_cases(&rt, false);
 }
 
 #[test]
-fn helpers_in_threads_find_what_one_finds(rt: HostRuntime) -> Result<(), Fail> {
-    for (changes, sound) in CASES {
-        each_number_of_helpers(&rt, rt.alloc(), changes, sound, true)?;
-    }
-    Ok(())
+fn helpers_in_threads_find_what_one_finds(rt: HostRuntime) {
+    check_cases(&rt, true);
 }
-
-/// Words that are put into the image, one at a time, and the text of the verdict then.
-const TOLD: [(usize, u32, &str); 11] = [
-    // quota of process 0, and directory of process 1
-    (20, 16, "process 0 P1\n"),
-    (56, 0, "process 1 P2\nframe 5 F2\nframe 6 F3\nframe 11 F4\n"),
-    // a word of directory 10 in slot 0, which is outside the user range
-    (42_764, 1, "process 0 P3\n"),
-    // used of process 1, given of process 0, quota of process 1
-    (48, 4, "process 1 P5\n"),
-    (28, 6, "process 0 P6\n"),
-    (44, 2, "process 0 P6\nprocess 1 P7\n"),
-    // a word of frame 0, roles of frame 1, and the count of frame 11
-    (1808, 1, "frame 0 F1\n"),
-    (1564, 2, "frame 1 F2\n"),
-    (1564, 3, "frame 1 F3\n"),
-    (1736, 3, "frame 11 F4\n"),
-    // a word of table 12: a page in a free frame
-    (50_960, 0x1005, "process 0 P4\nframe 1 F5\n"),
-];
 
 /// How many numbers were answered.
 fn answered(answers: &Answers) -> u64 {
@@ -323,76 +431,92 @@ fn answered(answers: &Answers) -> u64 {
     sum
 }
 
+/// So many turns of the first of two helpers: the helpers, and how many numbers were answered.
+fn turned_first<R: AllocGlobal + Abort>(
+    rt: &R,
+    audit: &Audit,
+    helpers: Vec<Helper>,
+    told: &Verdict,
+    turns: u64,
+) -> (Vec<Helper>, u64)
+    requires { All (λ h. IsOf audit.now h) helpers.items }
+    ensures { All (λ h. IsOf audit.now h) result.0.items }
+{
+    let mut answers = no_answers();
+    let helpers = turned(rt, audit, helpers, told, turns, 1, &mut answers);
+    (helpers, answered(&answers))
+}
+
 /// The verdict of two helpers, of which the first judges 32 numbers, the second what is left, and the first
 /// none more; and how many numbers each of the three answered.
-fn by_halves(alloc: Global, image: Image, told: &Verdict) -> Result<(Verdict, [u64; 3]), Fail> {
-    let (audit, helpers) = Audit::new(alloc, image, 2)?;
-    let (mut first, mut second, mut third) = (no_answers(), no_answers(), no_answers());
-    let helpers = round(alloc, &audit, helpers, told, 32, 1, &mut first)?;
-    let helpers = round(alloc, &audit, helpers, told, 33, 1, &mut second)?;
-    let helpers = round(alloc, &audit, helpers, told, 1, 1, &mut third)?;
-    let verdict = audit.finish(helpers)?;
-    Ok((
-        verdict,
-        [answered(&first), answered(&second), answered(&third)],
-    ))
+fn by_halves<R: AllocGlobal + Abort>(rt: &R, image: Image, told: &Verdict) -> (Verdict, [u64; 3]) {
+    let (audit, helpers) = begun(rt, image, 2);
+    let (helpers, first) = turned_first(rt, &audit, helpers, told, 32);
+    let (helpers, second) = turned_first(rt, &audit, helpers, told, 33);
+    let (helpers, third) = turned_first(rt, &audit, helpers, told, 1);
+    (finished(rt, audit, helpers), [first, second, third])
+}
+
+/// With a word at a place two helpers find what has this text, each by half of the numbers.
+fn check_halves<R: AllocGlobal + Abort>(rt: &R, place: usize, word: u32, text: &str) {
+    let told = verdict_on(rt, &image_with(rt, &[(place, word)]));
+    let (verdict, numbers) = by_halves(rt, image_with(rt, &[(place, word)]), &told);
+    same(rt, &numbers, &[32, 32, 0]);
+    same_bytes(rt, &text_on(rt, &verdict), text.as_bytes());
 }
 
 #[test]
-fn two_helpers_of_half_the_numbers_tell_what_fails(rt: HostRuntime) -> Result<(), Fail> {
-    for (place, word, lines) in TOLD {
-        let changes = [(place, word)];
-        let told = check(rt.alloc(), &image_with(rt.alloc(), &changes)?)?;
-        let image = image_with(rt.alloc(), &changes)?;
-        let (verdict, numbers) = by_halves(rt.alloc(), image, &told)?;
-        let mut text = Vec::new(rt.alloc());
-        verdict.write_text(&mut text)?;
-        assert_eq!(rt; numbers, [32, 32, 0], "word at {place}");
-        assert_eq!(rt; text.as_slice(), lines.as_bytes(), "word at {place}");
-    }
-    Ok(())
+fn two_helpers_of_half_the_numbers_tell_what_fails(rt: HostRuntime) {
+    let orphans = "process 1 P2\nframe 5 F2\nframe 6 F3\nframe 11 F4\n";
+    // quota of process 0, and directory of process 1
+    check_halves(&rt, 20, 16, "process 0 P1\n");
+    check_halves(&rt, 56, 0, orphans);
+    // a word of directory 10 in slot 0, which is outside the user range
+    check_halves(&rt, 42_764, 1, "process 0 P3\n");
+    // used of process 1, given of process 0, quota of process 1
+    check_halves(&rt, 48, 4, "process 1 P5\n");
+    check_halves(&rt, 28, 6, "process 0 P6\n");
+    check_halves(&rt, 44, 2, "process 0 P6\nprocess 1 P7\n");
+    // a word of frame 0, roles of frame 1, and the count of frame 11
+    check_halves(&rt, 1808, 1, "frame 0 F1\n");
+    check_halves(&rt, 1564, 2, "frame 1 F2\n");
+    check_halves(&rt, 1564, 3, "frame 1 F3\n");
+    check_halves(&rt, 1736, 3, "frame 11 F4\n");
+    // a word of table 12: a page in a free frame
+    check_halves(&rt, 50_960, 0x1005, "process 0 P4\nframe 1 F5\n");
 }
 
-/// By each of these numbers of helpers, in turn and in threads, a core of so many frames is sound, as the
-/// check says.
-fn is_sound<R: Threads + Abort + Sync>(
+/// By 1 to 8 helpers, in turn or in threads, the verdict on a core is the check's.
+fn check_core_by<R: AllocGlobal + Threads + Abort + Sync>(
     rt: &R,
-    alloc: Global,
     core: &Core,
-    frames: u32,
-    counts: &[usize],
-) -> Result<(), Fail> {
-    let told = check(alloc, &Image::of(alloc, core)?)?;
-    assert!(rt; told.sound());
-    for in_threads in [false, true] {
-        for count in counts {
-            let image = Image::of(alloc, core)?;
-            let (verdict, answers) = audited(rt, alloc, image, *count, in_threads, &told)?;
-            assert_eq!(rt;
-                (answers.times, answers.wrong),
-                ([1; 64], 0),
-                "{count} helpers"
-            );
-            assert!(rt; agree(&told, &verdict, frames), "{count} helpers");
-        }
+    told: &Verdict,
+    in_threads: bool,
+) {
+    for helpers in 1..9usize {
+        check_audit(rt, image_of(rt, core), told, helpers, in_threads);
     }
-    Ok(())
+}
+
+/// By 1 to 8 helpers, in turn and in threads, a core is sound, as the check says.
+fn check_core<R: AllocGlobal + Threads + Abort + Sync>(rt: &R, core: &Core) {
+    let told = verdict_on(rt, &image_of(rt, core));
+    check_sound(rt, &told, true);
+    check_core_by(rt, core, &told, false);
+    check_core_by(rt, core, &told, true);
 }
 
 #[test]
-fn helpers_find_a_core_sound(rt: HostRuntime) -> Result<(), Fail> {
-    let core = Core::boot(rt.alloc(), 16)?;
-    is_sound(&rt, rt.alloc(), &core, 16, &[1, 2, 3, 4, 5, 6, 7, 8])
+fn helpers_find_a_core_sound(rt: HostRuntime) {
+    check_core(&rt, &booted(&rt, 16));
 }
 
 #[test]
-fn helpers_find_a_core_of_a_shared_page_sound(rt: HostRuntime) -> Result<(), Fail> {
-    let core = shared_both_ways(&rt);
-    is_sound(&rt, rt.alloc(), &core, 16, &[1, 2, 3, 4, 5, 6, 7, 8])
+fn helpers_find_a_core_of_a_shared_page_sound(rt: HostRuntime) {
+    check_core(&rt, &shared_both_ways(&rt));
 }
 
 #[test]
-fn helpers_find_the_largest_core_sound(rt: HostRuntime) -> Result<(), Fail> {
-    let core = Core::boot(rt.alloc(), 4096)?;
-    is_sound(&rt, rt.alloc(), &core, 4096, &[1, 2, 3, 4, 5, 6, 7, 8])
+fn helpers_find_the_largest_core_sound(rt: HostRuntime) {
+    check_core(&rt, &booted(&rt, 4096));
 }

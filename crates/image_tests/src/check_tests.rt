@@ -1,55 +1,22 @@
 //! Verdicts on the images of cores, on images that were changed, and on those of another kernel.
 
 use crate::common::{
-    booted, check_sound, image_in, image_of, process, same_bytes, say, text_on, verdict_on,
+    booted, check_cut, check_sound, image_in, image_of, other_bytes, process, same, same_bytes,
+    say, spelled, text_on, verdict_on,
 };
-use crate::damaged_tests::{Frames, a_page_turned_to_a_table, frames_of, image_bytes, lines_of};
-use crate::images::{PAGE_WORDS, UNCHANGED, changed_image, other_image, place_of, put, word};
+use crate::damaged_tests::{
+    Frames, a_page_turned_to_a_table, damaged, frames_of, image_bytes, lines_of,
+};
+use crate::images::{PAGE_WORDS, place_of, put, word};
 use base_tests::streams::{BrokenWriter, Pieces};
-use image_check::{
-    FrameClause, Image, ImageFault, NoMemory, ProcessClause, Verdict, WriteFailed, check,
-    read_image, write_image,
-};
-use kernel_calls::Core;
+use image_check::{FrameClause, Image, NoMemory, ProcessClause, Verdict, WriteFailed, check};
 use page_words::Frame;
-use std::alloc::Global;
 use std::process::Abort;
-use std::test::Fail;
-
-/// The bytes of a core's image.
-fn bytes_of(alloc: Global, core: &Core) -> Result<Vec<u8>, Fail> {
-    let image = Image::of(alloc, core)?;
-    let mut bytes = Vec::new(alloc);
-    write_image(&image, &mut bytes)?;
-    Ok(bytes)
-}
-
-/// The verdict on the image that bytes spell.
-fn verdict(alloc: Global, bytes: &[u8]) -> Result<Verdict, Fail> {
-    let image = read_image(alloc, bytes)?;
-    let verdict = check(alloc, &image)?;
-    Ok(verdict)
-}
-
-fn text(alloc: Global, verdict: &Verdict) -> Result<Vec<u8>, Fail> {
-    let mut text = Vec::new(alloc);
-    verdict.write_text(&mut text)?;
-    Ok(text)
-}
-
-/// The text of the verdict on a core's image, written and read again.
-fn text_of(alloc: Global, core: &Core) -> Result<Vec<u8>, Fail> {
-    let bytes = bytes_of(alloc, core)?;
-    let verdict = verdict(alloc, &bytes)?;
-    text(alloc, &verdict)
-}
 
 #[test]
-fn a_booted_core_is_sound(rt: HostRuntime) -> Result<(), Fail> {
-    let core = booted(&rt, 16);
-    let text = text_of(rt.alloc(), &core)?;
-    same_bytes(&rt, &text, b"sound\n");
-    Ok(())
+fn a_booted_core_is_sound(rt: HostRuntime) {
+    let bytes = spelled(&rt, &image_of(&rt, &booted(&rt, 16)));
+    check_text(&rt, &bytes, b"sound\n");
 }
 
 #[test]
@@ -62,7 +29,7 @@ fn the_largest_core_is_sound(rt: HostRuntime) {
 fn check_processes(rt: &impl Abort, told: &Verdict, clause: ProcessClause) {
     for number in 0..64 {
         let expected = (number == 1).then_some(clause);
-        assert_eq!(rt; told.process(process(rt, number)), expected);
+        same(rt, &told.process(process(rt, number)), &expected);
     }
 }
 
@@ -71,36 +38,26 @@ fn check_frames(rt: &impl Abort, told: &Verdict, table: u32, page: u32) {
     for number in 0..17 {
         let is_table = (number == table).then_some(FrameClause::Table);
         let is_page = (number == page).then_some(FrameClause::Page);
-        assert_eq!(rt; told.frame(Frame(number)), is_table.or(is_page));
+        same(rt, &told.frame(Frame(number)), &is_table.or(is_page));
     }
-}
-
-/// An image that lacks its last byte is refused.
-fn check_cut<R: AllocGlobal + Abort>(rt: &R, bytes: &[u8]) {
-    let (_, front) = bytes.split_last().expect(rt, "a byte");
-    let fault = read_image(rt.alloc(), front).err();
-    assert_eq!(rt; fault, Some(ImageFault::BadLength));
 }
 
 /// The verdict on these bytes tells process 1 and two frames by their clauses.
 fn check_clauses<R: AllocGlobal + Abort>(rt: &R, bytes: &[u8], at: &Frames) {
-    let image = read_image(rt.alloc(), bytes).ok().expect(rt, "an image");
-    let told = check(rt.alloc(), &image).ok().expect(rt, "a verdict");
+    let told = verdict_on(rt, &image_in(rt, bytes));
     check_processes(rt, &told, ProcessClause::Pages);
     check_frames(rt, &told, at.own_table, at.shared);
 }
 
 #[test]
-fn a_page_turned_to_a_table_is_told(rt: HostRuntime) -> Result<(), Fail> {
-    let mut bytes = image_bytes(rt.alloc())?;
-    let at = frames_of(&bytes);
-    let damage = a_page_turned_to_a_table(&bytes, &at);
-    put(&mut bytes, damage.place, damage.word);
-    let lines = lines_of(rt.alloc(), &damage)?;
+fn a_page_turned_to_a_table_is_told(rt: HostRuntime) {
+    let sound = image_bytes(&rt);
+    let at = frames_of(&sound);
+    let damage = a_page_turned_to_a_table(&sound, &at);
+    let bytes = damaged(&rt, &damage);
     check_clauses(&rt, &bytes, &at);
-    check_text(&rt, &bytes, &lines);
+    check_text(&rt, &bytes, &lines_of(&rt, &damage));
     check_cut(&rt, &bytes);
-    Ok(())
 }
 
 /// The verdict on an image that the bytes spell has this text.
@@ -109,22 +66,15 @@ fn check_text<R: AllocGlobal + Abort>(rt: &R, bytes: &[u8], expected: &[u8]) {
     same_bytes(rt, &text_on(rt, &told), expected);
 }
 
-/// The other kernel's image of version 2, in which one word is changed.
-fn changed<R: AllocGlobal + Abort>(rt: &R, place: usize, word: u32) -> Vec<u8> {
-    let bytes = changed_image(rt.alloc(), (place, word));
-    bytes.ok().expect(rt, "memory for an image")
-}
-
-/// It has a verdict of this text.
+/// The other kernel's image of version 2, in which one word is changed, has a verdict of this text.
 fn check_changed<R: AllocGlobal + Abort>(rt: &R, place: usize, word: u32, expected: &str) {
-    check_text(rt, &changed(rt, place, word), expected.as_bytes());
+    let bytes = other_bytes(rt, 2, PAGE_WORDS[2], &[(place, word)]);
+    check_text(rt, &bytes, expected.as_bytes());
 }
 
 /// The other kernel's image of a version, with this word for a page, has a verdict of this text.
 fn check_version<R: AllocGlobal + Abort>(rt: &R, version: u32, page: u32, expected: &str) {
-    let bytes = other_image(rt.alloc(), version, page)
-        .ok()
-        .expect(rt, "memory for an image");
+    let bytes = other_bytes(rt, version, page, &[]);
     check_text(rt, &bytes, expected.as_bytes());
 }
 
@@ -173,9 +123,7 @@ fn a_changed_word_fails_its_clauses(rt: HostRuntime) {
 
 /// All 704 slots of process 0 name its one table, and process 1 has its page too.
 fn one_table_everywhere<R: AllocGlobal + Abort>(rt: &R) -> Vec<u8> {
-    let mut bytes = changed_image(rt.alloc(), UNCHANGED)
-        .ok()
-        .expect(rt, "memory for an image");
+    let mut bytes = other_bytes(rt, 2, PAGE_WORDS[2], &[]);
     let link = word(&bytes, place_of(10, 256));
     for slot in 257..960 {
         put(&mut bytes, place_of(10, slot), link);
@@ -201,11 +149,7 @@ fn a_table_counts_for_each_slot_that_names_it(rt: HostRuntime) {
 
 /// The other kernel's image of a version with a lazy page that process 0 is charged for.
 fn check_lazy<R: AllocGlobal + Abort>(rt: &R, version: u32, page: u32, expected: &str) {
-    let mut bytes = other_image(rt.alloc(), version, page)
-        .ok()
-        .expect(rt, "memory for an image");
-    put(&mut bytes, 50_960, 0x0405);
-    put(&mut bytes, 24, 4);
+    let bytes = other_bytes(rt, version, page, &[(50_960, 0x0405), (24, 4)]);
     check_text(rt, &bytes, expected.as_bytes());
 }
 
@@ -218,13 +162,13 @@ fn a_lazy_page_is_sound_in_version_2_alone(rt: HostRuntime) {
 /// A writer that fails behind 20 bytes has so much of the verdict's text.
 fn check_broken(rt: &impl Abort, told: &Verdict, expected: &[u8]) {
     let mut writer = BrokenWriter::new(20, Pieces::Whole);
-    assert_eq!(rt; told.write_text(&mut writer), Err(WriteFailed));
+    same(rt, &told.write_text(&mut writer), &Err(WriteFailed));
     same_bytes(rt, writer.written.as_slice(), expected);
 }
 
 #[test]
 fn a_verdict_stops_where_a_write_fails(rt: HostRuntime) {
-    let bytes = changed(&rt, 44, 2);
+    let bytes = other_bytes(&rt, 2, PAGE_WORDS[2], &[(44, 2)]);
     let told = verdict_on(&rt, &image_in(&rt, &bytes));
     check_broken(&rt, &told, b"process 0 P6\nprocess");
 }

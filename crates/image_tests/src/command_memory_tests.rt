@@ -4,13 +4,13 @@
 //! meets it answers want of memory, with nothing written, the same call with memory then succeeds, and a line
 //! is printed that says so.
 
+use crate::command_lines::TwoWords;
+use crate::common::{same, same_bytes, say};
 use clap::error::ErrorKind;
 use script_run::ScriptFault;
 use script_run::worked::sharing::SHARE_BOTH_WAYS;
 use std::alloc::Global;
-use std::env::FillError;
-use std::rt::Env;
-use std::test::Fail;
+use std::process::Abort;
 use tower_jobs::{Job, ToolFault, WordsFault, check_bytes, job_of, words, write_script_image};
 
 /// What the words of a race ask for, or why they are refused.
@@ -21,60 +21,59 @@ fn race_asked(alloc: Global) -> Result<Job<'static>, ErrorKind> {
     }
 }
 
-#[test]
-fn a_command_line_is_read_after_want_of_memory(rt: HostRuntime) -> Result<(), Fail> {
-    let mut asked = race_asked(rt.alloc());
-    if asked.is_err() {
-        assert_eq!(rt; asked, Err(ErrorKind::OutOfMemory));
-        asked = race_asked(rt.alloc());
-        println!(rt; "OutOfMemory, and then a job")?;
-    }
+/// The words ask for seven rounds on 64 frames.
+fn check_race(rt: &impl Abort, asked: Result<Job<'static>, ErrorKind>) {
     let race = Job::Race {
         frames: 64,
         rounds: 7,
     };
-    assert_eq!(rt; asked, Ok(race));
-    Ok(())
+    same(rt, &asked, &Ok(race));
 }
 
-/// A command line of two words.
-#[derive(Drop)]
-struct TwoWords;
+/// Words were refused for want of memory; they are read again, and a line is printed that says so.
+fn ask_again<R: AllocGlobal + Abort + Print>(rt: &R, kind: ErrorKind) {
+    same(rt, &kind, &ErrorKind::OutOfMemory);
+    check_race(rt, race_asked(rt.alloc()));
+    say(rt, "OutOfMemory, and then a job");
+}
 
-impl Env for TwoWords {
-    fn arg(&self, i: usize, buf: &mut [u8]) -> Result<usize, FillError> {
-        let word: &[u8] = match i {
-            0 => b"tower",
-            1 => b"race",
-            _ => return Err(FillError::NotPresent),
-        };
-        if word.len() > buf.len() {
-            return Err(FillError::TooLong);
-        }
-        buf[..word.len()].copy_from_slice(word);
-        Ok(word.len())
-    }
-
-    fn var(&self, _name: &str, _buf: &mut [u8]) -> Result<usize, FillError> {
-        Err(FillError::NotPresent)
-    }
-
-    fn var_at(&self, _i: usize, _buf: &mut [u8]) -> Result<usize, FillError> {
-        Err(FillError::NotPresent)
+/// The words of a race are read, at once or after want of memory.
+fn check_asked<R: AllocGlobal + Abort + Print>(rt: &R) {
+    match race_asked(rt.alloc()) {
+        Ok(race) => check_race(rt, Ok(race)),
+        Err(kind) => ask_again(rt, kind),
     }
 }
 
 #[test]
-fn words_are_read_after_want_of_memory(rt: HostRuntime) -> Result<(), Fail> {
-    let env = (TwoWords, rt.alloc());
-    let mut read = words(&env).map(|words| words.len());
-    if read.is_err() {
-        assert_eq!(rt; read, Err(WordsFault::NoMemory));
-        read = words(&env).map(|words| words.len());
-        println!(rt; "NoMemory, and then words")?;
+fn a_command_line_is_read_after_want_of_memory(rt: HostRuntime) {
+    check_asked(&rt);
+}
+
+/// How many words are read of a command line of two.
+fn count_words(alloc: Global) -> Result<usize, WordsFault> {
+    let line = TwoWords { second: b"race" };
+    words(&(line, alloc)).map(|words| words.len())
+}
+
+/// Words were not read for want of memory; they are read again, and a line is printed that says so.
+fn read_again<R: AllocGlobal + Abort + Print>(rt: &R, fault: WordsFault) {
+    same(rt, &fault, &WordsFault::NoMemory);
+    same(rt, &count_words(rt.alloc()), &Ok(2));
+    say(rt, "NoMemory, and then words");
+}
+
+/// Two words are read, at once or after want of memory.
+fn check_read<R: AllocGlobal + Abort + Print>(rt: &R) {
+    match count_words(rt.alloc()) {
+        Ok(count) => same(rt, &count, &2),
+        Err(fault) => read_again(rt, fault),
     }
-    assert_eq!(rt; read, Ok(2));
-    Ok(())
+}
+
+#[test]
+fn words_are_read_after_want_of_memory(rt: HostRuntime) {
+    check_read(&rt);
 }
 
 /// Makes the image after a script: its bytes and the fault.
@@ -83,25 +82,54 @@ fn imaged(alloc: Global, bytes: &mut Vec<u8>) -> Option<ScriptFault> {
     write_script_image(alloc, &mut reader, bytes, 16).err()
 }
 
+/// Nothing was written of an image for want of memory; it is made again, and a line is printed that says so.
+fn image_again<R: AllocGlobal + Abort + Print>(rt: &R, bytes: &mut Vec<u8>, fault: ScriptFault) {
+    same(rt, &(fault, bytes.len()), &(ScriptFault::NoMemory, 0));
+    same(rt, &imaged(rt.alloc(), bytes), &None);
+    say(rt, "NoMemory, and then an image");
+}
+
+/// Makes the image after a script, at once or after want of memory.
+fn make_image<R: AllocGlobal + Abort + Print>(rt: &R, bytes: &mut Vec<u8>) {
+    match imaged(rt.alloc(), bytes) {
+        None => {}
+        Some(fault) => image_again(rt, bytes, fault),
+    }
+}
+
+/// Nothing was written of a verdict for want of memory; the image is checked again, and a line is printed that
+/// says so.
+fn judge_again<R: AllocGlobal + Abort + Print>(
+    rt: &R,
+    bytes: &[u8],
+    text: &mut Vec<u8>,
+    fault: ToolFault,
+) {
+    same(rt, &(fault, text.len()), &(ToolFault::NoMemory, 0));
+    same(rt, &check_bytes(rt.alloc(), bytes, text), &Ok(true));
+    say(rt, "NoMemory, and then a verdict");
+}
+
+/// Checks an image, at once or after want of memory.
+fn judge<R: AllocGlobal + Abort + Print>(rt: &R, bytes: &[u8], text: &mut Vec<u8>) {
+    match check_bytes(rt.alloc(), bytes, text) {
+        Ok(sound) => same(rt, &sound, &true),
+        Err(fault) => judge_again(rt, bytes, text, fault),
+    }
+}
+
+/// Memory for so many bytes.
+fn room<R: AllocGlobal + Abort>(rt: &R, bytes: usize) -> Vec<u8> {
+    Vec::with_capacity(rt.alloc(), bytes)
+        .ok()
+        .expect(rt, "memory for bytes")
+}
+
 #[test]
-fn an_image_is_made_and_checked_after_want_of_memory(rt: HostRuntime) -> Result<(), Fail> {
-    let mut bytes = Vec::with_capacity(rt.alloc(), 67_340)?;
-    let mut text = Vec::with_capacity(rt.alloc(), 64)?;
-    let made = imaged(rt.alloc(), &mut bytes);
-    if made.is_some() {
-        assert_eq!(rt; made, Some(ScriptFault::NoMemory));
-        assert!(rt; bytes.is_empty());
-        assert_eq!(rt; imaged(rt.alloc(), &mut bytes), None);
-        println!(rt; "NoMemory, and then an image")?;
-    }
-    let mut checked = check_bytes(rt.alloc(), &bytes, &mut text);
-    if checked.is_err() {
-        assert_eq!(rt; checked, Err(ToolFault::NoMemory));
-        assert!(rt; text.is_empty());
-        checked = check_bytes(rt.alloc(), &bytes, &mut text);
-        println!(rt; "NoMemory, and then a verdict")?;
-    }
-    assert_eq!(rt; checked, Ok(true));
-    assert_eq!(rt; text.as_slice(), b"sound\n".as_slice());
-    Ok(())
+fn an_image_is_made_and_checked_after_want_of_memory(rt: HostRuntime) {
+    let mut bytes = room(&rt, 67_340);
+    let mut text = room(&rt, 64);
+    make_image(&rt, &mut bytes);
+    judge(&rt, &bytes, &mut text);
+    same_bytes(&rt, &text, b"sound\n");
 }

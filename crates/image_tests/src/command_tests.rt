@@ -1,10 +1,10 @@
 //! Command lines, and words that are not text.
 
+use crate::command_lines::TwoWords;
+use crate::common::same;
 use clap::error::ErrorKind;
 use std::alloc::Global;
-use std::env::FillError;
-use std::rt::Env;
-use std::test::Fail;
+use std::process::Abort;
 use tower_jobs::{Job, WordsFault, answer_of_words, job_of, status_of, words};
 
 /// What these words ask for, or why they are refused.
@@ -15,175 +15,113 @@ fn asked<'a>(alloc: Global, words: &'a [&'a str]) -> Result<Job<'a>, ErrorKind> 
     }
 }
 
-#[test]
-fn reads_numbers_of_frames_as_clap_does(rt: HostRuntime) -> Result<(), Fail> {
-    let run = |frames| Job::Run { frames };
-    for (words, want) in [
-        (["tower", "run"].as_slice(), Ok(run(16))),
-        (["tower", "run", "--frames", "64"].as_slice(), Ok(run(64))),
-        (["tower", "run", "--frames=0064"].as_slice(), Ok(run(64))),
-        (["tower", "run", "--frames=+64"].as_slice(), Ok(run(64))),
-        (["tower", "run", "--frames=-0"].as_slice(), Ok(run(0))),
-        (
-            ["tower", "run", "--frames=4294967295"].as_slice(),
-            Ok(run(4_294_967_295)),
-        ),
-        (
-            ["tower", "run", "--frames=4294967296"].as_slice(),
-            Err(ErrorKind::ValueValidation),
-        ),
-        (
-            ["tower", "run", "--frames=-1"].as_slice(),
-            Err(ErrorKind::ValueValidation),
-        ),
-        (
-            ["tower", "run", "--frames", "abc"].as_slice(),
-            Err(ErrorKind::ValueValidation),
-        ),
-    ] {
-        assert_eq!(rt; asked(rt.alloc(), words), want, "{words:?}");
-    }
-    Ok(())
+/// These words ask for this, or are refused so.
+fn check_asked<'a, R: AllocGlobal + Abort>(
+    rt: &R,
+    words: &'a [&'a str],
+    expected: Result<Job<'a>, ErrorKind>,
+) {
+    same(rt, &(words, asked(rt.alloc(), words)), &(words, expected));
+}
+
+/// These words are refused so.
+fn check_refused<R: AllocGlobal + Abort>(rt: &R, words: &[&str], kind: ErrorKind) {
+    check_asked(rt, words, Err(kind));
+}
+
+/// These words ask to run a script on so many frames.
+fn check_run<R: AllocGlobal + Abort>(rt: &R, words: &[&str], frames: u32) {
+    check_asked(rt, words, Ok(Job::Run { frames }));
 }
 
 #[test]
-fn refuses_other_words_as_clap_does(rt: HostRuntime) -> Result<(), Fail> {
-    for (words, want) in [
-        (
-            ["tower", "run", "--frames", "-0"].as_slice(),
-            Err(ErrorKind::UnknownArgument),
-        ),
-        (
-            ["tower", "run", "--frames", "16", "--frames", "17"].as_slice(),
-            Err(ErrorKind::ArgumentConflict),
-        ),
-        (
-            ["tower", "run", "16"].as_slice(),
-            Err(ErrorKind::UnknownArgument),
-        ),
-        (
-            ["tower", "run", "--help"].as_slice(),
-            Err(ErrorKind::DisplayHelp),
-        ),
-        (["tower", "help"].as_slice(), Err(ErrorKind::DisplayHelp)),
-        (
-            ["tower", "walk"].as_slice(),
-            Err(ErrorKind::InvalidSubcommand),
-        ),
-        (
-            ["tower", "run", "--rounds", "2"].as_slice(),
-            Err(ErrorKind::UnknownArgument),
-        ),
-        (["tower"].as_slice(), Err(ErrorKind::MissingSubcommand)),
-    ] {
-        assert_eq!(rt; asked(rt.alloc(), words), want, "{words:?}");
-    }
-    Ok(())
+fn reads_numbers_of_frames_as_clap_does(rt: HostRuntime) {
+    let value = ErrorKind::ValueValidation;
+    check_run(&rt, &["tower", "run"], 16);
+    check_run(&rt, &["tower", "run", "--frames", "64"], 64);
+    check_run(&rt, &["tower", "run", "--frames=0064"], 64);
+    check_run(&rt, &["tower", "run", "--frames=+64"], 64);
+    check_run(&rt, &["tower", "run", "--frames=-0"], 0);
+    check_run(&rt, &["tower", "run", "--frames=4294967295"], 4_294_967_295);
+    check_refused(&rt, &["tower", "run", "--frames=4294967296"], value);
+    check_refused(&rt, &["tower", "run", "--frames=-1"], value);
+    check_refused(&rt, &["tower", "run", "--frames", "abc"], value);
 }
 
 #[test]
-fn reads_races_as_clap_does(rt: HostRuntime) -> Result<(), Fail> {
-    let race = |frames, rounds| Job::Race { frames, rounds };
-    for (words, want) in [
-        (["tower", "race"].as_slice(), Ok(race(16, 100))),
-        (
-            ["tower", "race", "--rounds", "1"].as_slice(),
-            Ok(race(16, 1)),
-        ),
-        (
-            ["tower", "race", "--rounds=1000", "--frames=4097"].as_slice(),
-            Ok(race(4097, 1000)),
-        ),
-        (["tower", "race", "--rounds=+7"].as_slice(), Ok(race(16, 7))),
-        (
-            ["tower", "race", "--rounds", "0"].as_slice(),
-            Err(ErrorKind::ValueValidation),
-        ),
-        (
-            ["tower", "race", "--rounds=1001"].as_slice(),
-            Err(ErrorKind::ValueValidation),
-        ),
-        (
-            ["tower", "race", "--rounds=-0"].as_slice(),
-            Err(ErrorKind::ValueValidation),
-        ),
-        (
-            ["tower", "race", "--rounds", "all"].as_slice(),
-            Err(ErrorKind::ValueValidation),
-        ),
-        (
-            ["tower", "race", "--rounds", "2", "--rounds", "2"].as_slice(),
-            Err(ErrorKind::ArgumentConflict),
-        ),
-        (
-            ["tower", "race", "--help"].as_slice(),
-            Err(ErrorKind::DisplayHelp),
-        ),
-    ] {
-        assert_eq!(rt; asked(rt.alloc(), words), want, "{words:?}");
-    }
-    Ok(())
+fn refuses_other_words_as_clap_does(rt: HostRuntime) {
+    let unknown = ErrorKind::UnknownArgument;
+    let conflict = ErrorKind::ArgumentConflict;
+    let help = ErrorKind::DisplayHelp;
+    let twice = ["tower", "run", "--frames", "16", "--frames", "17"];
+    check_refused(&rt, &["tower", "run", "--frames", "-0"], unknown);
+    check_refused(&rt, &twice, conflict);
+    check_refused(&rt, &["tower", "run", "16"], unknown);
+    check_refused(&rt, &["tower", "run", "--help"], help);
+    check_refused(&rt, &["tower", "help"], help);
+    check_refused(&rt, &["tower", "walk"], ErrorKind::InvalidSubcommand);
+    check_refused(&rt, &["tower", "run", "--rounds", "2"], unknown);
+    check_refused(&rt, &["tower"], ErrorKind::MissingSubcommand);
+}
+
+/// These words ask for so many rounds of a race, each on so many frames.
+fn check_race<R: AllocGlobal + Abort>(rt: &R, words: &[&str], frames: u32, rounds: u32) {
+    check_asked(rt, words, Ok(Job::Race { frames, rounds }));
 }
 
 #[test]
-fn reads_images_and_checks_as_clap_does(rt: HostRuntime) -> Result<(), Fail> {
-    let image = |frames| Job::Image { frames };
-    for (words, want) in [
-        (["tower", "image"].as_slice(), Ok(image(16))),
-        (["tower", "image", "--frames=64"].as_slice(), Ok(image(64))),
-        (
-            ["tower", "image", "--rounds", "2"].as_slice(),
-            Err(ErrorKind::UnknownArgument),
-        ),
-        (
-            ["tower", "check", "an.image"].as_slice(),
-            Ok(Job::Check { file: "an.image" }),
-        ),
-        (
-            ["tower", "check"].as_slice(),
-            Err(ErrorKind::MissingRequiredArgument),
-        ),
-        (
-            ["tower", "check", "one", "two"].as_slice(),
-            Err(ErrorKind::UnknownArgument),
-        ),
-    ] {
-        assert_eq!(rt; asked(rt.alloc(), words), want, "{words:?}");
-    }
-    Ok(())
+fn reads_races_as_clap_does(rt: HostRuntime) {
+    let value = ErrorKind::ValueValidation;
+    let both = ["tower", "race", "--rounds=1000", "--frames=4097"];
+    let twice = ["tower", "race", "--rounds", "2", "--rounds", "2"];
+    check_race(&rt, &["tower", "race"], 16, 100);
+    check_race(&rt, &["tower", "race", "--rounds", "1"], 16, 1);
+    check_race(&rt, &both, 4097, 1000);
+    check_race(&rt, &["tower", "race", "--rounds=+7"], 16, 7);
+    check_refused(&rt, &["tower", "race", "--rounds", "0"], value);
+    check_refused(&rt, &["tower", "race", "--rounds=1001"], value);
+    check_refused(&rt, &["tower", "race", "--rounds=-0"], value);
+    check_refused(&rt, &["tower", "race", "--rounds", "all"], value);
+    check_refused(&rt, &twice, ErrorKind::ArgumentConflict);
+    check_refused(&rt, &["tower", "race", "--help"], ErrorKind::DisplayHelp);
 }
 
-/// A command line whose second word is not text.
-#[derive(Drop)]
-struct NoText;
+/// These words ask for an image of so many frames.
+fn check_image<R: AllocGlobal + Abort>(rt: &R, words: &[&str], frames: u32) {
+    check_asked(rt, words, Ok(Job::Image { frames }));
+}
 
-impl Env for NoText {
-    fn arg(&self, i: usize, buf: &mut [u8]) -> Result<usize, FillError> {
-        let word: &[u8] = match i {
-            0 => b"tower",
-            1 => b"\xff",
-            _ => return Err(FillError::NotPresent),
-        };
-        if word.len() > buf.len() {
-            return Err(FillError::TooLong);
-        }
-        buf[..word.len()].copy_from_slice(word);
-        Ok(word.len())
-    }
+/// These words ask to check a file.
+fn check_file<R: AllocGlobal + Abort>(rt: &R, words: &[&str], file: &'static str) {
+    check_asked(rt, words, Ok(Job::Check { file }));
+}
 
-    fn var(&self, _name: &str, _buf: &mut [u8]) -> Result<usize, FillError> {
-        Err(FillError::NotPresent)
-    }
+#[test]
+fn reads_images_and_checks_as_clap_does(rt: HostRuntime) {
+    let unknown = ErrorKind::UnknownArgument;
+    let missing = ErrorKind::MissingRequiredArgument;
+    check_image(&rt, &["tower", "image"], 16);
+    check_image(&rt, &["tower", "image", "--frames=64"], 64);
+    check_refused(&rt, &["tower", "image", "--rounds", "2"], unknown);
+    check_file(&rt, &["tower", "check", "an.image"], "an.image");
+    check_refused(&rt, &["tower", "check"], missing);
+    check_refused(&rt, &["tower", "check", "one", "two"], unknown);
+}
 
-    fn var_at(&self, _i: usize, _buf: &mut [u8]) -> Result<usize, FillError> {
-        Err(FillError::NotPresent)
-    }
+/// Why a command line whose second word is not text is not read.
+fn refused_words(alloc: Global) -> Option<WordsFault> {
+    let line = TwoWords { second: b"\xff" };
+    words(&(line, alloc)).err()
+}
+
+/// What comes of words that were not read has this status.
+fn check_status(rt: &impl Abort, fault: WordsFault, status: u8) {
+    same(rt, &status_of(&answer_of_words(fault)), &status);
 }
 
 #[test]
 fn refuses_words_that_are_not_text(rt: HostRuntime) {
-    let read = words(&(NoText, rt.alloc()));
-    assert_eq!(rt; read.err(), Some(WordsFault::NotText));
-    assert_eq!(rt; status_of(&answer_of_words(WordsFault::NotText)), 2);
-    assert_eq!(rt; status_of(&answer_of_words(WordsFault::NoMemory)), 1);
+    same(&rt, &refused_words(rt.alloc()), &Some(WordsFault::NotText));
+    check_status(&rt, WordsFault::NotText, 2);
+    check_status(&rt, WordsFault::NoMemory, 1);
 }

@@ -1,12 +1,14 @@
 //! Images that were damaged in one word, and images that were cut off: what the check and the command that
 //! checks a file find.
 
+use crate::common::{
+    add, check_fault, image_after, image_in, same, same_bytes, text_on, verdict_on,
+};
 use crate::images::{place_of, put, record_of, word};
-use integrity_checker::{ImageFault, check, read_image};
+use image_check::ImageFault;
 use script_run::worked::sharing::SHARE_BOTH_WAYS;
-use std::alloc::Global;
-use std::test::Fail;
-use tower_jobs::{ToolFault, check_bytes, write_script_image};
+use std::process::Abort;
+use tower_jobs::{ToolFault, check_bytes};
 
 /// No frame, and no clause.
 const NONE: (u32, u32) = (u32::MAX, 0);
@@ -126,79 +128,115 @@ pub(crate) fn a_page_turned_to_a_table(bytes: &[u8], at: &Frames) -> Damage {
     }
 }
 
-/// The lines of what fails: processes first, then frames in ascending order.
-pub(crate) fn lines_of(alloc: Global, damage: &Damage) -> Result<Vec<u8>, Fail> {
-    let mut lines = Vec::new(alloc);
-    lines.extend_from_slice(damage.processes.as_bytes())?;
-    for number in 0..16u32 {
-        for (frame, clause) in damage.frames {
-            if frame == number {
-                let line = format!(in alloc; "frame {frame} F{clause}\n")?;
-                lines.extend_from_slice(line.as_bytes())?;
-            }
-        }
-    }
-    Ok(lines)
+/// Adds the line of a frame that fails a clause.
+fn add_line<R: AllocGlobal + Abort>(rt: &R, lines: &mut Vec<u8>, frame: u32, clause: u32) {
+    let line = format!(in rt.alloc(); "frame {frame} F{clause}\n")
+        .ok()
+        .expect(rt, "memory for a line");
+    add(rt, lines, line.as_bytes());
 }
 
-/// The image after the script.
-pub(crate) fn image_bytes(alloc: Global) -> Result<Vec<u8>, Fail> {
-    let mut bytes = Vec::new(alloc);
-    let mut reader = SHARE_BOTH_WAYS.script.as_bytes();
-    write_script_image(alloc, &mut reader, &mut bytes, 16)?;
-    Ok(bytes)
+/// Adds the line of the frame of that number, where it fails a clause.
+fn add_line_of<R: AllocGlobal + Abort>(rt: &R, lines: &mut Vec<u8>, damage: &Damage, number: u32) {
+    for (frame, clause) in damage.frames {
+        if frame == number {
+            add_line(rt, lines, frame, clause);
+        }
+    }
+}
+
+/// Adds the lines of all frames that fail, in ascending order.
+fn add_frames<R: AllocGlobal + Abort>(rt: &R, lines: &mut Vec<u8>, damage: &Damage) {
+    for number in 0..16u32 {
+        add_line_of(rt, lines, damage, number);
+    }
+}
+
+/// The lines of what fails: processes first, then frames in ascending order.
+pub(crate) fn lines_of<R: AllocGlobal + Abort>(rt: &R, damage: &Damage) -> Vec<u8> {
+    let mut lines = Vec::new(rt.alloc());
+    add(rt, &mut lines, damage.processes.as_bytes());
+    add_frames(rt, &mut lines, damage);
+    lines
+}
+
+/// The bytes of the image after the script.
+pub(crate) fn image_bytes<R: AllocGlobal + Abort>(rt: &R) -> Vec<u8> {
+    image_after(rt, SHARE_BOTH_WAYS.script, 16)
+}
+
+/// The bytes of that image with one word changed.
+pub(crate) fn damaged<R: AllocGlobal + Abort>(rt: &R, damage: &Damage) -> Vec<u8> {
+    let mut bytes = image_bytes(rt);
+    put(&mut bytes, damage.place, damage.word);
+    bytes
 }
 
 /// What the check finds.
-fn checked(alloc: Global, bytes: &[u8]) -> Result<Vec<u8>, Fail> {
-    let image = read_image(alloc, bytes)?;
-    let mut text = Vec::new(alloc);
-    check(alloc, &image)?.write_text(&mut text)?;
-    Ok(text)
+fn checked<R: AllocGlobal + Abort>(rt: &R, bytes: &[u8]) -> Vec<u8> {
+    text_on(rt, &verdict_on(rt, &image_in(rt, bytes)))
 }
 
 /// What the command on a file's bytes writes.
-fn commanded(alloc: Global, bytes: &[u8]) -> Result<Vec<u8>, Fail> {
-    let mut text = Vec::new(alloc);
-    check_bytes(alloc, bytes, &mut text)?;
-    Ok(text)
+fn commanded<R: AllocGlobal + Abort>(rt: &R, bytes: &[u8]) -> Vec<u8> {
+    let mut text = Vec::new(rt.alloc());
+    let sound = check_bytes(rt.alloc(), bytes, &mut text);
+    sound.ok().expect(rt, "a verdict on bytes");
+    text
 }
 
-#[test]
-fn a_changed_word_fails_the_same_for_both(rt: HostRuntime) -> Result<(), Fail> {
-    let sound = image_bytes(rt.alloc())?;
-    let places = frames_of(sound.as_slice());
-    for damage in damages(&places) {
-        let mut bytes = image_bytes(rt.alloc())?;
-        put(&mut bytes, damage.place, damage.word);
-        let lines = lines_of(rt.alloc(), &damage)?;
-        let word = damage.place;
-        assert_eq!(rt; checked(rt.alloc(), &bytes)?, lines, "word at {word}");
-        assert_eq!(rt; commanded(rt.alloc(), &bytes)?, lines, "word at {word}");
+/// The check and the command find these lines.
+fn check_both<R: AllocGlobal + Abort>(rt: &R, bytes: &[u8], lines: &[u8]) {
+    same_bytes(rt, &checked(rt, bytes), lines);
+    same_bytes(rt, &commanded(rt, bytes), lines);
+}
+
+/// The check and the command find of each damaged image what fails.
+fn check_damages<R: AllocGlobal + Abort>(rt: &R, damages: &[Damage]) {
+    for damage in damages {
+        check_both(rt, &damaged(rt, damage), &lines_of(rt, damage));
     }
-    Ok(())
 }
 
 #[test]
-fn an_image_that_is_cut_off_is_refused(rt: HostRuntime) -> Result<(), Fail> {
-    let bytes = image_bytes(rt.alloc())?;
+fn a_changed_word_fails_the_same_for_both(rt: HostRuntime) {
+    check_damages(&rt, &damages(&frames_of(&image_bytes(&rt))));
+}
+
+/// The command refuses so many bytes of an image, and writes nothing.
+fn check_command<R: AllocGlobal + Abort>(rt: &R, front: &[u8], fault: ToolFault) {
     let mut written = Vec::new(rt.alloc());
-    for length in 0..bytes.len() {
-        let front = bytes.get(..length).ok_or("a front")?;
-        let (read, told) = if length < 4 {
-            (ImageFault::NotImage, ToolFault::NotImage)
-        } else {
-            (ImageFault::BadLength, ToolFault::BadLength)
-        };
-        assert_eq!(rt;
-            read_image(rt.alloc(), front).err(),
-            Some(read),
-            "{length} bytes"
-        );
-        let ended = check_bytes(rt.alloc(), front, &mut written);
-        assert_eq!(rt; ended.err(), Some(told), "{length} bytes");
+    let ended = check_bytes(rt.alloc(), front, &mut written).err();
+    let found = (front.len(), ended, written.len());
+    same(rt, &found, &(front.len(), Some(fault), 0));
+}
+
+/// Why so many bytes of an image are refused, by the read and by the command: fewer than four begin no image.
+fn faults_of(length: usize) -> (ImageFault, ToolFault) {
+    if length < 4 {
+        (ImageFault::NotImage, ToolFault::NotImage)
+    } else {
+        (ImageFault::BadLength, ToolFault::BadLength)
     }
-    assert!(rt; written.is_empty());
-    assert_eq!(rt; bytes.len(), 67_340);
-    Ok(())
+}
+
+/// The read and the command refuse less than an image.
+fn check_front<R: AllocGlobal + Abort>(rt: &R, front: &[u8]) {
+    let (read, told) = faults_of(front.len());
+    check_fault(rt, front, Some(read));
+    check_command(rt, front, told);
+}
+
+/// The first bytes of an image are refused, however many they are.
+fn check_fronts<R: AllocGlobal + Abort>(rt: &R, bytes: &[u8]) {
+    for length in 0..bytes.len() {
+        check_front(rt, bytes.get(..length).expect(rt, "a front"));
+    }
+}
+
+#[test]
+fn an_image_that_is_cut_off_is_refused(rt: HostRuntime) {
+    let bytes = image_bytes(&rt);
+    same(&rt, &bytes.len(), &67_340);
+    check_fronts(&rt, &bytes);
 }

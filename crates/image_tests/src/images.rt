@@ -22,6 +22,13 @@ pub(crate) fn put(bytes: &mut [u8], place: usize, word: u32) {
     }
 }
 
+/// Puts words, each at its place.
+pub(crate) fn put_all(bytes: &mut [u8], words: &[(usize, u32)]) {
+    for (place, word) in words {
+        put(bytes, *place, *word);
+    }
+}
+
 /// Where the word of an index of a frame stands.
 pub(crate) fn place_of(frame: u32, index: u32) -> usize {
     let within = frame.wrapping_mul(4096).wrapping_add(index.wrapping_mul(4));
@@ -81,26 +88,14 @@ pub(crate) fn other_kernels_words(version: u32, page: u32) -> [(usize, u32); 37]
 /// The word of a page in frame 11 that was stored to, as each version has it.
 pub(crate) const PAGE_WORDS: [u32; 3] = [0, 0xb267, 0xba67];
 
-/// A change that changes nothing.
-pub(crate) const UNCHANGED: (usize, u32) = (0, 0x4932_436d);
-
 /// The bytes of an image with these words.
 fn spelled(alloc: Global, words: &[(usize, u32)]) -> Result<Vec<u8>, AllocError> {
     let mut bytes = vec![in alloc; 0u8; 67_340]?;
-    for (place, word) in words {
-        put(&mut bytes, *place, *word);
-    }
+    put_all(&mut bytes, words);
     Ok(bytes)
 }
 
 /// The other kernel's image, of a version, with this word for the shared page.
 pub(crate) fn other_image(alloc: Global, version: u32, page: u32) -> Result<Vec<u8>, AllocError> {
     spelled(alloc, &other_kernels_words(version, page))
-}
-
-/// The other kernel's image of version 2, in which one word is changed.
-pub(crate) fn changed_image(alloc: Global, change: (usize, u32)) -> Result<Vec<u8>, AllocError> {
-    let mut bytes = other_image(alloc, 2, PAGE_WORDS[2])?;
-    put(&mut bytes, change.0, change.1);
-    Ok(bytes)
 }

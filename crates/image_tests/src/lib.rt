@@ -9,6 +9,8 @@ mod audit_tests;
 #[cfg(test)]
 mod check_tests;
 #[cfg(test)]
+mod command_lines;
+#[cfg(test)]
 mod command_memory_tests;
 #[cfg(test)]
 mod command_tests;

@@ -1,108 +1,125 @@
 //! The exit statuses of the program that draws maps, what it writes, and what it tells on standard error.
 
+use crate::command_lines::{Ended, check_answer, check_nothing_done, end_of};
+use crate::common::{image_after, same, same_bytes};
+use crate::images::put;
 use base_tests::streams::FullWriter;
 use image_map::draw;
-use std::alloc::Global;
 use std::fs;
 use std::fs::Files;
-use std::test::Fail;
-use tower_jobs::{Answer, status_of, tell, write_script_image};
-
-/// What an answer is told with on standard error.
-fn told(alloc: Global, answer: &Answer) -> Result<Vec<u8>, Fail> {
-    let mut errors = Vec::new(alloc);
-    tell(answer, &mut errors)?;
-    Ok(errors)
-}
+use std::process::Abort;
 
 /// The image after no event, of which process 0 has this quota.
-fn image_with(alloc: Global, quota: u8) -> Result<Vec<u8>, Fail> {
-    let mut bytes = Vec::new(alloc);
-    write_script_image(alloc, &mut "".as_bytes(), &mut bytes, 16)?;
-    *bytes.get_mut(20).ok_or("a quota")? = quota;
-    Ok(bytes)
+fn image_with<R: AllocGlobal + Abort>(rt: &R, quota: u32) -> Vec<u8> {
+    let mut bytes = image_after(rt, "", 16);
+    put(&mut bytes, 20, quota);
+    bytes
 }
 
-/// The status of drawing a file of these bytes, what was written, and what was told.
-fn ended<R: AllocGlobal + Files>(
-    rt: &R,
-    option: &[&str],
-    name: &str,
-    bytes: &[u8],
-) -> Result<(u8, Vec<u8>, Vec<u8>), Fail> {
-    fs::write(rt, name, bytes)?;
-    let mut words = Vec::new(rt.alloc());
-    words.push("memory_map")?;
-    words.extend_from_slice(option)?;
-    words.push(name)?;
+/// What comes of words.
+fn drawn<R: AllocGlobal + Files + Abort>(rt: &R, words: &[&str]) -> Ended {
     let mut output = Vec::new(rt.alloc());
-    let answer = draw(rt, &words, &mut output);
-    fs::remove_file(rt, name)?;
-    Ok((status_of(&answer), output, told(rt.alloc(), &answer)?))
+    let answer = draw(rt, words, &mut output);
+    end_of(rt, &answer, output)
+}
+
+fn put_file<R: Files + Abort>(rt: &R, name: &str, bytes: &[u8]) {
+    fs::write(rt, name, bytes).ok().expect(rt, "a file");
+}
+
+fn remove_file<R: Files + Abort>(rt: &R, name: &str) {
+    fs::remove_file(rt, name).ok().expect(rt, "no file");
+}
+
+/// What comes of drawing a file of these bytes.
+fn drawn_file<R: AllocGlobal + Files + Abort>(rt: &R, bytes: &[u8]) -> Ended {
+    let name = "drawn.by.a.test.image";
+    put_file(rt, name, bytes);
+    let ended = drawn(rt, &["memory_map", name]);
+    remove_file(rt, name);
+    ended
+}
+
+/// A command line came to this status, with this text at the end of standard output and this one on standard error.
+fn check_ended(rt: &impl Abort, ended: &Ended, status: u8, last: &str, errors: &str) {
+    let found = (ended.status, ended.output.ends_with(last.as_bytes()));
+    same(rt, &found, &(status, true));
+    same_bytes(rt, &ended.errors, errors.as_bytes());
+}
+
+/// Drawing a file of these bytes comes to that.
+fn check_file<R: AllocGlobal + Files + Abort>(
+    rt: &R,
+    bytes: &[u8],
+    status: u8,
+    last: &str,
+    errors: &str,
+) {
+    check_ended(rt, &drawn_file(rt, bytes), status, last, errors);
 }
 
 #[test]
-fn files_are_drawn_by_their_names(rt: HostRuntime) -> Result<(), Fail> {
-    let sound = image_with(rt.alloc(), 15)?;
-    let unsound = image_with(rt.alloc(), 16)?;
-    for (bytes, status, last, errors) in [
-        (sound.as_slice(), 0, "sound\n", ""),
-        (unsound.as_slice(), 3, "process 0 P1\n", ""),
-        (b"mC2".as_slice(), 2, "", "tower: not an image\n"),
-    ] {
-        let (ends, output, told) = ended(&rt, &[], "drawn.by.a.test.image", bytes)?;
-        assert_eq!(rt; ends, status);
-        assert!(rt; output.ends_with(last.as_bytes()));
-        assert_eq!(rt; told.as_slice(), errors.as_bytes());
-    }
-    Ok(())
+fn files_are_drawn_by_their_names(rt: HostRuntime) {
+    let sound = image_with(&rt, 15);
+    let unsound = image_with(&rt, 16);
+    check_file(&rt, &sound, 0, "sound\n", "");
+    check_file(&rt, &unsound, 3, "process 0 P1\n", "");
+    check_file(&rt, b"mC2", 2, "", "tower: not an image\n");
+}
+
+/// What comes of drawing a file of these bytes as a picture.
+fn pictured<R: AllocGlobal + Files + Abort>(rt: &R, bytes: &[u8]) -> Ended {
+    let name = "pictured.by.a.test.image";
+    put_file(rt, name, bytes);
+    let ended = drawn(rt, &["memory_map", "--svg", name]);
+    remove_file(rt, name);
+    ended
+}
+
+/// What was written begins and ends as a picture.
+fn is_picture(output: &[u8]) -> bool {
+    output.starts_with(b"<svg ") && output.ends_with(b"</svg>\n")
+}
+
+/// With this quota of process 0 a picture is drawn, with this status.
+fn check_pictured<R: AllocGlobal + Files + Abort>(rt: &R, quota: u32, status: u8) {
+    let ended = pictured(rt, &image_with(rt, quota));
+    same(
+        rt,
+        &(ended.status, is_picture(&ended.output)),
+        &(status, true),
+    );
 }
 
 #[test]
-fn pictures_are_drawn_where_they_are_asked(rt: HostRuntime) -> Result<(), Fail> {
-    for (quota, status) in [(15, 0), (16, 3)] {
-        let bytes = image_with(rt.alloc(), quota)?;
-        let (ends, output, _) = ended(&rt, &["--svg"], "pictured.by.a.test.image", &bytes)?;
-        assert_eq!(rt; ends, status);
-        assert!(rt; output.starts_with(b"<svg ") && output.ends_with(b"</svg>\n"));
-    }
-    Ok(())
+fn pictures_are_drawn_where_they_are_asked(rt: HostRuntime) {
+    check_pictured(&rt, 15, 0);
+    check_pictured(&rt, 16, 3);
+}
+
+/// Words end with this status, with nothing on standard output and something on standard error.
+fn check_not_drawn<R: AllocGlobal + Files + Abort>(rt: &R, words: &[&str], status: u8) {
+    check_nothing_done(rt, &drawn(rt, words), status, words);
 }
 
 #[test]
-fn a_map_that_is_not_drawn_has_its_status(rt: HostRuntime) -> Result<(), Fail> {
-    for (words, status) in [
-        (["memory_map"].as_slice(), 2),
-        (["memory_map", "--png", "an.image"].as_slice(), 2),
-        (["memory_map", "no.such.image"].as_slice(), 1),
-    ] {
-        let mut output = Vec::new(rt.alloc());
-        let answer = draw(&rt, words, &mut output);
-        assert_eq!(rt; status_of(&answer), status, "{words:?}");
-        assert!(rt; output.is_empty(), "{words:?}");
-        assert!(rt; !told(rt.alloc(), &answer)?.is_empty(), "{words:?}");
-    }
-    Ok(())
+fn a_map_that_is_not_drawn_has_its_status(rt: HostRuntime) {
+    check_not_drawn(&rt, &["memory_map"], 2);
+    check_not_drawn(&rt, &["memory_map", "--png", "an.image"], 2);
+    check_not_drawn(&rt, &["memory_map", "no.such.image"], 1);
+}
+
+/// Words end with status 1 where no byte can be written.
+fn check_unwritten<R: AllocGlobal + Files + Abort>(rt: &R, words: &[&str]) {
+    let answer = draw(rt, words, &mut FullWriter::new(0));
+    check_answer(rt, &answer, 1, "tower: write failed\n");
 }
 
 #[test]
-fn a_map_that_can_not_be_written_ends_with_status_1(rt: HostRuntime) -> Result<(), Fail> {
+fn a_map_that_can_not_be_written_ends_with_status_1(rt: HostRuntime) {
     let name = "unwritten.by.a.test.image";
-    let bytes = image_with(rt.alloc(), 15)?;
-    for words in [
-        ["memory_map", name].as_slice(),
-        ["memory_map", "--svg", name].as_slice(),
-    ] {
-        fs::write(&rt, name, &bytes)?;
-        let answer = draw(&rt, words, &mut FullWriter::new(0));
-        fs::remove_file(&rt, name)?;
-        assert_eq!(rt; status_of(&answer), 1, "{words:?}");
-        let errors = told(rt.alloc(), &answer)?;
-        assert_eq!(rt;
-            errors.as_slice(),
-            b"tower: write failed\n".as_slice(),
-            "{words:?}"
-        );
-    }
-    Ok(())
+    put_file(&rt, name, &image_with(&rt, 15));
+    check_unwritten(&rt, &["memory_map", name]);
+    check_unwritten(&rt, &["memory_map", "--svg", name]);
+    remove_file(&rt, name);
 }

@@ -1,12 +1,14 @@
 //! Maps of images, as text and as pictures: of small ones, of damaged ones, and of 4,096 frames.
 
-use crate::damaged_tests::{Damage, damages, frames_of, image_bytes, lines_of};
+use crate::common::{add, image_after, same, same_bytes};
+use crate::damaged_tests::{Damage, damaged, damages, frames_of, image_bytes, lines_of};
 use crate::images::{place_of, put, record_of, word};
+use crate::worked_tests::groups;
 use image_map::{Form, draw_bytes};
-use script_run::worked::{alone, forks, processes, sharing};
+use script_run::worked::Worked;
 use std::alloc::Global;
-use std::test::Fail;
-use tower_jobs::write_script_image;
+use std::process::Abort;
+use tower_jobs::ToolFault;
 
 /// A page that was stored to, lazy ones behind it, a child that holds the page too, and a child of that.
 const FAMILY: &str =
@@ -14,18 +16,25 @@ const FAMILY: &str =
 
 const HEADING: &str = "frames # reserved . free D directory T table P page S shared\n";
 
-/// The bytes of the image of the state that a script ends in.
-fn image_after(alloc: Global, script: &str, frames: u32) -> Result<Vec<u8>, Fail> {
-    let mut bytes = Vec::new(alloc);
-    write_script_image(alloc, &mut script.as_bytes(), &mut bytes, frames)?;
-    Ok(bytes)
-}
-
 /// An image's map, and whether it is sound.
-fn drawn(alloc: Global, form: Form, bytes: &[u8]) -> Result<(Vec<u8>, bool), Fail> {
+fn drawn(alloc: Global, form: Form, bytes: &[u8]) -> Result<(Vec<u8>, bool), ToolFault> {
     let mut map = Vec::new(alloc);
     let sound = draw_bytes(alloc, form, bytes, &mut map)?;
     Ok((map, sound))
+}
+
+/// The same as text.
+fn text_of<R: AllocGlobal + Abort>(rt: &R, bytes: &[u8]) -> (Vec<u8>, bool) {
+    drawn(rt.alloc(), Form::Text, bytes)
+        .ok()
+        .expect(rt, "a map as text")
+}
+
+/// The same as a picture.
+fn picture_of<R: AllocGlobal + Abort>(rt: &R, bytes: &[u8]) -> (Vec<u8>, bool) {
+    drawn(rt.alloc(), Form::Picture, bytes)
+        .ok()
+        .expect(rt, "a map as a picture")
 }
 
 /// The letter of a frame, by its record.
@@ -41,51 +50,74 @@ fn letter_of(bytes: &[u8], frame: u32) -> &'static str {
     }
 }
 
-/// The rows of frames of an image, by its records.
-fn rows_of(alloc: Global, bytes: &[u8]) -> Result<Vec<u8>, Fail> {
-    let mut rows = Vec::new(alloc);
-    rows.extend_from_slice(HEADING.as_bytes())?;
-    for frame in 0..word(bytes, 8) {
-        if frame % 64 == 0 {
-            let number = format!(in alloc; "{frame:>4} ")?;
-            rows.extend_from_slice(number.as_bytes())?;
-        }
-        rows.extend_from_slice(letter_of(bytes, frame).as_bytes())?;
-        if frame % 64 == 63 || frame.wrapping_add(1) == word(bytes, 8) {
-            rows.extend_from_slice(b"\n")?;
-        }
+/// Adds the number of a frame that begins a row.
+fn add_number<R: AllocGlobal + Abort>(rt: &R, rows: &mut Vec<u8>, frame: u32) {
+    if frame % 64 == 0 {
+        let number = format!(in rt.alloc(); "{frame:>4} ")
+            .ok()
+            .expect(rt, "memory for a number");
+        add(rt, rows, number.as_bytes());
     }
-    Ok(rows)
 }
 
-/// Whether the text ends in the rows of frames, and these lines.
-fn ends_in(alloc: Global, text: &[u8], bytes: &[u8], lines: &[u8]) -> Result<bool, Fail> {
-    let mut end = rows_of(alloc, bytes)?;
-    end.extend_from_slice(lines)?;
-    Ok(text.ends_with(&end))
+/// Ends the row behind a frame that is the last of 64, or of all.
+fn add_end(rt: &impl Abort, rows: &mut Vec<u8>, frame: u32, frames: u32) {
+    if frame % 64 == 63 || frame.wrapping_add(1) == frames {
+        add(rt, rows, b"\n");
+    }
+}
+
+/// Adds the rows of so many frames, by the records of an image.
+fn add_rows<R: AllocGlobal + Abort>(rt: &R, rows: &mut Vec<u8>, bytes: &[u8], frames: u32) {
+    for frame in 0..frames {
+        add_number(rt, rows, frame);
+        add(rt, rows, letter_of(bytes, frame).as_bytes());
+        add_end(rt, rows, frame, frames);
+    }
+}
+
+/// The rows of frames of an image, and lines behind them.
+fn end_of<R: AllocGlobal + Abort>(rt: &R, bytes: &[u8], lines: &[u8]) -> Vec<u8> {
+    let mut end = Vec::new(rt.alloc());
+    add(rt, &mut end, HEADING.as_bytes());
+    add_rows(rt, &mut end, bytes, word(bytes, 8));
+    add(rt, &mut end, lines);
+    end
+}
+
+/// Whether the map of an image as text ends in the rows of frames and these lines, and what it tells is sound or not.
+fn ends_in<R: AllocGlobal + Abort>(rt: &R, bytes: &[u8], lines: &[u8], sound: bool) -> bool {
+    let (text, is_sound) = text_of(rt, bytes);
+    text.ends_with(&end_of(rt, bytes, lines)) && is_sound == sound
+}
+
+/// Whether a text goes on with a part behind so many bytes.
+fn goes_on(text: &[u8], place: usize, part: &[u8]) -> bool {
+    match text.get(place..) {
+        Some(rest) => rest.starts_with(part),
+        None => false,
+    }
 }
 
 /// At how many places a text goes on with a part.
-fn times(text: &[u8], part: &[u8]) -> usize {
-    let mut count = 0usize;
+fn times(text: &[u8], part: &[u8]) -> u64 {
+    let mut count = 0u64;
     for place in 0..text.len() {
-        match text.get(place..) {
-            Some(rest) if rest.starts_with(part) => count = count.wrapping_add(1),
-            _ => {}
-        }
+        count = count.wrapping_add(u64::from(goes_on(text, place, part)));
     }
     count
 }
 
-#[test]
-fn a_family_is_listed(rt: HostRuntime) -> Result<(), Fail> {
-    let alloc = rt.alloc();
-    let image = image_after(alloc, FAMILY, 16)?;
-    let directory = word(&image, 32);
-    let table = word(&image, place_of(directory, 256)) / 4096;
-    let page = word(&image, place_of(table, 0)) / 4096;
-    let mut expected = Vec::new(alloc);
-    let lines = format!(in alloc;
+/// The frame of the first page of process 0.
+fn first_page(image: &[u8]) -> u32 {
+    let directory = word(image, 32);
+    let table = word(image, place_of(directory, 256)) / 4096;
+    word(image, place_of(table, 0)) / 4096
+}
+
+/// What the map of the family lists, whose shared page is in this frame.
+fn family_of<R: AllocGlobal + Abort>(rt: &R, page: u32) -> String {
+    format!(in rt.alloc();
         "image version 2 frames 16 reserved 1 free 9 directory 3 table 2 page 0 shared 1
 process 0 parent 0 quota 15 used 7 given 5 room 3
   [###################gggggggggggggg.......]
@@ -99,114 +131,197 @@ process 1 parent 0 quota 5 used 3 given 1 room 1
 process 2 parent 1 quota 1 used 1 given 0 room 0
   [########################################]
 "
-    )?;
-    expected.extend_from_slice(lines.as_bytes())?;
-    expected.extend_from_slice(&rows_of(alloc, &image)?)?;
-    expected.extend_from_slice(b"sound\n")?;
-    let (text, sound) = drawn(alloc, Form::Text, &image)?;
-    assert_eq!(rt; text, expected);
+    )
+    .ok()
+    .expect(rt, "memory for lines")
+}
+
+/// The map of the family's image as text.
+fn family_text<R: AllocGlobal + Abort>(rt: &R, image: &[u8]) -> Vec<u8> {
+    let mut text = Vec::new(rt.alloc());
+    add(rt, &mut text, family_of(rt, first_page(image)).as_bytes());
+    add(rt, &mut text, &end_of(rt, image, b"sound\n"));
+    text
+}
+
+/// An image has this map as text, which is sound.
+fn check_text<R: AllocGlobal + Abort>(rt: &R, image: &[u8], expected: &[u8]) {
+    let (text, sound) = text_of(rt, image);
+    same_bytes(rt, &text, expected);
     assert!(rt; sound);
-    Ok(())
 }
 
 #[test]
-fn maps_after_worked_scripts_end_in_sound(rt: HostRuntime) -> Result<(), Fail> {
-    for scripts in [
-        alone::SCRIPTS.as_slice(),
-        forks::SCRIPTS.as_slice(),
-        processes::SCRIPTS.as_slice(),
-        sharing::SCRIPTS.as_slice(),
-    ] {
-        for worked in scripts {
-            if worked.malformed.is_none() {
-                let image = image_after(rt.alloc(), worked.script, worked.frames)?;
-                let (text, sound) = drawn(rt.alloc(), Form::Text, &image)?;
-                let ends = ends_in(rt.alloc(), &text, &image, b"sound\n")?;
-                assert!(rt; sound && ends, "{}", worked.name);
-            }
-        }
-    }
-    Ok(())
+fn a_family_is_listed(rt: HostRuntime) {
+    let image = image_after(&rt, FAMILY, 16);
+    check_text(&rt, &image, &family_text(&rt, &image));
 }
 
-/// Whether the maps of a damaged image tell what fails: the text in its last lines, the picture by as many
-/// marks.
-fn tells(alloc: Global, damage: &Damage) -> Result<bool, Fail> {
-    let mut bytes = image_bytes(alloc)?;
-    put(&mut bytes, damage.place, damage.word);
-    let lines = lines_of(alloc, damage)?;
-    let (text, sound) = drawn(alloc, Form::Text, &bytes)?;
-    let (picture, still) = drawn(alloc, Form::Picture, &bytes)?;
-    let marked = times(&picture, b"; fails F") == times(&lines, b"frame ")
-        && times(&picture, b">fails P") == times(&lines, b"process ");
-    Ok(ends_in(alloc, &text, &bytes, &lines)? && marked && !sound && !still)
+/// The map of the image after a script ends in the rows of frames, and says that it is sound.
+fn check_after<R: AllocGlobal + Abort>(rt: &R, worked: &Worked) {
+    let image = image_after(rt, worked.script, worked.frames);
+    assert!(rt; ends_in(rt, &image, b"sound\n", true), "{}", worked.name);
+}
+
+/// The same, where the script has no malformed line.
+fn check_worked<R: AllocGlobal + Abort>(rt: &R, worked: &Worked) {
+    if worked.malformed.is_none() {
+        check_after(rt, worked);
+    }
+}
+
+fn check_scripts<R: AllocGlobal + Abort>(rt: &R, scripts: &[Worked]) {
+    for worked in scripts {
+        check_worked(rt, worked);
+    }
+}
+
+fn check_groups<R: AllocGlobal + Abort>(rt: &R, groups: &[&[Worked]]) {
+    for group in groups {
+        check_scripts(rt, group);
+    }
 }
 
 #[test]
-fn maps_of_damaged_images_tell_what_fails(rt: HostRuntime) -> Result<(), Fail> {
-    let sound = image_bytes(rt.alloc())?;
-    for damage in damages(&frames_of(&sound)) {
-        let place = damage.place;
-        assert!(rt; tells(rt.alloc(), &damage)?, "word at {place}");
+fn maps_after_worked_scripts_end_in_sound(rt: HostRuntime) {
+    check_groups(&rt, &groups());
+}
+
+/// The picture of a damaged image has as many marks as these lines tell of frames and of processes.
+fn check_marks<R: AllocGlobal + Abort>(rt: &R, damage: &Damage, bytes: &[u8], lines: &[u8]) {
+    let (picture, sound) = picture_of(rt, bytes);
+    let place = damage.place;
+    let frames = times(&picture, b"; fails F");
+    let marks = (place, frames, times(&picture, b">fails P"), sound);
+    let told = (
+        place,
+        times(lines, b"frame "),
+        times(lines, b"process "),
+        false,
+    );
+    same(rt, &marks, &told);
+}
+
+/// The map of a damaged image as text tells these lines of what fails, in its last lines.
+fn check_lines<R: AllocGlobal + Abort>(rt: &R, damage: &Damage, bytes: &[u8], lines: &[u8]) {
+    let place = damage.place;
+    assert!(rt; ends_in(rt, bytes, lines, false), "word at {place}");
+}
+
+/// The maps of a damaged image tell what fails.
+fn check_told<R: AllocGlobal + Abort>(rt: &R, damage: &Damage) {
+    let bytes = damaged(rt, damage);
+    let lines = lines_of(rt, damage);
+    check_lines(rt, damage, &bytes, &lines);
+    check_marks(rt, damage, &bytes, &lines);
+}
+
+fn check_damages<R: AllocGlobal + Abort>(rt: &R, damages: &[Damage]) {
+    for damage in damages {
+        check_told(rt, damage);
     }
-    Ok(())
+}
+
+#[test]
+fn maps_of_damaged_images_tell_what_fails(rt: HostRuntime) {
+    check_damages(&rt, &damages(&frames_of(&image_bytes(&rt))));
+}
+
+/// Fills a frame with words of lazy pages, of which no two make one run.
+fn fill_table(bytes: &mut [u8], frame: u32) {
+    for index in 0..1024 {
+        put(bytes, place_of(frame, index), 0x605 | (index % 2 * 32));
+    }
+}
+
+/// Makes a frame the table of process 0 at a slot.
+fn make_table(bytes: &mut [u8], directory: u32, frame: u32, slot: u32) {
+    put(bytes, record_of(frame), 3);
+    put(bytes, record_of(frame).wrapping_add(8), slot);
+    put(
+        bytes,
+        place_of(directory, slot),
+        frame.wrapping_mul(4096) | 7,
+    );
+    fill_table(bytes, frame);
+}
+
+/// Makes frames 3 to 15 tables of process 0, at slots from 256 on.
+fn make_tables(bytes: &mut [u8], directory: u32) {
+    for frame in 3..16u32 {
+        make_table(bytes, directory, frame, frame.wrapping_add(253));
+    }
 }
 
 /// An image of 16 frames, of which all but three are tables of process 0, at slots from 256 on, with no two
 /// pages of one run.
-fn tables_everywhere(alloc: Global) -> Result<Vec<u8>, Fail> {
-    let mut bytes = image_after(alloc, "", 16)?;
+fn tables_everywhere<R: AllocGlobal + Abort>(rt: &R) -> Vec<u8> {
+    let mut bytes = image_after(rt, "", 16);
     let directory = word(&bytes, 32);
-    let mut slot = 256u32;
-    for frame in 3..16 {
-        put(&mut bytes, record_of(frame), 3);
-        put(&mut bytes, record_of(frame).wrapping_add(8), slot);
-        put(
-            &mut bytes,
-            place_of(directory, slot),
-            frame.wrapping_mul(4096) | 7,
-        );
-        for index in 0..1024 {
-            put(&mut bytes, place_of(frame, index), 0x605 | (index % 2 * 32));
-        }
-        slot = slot.wrapping_add(1);
+    make_tables(&mut bytes, directory);
+    bytes
+}
+
+/// The map of an image as text goes on with a part at so many places, and is not sound.
+fn check_times<R: AllocGlobal + Abort>(rt: &R, bytes: &[u8], part: &[u8], expected: u64) {
+    let (text, sound) = text_of(rt, bytes);
+    same(rt, &(times(&text, part), sound), &(expected, false));
+}
+
+/// The map of an image as text has fewer bytes than 64 frames.
+fn check_short<R: AllocGlobal + Abort>(rt: &R, bytes: &[u8]) {
+    assert!(rt; text_of(rt, bytes).0.len() < 64 * 4096);
+}
+
+#[test]
+fn a_small_damaged_image_has_a_short_text(rt: HostRuntime) {
+    let bytes = tables_everywhere(&rt);
+    check_times(&rt, &bytes, b" lazy\n", 13 * 16);
+    check_times(&rt, &bytes, b"\n  runs left out 1008\n", 13);
+    check_short(&rt, &bytes);
+}
+
+/// Links one table in all slots of a directory.
+fn link_everywhere(bytes: &mut [u8], directory: u32, link: u32) {
+    for slot in 257..960 {
+        put(bytes, place_of(directory, slot), link);
     }
-    Ok(bytes)
 }
 
-#[test]
-fn a_small_damaged_image_has_a_short_text(rt: HostRuntime) -> Result<(), Fail> {
-    let bytes = tables_everywhere(rt.alloc())?;
-    let (text, sound) = drawn(rt.alloc(), Form::Text, &bytes)?;
-    assert!(rt; !sound);
-    assert_eq!(rt; times(&text, b" lazy\n"), 13 * 16);
-    assert_eq!(rt; times(&text, b"\n  runs left out 1008\n"), 13);
-    assert!(rt; text.len() < 64 * 4096);
-    Ok(())
-}
-
-#[test]
-fn a_table_of_all_slots_is_listed_once(rt: HostRuntime) -> Result<(), Fail> {
-    let mut bytes = image_after(rt.alloc(), "0 0 map 40000 ro\n", 16)?;
+/// An image of 16 frames in which all slots of process 0 have one table.
+fn one_table_everywhere<R: AllocGlobal + Abort>(rt: &R) -> Vec<u8> {
+    let mut bytes = image_after(rt, "0 0 map 40000 ro\n", 16);
     let directory = word(&bytes, 32);
     let link = word(&bytes, place_of(directory, 256));
-    for slot in 257..960 {
-        put(&mut bytes, place_of(directory, slot), link);
-    }
-    let (text, sound) = drawn(rt.alloc(), Form::Text, &bytes)?;
-    assert!(rt; !sound);
-    assert_eq!(rt; times(&text, b" lazy\n"), 1);
-    assert_eq!(rt; times(&text, b"process 0 P3\n"), 1);
-    Ok(())
+    link_everywhere(&mut bytes, directory, link);
+    bytes
 }
 
 #[test]
-fn maps_of_4096_frames_have_each_frame(rt: HostRuntime) -> Result<(), Fail> {
-    let image = image_after(rt.alloc(), FAMILY, 4096)?;
-    let (text, sound) = drawn(rt.alloc(), Form::Text, &image)?;
-    assert!(rt; sound && ends_in(rt.alloc(), &text, &image, b"sound\n")?);
-    let (picture, _) = drawn(rt.alloc(), Form::Picture, &image)?;
-    assert_eq!(rt; times(&picture, b"<title>frame "), 4096);
-    assert!(rt; picture.ends_with(b"</svg>\n"));
-    Ok(())
+fn a_table_of_all_slots_is_listed_once(rt: HostRuntime) {
+    let bytes = one_table_everywhere(&rt);
+    check_times(&rt, &bytes, b" lazy\n", 1);
+    check_times(&rt, &bytes, b"process 0 P3\n", 1);
+}
+
+/// The map of an image as text ends in the rows of its frames, and says that it is sound.
+fn check_sound<R: AllocGlobal + Abort>(rt: &R, image: &[u8]) {
+    assert!(rt; ends_in(rt, image, b"sound\n", true));
+}
+
+/// The picture of an image is whole, and has so many frames.
+fn check_picture<R: AllocGlobal + Abort>(rt: &R, image: &[u8], frames: u64) {
+    let (picture, _) = picture_of(rt, image);
+    let found = (
+        times(&picture, b"<title>frame "),
+        picture.ends_with(b"</svg>\n"),
+    );
+    same(rt, &found, &(frames, true));
+}
+
+#[test]
+fn maps_of_4096_frames_have_each_frame(rt: HostRuntime) {
+    let image = image_after(&rt, FAMILY, 4096);
+    check_sound(&rt, &image);
+    check_picture(&rt, &image, 4096);
 }

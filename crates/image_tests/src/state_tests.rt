@@ -1,9 +1,9 @@
 //! What an image stands for: one pair of spaces and book at most. So what is compared is the processes with what
 //! they have, and the mapped pages with their flags, bytes and groups.
 
-use crate::common::{image_of, process, shared_both_ways};
-use crate::images::{PAGE_WORDS, UNCHANGED, other_image, put};
-use image_check::{Image, read_image};
+use crate::common::{image_in, image_of, other_bytes, process, same, shared_both_ways};
+use crate::images::PAGE_WORDS;
+use image_check::Image;
 use page_words::{DirWord, Frame, Pid, TableWord};
 use std::alloc::{AllocError, Global};
 use std::process::Abort;
@@ -21,21 +21,31 @@ struct Mapped {
     lazy: bool,
 }
 
+/// Whether a process may write to a page now, by its word in an image of this version.
+fn may_write(version: u32, entry: TableWord) -> bool {
+    if version == 2 {
+        entry.granted()
+    } else {
+        entry.writable()
+    }
+}
+
+/// Whether a page has no frame yet.
+fn is_lazy(version: u32, entry: TableWord) -> bool {
+    version == 2 && entry.lazy()
+}
+
 /// What the word of a page says, in an image of this version.
 fn mapped_by(version: u32, pid: u8, page: u32, word: u32) -> Mapped {
     let entry = TableWord::read(word);
     Mapped {
         pid,
         page,
-        write: if version == 2 {
-            entry.granted()
-        } else {
-            entry.writable()
-        },
+        write: may_write(version, entry),
         may: entry.may(),
         accessed: entry.accessed(),
         dirty: entry.dirty(),
-        lazy: version == 2 && entry.lazy(),
+        lazy: is_lazy(version, entry),
     }
 }
 
@@ -166,15 +176,6 @@ fn have_same_pages(
     mine.len() == theirs.len()
 }
 
-/// The other kernel's image of a version, in which one word is changed.
-fn changed(rt: &impl Abort, alloc: Global, version: u32, page: u32, change: (usize, u32)) -> Image {
-    let mut bytes = other_image(alloc, version, page)
-        .ok()
-        .expect(rt, "memory for an image");
-    put(&mut bytes, change.0, change.1);
-    read_image(alloc, &bytes).ok().expect(rt, "an image")
-}
-
 /// Whether it says the same of processes, and of pages, as an image of ours.
 fn check_same(
     rt: &impl Abort,
@@ -188,39 +189,42 @@ fn check_same(
     let theirs = pages_of(rt, alloc, other)
         .ok()
         .expect(rt, "memory for pages");
-    let same = have_same_pages(own, other, &mine, &theirs);
-    assert_eq!(rt;
-        (mine.len(), have_same_processes(rt, own, other), same),
-        (2, processes, pages)
-    );
+    let are_same = have_same_pages(own, other, &mine, &theirs);
+    let found = (mine.len(), have_same_processes(rt, own, other), are_same);
+    same(rt, &found, &(2, processes, pages));
 }
 
-/// The other kernel's image of version 1, with one word changed, says the same of processes, and of pages or not.
-fn check_pages(rt: &impl Abort, alloc: Global, own: &Image, change: (usize, u32), pages: bool) {
-    let other = changed(rt, alloc, 1, PAGE_WORDS[1], change);
-    check_same(rt, alloc, own, &other, true, pages);
+/// The other kernel's image of version 1, with these words put to it, says the same of processes, and of pages or not.
+fn check_pages<R: AllocGlobal + Abort>(rt: &R, own: &Image, changes: &[(usize, u32)], pages: bool) {
+    let other = image_in(rt, &other_bytes(rt, 1, PAGE_WORDS[1], changes));
+    check_same(rt, rt.alloc(), own, &other, true, pages);
 }
 
 /// The same of version 2, and of processes or not.
-fn check_processes(rt: &impl Abort, alloc: Global, own: &Image, change: (usize, u32), same: bool) {
-    let other = changed(rt, alloc, 2, PAGE_WORDS[2], change);
-    check_same(rt, alloc, own, &other, same, true);
+fn check_processes<R: AllocGlobal + Abort>(
+    rt: &R,
+    own: &Image,
+    changes: &[(usize, u32)],
+    processes: bool,
+) {
+    let other = image_in(rt, &other_bytes(rt, 2, PAGE_WORDS[2], changes));
+    check_same(rt, rt.alloc(), own, &other, processes, true);
 }
 
 #[test]
 fn another_kernels_images_stand_for_the_same_state(rt: HostRuntime) {
     let own = image_of(&rt, &shared_both_ways(&rt));
-    check_pages(&rt, rt.alloc(), &own, UNCHANGED, true);
-    check_processes(&rt, rt.alloc(), &own, UNCHANGED, true);
+    check_pages(&rt, &own, &[], true);
+    check_processes(&rt, &own, &[], true);
 }
 
 /// One byte of the shared page, one flag, one page moved, or one number of a process: another state.
 #[test]
 fn a_changed_image_stands_for_another_state(rt: HostRuntime) {
     let own = image_of(&rt, &shared_both_ways(&rt));
-    check_pages(&rt, rt.alloc(), &own, (46_860, 8), false);
-    check_pages(&rt, rt.alloc(), &own, (50_956, 0xb265), false);
-    check_pages(&rt, rt.alloc(), &own, (50_956, 0xb227), false);
-    check_pages(&rt, rt.alloc(), &own, (50_956, 0), false);
-    check_processes(&rt, rt.alloc(), &own, (44, 6), false);
+    check_pages(&rt, &own, &[(46_860, 8)], false);
+    check_pages(&rt, &own, &[(50_956, 0xb265)], false);
+    check_pages(&rt, &own, &[(50_956, 0xb227)], false);
+    check_pages(&rt, &own, &[(50_956, 0)], false);
+    check_processes(&rt, &own, &[(44, 6)], false);
 }

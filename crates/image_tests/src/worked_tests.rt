@@ -1,8 +1,9 @@
 //! Images of the states that worked scripts end in.
 
-use script_run::worked::{alone, forks, processes, sharing};
+use crate::common::{same, same_bytes};
+use script_run::worked::{Worked, alone, forks, processes, sharing};
 use std::alloc::Global;
-use std::test::Fail;
+use std::process::Abort;
 use tower_jobs::{ToolFault, check_bytes, write_script_image};
 
 /// The image of the state that a script ends in, written, read again and checked: its verdict's text.
@@ -17,23 +18,51 @@ fn verdict_after(alloc: Global, script: &str, frames: u32) -> Result<Vec<u8>, To
     Ok(text)
 }
 
-#[test]
-fn images_after_worked_scripts_are_sound(rt: HostRuntime) -> Result<(), Fail> {
-    for scripts in [
+/// No image comes of a script with a malformed line.
+fn check_malformed<R: AllocGlobal + Abort>(rt: &R, worked: &Worked) {
+    let verdict = verdict_after(rt.alloc(), worked.script, worked.frames);
+    let found = (worked.name, verdict.err());
+    same(rt, &found, &(worked.name, Some(ToolFault::NotImage)));
+}
+
+/// The image after a script is sound.
+fn check_sound<R: AllocGlobal + Abort>(rt: &R, worked: &Worked) {
+    let verdict = verdict_after(rt.alloc(), worked.script, worked.frames);
+    let text = verdict.ok().expect(rt, worked.name);
+    same_bytes(rt, &text, b"sound\n");
+}
+
+fn check_worked<R: AllocGlobal + Abort>(rt: &R, worked: &Worked) {
+    if worked.malformed.is_some() {
+        check_malformed(rt, worked);
+    } else {
+        check_sound(rt, worked);
+    }
+}
+
+fn check_scripts<R: AllocGlobal + Abort>(rt: &R, scripts: &[Worked]) {
+    for worked in scripts {
+        check_worked(rt, worked);
+    }
+}
+
+/// The four groups of worked scripts.
+pub(crate) fn groups() -> [&'static [Worked]; 4] {
+    [
         alone::SCRIPTS.as_slice(),
         forks::SCRIPTS.as_slice(),
         processes::SCRIPTS.as_slice(),
         sharing::SCRIPTS.as_slice(),
-    ] {
-        for worked in scripts {
-            let verdict = verdict_after(rt.alloc(), worked.script, worked.frames);
-            if worked.malformed.is_some() {
-                assert_eq!(rt; verdict.err(), Some(ToolFault::NotImage), "{}", worked.name);
-            } else {
-                let text = verdict.ok().ok_or("a verdict")?;
-                assert_eq!(rt; text.as_slice(), b"sound\n".as_slice(), "{}", worked.name);
-            }
-        }
+    ]
+}
+
+fn check_groups<R: AllocGlobal + Abort>(rt: &R, groups: &[&[Worked]]) {
+    for group in groups {
+        check_scripts(rt, group);
     }
-    Ok(())
+}
+
+#[test]
+fn images_after_worked_scripts_are_sound(rt: HostRuntime) {
+    check_groups(&rt, &groups());
 }
