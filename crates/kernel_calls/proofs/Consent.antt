@@ -303,8 +303,7 @@ module _ (s : State) (e : Event) (giver giver_page page : ℕ) (w : IsWellFormed
 
   joins : (other : Slot) → set.contains given.0.holders other ≡ true → IsJoin s e new other
   joins other among = record {
-    page = page;
-    slot_is = refl;
+    own = refl;
     new = may.none;
     giver = at_page giver giver_page;
     right = was_offered.0;

@@ -1,6 +1,5 @@
 pub mod Births
 pub mod Charges
-pub mod ChildLists
 pub mod Confined
 pub mod Consent
 pub mod Decided
@@ -10,6 +9,7 @@ pub mod Flags
 pub mod GivenUp
 pub mod Hearing
 pub mod Isolated
+pub mod KeptSlots
 pub mod Leaving
 pub mod Outsiders
 pub mod OwnViews

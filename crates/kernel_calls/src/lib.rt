@@ -19,7 +19,7 @@ pub use cores::{BootFault, Core};
 pub use fault_handler::{PageStep, Plan};
 pub use laws::{
     authority_spreads_by_consent, children_are_their_makers, confined_processes_stay_confined,
-    kept_translations_are_given, members_see_their_own, others_show_little, processes_are_isolated,
+    kept_translations_are_given, members_see_their_own, processes_are_isolated,
     processes_keep_their_integrity, runs_stay_well_formed, what_a_process_has_is_enough,
     what_is_given_up_goes,
 };
