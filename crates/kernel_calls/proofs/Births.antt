@@ -23,9 +23,8 @@ use Rattle.std.proofs.Common.{
 use Rattle.std.specs.Prelude.{◌⊎◌, if◌then◌else◌}
 use Rattle.std.specs.Option.{option_map}
 use Rattle.page_words.specs.FiniteMap as map
-use Rattle.page_words.specs.FiniteMap.{same, nat_order}
+use Rattle.page_words.specs.FiniteMap.{nat_order}
 use Rattle.page_words.specs.FiniteSet as set
-use Rattle.page_words.specs.FiniteSet.{Set}
 use Rattle.page_words.proofs.MapLemmas.{same_itself, get-insert}
 use Rattle.page_words.proofs.OptionLemmas.{no_value}
 use Rattle.page_words.proofs.SetLemmas.{same_cases, get-remove_other}

@@ -38,7 +38,7 @@ use Rattle.kernel_calls.specs.Authority.{
   IsQuiet,
   Along,
   heard,
-  asked,
+  AskAlike,
   IsConfined,
   keeps_within,
   outside,
@@ -198,11 +198,11 @@ outside_quiet s C events w confined discreet =
     (λ p h. outside_live (is_live s p) (C p) h) (λ p live h. outside_rest (is_live s p) (C p) live h) discreet
 
 pub outsiders_hear_nothing : OutsidersHearNothing
-outsiders_hear_nothing s t C events others w v confined confined_t same l discreet discreet_t same_asked =
+outsiders_hear_nothing s t C events others w v confined confined_t same l discreet discreet_t alike =
     members_hear_the_same s events w t (outside s C) others v (λ q h. outside_live (is_live s q) (C q) h) l
     (outside_quiet s C events w confined discreet)
     (subst (λ Q. Along IsQuiet t Q others) (sym sets) (outside_quiet t C others v confined_t discreet_t))
-    (same_asked ∙ ap (λ Q. asked (heard t Q (exchanges t others))) (sym sets))
+    (subst (λ Q. AskAlike (heard s (outside s C) (exchanges s events)) (heard t Q (exchanges t others))) (sym sets) alike)
     ∙ ap (λ Q. heard t Q (exchanges t others)) sets
   where
     sets : outside s C ≡ outside t C

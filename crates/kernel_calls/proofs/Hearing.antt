@@ -33,7 +33,7 @@ use Rattle.kernel_calls.specs.Authority.{
   IsQuiet,
   Along,
   heard,
-  asked,
+  AskAlike,
   MembersHearTheSame,
 }
 use Rattle.kernel_calls.specs.Isolation.{Exchange, exchanges}
@@ -150,23 +150,15 @@ module _ (s t : State) (e : Event) (Q : ℕ → Bool) (w : IsWellFormed s) (v : 
 abbrev Hear : List Event → Type 0
 Hear events = (s t : State) (Q : ℕ → Bool) (others : List Event) → IsWellFormed s → IsWellFormed t → AreLive s Q
     → LooksSame s t Q → Along IsQuiet s Q events → Along IsQuiet t Q others
-    → asked (heard s Q (exchanges s events)) ≡ asked (heard t Q (exchanges t others))
+    → AskAlike (heard s Q (exchanges s events)) (heard t Q (exchanges t others))
     → heard s Q (exchanges s events) ≡ heard t Q (exchanges t others)
 
 abbrev Told : Type 0
 Told = Exchange × Option ℕ
 
-nothing_heard : (xs : List Told) → [] ≡ asked xs → [] ≡ xs
+nothing_heard : (xs : List Told) → AskAlike [] xs → [] ≡ xs
 nothing_heard [] h = refl
-nothing_heard (x ∷ xs) h = cc
-
-abbrev head_or : Event × Option ℕ → List (Event × Option ℕ) → Event × Option ℕ
-head_or e [] = e
-head_or e (x ∷ xs) = x
-
-abbrev rest_of : List (Event × Option ℕ) → List (Event × Option ℕ)
-rest_of [] = []
-rest_of (x ∷ xs) = xs
+nothing_heard (x ∷ xs) h = absurd h
 
 -- what is told of an event at the head of a run
 abbrev first_of : State → Event → Told
@@ -196,21 +188,24 @@ module _ (events : List Event) (law : Hear events) (s : State) (e : Event) (Q : 
 
     meets : (t : State) (o : Event) (os : List Event) → IsWellFormed t → LooksSame s t Q
         → Along IsQuiet (next t o) (members_after t Q o) os
-        → asked first ≡ asked (first_of t o ∷ heard (next t o) (members_after t Q o) (exchanges (next t o) os))
+        → AskAlike first (first_of t o ∷ heard (next t o) (members_after t Q o) (exchanges (next t o) os))
         → first ≡ first_of t o ∷ heard (next t o) (members_after t Q o) (exchanges (next t o) os)
-    meets t o os v l quiet_t same_asked = λ i. ((same_event i, reply i), same_found i) ∷ later i
+    meets t o os v l quiet_t alike = λ i. same_first i ∷ later i
       where
         same_event : e ≡ o
-        same_event = ap (λ xs. (head_or (e, found s e.call) xs).0) same_asked
+        same_event = alike.0
 
         same_found : found s e.call ≡ found t o.call
-        same_found = ap (λ xs. (head_or (e, found s e.call) xs).1) same_asked
+        same_found = alike.1
 
         finds : found s e.call ≡ found t e.call
         finds = same_found ∙ sym (ap (λ (x : Event). found t x.call) same_event)
 
         reply : answer s e ≡ answer t o
         reply = told_same s t e Q l mine finds ∙ ap (answer t) same_event
+
+        same_first : first_of s e ≡ first_of t o
+        same_first = λ i. ((same_event i, reply i), same_found i)
 
         after : LooksSame (next s e) (next t e) (members_after s Q e)
         after = members_see_the_same s t e Q w v l mine finds
@@ -239,18 +234,19 @@ module _ (events : List Event) (law : Hear events) (s : State) (e : Event) (Q : 
             (members_live s e Q) after quiet
             (subst (λ D. Along IsQuiet (next t e) D os) (sym sets)
             (subst (λ (x : Event). Along IsQuiet (next t x) (members_after t Q x) os) (sym same_event) quiet_t))
-            (ap rest_of same_asked ∙ ap asked heard_is)
+            (subst (λ xs. AskAlike (heard (next s e) (members_after s Q e) (exchanges (next s e) events)) xs) heard_is
+            (alike.2 same_first))
             ∙ sym heard_is
 
     comes : (others : List Event) (t : State) → IsWellFormed t → LooksSame s t Q → Along IsQuiet t Q others
-        → asked first ≡ asked (heard t Q (exchanges t others)) → first ≡ heard t Q (exchanges t others)
-    comes [] t v l quiet_t same_asked = cc
-    comes (o ∷ os) t v l quiet_t same_asked = by (comes os) (Q o.pid) refl same_asked
+        → AskAlike first (heard t Q (exchanges t others)) → first ≡ heard t Q (exchanges t others)
+    comes [] t v l quiet_t alike = absurd alike
+    comes (o ∷ os) t v l quiet_t alike = by (comes os) (Q o.pid) refl alike
       where
         by : ((t : State) → IsWellFormed t → LooksSame s t Q → Along IsQuiet t Q os
-            → asked first ≡ asked (heard t Q (exchanges t os)) → first ≡ heard t Q (exchanges t os))
+            → AskAlike first (heard t Q (exchanges t os)) → first ≡ heard t Q (exchanges t os))
             → (b : Bool) → Q o.pid ≡ b
-            → asked first ≡ asked (if b then first_of t o ∷ heard (next t o) (members_after t Q o)
+            → AskAlike first (if b then first_of t o ∷ heard (next t o) (members_after t Q o)
             (exchanges (next t o) os) else heard (next t o) (members_after t Q o) (exchanges (next t o) os))
             → first ≡ (if b then first_of t o ∷ heard (next t o) (members_after t Q o) (exchanges (next t o) os)
             else heard (next t o) (members_after t Q o) (exchanges (next t o) os))
@@ -262,19 +258,17 @@ module _ (events : List Event) (law : Hear events) (s : State) (e : Event) (Q : 
             go_on (next t o) (kept-next t o v).0
             (looks_on s t (next t o) Q l (unseen t o os Q v members_t out quiet_t))
             (quiet_later t o os Q v members_t out quiet_t)
-            (h ∙ ap asked same_later)
+            (subst (λ xs. AskAlike first xs) same_later h)
             ∙ sym same_later
 
 hear_the_same : (events : List Event) → Hear events
-hear_the_same [] s t Q others w v members l quiet quiet_t same_asked =
-    nothing_heard (heard t Q (exchanges t others)) same_asked
-hear_the_same (e ∷ events) s t Q others w v members l quiet quiet_t same_asked =
-    by (hear_the_same events) (Q e.pid) refl same_asked
+hear_the_same [] s t Q others w v members l quiet quiet_t alike = nothing_heard (heard t Q (exchanges t others)) alike
+hear_the_same (e ∷ events) s t Q others w v members l quiet quiet_t alike =
+    by (hear_the_same events) (Q e.pid) refl alike
   where
     by : Hear events → (b : Bool) → Q e.pid ≡ b
-        → asked (if b then first_of s e ∷ heard (next s e) (members_after s Q e) (exchanges (next s e) events)
-        else heard (next s e) (members_after s Q e) (exchanges (next s e) events)) ≡ asked
-        (heard t Q (exchanges t others))
+        → AskAlike (if b then first_of s e ∷ heard (next s e) (members_after s Q e) (exchanges (next s e) events)
+        else heard (next s e) (members_after s Q e) (exchanges (next s e) events)) (heard t Q (exchanges t others))
         → (if b then first_of s e ∷ heard (next s e) (members_after s Q e) (exchanges (next s e) events)
         else heard (next s e) (members_after s Q e) (exchanges (next s e) events)) ≡ heard t Q (exchanges t others)
     by law true mine h = comes events law s e Q w members mine quiet.1 others t v l quiet_t h
@@ -285,8 +279,8 @@ hear_the_same (e ∷ events) s t Q others w v members l quiet quiet_t same_asked
         ∙ law (next s e) t Q others (kept-next s e w).0 v (members_later s e events Q w members out quiet)
         (looks_on (next s e) s t Q (looks_back s (next s e) Q (unseen s e events Q w members out quiet)) l)
         (quiet_later s e events Q w members out quiet) quiet_t
-        (sym (ap asked same_later) ∙ h)
+        (subst (λ xs. AskAlike xs (heard t Q (exchanges t others))) same_later h)
 
 pub members_hear_the_same : MembersHearTheSame
-members_hear_the_same s events w t Q others v members l quiet quiet_t same_asked =
-    hear_the_same events s t Q others w v members l quiet quiet_t same_asked
+members_hear_the_same s events w t Q others v members l quiet quiet_t alike =
+    hear_the_same events s t Q others w v members l quiet quiet_t alike

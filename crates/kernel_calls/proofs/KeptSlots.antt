@@ -32,7 +32,6 @@ use Rattle.std.specs.Option.{option_map}
 use Rattle.std.proofs.lemmas.Option.{same_Some}
 use Rattle.page_words.specs.Addresses.{offset_number, byte_count, touched}
 use Rattle.page_words.specs.FiniteMap as map
-use Rattle.page_words.specs.FiniteMap.{same}
 use Rattle.page_words.specs.FiniteSet as set
 use Rattle.page_words.specs.FiniteSet.{Set}
 use Rattle.page_words.proofs.MapLemmas.{get-map_values}
@@ -60,11 +59,10 @@ use Rattle.address_space.specs.Spaces.{
   with_pages,
   all_accessed,
   all_stored,
-  copied,
 }
 use Rattle.address_space.proofs.costs.Copied.{copied-other}
 use Rattle.address_space.proofs.steps.Departures.{left, get-without}
-use Rattle.process_table.specs.State.{State, is_live, child_of}
+use Rattle.process_table.specs.State.{State, child_of}
 use Rattle.process_table.specs.Calls.{
   accept_refusal,
   fork_refusal,
@@ -82,7 +80,7 @@ use Rattle.process_table.proofs.CellLaws.{get-inserted, get-inserted_other}
 use Rattle.process_table.proofs.Forks.{may_fork}
 use Rattle.process_table.proofs.Refusals.{may_accept, may_map}
 use Rattle.process_table.proofs.SharingLaws.{giver_mapped}
-use Rattle.kernel_calls.specs.Authority.{IsKept, SlotsAreKept}
+use Rattle.kernel_calls.specs.Authority.{SlotsAreKept}
 use Rattle.kernel_calls.specs.Machine.{answer, answer_of, after, next, completes}
 use Rattle.kernel_calls.specs.declared.calls.Call.{Call}
 use Rattle.kernel_calls.specs.declared.calls.Call.TheVariants as call

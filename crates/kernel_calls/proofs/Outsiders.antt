@@ -25,7 +25,6 @@ use Rattle.std.specs.Option.{option_map}
 use Rattle.std.proofs.lemmas.List.{ext_get_or}
 use Rattle.page_words.specs.FiniteMap as map
 use Rattle.page_words.specs.FiniteSet as set
-use Rattle.page_words.specs.FiniteSet.{Set}
 use Rattle.page_words.proofs.MapLemmas.{same_set}
 use Rattle.page_words.proofs.OptionLemmas.{some_value, no_value}
 use Rattle.page_words.proofs.SetLemmas.{same_cases}
@@ -52,7 +51,6 @@ use Rattle.kernel_calls.specs.Authority.{
   Sees,
   LooksSame,
   IsUnseen,
-  IsStranger,
   IsQuietCall,
   OutsidersUnseen,
 }

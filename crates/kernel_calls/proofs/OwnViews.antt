@@ -22,16 +22,13 @@ use Rattle.std.proofs.Common.{
   unwrap_or,
   subst,
   ◌≢◌,
-  arith,
 }
-use Rattle.std.specs.Prelude.{if◌then◌else◌, nat_lt}
 use Rattle.std.specs.Option.{option_map}
 use Rattle.page_words.specs.Addresses.{byte_count, touched}
 use Rattle.page_words.specs.declared.addresses.Size.{Size}
 use Rattle.page_words.specs.FiniteMap as map
-use Rattle.page_words.specs.FiniteMap.{Map, same, nat_order}
+use Rattle.page_words.specs.FiniteMap.{same}
 use Rattle.page_words.specs.FiniteSet as set
-use Rattle.page_words.specs.FiniteSet.{Set}
 use Rattle.page_words.proofs.MapLemmas.{same-true, get-insert}
 use Rattle.page_words.proofs.OptionLemmas.{no_value}
 use Rattle.address_space.specs.Spaces.{
@@ -71,9 +68,7 @@ use Rattle.process_table.specs.Calls.{
   after_fork,
   after_exit,
 }
-use Rattle.process_table.specs.declared.causes.Cause.TheVariants as cause
 use Rattle.process_table.proofs.ApartOthers.{child_free, fork_free, live_differ}
-use Rattle.process_table.proofs.SpaceLaws.{not_less}
 use Rattle.kernel_calls.specs.Authority.{Flags, flags_of, shown_of, shares, HaveTheSame, found, OwnIsEnough}
 use Rattle.kernel_calls.specs.Machine.{answer, answer_of, after, next, completes}
 use Rattle.kernel_calls.specs.declared.calls.Call.{Call}

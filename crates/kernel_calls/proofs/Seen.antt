@@ -27,7 +27,6 @@ use Rattle.std.proofs.Common.{
 use Rattle.std.specs.Prelude.{if◌then◌else◌, nat_lt}
 use Rattle.std.specs.Option.{option_map}
 use Rattle.page_words.specs.FiniteMap as map
-use Rattle.page_words.specs.FiniteMap.{Map, Order, same, nat_order}
 use Rattle.page_words.proofs.MapLemmas.{get-retain_keys}
 use Rattle.page_words.proofs.OptionLemmas.{some_value}
 use Rattle.page_words.proofs.SetLemmas.{get-removed}

@@ -3,11 +3,9 @@ use Rattle.std.proofs.Common.{
   ◌≡◌,
   ◌≢◌,
   ℕ,
-  suc,
   ◌+◌,
   ◌&&◌,
   ◌||◌,
-  ◌==◌,
   not,
   Bool,
   true,
@@ -26,13 +24,12 @@ use Rattle.std.proofs.Common.{
   None,
   is_some,
   unwrap_or,
-  arith,
   inl,
   inr,
 }
 use Rattle.std.specs.Prelude.{◌⊎◌, if◌then◌else◌, slice_index}
 use Rattle.std.specs.Option.{option_map}
-use Rattle.std.proofs.lemmas.Bool.{cases_eq, ne_eqb}
+use Rattle.std.proofs.lemmas.Bool.{ne_eqb}
 use Rattle.std.proofs.lemmas.Option.{same_Some}
 use Rattle.page_words.specs.Addresses.{offset_number, byte_count, touched}
 use Rattle.page_words.specs.declared.addresses.Size.{Size}
@@ -40,7 +37,7 @@ use Rattle.page_words.specs.FiniteMap as map
 use Rattle.page_words.specs.FiniteMap.{same, nat_order}
 use Rattle.page_words.specs.FiniteSet as set
 use Rattle.page_words.specs.FiniteSet.{Set}
-use Rattle.page_words.proofs.MapLemmas.{same-true, get-insert, get-map_values, get-retain_keys, contains-retain}
+use Rattle.page_words.proofs.MapLemmas.{same-true, get-insert, get-map_values, contains-retain}
 use Rattle.page_words.proofs.OptionLemmas.{some_value, no_value}
 use Rattle.page_words.proofs.SetLemmas.{same_cases, same_apart, get-remove_other}
 use Rattle.address_space.specs.Spaces.{
@@ -68,7 +65,7 @@ use Rattle.address_space.specs.Spaces.{
 }
 use Rattle.address_space.proofs.costs.Copied.{copied-other}
 use Rattle.address_space.proofs.steps.Departures.{left, get-without}
-use Rattle.page_sharing.specs.Offers.{OfferKey, offer_order, offer_of}
+use Rattle.page_sharing.specs.Offers.{offer_of}
 use Rattle.process_table.specs.State.{State, is_live, child_of}
 use Rattle.process_table.specs.Calls.{
   accept_refusal,
@@ -99,9 +96,9 @@ use Rattle.kernel_calls.specs.declared.calls.Call.{Call}
 use Rattle.kernel_calls.specs.declared.calls.Call.TheVariants as call
 use Rattle.kernel_calls.specs.declared.calls.Event.{Event}
 use Rattle.kernel_calls.proofs.Decided.{next-stays, next-goes}
-use Rattle.kernel_calls.proofs.Runs.{not-refused, kept-next}
+use Rattle.kernel_calls.proofs.Runs.{not-refused}
 use Rattle.kernel_calls.proofs.UntouchedSlots.{store_bytes, Kept}
-use Rattle.kernel_calls.proofs.Untouched.{caller_live, get_joined, widen, widen_kept, integrity}
+use Rattle.kernel_calls.proofs.Untouched.{caller_live, get_joined, widen, widen_kept}
 use borrow.Author.Tests.{eqb-true}
 
 -- ---- Something of a cell that stays

@@ -27,7 +27,6 @@ use Rattle.std.proofs.Common.{
 }
 use Rattle.std.specs.Prelude.{if◌then◌else◌, nat_lt, nat_le, find, slice_index}
 use Rattle.std.specs.Option.{option_map}
-use Rattle.std.specs.List.{range_with_len}
 use Rattle.page_words.specs.Addresses.{
   slot_number,
   is_user_page,
@@ -39,7 +38,7 @@ use Rattle.page_words.specs.Addresses.{
 }
 use Rattle.page_words.specs.declared.addresses.Size.{Size}
 use Rattle.page_words.specs.FiniteMap as map
-use Rattle.page_words.specs.FiniteMap.{Map, same, nat_order}
+use Rattle.page_words.specs.FiniteMap.{nat_order}
 use Rattle.page_words.specs.FiniteSet as set
 use Rattle.page_words.specs.FiniteSet.{Set}
 use Rattle.page_words.proofs.MapLemmas.{same_map, get-retain_keys}

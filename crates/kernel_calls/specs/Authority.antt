@@ -1,6 +1,6 @@
 -- What one process can do to another, and learn of it. An event e leads from state s to t; a set is given by its test.
 use Rattle.std.proofs.Common.{◌≡◌, ◌≢◌, ℕ, ◌+◌, ◌-◌, ◌<◌, ◌≤◌, Bool, true, false, not, ◌&&◌, ◌||◌, ◌==◌, IsTrue}
-use Rattle.std.proofs.Common.{if◌then◌else◌, List, [], ◌∷◌, map as each, Option, Some, None, unwrap_or}
+use Rattle.std.proofs.Common.{if◌then◌else◌, List, [], ◌∷◌, Option, Some, None, unwrap_or}
 use Rattle.std.specs.Prelude.{◌⊎◌, slice_index}
 use Rattle.std.specs.Option.{option_map}
 use Rattle.std.specs.List.{All, zip}
@@ -258,8 +258,7 @@ found s _ = None
 -- it takes in both states or in neither, whatever the page
 abbrev pub MembersToldTheSame : Type 0
 MembersToldTheSame = (s t : State) (e : Event) (Q : ℕ → Bool) → HaveTheSame s t Q → Q e.pid ≡ true
-    → found s e.call ≡ found t e.call
-    → ((giver page own : ℕ) → e.call ≡ call.Accept giver page own
+    → found s e.call ≡ found t e.call → ((giver page own : ℕ) → e.call ≡ call.Accept giver page own
     → is_offered s e.pid (at_page giver page) ≡ is_offered t e.pid (at_page giver page)) → answer s e ≡ answer t e
 
 -- after any call but an accept its process, taken alone, has the same
@@ -287,9 +286,9 @@ IsUnseen s Q slot = (other : Slot) → shares s slot other ≡ true → Sees s Q
 abbrev pub IsStranger : State → (ℕ → Bool) → ℕ → Type 0
 IsStranger s Q p = (q page : ℕ) → Q q ≡ true → (is_child_of s q p || is_offered s p (at_page q page)) ≡ false
 
--- p's call is through no channel: it offers nothing to a member and withdraws nothing from one, takes no offer of a
--- member, stores into no page, leaves none and joins none that a member sees, makes nobody with a member's number, and
--- is no exit but a stranger's
+-- p's call is through no channel: it offers nothing to a member, withdraws nothing from one, takes no offer of one,
+-- stores into no page, leaves none and joins none that a member sees, makes nobody with a member's number, and is no
+-- exit but a stranger's
 abbrev pub IsQuietCall : State → (ℕ → Bool) → ℕ → Call → Type 0
 IsQuietCall s Q p (call.Store address size _) =
     (byte : ℕ) → address ≤ byte → byte < address + byte_count size → IsUnseen s Q (slot_at p byte)
@@ -323,18 +322,19 @@ heard s Q (x ∷ run) =
     let later = heard (next s x.0) (members_after s Q x.0) run in
     if Q x.0.pid then (x, found s x.0.call) ∷ later else later
 
--- what they ask and find
-abbrev pub asked : List (Exchange × Option ℕ) → List (Event × Option ℕ)
-asked xs = each (λ (x : Exchange × Option ℕ). (x.0.0, x.1)) xs
+-- as long as they are told the same, members ask and find the same
+abbrev pub AskAlike : List (Exchange × Option ℕ) → List (Exchange × Option ℕ) → Type 0
+AskAlike [] [] = Unit {0}
+AskAlike (x ∷ xs) (y ∷ ys) = (x.0.0 ≡ y.0.0) × (x.1 ≡ y.1) × (x ≡ y → AskAlike xs ys)
+AskAlike _ _ = ⊥
 
--- in a run with these replies live members are told what they are told in any other run in which they ask and find the
--- same, from a state that looks the same to them, where outsiders use no channel in either
+-- in a run with these replies live members that ask and find alike are told what they are told in any other run, from a
+-- state that looks the same to them, where outsiders use no channel in either
 abbrev pub HearTheirOwn : State → List Event → List Reply → Type 0
-HearTheirOwn s events replies = (t : State) (Q : ℕ → Bool) (others : List Event) → IsWellFormed t
-    → ((q : ℕ) → Q q ≡ true → is_live s q ≡ true) → LooksSame s t Q
-    → Along IsQuiet s Q events → Along IsQuiet t Q others
-    → asked (heard s Q (zip events replies)) ≡ asked (heard t Q (exchanges t others))
-    → heard s Q (zip events replies) ≡ heard t Q (exchanges t others)
+HearTheirOwn s events replies = (t : State) (Q : ℕ → Bool) (other : List Event) → IsWellFormed t
+    → ((q : ℕ) → Q q ≡ true → is_live s q ≡ true) → LooksSame s t Q → Along IsQuiet s Q events → Along IsQuiet t Q other
+    → AskAlike (heard s Q (zip events replies)) (heard t Q (exchanges t other))
+    → heard s Q (zip events replies) ≡ heard t Q (exchanges t other)
 
 abbrev pub MembersHearTheSame : Type 0
 MembersHearTheSame = (s : State) (events : List Event) → IsWellFormed s → HearTheirOwn s events (answers s events)
@@ -390,11 +390,11 @@ abbrev pub IsDiscreet : State → (ℕ → Bool) → Event → Type 0
 IsDiscreet s C e = C e.pid ≡ true
     → (keeps_within C e.call ≡ true) × (e.call ≡ call.Exit → IsStranger s (outside s C) e.pid)
 
--- where two states have the same outsiders of a confined set and look the same to them, these are told the same in any
--- two runs in which they ask and find the same, whatever the members have, and whatever they do in that way
+-- where two states have the same outsiders of a confined set and look the same to them, those who ask and find alike
+-- are told the same in any two runs, whatever the members have, and whatever they do in that way
 abbrev pub OutsidersHearNothing : Type 0
 OutsidersHearNothing = (s t : State) (C : ℕ → Bool) (events others : List Event) → IsWellFormed s → IsWellFormed t
     → IsConfined s C → IsConfined t C → ((p : ℕ) → outside s C p ≡ outside t C p) → LooksSame s t (outside s C)
     → Along IsDiscreet s C events → Along IsDiscreet t C others
-    → asked (heard s (outside s C) (exchanges s events)) ≡ asked (heard t (outside t C) (exchanges t others))
+    → AskAlike (heard s (outside s C) (exchanges s events)) (heard t (outside t C) (exchanges t others))
     → heard s (outside s C) (exchanges s events) ≡ heard t (outside t C) (exchanges t others)
