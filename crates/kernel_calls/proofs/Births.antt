@@ -10,6 +10,7 @@ use Rattle.std.proofs.Common.{
   refl,
   sym,
   ap,
+  subst,
   ◌∙◌,
   Option,
   Some,
@@ -22,10 +23,11 @@ use Rattle.std.proofs.Common.{
 use Rattle.std.specs.Prelude.{◌⊎◌, if◌then◌else◌}
 use Rattle.std.specs.Option.{option_map}
 use Rattle.page_words.specs.FiniteMap as map
-use Rattle.page_words.specs.FiniteMap.{same, nat_order}
+use Rattle.page_words.specs.FiniteMap.{nat_order}
 use Rattle.page_words.specs.FiniteSet as set
-use Rattle.page_words.specs.FiniteSet.{Set}
 use Rattle.page_words.proofs.MapLemmas.{same_itself, get-insert}
+use Rattle.page_words.proofs.OptionLemmas.{no_value}
+use Rattle.page_words.proofs.SetLemmas.{same_cases, get-remove_other}
 use Rattle.address_space.specs.Spaces.{Slot, Cell, Spaces, at_page, is_of, copy_of, copied}
 use Rattle.address_space.proofs.costs.Copied.{copied-own}
 use Rattle.quota_tree.specs.Book.{Book}
@@ -47,7 +49,7 @@ use Rattle.process_table.specs.WellFormed.{IsWellFormed}
 use Rattle.process_table.specs.Apart.{lone}
 use Rattle.process_table.specs.declared.causes.Cause.{Cause}
 use Rattle.process_table.specs.declared.causes.Cause.TheVariants as cause
-use Rattle.process_table.proofs.ApartOthers.{child_free, no_page}
+use Rattle.process_table.proofs.ApartOthers.{child_free, fork_free, no_page}
 use Rattle.fault_handler.specs.Plans.{plan_of}
 use Rattle.fault_handler.specs.declared.plans.Plan.{Plan}
 use Rattle.fault_handler.specs.declared.plans.Plan.TheVariants as plan
@@ -56,18 +58,20 @@ use Rattle.kernel_calls.specs.Authority.{
   flags_of,
   Shown,
   shown_of,
-  sees,
   is_offered,
-  SpawnsAreEmpty,
-  ForksAreCopies,
+  born_with,
+  ChildrenAreTheirMakers,
+  PlacesStay,
 }
-use Rattle.kernel_calls.specs.Machine.{answer, answer_of, after, completes, refused_or, planned_or}
+use Rattle.kernel_calls.specs.Isolation.{quota_asked}
+use Rattle.kernel_calls.specs.Machine.{answer, answer_of, after, next, completes, refused_or, planned_or}
 use Rattle.kernel_calls.specs.declared.calls.Call.{Call}
 use Rattle.kernel_calls.specs.declared.calls.Call.TheVariants as call
 use Rattle.kernel_calls.specs.declared.calls.Event.{Event}
 use Rattle.kernel_calls.specs.declared.calls.Reply.{Reply}
 use Rattle.kernel_calls.specs.declared.calls.Reply.TheVariants as reply
-use Rattle.kernel_calls.proofs.Decided.{next-goes}
+use Rattle.kernel_calls.proofs.Decided.{next-stays, next-goes}
+use Rattle.kernel_calls.proofs.Runs.{not-refused}
 use Rattle.kernel_calls.proofs.Untouched.{caller_live}
 use borrow.Author.Tests.{eqb-true}
 
@@ -142,26 +146,109 @@ maker_of s e child told = record {
 
 -- ---- What it has
 
-spawned_none : (s : State) (e : Event) (quota child page : ℕ) → IsWellFormed s → e.call ≡ call.Spawn quota
-    → IsBirth s e.pid e.call child → map.get s.spaces (at_page child page) ≡ None
-spawned_none s e quota child page w is b = elim b.1 [
-  | inl spawned ↦ ap (λ k. map.get s.spaces (at_page k page)) (sym b.0)
-      ∙ no_page s (child_of s) w (child_free s e.pid spawned.0 spawned.2) page
-  | inr forked ↦ absurd (let x : call.Spawn quota ≡ call.Fork forked.0 = sym is ∙ forked.1 in cc)
+member_in : (book : Book) (q k quota : ℕ) → map.get (map.insert book k (record { parent = q; quota = quota })) k ≡ Some
+    (record { parent = q; quota = quota })
+member_in book q k quota = get-insert book k (record { parent = q; quota = quota }) k
+    ∙ ap (λ b. cond b (Some (record { parent = q; quota = quota })) (map.get book k)) (same_itself nat_order k)
+
+-- it was not live
+birth_free : (s : State) (p : ℕ) (c : Call) (child : ℕ) → IsBirth s p c child → is_live s child ≡ false
+birth_free s p c child b = elim b.1 [
+  | inl spawned ↦ ap (is_live s) (sym b.0) ∙ child_free s p spawned.0 spawned.2
+  | inr forked ↦ ap (is_live s) (sym b.0) ∙ fork_free s p forked.0 forked.2
 ]
 
-pub spawns_are_empty : SpawnsAreEmpty
-spawns_are_empty s e quota child page w is told =
-    let b = maker_of s e child told in
-    ap (λ (u : State). map.get u.spaces (at_page child page)) (next-goes s e b.done ∙ ap (after s e.pid) is)
-    ∙ spawned_none s e quota child page w is b.birth
+pub child_dead : (s : State) (e : Event) (child : ℕ) → answer s e ≡ reply.Child child → is_live s child ≡ false
+child_dead s e child told = birth_free s e.pid e.call child (maker_of s e child told).birth
 
-pub forks_are_copies : ForksAreCopies
-forks_are_copies s e quota child page is told =
+birth_member : (s : State) (p : ℕ) (c : Call) (child : ℕ) → IsBirth s p c child
+    → map.get (after s p c).book child ≡ Some (record { parent = p; quota = quota_asked c })
+birth_member s p c child b = elim b.1 [
+  | inl spawned ↦
+      ap (λ (d : Call). map.get (after s p d).book child) spawned.1
+      ∙ ap (λ k. map.get (map.insert s.book k (record { parent = p; quota = spawned.0 })) child) b.0
+      ∙ member_in s.book p child spawned.0
+      ∙ ap (λ (d : Call). Some (record { parent = p; quota = quota_asked d })) (sym spawned.1)
+  | inr forked ↦
+      ap (λ (d : Call). map.get (after s p d).book child) forked.1
+      ∙ ap (λ k. map.get (map.insert s.book k (record { parent = p; quota = forked.0 })) child) b.0
+      ∙ member_in s.book p child forked.0
+      ∙ ap (λ (d : Call). Some (record { parent = p; quota = quota_asked d })) (sym forked.1)
+]
+
+birth_page : (s : State) (p : ℕ) (c : Call) (child page : ℕ) → IsWellFormed s → IsBirth s p c child
+    → map.get (after s p c).spaces (at_page child page) ≡ born_with s p c (at_page child page)
+birth_page s p c child page w b = elim b.1 [
+  | inl spawned ↦
+      ap (λ (d : Call). map.get (after s p d).spaces (at_page child page)) spawned.1
+      ∙ no_page s child w (birth_free s p c child b) page
+      ∙ ap (λ (d : Call). born_with s p d (at_page child page)) (sym spawned.1)
+  | inr forked ↦
+      ap (λ (d : Call). map.get (after s p d).spaces (at_page child page)) forked.1
+      ∙ ap (λ k. map.get (copied s.spaces p k) (at_page child page)) b.0
+      ∙ copied-own s.spaces p child page
+      ∙ ap (λ (d : Call). born_with s p d (at_page child page)) (sym forked.1)
+]
+
+pub children_are_their_makers : ChildrenAreTheirMakers
+children_are_their_makers s e child w told =
     let b = maker_of s e child told in
-    ap (λ (u : State). map.get u.spaces (at_page child page)) (next-goes s e b.done ∙ ap (after s e.pid) is)
-    ∙ ap (λ k. map.get (copied s.spaces e.pid k) (at_page child page)) b.birth.0
-    ∙ copied-own s.spaces e.pid child page
+    record {
+      free = no_value (map.get s.book child) (birth_free s e.pid e.call child b.birth);
+      member = ap (λ (u : State). map.get u.book child) (next-goes s e b.done)
+          ∙ birth_member s e.pid e.call child b.birth;
+      pages = λ page. ap (λ (u : State). map.get u.spaces (at_page child page)) (next-goes s e b.done)
+          ∙ birth_page s e.pid e.call child page w b.birth;
+    }
+
+-- ---- All other places in the book
+
+abbrev PlaceStays : State → State → Event → ℕ → Type 0
+PlaceStays s t e p = (map.get t.book p ≡ map.get s.book p)
+    ⊎ ((answer s e ≡ reply.Child p) ⊎ ((p ≡ e.pid) × (e.call ≡ call.Exit)))
+
+module _ (s : State) (e : Event) (p : ℕ) (live : is_live s e.pid ≡ true) where
+  told_by : (c : Call) → e.call ≡ c → answer s e ≡ answer_of s e.pid c
+  told_by c is = (λ i. if live i then answer_of s e.pid (is i) else reply.Refused cause.NoProcess)
+
+  one_more : (quota : ℕ) → (answer s e ≡ reply.Child (child_of s))
+      → (map.get (map.insert s.book (child_of s) (record { parent = e.pid; quota = quota })) p ≡ map.get s.book p)
+      ⊎ ((answer s e ≡ reply.Child p) ⊎ ((p ≡ e.pid) × (e.call ≡ call.Exit)))
+  one_more quota told = elim (same_cases nat_order p (child_of s)) [
+    | inl here ↦ inr (inl (told ∙ ap reply.Child (sym here.0)))
+    | inr other ↦ inl (get-insert s.book (child_of s) (record { parent = e.pid; quota = quota }) p
+        ∙ ap (λ b. cond b (Some (record { parent = e.pid; quota = quota })) (map.get s.book p)) other.1)
+  ]
+
+  after_place : (c : Call) → e.call ≡ c → completes (answer_of s e.pid c) ≡ true → PlaceStays s (after s e.pid c) e p
+  after_place (call.Load addr size) is h = inl refl
+  after_place (call.Store addr size value) is h = inl refl
+  after_place (call.Map page write) is h = inl refl
+  after_place (call.Unmap page) is h = inl refl
+  after_place (call.Protect page write) is h = inl refl
+  after_place (call.Info page) is h = inl refl
+  after_place (call.Offer page target write) is h = inl refl
+  after_place (call.Withdraw page target) is h = inl refl
+  after_place (call.Accept giver giver_page page) is h = inl refl
+  after_place (call.Spawn quota) is h = one_more quota (told_by (call.Spawn quota) is
+      ∙ ap (λ (x : Option Cause). refused_or x (reply.Child (child_of s)))
+      (not-refused (spawn_refusal s e.pid quota) _ h))
+  after_place (call.Fork quota) is h = one_more quota (told_by (call.Fork quota) is
+      ∙ ap (λ (x : Option Cause). refused_or x (reply.Child (child_of s)))
+      (not-refused (fork_refusal s e.pid quota) _ h))
+  after_place call.Exit is h = elim (same_cases nat_order p e.pid) [
+    | inl here ↦ inr (inr (here.0, is))
+    | inr other ↦ inl (get-remove_other s.book e.pid p other.0)
+  ]
+  after_place call.Quota is h = inl refl
+
+pub places_stay : PlacesStay
+places_stay s e p = by (completes (answer s e)) refl
+  where
+    by : (b : Bool) → completes (answer s e) ≡ b → PlaceStays s (next s e) e p
+    by true h = let l = caller_live s e h in
+        subst (λ t. PlaceStays s t e p) (sym (next-goes s e h)) (after_place s e p l.0 e.call refl l.1)
+    by false h = inl (ap (λ (t : State). map.get t.book p) (next-stays s e h))
 
 -- ---- What it sees
 
@@ -192,14 +279,9 @@ with_child s q k quota S = record {
   offers = s.offers;
 }
 
-member_in : (book : Book) (q k quota : ℕ) → map.get (map.insert book k (record { parent = q; quota = quota })) k ≡ Some
-    (record { parent = q; quota = quota })
-member_in book q k quota = get-insert book k (record { parent = q; quota = quota }) k
-    ∙ ap (λ b. cond b (Some (record { parent = q; quota = quota })) (map.get book k)) (same_itself nat_order k)
-
 -- a new child sees its own pages alone
 pub own_seen : (s : State) (q k quota : ℕ) (S : Spaces) → IsWellFormed s → is_live s k ≡ false → (slot : Slot)
-    → sees (with_child s q k quota S) k slot ≡ true → slot ≡ at_page k slot.page
+    → (is_of k slot || is_offered (with_child s q k quota S) k slot) ≡ true → slot ≡ at_page k slot.page
 own_seen s q k quota S w free slot v = λ i. record {
   pid = eqb-true slot.pid k (by (is_of k slot) v) i;
   page =

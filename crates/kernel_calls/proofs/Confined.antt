@@ -8,6 +8,7 @@ use Rattle.std.proofs.Common.{
   true,
   false,
   if◌then◌else◌,
+  List,
   [],
   ◌∷◌,
   refl,
@@ -24,6 +25,7 @@ use Rattle.std.proofs.Common.{
 }
 use Rattle.std.specs.Prelude.{slice_index}
 use Rattle.std.specs.Option.{option_map}
+use Rattle.std.specs.List.{All}
 use Rattle.std.proofs.lemmas.Bool.{cases_eq}
 use Rattle.std.proofs.lemmas.List.{ext_get_or}
 use Rattle.std.proofs.lemmas.List.Elements.{All-head, All-tail}
@@ -36,24 +38,27 @@ use Rattle.address_space.specs.Spaces.{Slot, slot_order, Cell, fresh, at_page, s
 use Rattle.page_sharing.specs.Offers.{OfferKey, offer_of}
 use Rattle.process_table.specs.State.{State, is_live}
 use Rattle.process_table.specs.WellFormed.{IsWellFormed}
-use Rattle.kernel_calls.specs.Authority.{flags_of, shares, byte_in, IsUntouched, IsJoin, EndsOffer, makes_child}
-use Rattle.kernel_calls.specs.Confinement.{
+use Rattle.kernel_calls.specs.Authority.{
+  flags_of,
+  shares,
+  byte_in,
+  IsJoin,
   IsConfined,
   keeps_within,
   KeepsWithin,
-  RunsStayConfined,
+  Along,
   members_after,
-  FamiliesStayConfined,
+  members_at_end,
   IsAsBefore,
-  OutsidersLeaveMembers,
+  RunsKeepBorders,
 }
-use Rattle.kernel_calls.specs.Machine.{next}
+use Rattle.kernel_calls.specs.Machine.{next, end_of}
 use Rattle.kernel_calls.specs.declared.calls.Event.{Event}
 use Rattle.kernel_calls.specs.declared.calls.Call.TheVariants as call
 use Rattle.kernel_calls.proofs.Consent.{sharing_by_consent, offers_by_offerer}
 use Rattle.kernel_calls.proofs.Runs.{kept-next}
-use Rattle.kernel_calls.proofs.Stays.{next_live}
-use Rattle.kernel_calls.proofs.Untouched.{integrity}
+use Rattle.kernel_calls.proofs.Stays.{makes_child, next_live}
+use Rattle.kernel_calls.proofs.Untouched.{LeavesAll, EndsOffer, leaves_all}
 
 -- ---- Slots that share a page
 
@@ -137,7 +142,7 @@ module _ (s : State) (e : Event) (C D : ℕ → Bool) (w : IsWellFormed s) (conf
 
       mine : IsJoin s e slot other → ⊥
       mine j =
-          let pid : slot.pid ≡ e.pid = ap (λ (r : Slot). r.pid) j.slot_is in
+          let pid : slot.pid ≡ e.pid = j.own in
           let given = shares_by s j.giver other j.cell j.given j.among in
           let offer = offer_live s (offer_of j.giver.pid j.giver.page e.pid) j.right w j.offered in
           let member : C e.pid ≡ true = sym (same e.pid offer.1 (ap (is_live (next s e)) (sym pid) ∙ after.0))
@@ -149,7 +154,7 @@ module _ (s : State) (e : Event) (C D : ℕ → Bool) (w : IsWellFormed s) (conf
 
       theirs : IsJoin s e other slot → ⊥
       theirs j =
-          let pid : other.pid ≡ e.pid = ap (λ (r : Slot). r.pid) j.slot_is in
+          let pid : other.pid ≡ e.pid = j.own in
           let given = shares_by s j.giver slot j.cell j.given j.among in
           let offer = offer_live s (offer_of j.giver.pid j.giver.page e.pid) j.right w j.offered in
           let outsider : C e.pid ≡ false = sym (same e.pid offer.1 (ap (is_live (next s e)) (sym pid) ∙ after.1))
@@ -194,7 +199,8 @@ pub numbers_confined : (s : State) (e : Event) (C : ℕ → Bool) → IsWellForm
     → IsConfined (next s e) C
 numbers_confined s e C w confined keeps = next_confined s e C C w confined keeps (λ p before after. refl)
 
-pub runs_stay_confined : RunsStayConfined
+runs_stay_confined : (s : State) (events : List Event) (C : ℕ → Bool) → IsWellFormed s → IsConfined s C
+    → All (KeepsWithin C) events → IsConfined (end_of s events) C
 runs_stay_confined s [] C w confined keep = confined
 runs_stay_confined s (e ∷ events) C w confined keep =
     runs_stay_confined (next s e) events C (kept-next s e w).0
@@ -202,7 +208,8 @@ runs_stay_confined s (e ∷ events) C w confined keep =
     (All-tail (KeepsWithin C) e events keep)
 
 -- a set with the children of its members
-pub families_stay_confined : FamiliesStayConfined
+families_stay_confined : (s : State) (events : List Event) (C : ℕ → Bool) → IsWellFormed s → IsConfined s C
+    → Along (λ _. KeepsWithin) s C events → IsConfined (end_of s events) (members_at_end s C events)
 families_stay_confined s [] C w confined keep = confined
 families_stay_confined s (e ∷ events) C w confined keep =
     families_stay_confined (next s e) events (members_after s C e) (kept-next s e w).0
@@ -217,8 +224,8 @@ module _ (s : State) (e : Event) (C : ℕ → Bool) (p : ℕ) (w : IsWellFormed 
   apart_from : p ≢ e.pid
   apart_from x = let a = ap C x in cc
 
-  u : IsUntouched s (next s e) e p
-  u = integrity s e p w live apart_from
+  u : LeavesAll s (next s e) e p
+  u = leaves_all s e p w live apart_from
 
   still : IsConfined (next s e) C
   still = numbers_confined s e C w confined (λ h. absurd (let o = outsider in cc))
@@ -300,7 +307,8 @@ module _ (s : State) (e : Event) (C : ℕ → Bool) (p : ℕ) (w : IsWellFormed 
   one_leaves : IsAsBefore s (next s e) p
   one_leaves = record { member = u.member; pages = pages_same; offers = offers_same }
 
-pub outsiders_leave_members : OutsidersLeaveMembers
+outsiders_leave_members : (s : State) (events : List Event) (C : ℕ → Bool) (p : ℕ) → IsWellFormed s → IsConfined s C
+    → C p ≡ true → is_live s p ≡ true → All (λ (e : Event). C e.pid ≡ false) events → IsAsBefore s (end_of s events) p
 outsiders_leave_members s [] C p w confined member live others =
     record { member = refl; pages = λ page. refl; offers = λ page target. refl }
 outsiders_leave_members s (e ∷ events) C p w confined member live others =
@@ -314,3 +322,10 @@ outsiders_leave_members s (e ∷ events) C p w confined member live others =
       pages = λ page. rest.pages page ∙ first.pages page;
       offers = λ page target. rest.offers page target ∙ first.offers page target;
     }
+
+pub runs_keep_borders : RunsKeepBorders
+runs_keep_borders s events w = record {
+  numbers = λ C confined keep. runs_stay_confined s events C w confined keep;
+  families = λ C confined keep. families_stay_confined s events C w confined keep;
+  untouched = λ C p confined member live others. outsiders_leave_members s events C p w confined member live others;
+}

@@ -33,7 +33,7 @@ use Rattle.std.proofs.lemmas.Bool.{cases_eq}
 use Rattle.std.proofs.lemmas.Option.{same_Some}
 use Rattle.page_words.specs.Addresses.{offset_number, byte_count, touched}
 use Rattle.page_words.specs.FiniteMap as map
-use Rattle.page_words.specs.FiniteMap.{same, nat_order}
+use Rattle.page_words.specs.FiniteMap.{same}
 use Rattle.page_words.specs.FiniteSet as set
 use Rattle.page_words.specs.FiniteSet.{Set}
 use Rattle.page_words.proofs.MapLemmas.{get-insert, get-map_values, contains-insert, contains-retain}
@@ -303,8 +303,7 @@ module _ (s : State) (e : Event) (giver giver_page page : ℕ) (w : IsWellFormed
 
   joins : (other : Slot) → set.contains given.0.holders other ≡ true → IsJoin s e new other
   joins other among = record {
-    page = page;
-    slot_is = refl;
+    own = refl;
     new = may.none;
     giver = at_page giver giver_page;
     right = was_offered.0;

@@ -12,7 +12,6 @@ use Rattle.std.proofs.Common.{
   List,
   [],
   ◌∷◌,
-  map as each,
   refl,
   sym,
   ap,
@@ -26,24 +25,29 @@ use Rattle.page_words.specs.FiniteMap as map
 use Rattle.page_words.proofs.OptionLemmas.{some_value}
 use Rattle.address_space.specs.Spaces.{Slot, is_of, at_page, slot_at}
 use Rattle.page_sharing.specs.Offers.{offer_of}
-use Rattle.process_table.specs.State.{State, is_live}
-use Rattle.process_table.specs.Calls.{withdraw_refusal}
+use Rattle.process_table.specs.State.{State, is_live, child_of}
+use Rattle.process_table.specs.Calls.{withdraw_refusal, spawn_refusal, fork_refusal}
 use Rattle.process_table.specs.WellFormed.{IsWellFormed}
 use Rattle.process_table.specs.declared.causes.Cause.TheVariants as cause
-use Rattle.kernel_calls.specs.Authority.{is_offered}
-use Rattle.kernel_calls.specs.Confinement.{IsConfined, keeps_within, members_after}
-use Rattle.kernel_calls.specs.Isolation.{Exchange}
-use Rattle.kernel_calls.specs.Together.{
+use Rattle.kernel_calls.specs.Authority.{
+  is_offered,
+  members_after,
   IsUnseen,
+  IsStranger,
   IsQuietCall,
+  IsQuiet,
+  Along,
   heard,
-  AllQuiet,
-  changes_live,
-  AllDiscreet,
+  AskAlike,
+  IsConfined,
+  keeps_within,
   outside,
+  IsDiscreet,
   OutsidersHearNothing,
 }
+use Rattle.kernel_calls.specs.Isolation.{exchanges}
 use Rattle.kernel_calls.specs.Machine.{answer, answer_of, next, completes}
+use Rattle.process_table.proofs.ApartOthers.{child_free, fork_free}
 use Rattle.kernel_calls.specs.declared.calls.Call.{Call}
 use Rattle.kernel_calls.specs.declared.calls.Call.TheVariants as call
 use Rattle.kernel_calls.specs.declared.calls.Event.{Event}
@@ -56,7 +60,8 @@ use borrow.Author.Tests.{eqb-true}
 
 -- ---- One event of a member
 
-module _ (s : State) (C Q : ℕ → Bool) (confined : IsConfined s C) (apart : (p : ℕ) → Q p ≡ true → C p ≡ false) where
+module _ (s : State) (C Q : ℕ → Bool) (confined : IsConfined s C) (apart : (p : ℕ) → Q p ≡ true → C p ≡ false)
+    (lives : (p : ℕ) → Q p ≡ true → is_live s p ≡ true) where
   no_member : (p : ℕ) → C p ≡ true → Q p ≡ false
   no_member p member = by (Q p) refl
     where
@@ -87,26 +92,39 @@ module _ (s : State) (C Q : ℕ → Bool) (confined : IsConfined s C) (apart : (
   withdrawn true false h = cc
   withdrawn true true h = refl
 
-  quiet_call : (q : ℕ) (c : Call) → C q ≡ true → keeps_within C c ≡ true → changes_live c ≡ false
-      → completes (answer_of s q c) ≡ true → IsQuietCall s Q q c
-  quiet_call q (call.Load addr size) member within still h = tt
-  quiet_call q (call.Store addr size value) member within still h = λ byte first last. unseen (slot_at q byte) member
-  quiet_call q (call.Map page write) member within still h = tt
-  quiet_call q (call.Unmap page) member within still h = unseen (at_page q page) member
-  quiet_call q (call.Protect page write) member within still h = tt
-  quiet_call q (call.Info page) member within still h = tt
-  quiet_call q (call.Offer page target write) member within still h = no_member target within
-  quiet_call q (call.Withdraw page target) member within still h =
+  -- nobody outside has the number of a new child
+  dead_out : (k : ℕ) → is_live s k ≡ false → Q k ≡ false
+  dead_out k dead = by (Q k) refl
+    where
+      by : (b : Bool) → Q k ≡ b → b ≡ false
+      by false is = refl
+      by true is = absurd (let live = lives k is in let d = dead in cc)
+
+  quiet_call : (q : ℕ) (c : Call) → C q ≡ true → keeps_within C c ≡ true
+      → (c ≡ call.Exit → IsStranger s (outside s C) q) → completes (answer_of s q c) ≡ true → IsQuietCall s Q q c
+  quiet_call q (call.Load addr size) member within strange h = tt
+  quiet_call q (call.Store addr size value) member within strange h = λ byte first last. unseen (slot_at q byte) member
+  quiet_call q (call.Map page write) member within strange h = tt
+  quiet_call q (call.Unmap page) member within strange h = unseen (at_page q page) member
+  quiet_call q (call.Protect page write) member within strange h = tt
+  quiet_call q (call.Info page) member within strange h = tt
+  quiet_call q (call.Offer page target write) member within strange h = no_member target within
+  quiet_call q (call.Withdraw page target) member within strange h =
       let there = withdrawn (is_user_page page) (map.contains_key s.offers (offer_of q page target))
       (not-refused (withdraw_refusal s q page target) _ h) in
       let r = some_value (map.get s.offers (offer_of q page target)) there in
       no_member target (confined.offers_none (offer_of q page target) r.0 r.1 member)
-  quiet_call q (call.Accept giver giver_page page) member within still h =
+  quiet_call q (call.Accept giver giver_page page) member within strange h =
       (no_member giver within, unseen (at_page giver giver_page) within)
-  quiet_call q (call.Spawn quota) member within still h = cc
-  quiet_call q (call.Fork quota) member within still h = cc
-  quiet_call q call.Exit member within still h = cc
-  quiet_call q call.Quota member within still h = tt
+  quiet_call q (call.Spawn quota) member within strange h =
+      dead_out (child_of s) (child_free s q quota (not-refused (spawn_refusal s q quota) _ h))
+  quiet_call q (call.Fork quota) member within strange h =
+      dead_out (child_of s) (fork_free s q quota (not-refused (fork_refusal s q quota) _ h))
+  quiet_call q call.Exit member within strange h = (
+    λ r page h. strange refl r page (λ i. lives r h i && not (apart r h i)),
+    λ page. unseen (at_page q page) member,
+  )
+  quiet_call q call.Quota member within strange h = tt
 
 -- ---- Runs
 
@@ -120,24 +138,30 @@ maker_live s e p free lives = by (completes (answer s e)) refl
     by false h = absurd (let same_live = ap (λ (u : State). is_live u p) (next-stays s e h) in cc)
 
 all_quiet : (events : List Event) (s : State) (C Q : ℕ → Bool) → IsWellFormed s → IsConfined s C
-    → ((p : ℕ) → Q p ≡ true → C p ≡ false) → ((p : ℕ) → is_live s p ≡ true → Q p ≡ false → C p ≡ true)
-    → AllDiscreet s C events → AllQuiet s Q events
-all_quiet [] s C Q w confined apart rest discreet = tt
-all_quiet (e ∷ events) s C Q w confined apart rest discreet = (
+    → ((p : ℕ) → Q p ≡ true → C p ≡ false) → ((p : ℕ) → Q p ≡ true → is_live s p ≡ true)
+    → ((p : ℕ) → is_live s p ≡ true → Q p ≡ false → C p ≡ true)
+    → Along IsDiscreet s C events → Along IsQuiet s Q events
+all_quiet [] s C Q w confined apart lives rest discreet = tt
+all_quiet (e ∷ events) s C Q w confined apart lives rest discreet = (
   λ out done. (
       let live = caller_live s e done in
       let member = rest e.pid live.0 out in
       let kept = discreet.0 member in
-      quiet_call s C Q confined apart e.pid e.call member kept.0 kept.1 live.1),
+      quiet_call s C Q confined apart lives e.pid e.call member kept.0 kept.1 live.1),
   all_quiet events (next s e) (members_after s C e) (members_after s Q e) (kept-next s e w).0
       (next_confined s e C (members_after s C e) w confined (λ member. (discreet.0 member).0)
       (λ p before after. (λ i. after i && (if before i then C p else C e.pid))))
       (λ p h. still_apart p (is_live (next s e) p) (is_live s p) h)
+      (λ p h. first (is_live (next s e) p) (if is_live s p then Q p else Q e.pid) h)
       (λ p lives h. still_rest p lives (is_live s p) refl
       (sym (ap (λ b. b && (if is_live s p then Q p else Q e.pid)) lives) ∙ h))
       discreet.1,
 )
   where
+    first : (a b : Bool) → (a && b) ≡ true → a ≡ true
+    first true b h = refl
+    first false b h = cc
+
     still_apart : (p : ℕ) (a b : Bool) → (a && (if b then Q p else Q e.pid)) ≡ true
         → (a && (if b then C p else C e.pid)) ≡ false
     still_apart p true true h = apart p h
@@ -168,18 +192,18 @@ outside_rest true false live h = cc
 outside_rest false b live h = cc
 
 outside_quiet : (s : State) (C : ℕ → Bool) (events : List Event) → IsWellFormed s → IsConfined s C
-    → AllDiscreet s C events → AllQuiet s (outside s C) events
+    → Along IsDiscreet s C events → Along IsQuiet s (outside s C) events
 outside_quiet s C events w confined discreet =
     all_quiet events s C (outside s C) w confined (λ p h. outside_apart (is_live s p) (C p) h)
-    (λ p live h. outside_rest (is_live s p) (C p) live h) discreet
+    (λ p h. outside_live (is_live s p) (C p) h) (λ p live h. outside_rest (is_live s p) (C p) live h) discreet
 
 pub outsiders_hear_nothing : OutsidersHearNothing
-outsiders_hear_nothing s t C events others w v confined confined_t l discreet discreet_t same_asked =
-    members_hear_the_same s t (outside s C) events others w v (λ q h. outside_live (is_live s q) (C q) h) l
+outsiders_hear_nothing s t C events others w v confined confined_t same l discreet discreet_t alike =
+    members_hear_the_same s events w t (outside s C) others v (λ q h. outside_live (is_live s q) (C q) h) l
     (outside_quiet s C events w confined discreet)
-    (subst (λ Q. AllQuiet t Q others) (sym sets) (outside_quiet t C others v confined_t discreet_t))
-    (same_asked ∙ ap (λ Q. each (λ (x : Exchange). x.0) (heard t Q others)) (sym sets))
-    ∙ ap (λ Q. heard t Q others) sets
+    (subst (λ Q. Along IsQuiet t Q others) (sym sets) (outside_quiet t C others v confined_t discreet_t))
+    (subst (λ Q. AskAlike (heard s (outside s C) (exchanges s events)) (heard t Q (exchanges t others))) (sym sets) alike)
+    ∙ ap (λ Q. heard t Q (exchanges t others)) sets
   where
     sets : outside s C ≡ outside t C
-    sets = λ i. λ p. l.live p i && not (C p)
+    sets = λ i. λ p. same p i

@@ -99,15 +99,17 @@ not_root false c h = refl
 exited : (s : State) (p : ℕ) → exit_refusal s p ≡ None → HasExited s (after_exit s p) p
 exited s p allowed = record {
   gone = get-removed s.book p;
-  pages = λ page. without_none s.spaces (is_of p) (at_page p page) (eq-eqb p p refl);
-  groups = λ slot page. without_drops s.spaces (is_of p) slot (at_page p page) (eq-eqb p p refl);
-  offers = λ page other. (
-    get-retain_keys s.offers stay (offer_of p page other)
-        ∙ (λ i. cond (not (eq-eqb p p refl i || (other == p))) (map.get s.offers (offer_of p page other)) None),
-    get-retain_keys s.offers stay (offer_of other page p)
-        ∙ (λ i. cond (not ((other == p) || eq-eqb p p refl i)) (map.get s.offers (offer_of other page p)) None)
-        ∙ none (other == p) (map.get s.offers (offer_of other page p)),
-  );
+  pages = λ page. record {
+    gone = without_none s.spaces (is_of p) (at_page p page) (eq-eqb p p refl);
+    groups = λ slot. without_drops s.spaces (is_of p) slot (at_page p page) (eq-eqb p p refl);
+    offers = λ target.
+        get-retain_keys s.offers stay (offer_of p page target)
+        ∙ (λ i. cond (not (eq-eqb p p refl i || (target == p))) (map.get s.offers (offer_of p page target)) None);
+  };
+  offers = λ slot. ap is_some (
+      get-retain_keys s.offers stay (offer_of slot.pid slot.page p)
+      ∙ (λ i. cond (not ((slot.pid == p) || eq-eqb p p refl i)) (map.get s.offers (offer_of slot.pid slot.page p)) None)
+      ∙ none (slot.pid == p) (map.get s.offers (offer_of slot.pid slot.page p)));
   returned = λ member at.
       let a = given-remove s.book p member at member.parent in
       let b : ◌≡◌ {A = ℕ} (cond (is_child member.parent (p, member)) member.quota 0) member.quota =

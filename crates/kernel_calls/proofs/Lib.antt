@@ -1,6 +1,5 @@
 pub mod Births
 pub mod Charges
-pub mod ChildLists
 pub mod Confined
 pub mod Consent
 pub mod Decided
@@ -11,6 +10,7 @@ pub mod GivenUp
 pub mod Hearing
 pub mod Isolated
 pub mod KeptAccesses
+pub mod KeptSlots
 pub mod Leaving
 pub mod Linked
 pub mod Outsiders

@@ -25,55 +25,53 @@ use Rattle.std.specs.Option.{option_map}
 use Rattle.std.proofs.lemmas.List.{ext_get_or}
 use Rattle.page_words.specs.FiniteMap as map
 use Rattle.page_words.specs.FiniteSet as set
-use Rattle.page_words.specs.FiniteSet.{Set}
 use Rattle.page_words.proofs.MapLemmas.{same_set}
-use Rattle.page_words.proofs.OptionLemmas.{some_value}
+use Rattle.page_words.proofs.OptionLemmas.{some_value, no_value}
 use Rattle.page_words.proofs.SetLemmas.{same_cases}
 use Rattle.address_space.specs.Spaces.{Slot, slot_order, Cell, is_of, at_page, slot_at}
-use Rattle.quota_tree.specs.Book.{Book, quota_of, children}
-use Rattle.page_sharing.specs.Offers.{OfferKey}
+use Rattle.quota_tree.specs.Book.{Member, is_child, given, number_of_children}
+use Rattle.quota_tree.proofs.Sums.{given-none, number-none}
+use Rattle.page_sharing.specs.Offers.{OfferKey, offer_of}
 use Rattle.process_table.specs.State.{State, is_live}
 use Rattle.process_table.specs.WellFormed.{IsWellFormed}
 use Rattle.process_table.proofs.ApartOthers.{no_page}
+use Rattle.process_table.proofs.BookLaws.{parents_in}
 use Rattle.kernel_calls.specs.Authority.{
   flags_of,
   shown_of,
   shown_at,
   flags_at,
   shares,
+  is_child_of,
+  is_offered,
   IsJoin,
   IsLeave,
   IsStoreInto,
   Settles,
+  Sees,
+  LooksSame,
+  IsUnseen,
+  IsQuietCall,
+  OutsidersUnseen,
 }
-use Rattle.kernel_calls.specs.Together.{Sees, LooksSame, IsUnseen, IsQuietCall, OutsidersUnseen}
-use Rattle.kernel_calls.specs.Machine.{answer, after, next, completes}
+use Rattle.kernel_calls.specs.Machine.{answer, next, completes}
 use Rattle.kernel_calls.specs.declared.calls.Call.{Call}
 use Rattle.kernel_calls.specs.declared.calls.Call.TheVariants as call
 use Rattle.kernel_calls.specs.declared.calls.Event.{Event}
+use Rattle.kernel_calls.specs.declared.calls.Reply.TheVariants as reply
+use Rattle.kernel_calls.proofs.Births.{maker_of, places_stay}
 use Rattle.kernel_calls.proofs.Confined.{shares_by, back}
 use Rattle.kernel_calls.proofs.Consent.{sharing_by_consent, offers_by_offerer}
-use Rattle.kernel_calls.proofs.Decided.{next-stays, next-goes}
+use Rattle.kernel_calls.proofs.Decided.{next-stays}
 use Rattle.kernel_calls.proofs.GivenUp.{offers_stay}
 use Rattle.kernel_calls.proofs.Runs.{kept-next}
 use Rattle.kernel_calls.proofs.Stays.{next_leaves, next_stays, sharing_stays, seen_mapped}
-use Rattle.kernel_calls.proofs.Untouched.{integrity}
+use Rattle.kernel_calls.proofs.Untouched.{leaves_all}
 use borrow.Author.Tests.{eqb-true}
 
-quiet_book : (s : State) (Q : ℕ → Bool) (q : ℕ) (c : Call) → IsQuietCall s Q q c → (after s q c).book ≡ s.book
-quiet_book s Q q (call.Load addr size) quiet = refl
-quiet_book s Q q (call.Store addr size value) quiet = refl
-quiet_book s Q q (call.Map page write) quiet = refl
-quiet_book s Q q (call.Unmap page) quiet = refl
-quiet_book s Q q (call.Protect page write) quiet = refl
-quiet_book s Q q (call.Info page) quiet = refl
-quiet_book s Q q (call.Offer page target write) quiet = refl
-quiet_book s Q q (call.Withdraw page target) quiet = refl
-quiet_book s Q q (call.Accept giver giver_page page) quiet = refl
-quiet_book s Q q (call.Spawn quota) quiet = absurd quiet
-quiet_book s Q q (call.Fork quota) quiet = absurd quiet
-quiet_book s Q q call.Exit quiet = absurd quiet
-quiet_book s Q q call.Quota quiet = refl
+either_no : (a b : Bool) → (a || b) ≡ false → (a ≡ false) × (b ≡ false)
+either_no false b h = (refl, h)
+either_no true b h = cc
 
 module _ (s : State) (e : Event) (Q : ℕ → Bool) (w : IsWellFormed s) (out : Q e.pid ≡ false)
     (done : completes (answer s e) ≡ true) (quiet : IsQuietCall s Q e.pid e.call) where
@@ -83,35 +81,78 @@ module _ (s : State) (e : Event) (Q : ℕ → Bool) (w : IsWellFormed s) (out : 
   well : IsWellFormed (next s e)
   well = (kept-next s e w).0
 
-  book_same : s.book ≡ (next s e).book
-  book_same = sym (ap (λ (t : State). t.book) (next-goes s e done) ∙ quiet_book s Q e.pid e.call quiet)
-
-  lives : (p : ℕ) → is_live s p ≡ is_live (next s e) p
-  lives p = ap (λ (b : Book). map.contains_key b p) book_same
-
   not_out : (p : ℕ) → Q p ≡ true → p ≢ e.pid
   not_out p h x = let a = ap Q x in let o = out in cc
+
+  -- no member's number is a new child's
+  no_birth : (q : ℕ) → Q q ≡ true → answer s e ≡ reply.Child q → ⊥
+  no_birth q member told =
+      let b = (maker_of s e q told).birth in
+      elim b.1 [
+        | inl spawned ↦ (let free = quiet_as (call.Spawn spawned.0) spawned.1 in let x = ap Q b.0 in cc)
+        | inr forked ↦ (let free = quiet_as (call.Fork forked.0) forked.1 in let x = ap Q b.0 in cc)
+      ]
+
+  -- a member's place in the book stays
+  place_same : (q : ℕ) → Q q ≡ true → map.get s.book q ≡ map.get (next s e).book q
+  place_same q member = elim (places_stay s e q) [
+    | inl same_place ↦ sym same_place
+    | inr differs ↦ elim differs [
+      | inl born ↦ absurd (no_birth q member born)
+      | inr gone ↦ absurd (not_out q member gone.0)
+    ]
+  ]
+
+  lives : (q : ℕ) → Q q ≡ true → is_live s q ≡ is_live (next s e) q
+  lives q member = ap is_some (place_same q member)
+
+  -- and so does what it has given, to its children
+  abbrev GivesTheSame : ℕ → Type 0
+  GivesTheSame q = (given s.book q ≡ given (next s e).book q)
+      × (number_of_children s.book q ≡ number_of_children (next s e).book q)
+
+  gives_same : (q : ℕ) → Q q ≡ true → GivesTheSame q
+  gives_same q member = by (is_live s q) refl
+    where
+      by : (b : Bool) → is_live s q ≡ b → GivesTheSame q
+      by true live = let u = leaves_all s e q w live (not_out q member) in elim u.given [
+        | inl same_given ↦ (sym same_given.0, sym same_given.1)
+        | inr exits ↦ absurd (
+            let no = either_no (is_child_of s q e.pid) (is_offered s e.pid (at_page q 0))
+            ((quiet_as call.Exit exits.1).0 q 0 member) in
+            let f = no.0 in
+            let x = exits.0 in
+            cc)
+      ]
+      by false dead =
+          let none = no_value (map.get s.book q) dead in
+          let none_next = no_value (map.get (next s e).book q) (sym (lives q member) ∙ dead) in (
+            given-none s.book q none (parents_in s w)
+                ∙ sym (given-none (next s e).book q none_next (parents_in (next s e) well)),
+            number-none s.book q none (parents_in s w)
+                ∙ sym (number-none (next s e).book q none_next (parents_in (next s e) well)),
+          )
 
   -- a member's slots keep their flags
   flags_same : (slot : Slot) → Q slot.pid ≡ true → flags_at s slot ≡ flags_at (next s e) slot
   flags_same slot member = by (is_live s slot.pid) refl
     where
       by : (b : Bool) → is_live s slot.pid ≡ b → flags_at s slot ≡ flags_at (next s e) slot
-      by true live = sym ((integrity s e slot.pid w live (not_out slot.pid member)).flags slot.page)
+      by true live = sym ((leaves_all s e slot.pid w live (not_out slot.pid member)).flags slot.page)
       by false dead = ap (option_map flags_of) (no_page s slot.pid w dead slot.page
-          ∙ sym (no_page (next s e) slot.pid well (sym (lives slot.pid) ∙ dead) slot.page))
+          ∙ sym (no_page (next s e) slot.pid well (sym (lives slot.pid member) ∙ dead) slot.page))
 
   -- what is seen leaves no group, and nothing leaves its
   no_leave : (slot other : Slot) → Sees s Q slot → shares s other slot ≡ true → IsLeave e other → ⊥
-  no_leave slot other seen shared leave = elim leave.how [
-    | inl unmap ↦ (
-        let here : at_page e.pid other.page ≡ other = (λ i. record { pid = sym leave.own i; page = other.page }) in
-        subst (IsUnseen s Q) here (quiet_as (call.Unmap other.page) unmap) slot shared seen)
-    | inr exit ↦ quiet_as call.Exit exit
-  ]
+  no_leave slot other seen shared leave =
+      let here : at_page e.pid other.page ≡ other = (λ i. record { pid = sym leave.own i; page = other.page }) in
+      elim leave.how [
+        | inl unmap ↦ subst (IsUnseen s Q) here (quiet_as (call.Unmap other.page) unmap) slot shared seen
+        | inr exit ↦ subst (IsUnseen s Q) here ((quiet_as call.Exit exit).1 other.page) slot shared seen
+      ]
 
   no_join : (slot other : Slot) → Sees s Q slot → IsJoin s e other slot → ⊥
-  no_join slot other seen j = (quiet_as (call.Accept j.giver.pid j.giver.page j.page) j.call).1 slot
+  no_join slot other seen j = (quiet_as (call.Accept j.giver.pid j.giver.page other.page) j.call).1 slot
       (shares_by s j.giver slot j.cell j.given j.among) seen
 
   no_store : (slot : Slot) (place : ℕ) → Sees s Q slot → IsStoreInto s (next s e) e slot place → ⊥
@@ -237,6 +278,20 @@ module _ (s : State) (e : Event) (Q : ℕ → Bool) (w : IsWellFormed s) (out : 
       or_yes true = refl
       or_yes false = refl
 
+  -- and no exit ends one
+  no_exit : (key : OfferKey) (right : Bool) → Theirs key → map.get s.offers key ≡ Some right
+      → (key.target ≡ e.pid) × (e.call ≡ call.Exit) → ⊥
+  no_exit key right (inr to) at exit = not_out key.target to exit.0
+  no_exit key right (inl by) at exit =
+      let here : key ≡ offer_of key.offerer key.page e.pid =
+      (λ i. record { offerer = key.offerer; page = key.page; target = exit.0 i }) in
+      let there : is_offered s e.pid (at_page key.offerer key.page) ≡ true =
+      ap (map.contains_key s.offers) (sym here) ∙ ap is_some at in
+      let no = either_no (is_child_of s key.offerer e.pid) (is_offered s e.pid (at_page key.offerer key.page))
+      ((quiet_as call.Exit exit.1).0 key.offerer key.page by) in
+      let f = no.1 in
+      cc
+
   offers_same : (key : OfferKey) → Theirs key → map.get s.offers key ≡ map.get (next s e).offers key
   offers_same key theirs = by (map.get s.offers key) (map.get (next s e).offers key) refl refl
     where
@@ -252,7 +307,7 @@ module _ (s : State) (e : Event) (Q : ℕ → Bool) (w : IsWellFormed s) (out : 
           | inl settled ↦ absurd (no_settled key theirs settled)
           | inr gone ↦ elim gone [
             | inl leave ↦ absurd (no_left key right theirs before leave)
-            | inr exit ↦ absurd (quiet_as call.Exit exit.1)
+            | inr exit ↦ absurd (no_exit key right theirs before exit)
           ]
         ]
       ]
@@ -260,8 +315,12 @@ module _ (s : State) (e : Event) (Q : ℕ → Bool) (w : IsWellFormed s) (out : 
   done_unseen : LooksSame s (next s e) Q
   done_unseen = record {
     live = lives;
-    quota = λ q h. ap (λ (b : Book). quota_of b q) book_same;
-    children = λ q h. ap (λ (b : Book). children b q) book_same;
+    quota = λ q h. ap (λ (x : Option Member). unwrap_or (option_map (λ (m : Member). m.quota) x) 0) (place_same q h);
+    given = λ q h. (gives_same q h).0;
+    children = λ q h. (gives_same q h).1;
+    families = λ p q hp hq d.
+        ap (λ (x : Option Member). unwrap_or (option_map (λ (m : Member). is_child p (q, m)) x) false)
+        (place_same q hq);
     flags = flags_same;
     offers = offers_same;
     pages = pages_same;
@@ -270,9 +329,11 @@ module _ (s : State) (e : Event) (Q : ℕ → Bool) (w : IsWellFormed s) (out : 
 
 pub looks_refl : (s : State) (Q : ℕ → Bool) → LooksSame s s Q
 looks_refl s Q = record {
-  live = λ p. refl;
+  live = λ q h. refl;
   quota = λ q h. refl;
+  given = λ q h. refl;
   children = λ q h. refl;
+  families = λ p q hp hq d. refl;
   flags = λ slot h. refl;
   offers = λ key h. refl;
   pages = λ slot v. refl;
@@ -283,5 +344,5 @@ pub outsiders_unseen : OutsidersUnseen
 outsiders_unseen s e Q w out quiet = by (completes (answer s e)) refl
   where
     by : (b : Bool) → completes (answer s e) ≡ b → LooksSame s (next s e) Q
-    by true h = done_unseen s e Q w out h (quiet h)
+    by true h = done_unseen s e Q w out h (quiet out h)
     by false h = subst (λ t. LooksSame s t Q) (sym (next-stays s e h)) (looks_refl s Q)

@@ -22,16 +22,13 @@ use Rattle.std.proofs.Common.{
   unwrap_or,
   subst,
   ◌≢◌,
-  arith,
 }
-use Rattle.std.specs.Prelude.{if◌then◌else◌, nat_lt}
 use Rattle.std.specs.Option.{option_map}
 use Rattle.page_words.specs.Addresses.{byte_count, touched}
 use Rattle.page_words.specs.declared.addresses.Size.{Size}
 use Rattle.page_words.specs.FiniteMap as map
-use Rattle.page_words.specs.FiniteMap.{Map, same, nat_order}
+use Rattle.page_words.specs.FiniteMap.{same}
 use Rattle.page_words.specs.FiniteSet as set
-use Rattle.page_words.specs.FiniteSet.{Set}
 use Rattle.page_words.proofs.MapLemmas.{same-true, get-insert}
 use Rattle.page_words.proofs.OptionLemmas.{no_value}
 use Rattle.address_space.specs.Spaces.{
@@ -51,7 +48,7 @@ use Rattle.address_space.specs.Spaces.{
   at_page,
 }
 use Rattle.address_space.proofs.costs.Copied.{copied-other}
-use Rattle.quota_tree.specs.Book.{Member, is_child, number_of_children}
+use Rattle.quota_tree.specs.Book.{Member, is_child, given, quota_of, number_of_children, next_number}
 use Rattle.quota_tree.proofs.BookFacts.{get-insert_other}
 use Rattle.quota_tree.proofs.Sums.{given-insert, number-insert}
 use Rattle.page_sharing.specs.Offers.{OfferKey, Offers, offer_order, offer_of}
@@ -71,17 +68,15 @@ use Rattle.process_table.specs.Calls.{
   after_fork,
   after_exit,
 }
-use Rattle.process_table.specs.declared.causes.Cause.TheVariants as cause
 use Rattle.process_table.proofs.ApartOthers.{child_free, fork_free, live_differ}
-use Rattle.process_table.proofs.SpaceLaws.{not_less}
-use Rattle.kernel_calls.specs.Authority.{Flags, flags_of, shown_of, shares}
-use Rattle.kernel_calls.specs.Own.{HasTheSame, reads_live, takes_offer, OwnIsEnough}
+use Rattle.kernel_calls.specs.Authority.{Flags, flags_of, shown_of, shares, HaveTheSame, found, OwnIsEnough}
 use Rattle.kernel_calls.specs.Machine.{answer, answer_of, after, next, completes}
 use Rattle.kernel_calls.specs.declared.calls.Call.{Call}
 use Rattle.kernel_calls.specs.declared.calls.Call.TheVariants as call
+use Rattle.kernel_calls.specs.declared.calls.Event.{Event}
 use Rattle.kernel_calls.proofs.Decided.{next-stays, next-goes}
 use Rattle.kernel_calls.proofs.Runs.{not-refused}
-use Rattle.kernel_calls.proofs.Seen.{kept_offers, exit_children, exit_given, exit_quota, exit_slot}
+use Rattle.kernel_calls.proofs.Seen.{kept_offers, no_children, exit_children, exit_given, exit_quota, exit_slot}
 use Rattle.kernel_calls.proofs.TogetherSpaces.{
   SameSpaces,
   pages_same,
@@ -92,7 +87,7 @@ use Rattle.kernel_calls.proofs.TogetherSpaces.{
   gone_same,
 }
 use Rattle.kernel_calls.proofs.Untouched.{caller_live}
-use Rattle.kernel_calls.proofs.Views.{told_by_own, child_is_same}
+use Rattle.kernel_calls.proofs.Views.{HasTheSame, takes_offer, member_has, answer_of_same, told_by_own, child_is_same}
 use Rattle.page_words.proofs.SetLemmas.{get-removed}
 use borrow.Author.Tests.{eqb-true, eq-eqb}
 
@@ -242,24 +237,25 @@ module _ (s t : State) (q : ℕ) (l : HasTheSame s t q) where
         made = l.made;
       }
 
-  spawn_has : (quota : ℕ) → ((p : ℕ) → is_live s p ≡ is_live t p) → is_live s q ≡ true → spawn_refusal s q quota ≡ None
-      → HasTheSame (after_spawn s q quota) (after_spawn t q quota) q
-  spawn_has quota lives live allowed =
-      let free = child_free s q quota allowed in
+  spawn_has : (quota : ℕ) → next_number s.book ≡ next_number t.book → is_live s q ≡ true → spawn_refusal s q quota ≡ None
+      → spawn_refusal t q quota ≡ None → HasTheSame (after_spawn s q quota) (after_spawn t q quota) q
+  spawn_has quota finds live allowed allowed_t =
+      let free_t = ap (is_live t) (child_is_same s t finds) ∙ child_free t q quota allowed_t in
       subst (λ k. HasTheSame (after_spawn s q quota)
       (record t { book = map.insert t.book k (record { parent = q; quota = quota }) }) q)
-      (child_is_same s t q l lives)
-      (child_has (child_of s) quota s.spaces t.spaces live free (sym (lives (child_of s)) ∙ free) start)
+      (child_is_same s t finds)
+      (child_has (child_of s) quota s.spaces t.spaces live (child_free s q quota allowed) free_t start)
 
-  fork_has : (quota : ℕ) → ((p : ℕ) → is_live s p ≡ is_live t p) → is_live s q ≡ true → fork_refusal s q quota ≡ None
-      → HasTheSame (after_fork s q quota) (after_fork t q quota) q
-  fork_has quota lives live allowed =
+  fork_has : (quota : ℕ) → next_number s.book ≡ next_number t.book → is_live s q ≡ true → fork_refusal s q quota ≡ None
+      → fork_refusal t q quota ≡ None → HasTheSame (after_fork s q quota) (after_fork t q quota) q
+  fork_has quota finds live allowed allowed_t =
       let k = child_of s in
       let free = fork_free s q quota allowed in
+      let free_t = ap (is_live t) (child_is_same s t finds) ∙ fork_free t q quota allowed_t in
       subst (λ k. HasTheSame (after_fork s q quota)
       (record t { spaces = copied t.spaces q k; book = map.insert t.book k (record { parent = q; quota = quota }) })
-      q) (child_is_same s t q l lives)
-      (child_has k quota (copied s.spaces q k) (copied t.spaces q k) live free (sym (lives k) ∙ free)
+      q) (child_is_same s t finds)
+      (child_has k quota (copied s.spaces q k) (copied t.spaces q k) live free free_t
       (copies k (live_differ s q k live free)))
     where
       copies : (k : ℕ) → q ≢ k → SameSpaces Q (Mine q) (copied s.spaces q k) (copied t.spaces q k)
@@ -296,14 +292,8 @@ module _ (s t : State) (q : ℕ) (l : HasTheSame s t q) where
         (offer_of q page target) (l.made page target);
   }
     where
-      none_of : (a c : Bool) (n : ℕ) → nat_lt 0 n ≡ c
-          → (if a then Some cause.RootExit else if c then Some cause.HasChildren else None) ≡ None → n ≡ 0
-      none_of true c n is h = cc
-      none_of false true n is h = cc
-      none_of false false n is h = let m = not_less 0 n is in omega (arith, m)
-
       childless : number_of_children s.book q ≡ 0
-      childless = none_of (q == 0) (nat_lt 0 (number_of_children s.book q)) (number_of_children s.book q) refl allowed
+      childless = no_children s q allowed
 
       childless_t : number_of_children t.book q ≡ 0
       childless_t = sym l.children ∙ childless
@@ -311,35 +301,81 @@ module _ (s t : State) (q : ℕ) (l : HasTheSame s t q) where
       live_t : is_live t q ≡ true
       live_t = sym l.live ∙ live
 
-  after_has : (c : Call) → takes_offer c ≡ false → (reads_live c ≡ true → (p : ℕ) → is_live s p ≡ is_live t p)
-      → is_live s q ≡ true → completes (answer_of s q c) ≡ true → HasTheSame (after s q c) (after t q c) q
-  after_has (call.Load addr size) none lives live h = load_has addr size
-  after_has (call.Store addr size value) none lives live h = store_has addr size value
-  after_has (call.Map page write) none lives live h = map_has page write
-  after_has (call.Unmap page) none lives live h = unmap_has page
-  after_has (call.Protect page write) none lives live h = protect_has page write
-  after_has (call.Info page) none lives live h = l
-  after_has (call.Offer page target write) none lives live h = offer_has page target write
-  after_has (call.Withdraw page target) none lives live h = withdraw_has page target
-  after_has (call.Accept giver giver_page page) none lives live h = cc
-  after_has (call.Spawn quota) none lives live h =
-      spawn_has quota (lives refl) live (not-refused (spawn_refusal s q quota) _ h)
-  after_has (call.Fork quota) none lives live h =
-      fork_has quota (lives refl) live (not-refused (fork_refusal s q quota) _ h)
-  after_has call.Exit none lives live h = exit_has live (not-refused (exit_refusal s q) _ h)
-  after_has call.Quota none lives live h = l
+  after_has : (c : Call) → takes_offer c ≡ false → found s c ≡ found t c → is_live s q ≡ true
+      → completes (answer_of s q c) ≡ true → HasTheSame (after s q c) (after t q c) q
+  after_has (call.Load addr size) none finds live h = load_has addr size
+  after_has (call.Store addr size value) none finds live h = store_has addr size value
+  after_has (call.Map page write) none finds live h = map_has page write
+  after_has (call.Unmap page) none finds live h = unmap_has page
+  after_has (call.Protect page write) none finds live h = protect_has page write
+  after_has (call.Info page) none finds live h = l
+  after_has (call.Offer page target write) none finds live h = offer_has page target write
+  after_has (call.Withdraw page target) none finds live h = withdraw_has page target
+  after_has (call.Accept giver giver_page page) none finds live h = cc
+  after_has (call.Spawn quota) none finds live h =
+      spawn_has quota finds live (not-refused (spawn_refusal s q quota) _ h)
+      (not-refused (spawn_refusal t q quota) _
+      (sym (ap completes (answer_of_same s t q l (call.Spawn quota) refl finds)) ∙ h))
+  after_has (call.Fork quota) none finds live h =
+      fork_has quota finds live (not-refused (fork_refusal s q quota) _ h)
+      (not-refused (fork_refusal t q quota) _
+      (sym (ap completes (answer_of_same s t q l (call.Fork quota) refl finds)) ∙ h))
+  after_has call.Exit none finds live h = exit_has live (not-refused (exit_refusal s q) _ h)
+  after_has call.Quota none finds live h = l
 
-pub own_is_enough : OwnIsEnough
-own_is_enough s t e l none lives = (told, by (completes (answer s e)) refl)
+next_has : (s t : State) (e : Event) → HasTheSame s t e.pid → takes_offer e.call ≡ false
+    → found s e.call ≡ found t e.call → HasTheSame (next s e) (next t e) e.pid
+next_has s t e l none finds = by (completes (answer s e)) refl
   where
     told : answer s e ≡ answer t e
-    told = told_by_own s t e l none lives
+    told = told_by_own s t e l none finds
 
     by : (b : Bool) → completes (answer s e) ≡ b → HasTheSame (next s e) (next t e) e.pid
     by true h =
         let c = caller_live s e h in
         subst (λ u. HasTheSame u (next t e) e.pid) (sym (next-goes s e h))
         (subst (λ u. HasTheSame (after s e.pid e.call) u e.pid) (sym (next-goes t e (sym (ap completes told) ∙ h)))
-        (after_has s t e.pid l e.call none lives c.0 c.1))
+        (after_has s t e.pid l e.call none finds c.0 c.1))
     by false h = subst (λ u. HasTheSame u (next t e) e.pid) (sym (next-stays s e h))
         (subst (λ u. HasTheSame s u e.pid) (sym (next-stays t e (sym (ap completes told) ∙ h))) l)
+
+-- ---- A process is the set of one
+
+alone_has : (s t : State) (q : ℕ) → HasTheSame s t q → HaveTheSame s t (λ p. p == q)
+alone_has s t q l =
+    let spaces = spaces_of s t q l in
+    record {
+      live = λ p h. subst (λ n. is_live s n ≡ is_live t n) (sym (eqb-true p q h)) l.live;
+      quota = λ p h. subst (λ n. quota_of s.book n ≡ quota_of t.book n) (sym (eqb-true p q h)) l.quota;
+      given = λ p h. subst (λ n. given s.book n ≡ given t.book n) (sym (eqb-true p q h)) l.given;
+      children = λ p h. subst (λ n. number_of_children s.book n ≡ number_of_children t.book n) (sym (eqb-true p q h))
+          l.children;
+      families = λ p r hp hr d. absurd (d (eqb-true p q hp ∙ sym (eqb-true r q hr)));
+      flags = spaces.flags;
+      offers = λ key h. ap (map.get s.offers) (here key h) ∙ l.made key.page key.target
+          ∙ ap (map.get t.offers) (sym (here key h));
+      pages = spaces.pages;
+      same_page = spaces.groups;
+    }
+  where
+    here : (key : OfferKey) → (key.offerer == q) ≡ true → key ≡ offer_of q key.page key.target
+    here key h = λ i. record { offerer = eqb-true key.offerer q h i; page = key.page; target = key.target }
+
+pub own_is_enough : OwnIsEnough
+own_is_enough s t e l finds none = alone_has (next s e) (next t e) e.pid
+    (next_has s t e (member_has s t (λ p. p == e.pid) e.pid (itself e.pid) l) (taken e.call refl) finds)
+  where
+    taken : (c : Call) → e.call ≡ c → takes_offer c ≡ false
+    taken (call.Accept giver giver_page page) is = absurd (none giver giver_page page is)
+    taken (call.Load addr size) is = refl
+    taken (call.Store addr size value) is = refl
+    taken (call.Map page write) is = refl
+    taken (call.Unmap page) is = refl
+    taken (call.Protect page write) is = refl
+    taken (call.Info page) is = refl
+    taken (call.Offer page target write) is = refl
+    taken (call.Withdraw page target) is = refl
+    taken (call.Spawn quota) is = refl
+    taken (call.Fork quota) is = refl
+    taken call.Exit is = refl
+    taken call.Quota is = refl

@@ -2,6 +2,7 @@
 use Rattle.std.proofs.Common.{
   ◌≡◌,
   ℕ,
+  ◌==◌,
   not,
   Bool,
   true,
@@ -16,15 +17,16 @@ use Rattle.std.proofs.Common.{
   ap,
   ◌∙◌,
   Option,
+  Some,
   None,
   is_some,
   unwrap_or,
   sum_by,
   arith,
 }
+use Rattle.std.specs.Prelude.{if◌then◌else◌, nat_lt}
 use Rattle.std.specs.Option.{option_map}
 use Rattle.page_words.specs.FiniteMap as map
-use Rattle.page_words.specs.FiniteMap.{Map, Order, same, nat_order}
 use Rattle.page_words.proofs.MapLemmas.{get-retain_keys}
 use Rattle.page_words.proofs.OptionLemmas.{some_value}
 use Rattle.page_words.proofs.SetLemmas.{get-removed}
@@ -34,6 +36,9 @@ use Rattle.quota_tree.specs.Book.{Book, Member, given, children, number_of_child
 use Rattle.quota_tree.proofs.Sums.{number-remove}
 use Rattle.page_sharing.specs.Offers.{OfferKey, Offers}
 use Rattle.process_table.specs.State.{State, is_live}
+use Rattle.process_table.specs.Calls.{exit_refusal}
+use Rattle.process_table.specs.declared.causes.Cause.TheVariants as cause
+use Rattle.process_table.proofs.SpaceLaws.{not_less}
 
 -- offers that are kept or dropped by their keys
 pub kept_offers : (O P : Offers) (stay : OfferKey → Bool) (key : OfferKey) → map.get O key ≡ map.get P key
@@ -50,6 +55,17 @@ kept_key O stay key h = by (stay key) (sym (ap is_some (get-retain_keys O stay k
     by false k = cc
 
 -- ---- An exit: nothing of it is left
+
+-- who may exit has no child
+pub no_children : (s : State) (q : ℕ) → exit_refusal s q ≡ None → number_of_children s.book q ≡ 0
+no_children s q allowed = none_of (q == 0) (nat_lt 0 (number_of_children s.book q)) (number_of_children s.book q) refl
+    allowed
+  where
+    none_of : (a c : Bool) (n : ℕ) → nat_lt 0 n ≡ c
+        → (if a then Some cause.RootExit else if c then Some cause.HasChildren else None) ≡ None → n ≡ 0
+    none_of true c n is h = cc
+    none_of false true n is h = cc
+    none_of false false n is h = let m = not_less 0 n is in omega (arith, m)
 
 given_none : (book : Book) (p : ℕ) → number_of_children book p ≡ 0 → given book p ≡ 0
 given_none book p h = by (children book p) h

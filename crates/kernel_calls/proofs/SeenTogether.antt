@@ -3,6 +3,7 @@ use Rattle.std.proofs.Common.{
   ◌≡◌,
   ◌≢◌,
   ℕ,
+  ◌+◌,
   ◌&&◌,
   ◌||◌,
   ◌==◌,
@@ -11,8 +12,6 @@ use Rattle.std.proofs.Common.{
   true,
   false,
   cond,
-  List,
-  length,
   refl,
   sym,
   ap,
@@ -23,7 +22,7 @@ use Rattle.std.proofs.Common.{
   None,
   is_some,
   unwrap_or,
-  sum_by,
+  arith,
   inl,
   inr,
 }
@@ -37,18 +36,19 @@ use Rattle.page_words.specs.FiniteMap.{same, nat_order}
 use Rattle.page_words.specs.FiniteSet as set
 use Rattle.page_words.specs.FiniteSet.{Set}
 use Rattle.page_words.proofs.MapLemmas.{same-true, get-insert}
-use Rattle.page_words.proofs.OptionLemmas.{no_value}
+use Rattle.page_words.proofs.OptionLemmas.{some_value, no_value}
 use Rattle.page_words.proofs.SetLemmas.{same_cases, get-remove}
 use Rattle.address_space.specs.Spaces.{Slot, slot_order, Cell, Spaces, fresh, bytes_of, without, is_slot, is_of, at_page, with_pages, all_accessed, all_stored, copied}
 use Rattle.address_space.proofs.costs.Copied.{copied-own, copied-other}
-use Rattle.quota_tree.specs.Book.{Member, children}
-use Rattle.quota_tree.proofs.Sums.{number-none}
+use Rattle.quota_tree.specs.Book.{Member, is_child, given, number_of_children, next_number}
+use Rattle.quota_tree.proofs.Sums.{given-insert, given-remove, given-none, number-insert, number-remove, number-none}
 use Rattle.page_sharing.specs.Offers.{OfferKey, Offers, offer_order, offer_of}
 use Rattle.process_table.specs.State.{State, is_live, child_of}
 use Rattle.process_table.specs.Calls.{
   accept_refusal,
   spawn_refusal,
   fork_refusal,
+  exit_refusal,
   offered,
   after_load,
   after_store,
@@ -67,10 +67,20 @@ use Rattle.process_table.specs.Apart.{lone}
 use Rattle.process_table.proofs.ApartOthers.{child_free, fork_free, no_page}
 use Rattle.process_table.proofs.BookLaws.{parents_in}
 use Rattle.process_table.proofs.Refusals.{may_accept}
-use Rattle.kernel_calls.specs.Authority.{Flags, flags_of, Shown, shown_of, shares, sees, is_offered, makes_child}
-use Rattle.kernel_calls.specs.Confinement.{members_after}
-use Rattle.kernel_calls.specs.Own.{HasTheSame, takes_offer}
-use Rattle.kernel_calls.specs.Together.{Sees, LooksSame, MembersToldTheSame, MembersSeeTheSame}
+use Rattle.kernel_calls.specs.Authority.{
+  Flags,
+  flags_of,
+  Shown,
+  shown_of,
+  shares,
+  is_offered,
+  is_child_of,
+  Sees,
+  LooksSame,
+  found,
+  members_after,
+  MembersSeeTheSame,
+}
 use Rattle.kernel_calls.specs.Machine.{answer, answer_of, after, next, completes}
 use Rattle.kernel_calls.specs.declared.calls.Call.{Call}
 use Rattle.kernel_calls.specs.declared.calls.Call.TheVariants as call
@@ -86,15 +96,14 @@ use Rattle.kernel_calls.proofs.Births.{
   copy_flags,
   copy_shown,
 }
-use Rattle.kernel_calls.proofs.ChildLists.{children-insert, children-remove, childless}
 use Rattle.kernel_calls.proofs.Confined.{shared_live}
 use Rattle.kernel_calls.proofs.Decided.{next-stays, next-goes}
 use Rattle.kernel_calls.proofs.Runs.{not-refused}
-use Rattle.kernel_calls.proofs.Seen.{kept_offers, kept_key}
-use Rattle.kernel_calls.proofs.Stays.{next_live}
+use Rattle.kernel_calls.proofs.Seen.{kept_offers, kept_key, no_children, exit_children, exit_given}
+use Rattle.kernel_calls.proofs.Stays.{makes_child, next_live}
 use Rattle.kernel_calls.proofs.Untouched.{caller_live}
-use Rattle.kernel_calls.proofs.Views.{sees_own, child_is_same, told_by_own, accepts_read_their_offer}
-use borrow.Author.Tests.{eq-eqb}
+use Rattle.kernel_calls.proofs.Views.{HasTheSame, sees, sees_own, child_is_same, process_told}
+use borrow.Author.Tests.{eqb-true, eq-eqb}
 use Rattle.kernel_calls.proofs.TogetherSpaces.{
   shares_in,
   SameSpaces,
@@ -111,9 +120,11 @@ use Rattle.kernel_calls.proofs.TogetherSpaces.{
 
 pub weaken : (s t : State) (Q D : ℕ → Bool) → ((p : ℕ) → D p ≡ true → Q p ≡ true) → LooksSame s t Q → LooksSame s t D
 weaken s t Q D less l = record {
-  live = l.live;
+  live = λ q h. l.live q (less q h);
   quota = λ q h. l.quota q (less q h);
+  given = λ q h. l.given q (less q h);
   children = λ q h. l.children q (less q h);
+  families = λ p q hp hq d. l.families p q (less p hp) (less q hq) d;
   flags = λ slot h. l.flags slot (less slot.pid h);
   offers = λ key h. elim h [
     | inl by ↦ l.offers key (inl (less key.offerer by))
@@ -126,10 +137,10 @@ weaken s t Q D less l = record {
 -- so each member has the same
 pub single : (s t : State) (Q : ℕ → Bool) (q : ℕ) → Q q ≡ true → LooksSame s t Q → HasTheSame s t q
 single s t Q q mine l = record {
-  live = l.live q;
+  live = l.live q mine;
   quota = l.quota q mine;
-  given = ap (λ (xs : List (ℕ × Member)). sum_by (λ (e : ℕ × Member). e.1.quota) xs) (l.children q mine);
-  children = ap (λ (xs : List (ℕ × Member)). length xs) (l.children q mine);
+  given = l.given q mine;
+  children = l.children q mine;
   flags = λ page. l.flags (at_page q page) mine;
   pages = λ page. l.pages (at_page q page) (q, mine, sees_own s q page);
   same_page = λ page other. l.same_page (at_page q page) (at_page q other) (q, mine, sees_own s q page)
@@ -137,30 +148,10 @@ single s t Q q mine l = record {
   made = λ page target. l.offers (offer_of q page target) (inl mine);
 }
 
-pub members_told_the_same : MembersToldTheSame
-members_told_the_same s t e Q l mine = by e.call refl
-  where
-    own : HasTheSame s t e.pid
-    own = single s t Q e.pid mine l
-
-    other : (c : Call) → e.call ≡ c → takes_offer c ≡ false → answer s e ≡ answer t e
-    other c is none = told_by_own s t e own (ap takes_offer is ∙ none) (λ reads. l.live)
-
-    by : (c : Call) → e.call ≡ c → answer s e ≡ answer t e
-    by (call.Accept giver giver_page page) is = accepts_read_their_offer s t e giver giver_page page own is
-        (l.offers (offer_of giver giver_page e.pid) (inr mine))
-    by (call.Load addr size) is = other (call.Load addr size) is refl
-    by (call.Store addr size value) is = other (call.Store addr size value) is refl
-    by (call.Map page write) is = other (call.Map page write) is refl
-    by (call.Unmap page) is = other (call.Unmap page) is refl
-    by (call.Protect page write) is = other (call.Protect page write) is refl
-    by (call.Info page) is = other (call.Info page) is refl
-    by (call.Offer page target write) is = other (call.Offer page target write) is refl
-    by (call.Withdraw page target) is = other (call.Withdraw page target) is refl
-    by (call.Spawn quota) is = other (call.Spawn quota) is refl
-    by (call.Fork quota) is = other (call.Fork quota) is refl
-    by call.Exit is = other call.Exit is refl
-    by call.Quota is = other call.Quota is refl
+pub told_same : (s t : State) (e : Event) (Q : ℕ → Bool) → LooksSame s t Q → Q e.pid ≡ true
+    → found s e.call ≡ found t e.call → answer s e ≡ answer t e
+told_same s t e Q l mine finds = process_told s t e (single s t Q e.pid mine l) finds
+    (λ giver page own is. ap is_some (l.offers (offer_of giver page e.pid) (inr mine)))
 
 spaces_same : (s t : State) (Q : ℕ → Bool) → LooksSame s t Q → SameSpaces Q (Sees s Q) s.spaces t.spaces
 spaces_same s t Q l = record { flags = l.flags; pages = l.pages; groups = l.same_page }
@@ -183,7 +174,9 @@ looks : (s t : State) (Q : ℕ → Bool) (S T : Spaces) (O P : Offers) → Looks
 looks s t Q S T O P l offers seen spaces = record {
   live = l.live;
   quota = l.quota;
+  given = l.given;
   children = l.children;
+  families = l.families;
   flags = spaces.flags;
   offers = λ key h. offers key (l.offers key h);
   pages = λ slot v. spaces.pages slot (seen slot v);
@@ -304,29 +297,37 @@ module _ (s t : State) (Q : ℕ → Bool) (q : ℕ) (mine : Q q ≡ true) (l : L
       or_yes true = refl
       or_yes false = refl
 
-  exit_together : LooksSame (after_exit s q) (after_exit t q) Q
-  exit_together =
+  exit_together : is_live s q ≡ true → exit_refusal s q ≡ None → LooksSame (after_exit s q) (after_exit t q) Q
+  exit_together live allowed =
       let stay : OfferKey → Bool = (λ (k : OfferKey). not ((k.offerer == q) || (k.target == q))) in
       let spaces = gone_same Q q mine (Sees s Q) own_pages s.spaces t.spaces (is_of q) own_slots (spaces_same s t Q l)
       in
       let seen = fewer_seen s (after_exit s q) Q (kept_key s.offers stay) in
       record {
-        live = λ p. ap is_some (get-remove s.book q p) ∙ by_live (same nat_order p q) p
+        live = λ p h. ap is_some (get-remove s.book q p) ∙ by_live (same nat_order p q) p h
             ∙ sym (ap is_some (get-remove t.book q p));
         quota = λ r h. ap (λ (x : Option Member). unwrap_or (option_map (λ (m : Member). m.quota) x) 0)
             (get-remove s.book q r) ∙ by_quota (same nat_order r q) r h
             ∙ sym (ap (λ (x : Option Member). unwrap_or (option_map (λ (m : Member). m.quota) x) 0)
             (get-remove t.book q r));
-        children = λ r h. children-remove s.book t.book r q (l.children r h);
+        given = λ r h. given_same r h (cases_eq r q);
+        children = λ r h. children_same r h (cases_eq r q);
+        families = λ p r hp hr d.
+            ap (λ (x : Option Member). unwrap_or (option_map (λ (m : Member). is_child p (r, m)) x) false)
+            (get-remove s.book q r)
+            ∙ by_family (same nat_order r q) p r hp hr d
+            ∙ sym (ap (λ (x : Option Member). unwrap_or (option_map (λ (m : Member). is_child p (r, m)) x) false)
+            (get-remove t.book q r));
         flags = spaces.flags;
         offers = λ key h. kept_offers s.offers t.offers stay key (l.offers key h);
         pages = λ slot v. spaces.pages slot (seen slot v);
         same_page = λ slot other v o. spaces.groups slot other (seen slot v) (seen other o);
       }
     where
-      by_live : (b : Bool) (p : ℕ) → is_some (cond b None (map.get s.book p)) ≡ is_some (cond b None (map.get t.book p))
-      by_live true p = refl
-      by_live false p = l.live p
+      by_live : (b : Bool) (p : ℕ) → Q p ≡ true
+          → is_some (cond b None (map.get s.book p)) ≡ is_some (cond b None (map.get t.book p))
+      by_live true p h = refl
+      by_live false p h = l.live p h
 
       by_quota : (b : Bool) (r : ℕ) → Q r ≡ true → unwrap_or
           (option_map (λ (m : Member). m.quota) (cond b None (map.get s.book r))) 0 ≡ unwrap_or
@@ -334,13 +335,86 @@ module _ (s t : State) (Q : ℕ → Bool) (q : ℕ) (mine : Q q ≡ true) (l : L
       by_quota true r h = refl
       by_quota false r h = l.quota r h
 
+      by_family : (b : Bool) (p r : ℕ) → Q p ≡ true → Q r ≡ true → p ≢ r → unwrap_or
+          (option_map (λ (m : Member). is_child p (r, m)) (cond b None (map.get s.book r))) false ≡ unwrap_or
+          (option_map (λ (m : Member). is_child p (r, m)) (cond b None (map.get t.book r))) false
+      by_family true p r hp hr d = refl
+      by_family false p r hp hr d = l.families p r hp hr d
+
+      live_t : is_live t q ≡ true
+      live_t = sym (l.live q mine) ∙ live
+
+      childless : number_of_children s.book q ≡ 0
+      childless = no_children s q allowed
+
+      childless_t : number_of_children t.book q ≡ 0
+      childless_t = sym (l.children q mine) ∙ childless
+
+      -- q's entries in both books
+      m : (m : Member) × (map.get s.book q ≡ Some m)
+      m = some_value (map.get s.book q) live
+
+      n : (m : Member) × (map.get t.book q ≡ Some m)
+      n = some_value (map.get t.book q) live_t
+
+      same_quota : m.0.quota ≡ n.0.quota
+      same_quota = sym (ap (λ (x : Option Member). unwrap_or (option_map (λ (m : Member). m.quota) x) 0) m.1)
+          ∙ l.quota q mine ∙ ap (λ (x : Option Member). unwrap_or (option_map (λ (m : Member). m.quota) x) 0) n.1
+
+      same_parent : (r : ℕ) → Q r ≡ true → r ≢ q → is_child r (q, m.0) ≡ is_child r (q, n.0)
+      same_parent r h d =
+          sym (ap (λ (x : Option Member). unwrap_or (option_map (λ (m : Member). is_child r (q, m)) x) false) m.1)
+          ∙ l.families r q h mine d
+          ∙ ap (λ (x : Option Member). unwrap_or (option_map (λ (m : Member). is_child r (q, m)) x) false) n.1
+
+      given_same : (r : ℕ) → Q r ≡ true → (r ≡ q) ⊎ (r ≢ q)
+          → given (map.remove s.book q) r ≡ given (map.remove t.book q) r
+      given_same r h (inl is) = ap (given (map.remove s.book q)) is ∙ exit_given s q live childless
+          ∙ sym (ap (given (map.remove t.book q)) is ∙ exit_given t q live_t childless_t)
+      given_same r h (inr d) =
+          let a = given-remove s.book q m.0 m.1 r in
+          let b = given-remove t.book q n.0 n.1 r in
+          let g = l.given r h in
+          let x : ◌≡◌ {A = ℕ} (cond (is_child r (q, m.0)) m.0.quota 0) (cond (is_child r (q, n.0)) n.0.quota 0) =
+          (λ i. cond (same_parent r h d i) (same_quota i) 0) in
+          omega (arith, a, b, g, x)
+
+      children_same : (r : ℕ) → Q r ≡ true → (r ≡ q) ⊎ (r ≢ q)
+          → number_of_children (map.remove s.book q) r ≡ number_of_children (map.remove t.book q) r
+      children_same r h (inl is) = ap (number_of_children (map.remove s.book q)) is ∙ exit_children s q live childless
+          ∙ sym (ap (number_of_children (map.remove t.book q)) is ∙ exit_children t q live_t childless_t)
+      children_same r h (inr d) =
+          let a = number-remove s.book q m.0 m.1 r in
+          let b = number-remove t.book q n.0 n.1 r in
+          let g = l.children r h in
+          let x : ◌≡◌ {A = ℕ} (cond (is_child r (q, m.0)) 1 0) (cond (is_child r (q, n.0)) 1 0) =
+          (λ i. cond (same_parent r h d i) 1 0) in
+          omega (arith, a, b, g, x)
+
 -- ---- A child joins them
+
+-- who is not live has no child
+pub no_parent : (s : State) (k r : ℕ) → IsWellFormed s → is_live s k ≡ false → is_child_of s k r ≡ false
+no_parent s k r w free = by (map.get s.book r) refl
+  where
+    by : (x : Option Member) → map.get s.book r ≡ x
+        → unwrap_or (option_map (λ (m : Member). is_child k (r, m)) x) false ≡ false
+    by None at = refl
+    by (Some m) at = either (not (r == 0)) (m.parent == k) refl
+      where
+        either : (a b : Bool) → (m.parent == k) ≡ b → (a && b) ≡ false
+        either true true is = absurd (
+            let parent = parents_in s w r m at in
+            let live : is_live s k ≡ true = ap (is_live s) (sym (eqb-true m.parent k is)) ∙ ap is_some parent.1 in
+            cc)
+        either true false is = refl
+        either false b is = refl
 
 abbrev grown : (ℕ → Bool) → ℕ → ℕ → Bool
 grown Q k p = Q p || (p == k)
 
 module _ (s t : State) (Q : ℕ → Bool) (q k quota : ℕ) (w : IsWellFormed s) (v : IsWellFormed t) (l : LooksSame s t Q)
-    (free : is_live s k ≡ false) (S T : Spaces)
+    (free : is_live s k ≡ false) (free_t : is_live t k ≡ false) (S T : Spaces)
     (others : (slot : Slot) → slot.pid ≢ k → map.get S slot ≡ map.get s.spaces slot)
     (others_too : (slot : Slot) → slot.pid ≢ k → map.get T slot ≡ map.get t.spaces slot)
     (flags : (page : ℕ) → option_map flags_of (map.get S (at_page k page)) ≡ option_map flags_of
@@ -348,9 +422,6 @@ module _ (s t : State) (Q : ℕ → Bool) (q k quota : ℕ) (w : IsWellFormed s)
     (pages : (page : ℕ) → option_map shown_of (map.get S (at_page k page)) ≡ option_map shown_of
     (map.get T (at_page k page)))
     (alone : AreLone S k) (alone_too : AreLone T k) where
-  free_t : is_live t k ≡ false
-  free_t = sym (l.live k) ∙ free
-
   abbrev child : Member
   child = record { parent = q; quota = quota }
 
@@ -406,14 +477,23 @@ module _ (s t : State) (Q : ℕ → Bool) (q k quota : ℕ) (w : IsWellFormed s)
 
   child_together : LooksSame (with_child s q k quota S) (with_child t q k quota T) (grown Q k)
   child_together = record {
-    live = λ p. ap is_some (get-insert s.book k child p) ∙ by_live (same nat_order p k) p
+    live = λ p h. ap is_some (get-insert s.book k child p) ∙ by_live p h (same_cases nat_order p k)
         ∙ sym (ap is_some (get-insert t.book k child p));
     quota = λ r h.
         ap (λ (x : Option Member). unwrap_or (option_map (λ (m : Member). m.quota) x) 0) (get-insert s.book k child r)
         ∙ by_quota r h (same_cases nat_order r k)
         ∙ sym (ap (λ (x : Option Member). unwrap_or (option_map (λ (m : Member). m.quota) x) 0)
         (get-insert t.book k child r));
-    children = λ r h. children-insert s.book t.book r k child (kids_same r h);
+    given = λ r h. given-insert s.book k child none r ∙ ap (λ n. cond (is_child r (k, child)) quota 0 + n)
+        (given_same r h (cases_eq r k)) ∙ sym (given-insert t.book k child none_t r);
+    children = λ r h. number-insert s.book k child none r ∙ ap (λ n. cond (is_child r (k, child)) 1 0 + n)
+        (children_same r h (cases_eq r k)) ∙ sym (number-insert t.book k child none_t r);
+    families = λ p r hp hr d.
+        ap (λ (x : Option Member). unwrap_or (option_map (λ (m : Member). is_child p (r, m)) x) false)
+        (get-insert s.book k child r)
+        ∙ by_family p r hp hr d (same_cases nat_order r k) (cases_eq p k)
+        ∙ sym (ap (λ (x : Option Member). unwrap_or (option_map (λ (m : Member). is_child p (r, m)) x) false)
+        (get-insert t.book k child r));
     flags = λ slot h. elim (cases_eq slot.pid k) [
       | inl is ↦ subst (λ x. option_map flags_of (map.get S x) ≡ option_map flags_of (map.get T x)) (sym (here slot is))
           (flags slot.page)
@@ -442,10 +522,43 @@ module _ (s t : State) (Q : ℕ → Bool) (q k quota : ℕ) (w : IsWellFormed s)
     ];
   }
     where
-      by_live : (b : Bool) (p : ℕ) → is_some (cond b (Some child) (map.get s.book p)) ≡ is_some
-          (cond b (Some child) (map.get t.book p))
-      by_live true p = refl
-      by_live false p = l.live p
+      none : map.get s.book k ≡ None
+      none = no_value (map.get s.book k) free
+
+      none_t : map.get t.book k ≡ None
+      none_t = no_value (map.get t.book k) free_t
+
+      by_live : (p : ℕ) → grown Q k p ≡ true → ((p ≡ k) × (same nat_order p k ≡ true))
+          ⊎ ((p ≢ k) × (same nat_order p k ≡ false))
+          → is_some (cond (same nat_order p k) (Some child) (map.get s.book p)) ≡ is_some
+          (cond (same nat_order p k) (Some child) (map.get t.book p))
+      by_live p h (inl is) = ap (λ b. is_some (cond b (Some child) (map.get s.book p))) is.1
+          ∙ sym (ap (λ b. is_some (cond b (Some child) (map.get t.book p))) is.1)
+      by_live p h (inr other) = ap (λ b. is_some (cond b (Some child) (map.get s.book p))) other.1
+          ∙ l.live p (was p h other.0)
+          ∙ sym (ap (λ b. is_some (cond b (Some child) (map.get t.book p))) other.1)
+
+      by_family : (p r : ℕ) → grown Q k p ≡ true → grown Q k r ≡ true → p ≢ r
+          → ((r ≡ k) × (same nat_order r k ≡ true)) ⊎ ((r ≢ k) × (same nat_order r k ≡ false)) → (p ≡ k) ⊎ (p ≢ k)
+          → unwrap_or (option_map (λ (m : Member). is_child p (r, m))
+          (cond (same nat_order r k) (Some child) (map.get s.book r))) false ≡ unwrap_or
+          (option_map (λ (m : Member). is_child p (r, m))
+          (cond (same nat_order r k) (Some child) (map.get t.book r))) false
+      by_family p r hp hr d (inl is) c =
+          ap (λ b. unwrap_or (option_map (λ (m : Member). is_child p (r, m)) (cond b (Some child) (map.get s.book r)))
+          false) is.1
+          ∙ sym (ap (λ b. unwrap_or (option_map (λ (m : Member). is_child p (r, m))
+          (cond b (Some child) (map.get t.book r))) false) is.1)
+      by_family p r hp hr d (inr other) c =
+          ap (λ b. unwrap_or (option_map (λ (m : Member). is_child p (r, m)) (cond b (Some child) (map.get s.book r)))
+          false) other.1
+          ∙ (elim c [
+            | inl is ↦ ap (λ x. is_child_of s x r) is ∙ no_parent s k r w free
+                ∙ sym (ap (λ x. is_child_of t x r) is ∙ no_parent t k r v free_t)
+            | inr n ↦ l.families p r (was p hp n) (was r hr other.0) d
+          ])
+          ∙ sym (ap (λ b. unwrap_or (option_map (λ (m : Member). is_child p (r, m))
+          (cond b (Some child) (map.get t.book r))) false) other.1)
 
       by_quota : (r : ℕ) → grown Q k r ≡ true → ((r ≡ k) × (same nat_order r k ≡ true))
           ⊎ ((r ≢ k) × (same nat_order r k ≡ false))
@@ -462,15 +575,16 @@ module _ (s t : State) (Q : ℕ → Bool) (q k quota : ℕ) (w : IsWellFormed s)
           ∙ sym (ap (λ b. unwrap_or (option_map (λ (m : Member). m.quota) (cond b (Some child) (map.get t.book r))) 0)
           other.1)
 
-      kids_same : (r : ℕ) → grown Q k r ≡ true → children s.book r ≡ children t.book r
-      kids_same r h = elim (cases_eq r k) [
-        | inl is ↦
-            ap (children s.book) is ∙ childless s.book k
-            (number-none s.book k (no_value (map.get s.book k) free) (parents_in s w))
-            ∙ sym (ap (children t.book) is ∙ childless t.book k
-            (number-none t.book k (no_value (map.get t.book k) free_t) (parents_in t v)))
-        | inr d ↦ l.children r (was r h d)
-      ]
+      given_same : (r : ℕ) → grown Q k r ≡ true → (r ≡ k) ⊎ (r ≢ k) → given s.book r ≡ given t.book r
+      given_same r h (inl is) = ap (given s.book) is ∙ given-none s.book k none (parents_in s w)
+          ∙ sym (ap (given t.book) is ∙ given-none t.book k none_t (parents_in t v))
+      given_same r h (inr d) = l.given r (was r h d)
+
+      children_same : (r : ℕ) → grown Q k r ≡ true → (r ≡ k) ⊎ (r ≢ k)
+          → number_of_children s.book r ≡ number_of_children t.book r
+      children_same r h (inl is) = ap (number_of_children s.book) is ∙ number-none s.book k none (parents_in s w)
+          ∙ sym (ap (number_of_children t.book) is ∙ number-none t.book k none_t (parents_in t v))
+      children_same r h (inr d) = l.children r (was r h d)
 
       offers_same : (key : OfferKey) → (grown Q k key.offerer ≡ true) ⊎ (grown Q k key.target ≡ true)
           → map.get s.offers key ≡ map.get t.offers key
@@ -485,29 +599,31 @@ module _ (s t : State) (Q : ℕ → Bool) (q k quota : ℕ) (w : IsWellFormed s)
 
 module _ (s t : State) (Q : ℕ → Bool) (q quota : ℕ) (w : IsWellFormed s) (v : IsWellFormed t) (mine : Q q ≡ true)
     (l : LooksSame s t Q) where
-  number_same : child_of s ≡ child_of t
-  number_same = child_is_same s t q (single s t Q q mine l) l.live
-
-  spawn_together : spawn_refusal s q quota ≡ None
-      → LooksSame (after_spawn s q quota) (after_spawn t q quota) (grown Q (child_of s))
-  spawn_together allowed =
+  spawn_together : next_number s.book ≡ next_number t.book → spawn_refusal s q quota ≡ None
+      → spawn_refusal t q quota ≡ None → LooksSame (after_spawn s q quota) (after_spawn t q quota)
+      (grown Q (child_of s))
+  spawn_together finds allowed allowed_t =
       let k = child_of s in
       let free = child_free s q quota allowed in
+      let free_t = ap (is_live t) (child_is_same s t finds) ∙ child_free t q quota allowed_t in
       let none = no_page s k w free in
-      let none_t = no_page t k v (sym (l.live k) ∙ free) in
-      subst (λ n. LooksSame (after_spawn s q quota) (with_child t q n quota t.spaces) (grown Q k)) number_same
-      (child_together s t Q q k quota w v l free s.spaces t.spaces (λ slot d. refl) (λ slot d. refl)
+      let none_t = no_page t k v free_t in
+      subst (λ n. LooksSame (after_spawn s q quota) (with_child t q n quota t.spaces) (grown Q k))
+      (child_is_same s t finds)
+      (child_together s t Q q k quota w v l free free_t s.spaces t.spaces (λ slot d. refl) (λ slot d. refl)
       (λ page. ap (option_map flags_of) (none page ∙ sym (none_t page)))
       (λ page. ap (option_map shown_of) (none page ∙ sym (none_t page)))
       (none_lone s.spaces k none) (none_lone t.spaces k none_t))
 
-  fork_together : fork_refusal s q quota ≡ None → LooksSame (after_fork s q quota) (after_fork t q quota)
-      (grown Q (child_of s))
-  fork_together allowed =
+  fork_together : next_number s.book ≡ next_number t.book → fork_refusal s q quota ≡ None
+      → fork_refusal t q quota ≡ None → LooksSame (after_fork s q quota) (after_fork t q quota) (grown Q (child_of s))
+  fork_together finds allowed allowed_t =
       let k = child_of s in
+      let free_t = ap (is_live t) (child_is_same s t finds) ∙ fork_free t q quota allowed_t in
       subst (λ n. LooksSame (after_fork s q quota) (with_child t q n quota (copied t.spaces q n)) (grown Q k))
-      number_same
-      (child_together s t Q q k quota w v l (fork_free s q quota allowed) (copied s.spaces q k) (copied t.spaces q k)
+      (child_is_same s t finds)
+      (child_together s t Q q k quota w v l (fork_free s q quota allowed) free_t (copied s.spaces q k)
+      (copied t.spaces q k)
       (λ slot d. copied-other s.spaces q k slot d) (λ slot d. copied-other t.spaces q k slot d)
       (λ page. ap (option_map flags_of) (copied-own s.spaces q k page)
       ∙ copy_flags (at_page k page) (map.get s.spaces (at_page q page))
@@ -547,39 +663,41 @@ module _ (s t : State) (Q D : ℕ → Bool) (q : ℕ) (w : IsWellFormed s) (v : 
     | inr born ↦ absurd (let x = born.1 in cc)
   ])
 
-  after_together : (c : Call) → Small s Q D c → completes (answer_of s q c) ≡ true
-      → LooksSame (after s q c) (after t q c) D
-  after_together (call.Load addr size) small h = with_same (after_load s q addr size) (after_load t q addr size)
+  after_together : (c : Call) → Small s Q D c → found s c ≡ found t c → is_live s q ≡ true
+      → completes (answer_of s q c) ≡ true → completes (answer_of t q c) ≡ true → LooksSame (after s q c) (after t q c) D
+  after_together (call.Load addr size) small finds live h k = with_same (after_load s q addr size) (after_load t q addr size)
       (call.Load addr size) refl small (load_together s t Q q mine l addr size)
-  after_together (call.Store addr size value) small h =
+  after_together (call.Store addr size value) small finds live h k =
       with_same (after_store s q addr size value) (after_store t q addr size value) (call.Store addr size value) refl
       small (store_together s t Q q mine l addr size value)
-  after_together (call.Map page write) small h = with_same (after_map s q page write) (after_map t q page write)
+  after_together (call.Map page write) small finds live h k = with_same (after_map s q page write) (after_map t q page write)
       (call.Map page write) refl small (map_together s t Q q mine l page write)
-  after_together (call.Unmap page) small h = with_same (after_unmap s q page) (after_unmap t q page) (call.Unmap page)
+  after_together (call.Unmap page) small finds live h k = with_same (after_unmap s q page) (after_unmap t q page) (call.Unmap page)
       refl small (unmap_together s t Q q mine l page)
-  after_together (call.Protect page write) small h =
+  after_together (call.Protect page write) small finds live h k =
       with_same (after_protect s q page write) (after_protect t q page write) (call.Protect page write) refl small
       (protect_together s t Q q mine l page write)
-  after_together (call.Info page) small h = with_same s t (call.Info page) refl small l
-  after_together (call.Offer page target write) small h =
+  after_together (call.Info page) small finds live h k = with_same s t (call.Info page) refl small l
+  after_together (call.Offer page target write) small finds live h k =
       with_same (after_offer s q page target write) (after_offer t q page target write) (call.Offer page target write)
       refl small (offer_together s t Q q mine l page target write)
-  after_together (call.Withdraw page target) small h =
+  after_together (call.Withdraw page target) small finds live h k =
       with_same (after_withdraw s q page target) (after_withdraw t q page target) (call.Withdraw page target) refl small
       (withdraw_together s t Q q mine l page target)
-  after_together (call.Accept giver giver_page page) small h =
+  after_together (call.Accept giver giver_page page) small finds live h k =
       with_same (after_accept s q giver giver_page page) (after_accept t q giver giver_page page)
       (call.Accept giver giver_page page) refl small
       (accept_together s t Q q mine l giver giver_page page
       (may_accept s q giver giver_page page (not-refused (accept_refusal s q giver giver_page page) _ h)).there)
-  after_together (call.Spawn quota) small h = with_grown (after_spawn s q quota) (after_spawn t q quota)
-      (call.Spawn quota) small (spawn_together s t Q q quota w v mine l (not-refused (spawn_refusal s q quota) _ h))
-  after_together (call.Fork quota) small h = with_grown (after_fork s q quota) (after_fork t q quota) (call.Fork quota)
-      small (fork_together s t Q q quota w v mine l (not-refused (fork_refusal s q quota) _ h))
-  after_together call.Exit small h = with_same (after_exit s q) (after_exit t q) call.Exit refl small
-      (exit_together s t Q q mine l)
-  after_together call.Quota small h = with_same s t call.Quota refl small l
+  after_together (call.Spawn quota) small finds live h k = with_grown (after_spawn s q quota) (after_spawn t q quota)
+      (call.Spawn quota) small (spawn_together s t Q q quota w v mine l finds (not-refused (spawn_refusal s q quota) _ h)
+      (not-refused (spawn_refusal t q quota) _ k))
+  after_together (call.Fork quota) small finds live h k = with_grown (after_fork s q quota) (after_fork t q quota) (call.Fork quota)
+      small (fork_together s t Q q quota w v mine l finds (not-refused (fork_refusal s q quota) _ h)
+      (not-refused (fork_refusal t q quota) _ k))
+  after_together call.Exit small finds live h k = with_same (after_exit s q) (after_exit t q) call.Exit refl small
+      (exit_together s t Q q mine l live (not-refused (exit_refusal s q) _ h))
+  after_together call.Quota small finds live h k = with_same s t call.Quota refl small l
 
 -- who lives on is a member where it was, and who is new is a child
 module _ (s : State) (Q : ℕ → Bool) (e : Event) where
@@ -612,17 +730,18 @@ module _ (s : State) (Q : ℕ → Bool) (e : Event) where
       by false is h = cc
 
 pub members_see_the_same : MembersSeeTheSame
-members_see_the_same s t e Q w v l mine = by (completes (answer s e)) refl
+members_see_the_same s t e Q w v l mine finds = by (completes (answer s e)) refl
   where
     told : completes (answer s e) ≡ completes (answer t e)
-    told = ap completes (members_told_the_same s t e Q l mine)
+    told = ap completes (told_same s t e Q l mine finds)
 
     by : (b : Bool) → completes (answer s e) ≡ b → LooksSame (next s e) (next t e) (members_after s Q e)
     by true h =
         let c = caller_live s e h in
+        let d = caller_live t e (sym told ∙ h) in
         subst (λ u. LooksSame u (next t e) (members_after s Q e)) (sym (next-goes s e h))
         (subst (λ u. LooksSame (after s e.pid e.call) u (members_after s Q e)) (sym (next-goes t e (sym told ∙ h)))
-        (after_together s t Q (members_after s Q e) e.pid w v mine l e.call (members_small s Q e h) c.1))
+        (after_together s t Q (members_after s Q e) e.pid w v mine l e.call (members_small s Q e h) finds c.0 c.1 d.1))
     by false h =
         subst (λ u. LooksSame u (next t e) (members_after s Q e)) (sym (next-stays s e h))
         (subst (λ u. LooksSame s u (members_after s Q e)) (sym (next-stays t e (sym told ∙ h)))

@@ -3,11 +3,9 @@ use Rattle.std.proofs.Common.{
   ◌≡◌,
   ◌≢◌,
   ℕ,
-  suc,
   ◌+◌,
   ◌&&◌,
   ◌||◌,
-  ◌==◌,
   not,
   Bool,
   true,
@@ -26,13 +24,12 @@ use Rattle.std.proofs.Common.{
   None,
   is_some,
   unwrap_or,
-  arith,
   inl,
   inr,
 }
 use Rattle.std.specs.Prelude.{◌⊎◌, if◌then◌else◌, slice_index}
 use Rattle.std.specs.Option.{option_map}
-use Rattle.std.proofs.lemmas.Bool.{cases_eq, ne_eqb}
+use Rattle.std.proofs.lemmas.Bool.{ne_eqb}
 use Rattle.std.proofs.lemmas.Option.{same_Some}
 use Rattle.page_words.specs.Addresses.{offset_number, byte_count, touched}
 use Rattle.page_words.specs.declared.addresses.Size.{Size}
@@ -40,7 +37,7 @@ use Rattle.page_words.specs.FiniteMap as map
 use Rattle.page_words.specs.FiniteMap.{same, nat_order}
 use Rattle.page_words.specs.FiniteSet as set
 use Rattle.page_words.specs.FiniteSet.{Set}
-use Rattle.page_words.proofs.MapLemmas.{same-true, get-insert, get-map_values, get-retain_keys, contains-retain}
+use Rattle.page_words.proofs.MapLemmas.{same-true, get-insert, get-map_values, contains-retain}
 use Rattle.page_words.proofs.OptionLemmas.{some_value, no_value}
 use Rattle.page_words.proofs.SetLemmas.{same_cases, same_apart, get-remove_other}
 use Rattle.address_space.specs.Spaces.{
@@ -68,7 +65,7 @@ use Rattle.address_space.specs.Spaces.{
 }
 use Rattle.address_space.proofs.costs.Copied.{copied-other}
 use Rattle.address_space.proofs.steps.Departures.{left, get-without}
-use Rattle.page_sharing.specs.Offers.{OfferKey, offer_order, offer_of}
+use Rattle.page_sharing.specs.Offers.{offer_of}
 use Rattle.process_table.specs.State.{State, is_live, child_of}
 use Rattle.process_table.specs.Calls.{
   accept_refusal,
@@ -93,28 +90,15 @@ use Rattle.process_table.proofs.CellLaws.{get-inserted, get-inserted_other}
 use Rattle.process_table.proofs.Forks.{may_fork}
 use Rattle.process_table.proofs.Refusals.{may_accept, may_map}
 use Rattle.process_table.proofs.SharingLaws.{giver_mapped}
-use Rattle.kernel_calls.specs.Authority.{
-  flags_of,
-  byte_in,
-  shares,
-  sees,
-  is_offered,
-  IsStoreInto,
-  IsUntouched,
-  RightsStay,
-  IsLeave,
-  SharingStays,
-  makes_child,
-  ShowsLittle,
-}
+use Rattle.kernel_calls.specs.Authority.{shares, is_offered, IsStoreInto, IsLeave, SharingStays}
 use Rattle.kernel_calls.specs.Machine.{answer, answer_of, after, next, completes}
 use Rattle.kernel_calls.specs.declared.calls.Call.{Call}
 use Rattle.kernel_calls.specs.declared.calls.Call.TheVariants as call
 use Rattle.kernel_calls.specs.declared.calls.Event.{Event}
 use Rattle.kernel_calls.proofs.Decided.{next-stays, next-goes}
-use Rattle.kernel_calls.proofs.Runs.{not-refused, kept-next}
+use Rattle.kernel_calls.proofs.Runs.{not-refused}
 use Rattle.kernel_calls.proofs.UntouchedSlots.{store_bytes, Kept}
-use Rattle.kernel_calls.proofs.Untouched.{caller_live, get_joined, widen, widen_kept, integrity}
+use Rattle.kernel_calls.proofs.Untouched.{caller_live, get_joined, widen, widen_kept}
 use borrow.Author.Tests.{eqb-true}
 
 -- ---- Something of a cell that stays
@@ -399,10 +383,6 @@ next_stays s e w = by (completes (answer s e)) refl
     by false h = subst (Stays s e) (sym (next-stays s e h))
         (kept_stays s e s (λ other o slot c k. ap (option_map (whole_of other)) k))
 
-pub rights_stay : RightsStay
-rights_stay s e slot before after w at_s at_t = (next_stays s e w slot (at_page (suc e.pid) 0) before after
-    (inl (λ is. absurd (omega (arith, is)))) at_s at_t).may
-
 -- ---- Slots that go
 
 kept_there : {A : Type 0} (P : Cell → A) (S T : Spaces) → Keeps P S T → (slot : Slot) (c : Cell)
@@ -517,10 +497,10 @@ sharing_stays s e slot other w h = by (map.get s.spaces slot) refl h
         o : (d : Cell) × (map.get s.spaces other ≡ Some d) × (d.holders ≡ c.holders) × (d.bytes ≡ c.bytes)
         o = (w.cells slot c at).alike other k
 
--- ---- What shows
+-- ---- What is seen, and who is live
 
 -- what is seen is mapped, or is q's own and not mapped
-pub seen_mapped : (s : State) (q : ℕ) (slot : Slot) → IsWellFormed s → sees s q slot ≡ true
+pub seen_mapped : (s : State) (q : ℕ) (slot : Slot) → IsWellFormed s → (is_of q slot || is_offered s q slot) ≡ true
     → (is_of q slot ≡ true) ⊎ ((c : Cell) × (map.get s.spaces slot ≡ Some c))
 seen_mapped s q slot w v = by (is_of q slot) v
   where
@@ -531,13 +511,15 @@ seen_mapped s q slot w v = by (is_of q slot) v
         let o = (w.offers (offer_of slot.pid slot.page q) r.0 r.1).offered in
         inr (o.0, o.1)
 
+-- the event makes a child, as a spawn and a fork do
+abbrev pub makes_child : Call → Bool
+makes_child (call.Spawn _) = true
+makes_child (call.Fork _) = true
+makes_child _ = false
+
 abbrev pub LiveBut : State → State → Event → Type 0
 LiveBut s t e = (p : ℕ) → (is_live t p ≡ is_live s p)
     ⊎ (((p ≡ child_of s) × (makes_child e.call ≡ true)) ⊎ ((p ≡ e.pid) × (e.call ≡ call.Exit)))
-
-abbrev pub OffersBut : State → State → Event → ℕ → Type 0
-OffersBut s t e q = (giver page : ℕ) → giver ≢ e.pid
-    → map.get t.offers (offer_of giver page q) ≡ map.get s.offers (offer_of giver page q)
 
 child_live : (s : State) (e : Event) (quota : ℕ) (S : Spaces) → makes_child e.call ≡ true
     → LiveBut s (record {
@@ -569,151 +551,9 @@ after_live s e call.Exit is = λ p. elim (same_cases nat_order p e.pid) [
 ]
 after_live s e call.Quota is = λ p. inl refl
 
-module _ (s : State) (e : Event) (q : ℕ) (d : q ≢ e.pid) where
-  retained_same : (stay : OfferKey → Bool) (key : OfferKey) → stay key ≡ true
-      → map.get (map.retain_keys s.offers stay) key ≡ map.get s.offers key
-  retained_same stay key h = get-retain_keys s.offers stay key ∙ ap (λ b. cond b (map.get s.offers key) None) h
-
-  after_offered : (c : Call) → OffersBut s (after s e.pid c) e q
-  after_offered (call.Load addr size) giver page o = refl
-  after_offered (call.Store addr size value) giver page o = refl
-  after_offered (call.Map n write) giver page o = refl
-  after_offered (call.Unmap n) giver page o = retained_same
-      (λ (k : OfferKey). not ((k.offerer == e.pid) && (k.page == n))) (offer_of giver page q)
-      (ap (λ b. not (b && (page == n))) (ne_eqb giver e.pid o))
-  after_offered (call.Protect n write) giver page o = refl
-  after_offered (call.Info n) giver page o = refl
-  after_offered (call.Offer n target write) giver page o =
-      get-insert s.offers (offer_of e.pid n target) write (offer_of giver page q)
-      ∙ ap (λ b. cond b (Some write) (map.get s.offers (offer_of giver page q)))
-      (same_apart offer_order (offer_of giver page q) (offer_of e.pid n target)
-      (λ is. o (ap (λ (k : OfferKey). k.offerer) is)))
-  after_offered (call.Withdraw n target) giver page o =
-      get-remove_other s.offers (offer_of e.pid n target) (offer_of giver page q)
-      (λ is. o (ap (λ (k : OfferKey). k.offerer) is))
-  after_offered (call.Accept from n at) giver page o =
-      get-remove_other s.offers (offer_of from n e.pid) (offer_of giver page q)
-      (λ is. d (ap (λ (k : OfferKey). k.target) is))
-  after_offered (call.Spawn quota) giver page o = refl
-  after_offered (call.Fork quota) giver page o = refl
-  after_offered call.Exit giver page o =
-      retained_same (λ (k : OfferKey). not ((k.offerer == e.pid) || (k.target == e.pid))) (offer_of giver page q)
-      (λ i. not (ne_eqb giver e.pid o i || ne_eqb q e.pid d i))
-  after_offered call.Quota giver page o = refl
-
 pub next_live : (s : State) (e : Event) → LiveBut s (next s e) e
 next_live s e = by (completes (answer s e)) refl
   where
     by : (b : Bool) → completes (answer s e) ≡ b → LiveBut s (next s e) e
     by true h = subst (λ t. LiveBut s t e) (sym (next-goes s e h)) (after_live s e e.call refl)
     by false h = subst (λ t. LiveBut s t e) (sym (next-stays s e h)) (λ p. inl refl)
-
-pub next_offered : (s : State) (e : Event) (q : ℕ) → q ≢ e.pid → OffersBut s (next s e) e q
-next_offered s e q d = by (completes (answer s e)) refl
-  where
-    by : (b : Bool) → completes (answer s e) ≡ b → OffersBut s (next s e) e q
-    by true h = subst (λ t. OffersBut s t e q) (sym (next-goes s e h)) (after_offered s e q d e.call)
-    by false h = subst (λ t. OffersBut s t e q) (sym (next-stays s e h)) (λ giver page o. refl)
-
-pub shows_little : ShowsLittle
-shows_little s e q w live d = record {
-  live = next_live s e;
-  offered = next_offered s e q d;
-  bytes = λ slot place v u. elim (seen_mapped s q slot w v) [
-    | inl own ↦ subst (λ x. (byte_in (next s e) x place ≡ byte_in s x place) ⊎ IsStoreInto s (next s e) e x place)
-        (sym (own_slot slot own)) (mine.bytes slot.page place)
-    | inr there ↦ elim (seen_mapped (next s e) q slot well u) [
-      | inl own ↦ subst (λ x. (byte_in (next s e) x place ≡ byte_in s x place) ⊎ IsStoreInto s (next s e) e x place)
-          (sym (own_slot slot own)) (mine.bytes slot.page place)
-      | inr still ↦ byte_of slot place there.0 still.0 there.1 still.1
-    ]
-  ];
-  holders = λ slot other v u o. elim (seen_mapped s q slot w v) [
-    | inl own ↦ subst (λ x. shares (next s e) x other ≡ shares s x other) (sym (own_slot slot own))
-        (mine.holders slot.page other o)
-    | inr there ↦ elim (seen_mapped (next s e) q slot well u) [
-      | inl own ↦ subst (λ x. shares (next s e) x other ≡ shares s x other) (sym (own_slot slot own))
-          (mine.holders slot.page other o)
-      | inr still ↦
-          ap (λ (x : Option Cell). unwrap_or (option_map (λ (c : Cell). set.contains c.holders other) x) false) still.1
-          ∙ (next_stays s e w slot other there.0 still.0 (inl o) there.1 still.1).group
-          ∙ sym (ap (λ (x : Option Cell). unwrap_or (option_map (λ (c : Cell). set.contains c.holders other) x) false)
-          there.1)
-    ]
-  ];
-  same_page = λ slot other v u x y. elim (both slot v u) [
-    | inl none ↦
-        ap (λ (o : Option Cell). unwrap_or (option_map (λ (c : Cell). set.contains c.holders other) o) false) none.1
-        ∙ sym (ap (λ (o : Option Cell). unwrap_or (option_map (λ (c : Cell). set.contains c.holders other) o) false)
-        none.0)
-    | inr some ↦
-        ap (λ (o : Option Cell). unwrap_or (option_map (λ (c : Cell). set.contains c.holders other) o) false) some.3
-        ∙ (next_stays s e w slot other some.0 some.1 (bystands other x y) some.2 some.3).group
-        ∙ sym (ap (λ (o : Option Cell). unwrap_or (option_map (λ (c : Cell). set.contains c.holders other) o) false)
-        some.2)
-  ];
-}
-  where
-    mine : IsUntouched s (next s e) e q
-    mine = integrity s e q w live d
-
-    well : IsWellFormed (next s e)
-    well = (kept-next s e w).0
-
-    own_slot : (slot : Slot) → is_of q slot ≡ true → slot ≡ at_page q slot.page
-    own_slot slot is = λ i. record { pid = eqb-true slot.pid q is i; page = slot.page }
-
-    byte_of : (slot : Slot) (place : ℕ) (before after : Cell) → map.get s.spaces slot ≡ Some before
-        → map.get (next s e).spaces slot ≡ Some after
-        → (byte_in (next s e) slot place ≡ byte_in s slot place) ⊎ IsStoreInto s (next s e) e slot place
-    byte_of slot place before after at_s at_t = elim
-        ((next_stays s e w slot (at_page (suc e.pid) 0) before after (inl (λ is. absurd (omega (arith, is)))) at_s
-        at_t).bytes place) [
-          | inl same_byte ↦ inl (
-              ap (λ (x : Option Cell). slice_index (unwrap_or x (fresh slot true)).bytes place) at_t ∙ same_byte
-              ∙ sym (ap (λ (x : Option Cell). slice_index (unwrap_or x (fresh slot true)).bytes place) at_s))
-          | inr into ↦ inr into
-        ]
-
-    own_flags : (slot : Slot) → is_of q slot ≡ true
-        → option_map flags_of (map.get (next s e).spaces slot) ≡ option_map flags_of (map.get s.spaces slot)
-    own_flags slot own = subst (λ x. option_map flags_of (map.get (next s e).spaces x) ≡ option_map flags_of
-        (map.get s.spaces x)) (sym (own_slot slot own)) (mine.flags slot.page)
-
-    -- what q saw and sees is mapped before and after, or neither
-    both : (slot : Slot) → sees s q slot ≡ true → sees (next s e) q slot ≡ true
-        → ((map.get s.spaces slot ≡ None) × (map.get (next s e).spaces slot ≡ None))
-        ⊎ ((c : Cell) × (d : Cell) × (map.get s.spaces slot ≡ Some c) × (map.get (next s e).spaces slot ≡ Some d))
-    both slot v u = elim (seen_mapped s q slot w v) [
-      | inl own ↦ own_both slot own (map.get s.spaces slot) (map.get (next s e).spaces slot) refl refl
-      | inr there ↦ elim (seen_mapped (next s e) q slot well u) [
-        | inl own ↦ own_both slot own (map.get s.spaces slot) (map.get (next s e).spaces slot) refl refl
-        | inr still ↦ inr (there.0, still.0, there.1, still.1)
-      ]
-    ]
-      where
-        own_both : (slot : Slot) → is_of q slot ≡ true → (x y : Option Cell) → map.get s.spaces slot ≡ x
-            → map.get (next s e).spaces slot ≡ y
-            → ((map.get s.spaces slot ≡ None) × (map.get (next s e).spaces slot ≡ None))
-            ⊎ ((c : Cell) × (d : Cell) × (map.get s.spaces slot ≡ Some c)
-            × (map.get (next s e).spaces slot ≡ Some d))
-        own_both slot own None None a b = inl (a, b)
-        own_both slot own (Some c) (Some d) a b = inr (c, d, a, b)
-        own_both slot own None (Some d) a b = absurd
-            (let f = own_flags slot own in let g = ap (option_map flags_of) a in let h = ap (option_map flags_of) b in
-            let k : Some (flags_of d) ≡ None = sym h ∙ f ∙ g in cc)
-        own_both slot own (Some c) None a b = absurd
-            (let f = own_flags slot own in let g = ap (option_map flags_of) a in let h = ap (option_map flags_of) b in
-            let k : None ≡ Some (flags_of c) = sym h ∙ f ∙ g in cc)
-
-    bystands : (other : Slot) → sees s q other ≡ true → sees (next s e) q other ≡ true → Bystands s e (next s e) other
-    bystands other x y = elim (cases_eq other.pid e.pid) [
-      | inr apart ↦ inl apart
-      | inl is ↦ elim (seen_mapped s q other w x) [
-        | inl own ↦ absurd (d (sym (eqb-true other.pid q own) ∙ is))
-        | inr there ↦ elim (seen_mapped (next s e) q other well y) [
-          | inl own ↦ absurd (d (sym (eqb-true other.pid q own) ∙ is))
-          | inr still ↦ inr (ap is_some there.1, ap is_some still.1)
-        ]
-      ]
-    ]

@@ -41,7 +41,7 @@ use Rattle.page_words.specs.FiniteSet.{Set}
 use Rattle.page_words.proofs.MapLemmas.{get-insert, get-map_values, contains-insert, get-retain_keys}
 use Rattle.page_words.proofs.OptionLemmas.{some_value, no_value, is_some-map}
 use Rattle.page_words.proofs.SetLemmas.{same_cases, same_apart, get-remove_other, get-removed}
-use Rattle.address_space.specs.Spaces.{Slot, slot_order, Cell, Spaces, cost_of, fresh, cell_or_fresh, with_holders, set_holders, bytes_of, is_slot, is_of, at_page, with_pages, all_stored, joined, copied}
+use Rattle.address_space.specs.Spaces.{Slot, slot_order, Cell, Spaces, cost, cost_of, fresh, cell_or_fresh, with_holders, set_holders, bytes_of, is_slot, is_of, at_page, with_pages, all_stored, joined, copied}
 use Rattle.address_space.proofs.costs.Costs.{same_pages}
 use Rattle.address_space.proofs.costs.Copied.{copied-other}
 use Rattle.quota_tree.specs.Book.{Member, given, is_child, number_of_children}
@@ -73,10 +73,8 @@ use Rattle.kernel_calls.specs.Authority.{
   flags_at,
   byte_in,
   shares,
+  is_child_of,
   IsStoreInto,
-  IsChildsExit,
-  EndsOffer,
-  IsUntouched,
   Integrity,
   NobodyTakesBack,
 }
@@ -167,6 +165,29 @@ module _ (s : State) (q giver giver_page page : ℕ) (right : Bool) (w : IsWellF
 
 -- ---- Integrity, call by call
 
+-- the event is the exit of a child of p
+abbrev pub IsChildsExit : State → Event → ℕ → Type 0
+IsChildsExit s e p = (is_child_of s p e.pid ≡ true) × (e.call ≡ call.Exit)
+
+-- the event ends an offer to its process: that accepts it, or exits
+pub record EndsOffer (e : Event) (key : OfferKey) : Type 0 where
+  pub target : key.target ≡ e.pid
+  pub how : ((page : ℕ) × (e.call ≡ call.Accept key.offerer key.page page)) ⊎ (e.call ≡ call.Exit)
+
+-- all that the event of another process leaves of p
+pub record LeavesAll (s t : State) (e : Event) (p : ℕ) : Type 0 where
+  pub member : map.get t.book p ≡ map.get s.book p
+  pub flags : (page : ℕ) → flags_at t (at_page p page) ≡ flags_at s (at_page p page)
+  pub cost : cost t.spaces p ≡ cost s.spaces p
+  pub bytes : (page place : ℕ) → (byte_in t (at_page p page) place ≡ byte_in s (at_page p page) place)
+      ⊎ IsStoreInto s t e (at_page p page) place
+  pub holders : (page : ℕ) (other : Slot) → other.pid ≢ e.pid
+      → shares t (at_page p page) other ≡ shares s (at_page p page) other
+  pub given : ((given t.book p ≡ given s.book p) × (number_of_children t.book p ≡ number_of_children s.book p))
+      ⊎ IsChildsExit s e p
+  pub offers : (key : OfferKey) → key.offerer ≡ p
+      → (map.get t.offers key ≡ map.get s.offers key) ⊎ ((map.get t.offers key ≡ None) × EndsOffer e key)
+
 untouched : (s t : State) (e : Event) (p : ℕ)
     → map.get t.book p ≡ map.get s.book p
     → ((page : ℕ) → flags_at t (at_page p page) ≡ flags_at s (at_page p page))
@@ -175,10 +196,10 @@ untouched : (s t : State) (e : Event) (p : ℕ)
     → ((page : ℕ) (other : Slot) → other.pid ≢ e.pid
     → shares t (at_page p page) other ≡ shares s (at_page p page) other)
     → (((given t.book p ≡ given s.book p) × (number_of_children t.book p ≡ number_of_children s.book p))
-    ⊎ IsChildsExit s t e p)
+    ⊎ IsChildsExit s e p)
     → ((key : OfferKey) → key.offerer ≡ p → (map.get t.offers key ≡ map.get s.offers key)
     ⊎ ((map.get t.offers key ≡ None) × EndsOffer e key))
-    → IsUntouched s t e p
+    → LeavesAll s t e p
 untouched s t e p member flags bytes holders given offers = record {
   member = member;
   flags = flags;
@@ -196,10 +217,10 @@ kept_untouched : (s t : State) (e : Event) (p : ℕ) → p ≢ e.pid
     → ((page : ℕ) (other : Slot) → other.pid ≢ e.pid
     → kept_at t.spaces (at_page p page) other ≡ kept_at s.spaces (at_page p page) other)
     → (((given t.book p ≡ given s.book p) × (number_of_children t.book p ≡ number_of_children s.book p))
-    ⊎ IsChildsExit s t e p)
+    ⊎ IsChildsExit s e p)
     → ((key : OfferKey) → key.offerer ≡ p → (map.get t.offers key ≡ map.get s.offers key)
     ⊎ ((map.get t.offers key ≡ None) × EndsOffer e key))
-    → IsUntouched s t e p
+    → LeavesAll s t e p
 kept_untouched s t e p d member kept given offers =
     untouched s t e p member
     (λ page. kept_flags s.spaces t.spaces (at_page p page) (at_page p page) (kept page (at_page p page) d))
@@ -212,10 +233,10 @@ same_untouched : (s t : State) (e : Event) (p : ℕ) → p ≢ e.pid
     → map.get t.book p ≡ map.get s.book p
     → ((page : ℕ) → map.get t.spaces (at_page p page) ≡ map.get s.spaces (at_page p page))
     → (((given t.book p ≡ given s.book p) × (number_of_children t.book p ≡ number_of_children s.book p))
-    ⊎ IsChildsExit s t e p)
+    ⊎ IsChildsExit s e p)
     → ((key : OfferKey) → key.offerer ≡ p → (map.get t.offers key ≡ map.get s.offers key)
     ⊎ ((map.get t.offers key ≡ None) × EndsOffer e key))
-    → IsUntouched s t e p
+    → LeavesAll s t e p
 same_untouched s t e p d member same given offers =
     kept_untouched s t e p d member (λ page other o. ap (option_map (kept_of other)) (same page)) given offers
 
@@ -250,34 +271,17 @@ more_given s q p k quota d free =
 less_given : (s : State) (e : Event) (p : ℕ) → e.call ≡ call.Exit → (m : Member) → map.get s.book e.pid ≡ Some m
     → ((given (map.remove s.book e.pid) p ≡ given s.book p)
     × (number_of_children (map.remove s.book e.pid) p ≡ number_of_children s.book p))
-    ⊎ IsChildsExit s (after_exit s e.pid) e p
+    ⊎ IsChildsExit s e p
 less_given s e p exit m here = by (is_child p (e.pid, m)) refl
   where
-    child_of_p : (not (e.pid == 0) && (m.parent == p)) ≡ true → m.parent ≡ p
-    child_of_p h = eqb-true m.parent p (second (not (e.pid == 0)) (m.parent == p) h)
-      where
-        second : (a b : Bool) → (a && b) ≡ true → b ≡ true
-        second true b h = h
-        second false b h = cc
-
     by : (b : Bool) → is_child p (e.pid, m) ≡ b
         → ((given (map.remove s.book e.pid) p ≡ given s.book p)
         × (number_of_children (map.remove s.book e.pid) p ≡ number_of_children s.book p))
-        ⊎ IsChildsExit s (after_exit s e.pid) e p
+        ⊎ IsChildsExit s e p
     by true is = inr (
-        let a = given-remove s.book e.pid m here p in
-        let b = number-remove s.book e.pid m here p in
-        let x : ◌≡◌ {A = ℕ} (cond (is_child p (e.pid, m)) m.quota 0) m.quota = ap (λ t. cond t m.quota 0) is in
-        let y : ◌≡◌ {A = ℕ} (cond (is_child p (e.pid, m)) 1 0) 1 = ap (λ t. cond t 1 0) is in
-        record {
-          exit = exit;
-          member = m;
-          child = here;
-          parent = child_of_p is;
-          returned = omega (arith, a, x);
-          fewer =
-              omega (arith, b, y);
-        })
+      ap (λ (x : Option Member). unwrap_or (option_map (λ (m : Member). is_child p (e.pid, m)) x) false) here ∙ is,
+      exit,
+    )
     by false is = inl (
         let a = given-remove s.book e.pid m here p in
         let b = number-remove s.book e.pid m here p in
@@ -294,7 +298,7 @@ module _ (s : State) (e : Event) (p : ℕ) (w : IsWellFormed s) (live_p : is_liv
       → (map.get s.offers key ≡ map.get s.offers key) ⊎ ((map.get s.offers key ≡ None) × EndsOffer e key)
   offers_same key own = inl refl
 
-  load_untouched : (addr : ℕ) (size : Size) → IsUntouched s (after_load s e.pid addr size) e p
+  load_untouched : (addr : ℕ) (size : Size) → LeavesAll s (after_load s e.pid addr size) e p
   load_untouched addr size =
       let pages = touched addr size in
       same_untouched s (after_load s e.pid addr size) e p d refl
@@ -302,7 +306,7 @@ module _ (s : State) (e : Event) (p : ℕ) (w : IsWellFormed s) (live_p : is_liv
       ∙ pages_same e.pid (at_page p page) d s.spaces pages)
       (inl (refl, refl)) offers_same
 
-  map_untouched : (page : ℕ) (c : Cell) → IsUntouched s
+  map_untouched : (page : ℕ) (c : Cell) → LeavesAll s
       (record s { spaces = map.insert s.spaces (at_page e.pid page) c }) e p
   map_untouched page c =
       same_untouched s (record s { spaces = map.insert s.spaces (at_page e.pid page) c }) e p d refl
@@ -311,7 +315,7 @@ module _ (s : State) (e : Event) (p : ℕ) (w : IsWellFormed s) (live_p : is_liv
 
   store_untouched : (addr : ℕ) (size : Size) (value : ℕ) → e.call ≡ call.Store addr size value
       → completes (answer_of s e.pid (call.Store addr size value)) ≡ true
-      → IsUntouched s (after_store s e.pid addr size value) e p
+      → LeavesAll s (after_store s e.pid addr size value) e p
   store_untouched addr size value is done =
       untouched s (after_store s e.pid addr size value) e p refl
       (λ page. flags_from page (rest page (at_page p page)))
@@ -371,7 +375,7 @@ module _ (s : State) (e : Event) (p : ℕ) (w : IsWellFormed s) (live_p : is_liv
               nothing None h = refl
               nothing (Some c) h = cc
 
-  unmap_untouched : (page : ℕ) → IsUntouched s (after_unmap s e.pid page) e p
+  unmap_untouched : (page : ℕ) → LeavesAll s (after_unmap s e.pid page) e p
   unmap_untouched page =
       kept_untouched s (after_unmap s e.pid page) e p d refl
       (λ n other o. without_kept e.pid (at_page p n) d s.spaces (is_slot e.pid page) other (stays (at_page p n) d)
@@ -383,14 +387,14 @@ module _ (s : State) (e : Event) (p : ℕ) (w : IsWellFormed s) (live_p : is_liv
       stays : (slot : Slot) → slot.pid ≢ e.pid → is_slot e.pid page slot ≡ false
       stays slot n = same_apart slot_order (at_page e.pid page) slot (λ x. of_others e.pid page slot n (sym x))
 
-  offer_untouched : (page target : ℕ) (write : Bool) → IsUntouched s (after_offer s e.pid page target write) e p
+  offer_untouched : (page target : ℕ) (write : Bool) → LeavesAll s (after_offer s e.pid page target write) e p
   offer_untouched page target write =
       same_untouched s (after_offer s e.pid page target write) e p d refl (λ n. refl) (inl (refl, refl))
       (λ key own. inl (get-insert s.offers (offer_of e.pid page target) write key
       ∙ ap (λ b. cond b (Some write) (map.get s.offers key))
       (same_apart offer_order key (offer_of e.pid page target) (other_offerer p e.pid page target key d own))))
 
-  withdraw_untouched : (page target : ℕ) → IsUntouched s (after_withdraw s e.pid page target) e p
+  withdraw_untouched : (page target : ℕ) → LeavesAll s (after_withdraw s e.pid page target) e p
   withdraw_untouched page target =
       same_untouched s (after_withdraw s e.pid page target) e p d refl (λ n. refl) (inl (refl, refl))
       (λ key own. inl (get-remove_other s.offers (offer_of e.pid page target) key
@@ -398,7 +402,7 @@ module _ (s : State) (e : Event) (p : ℕ) (w : IsWellFormed s) (live_p : is_liv
 
   accept_untouched : (giver giver_page page : ℕ) → e.call ≡ call.Accept giver giver_page page
       → accept_refusal s e.pid giver giver_page page ≡ None
-      → IsUntouched s (after_accept s e.pid giver giver_page page) e p
+      → LeavesAll s (after_accept s e.pid giver giver_page page) e p
   accept_untouched giver giver_page page is allowed =
       kept_untouched s (after_accept s e.pid giver giver_page page) e p d refl
       (λ n other o. joined_kept s e.pid giver giver_page page (offered s giver giver_page e.pid) w g.0 g.1 (at_page p n)
@@ -426,7 +430,7 @@ module _ (s : State) (e : Event) (p : ℕ) (w : IsWellFormed s) (live_p : is_liv
 
   child_untouched : (k quota : ℕ) (T : Spaces) → is_live s k ≡ false
       → ((n : ℕ) → map.get T (at_page p n) ≡ map.get s.spaces (at_page p n))
-      → IsUntouched s (record {
+      → LeavesAll s (record {
         spaces = T;
         book = map.insert s.book k (record { parent = e.pid; quota = quota });
         offers = s.offers;
@@ -443,7 +447,7 @@ module _ (s : State) (e : Event) (p : ℕ) (w : IsWellFormed s) (live_p : is_liv
       (inl (more_given s e.pid p k quota q_not free))
       offers_same
 
-  exit_untouched : e.call ≡ call.Exit → IsUntouched s (after_exit s e.pid) e p
+  exit_untouched : e.call ≡ call.Exit → LeavesAll s (after_exit s e.pid) e p
   exit_untouched is =
       let m = some_value (map.get s.book e.pid) live in
       kept_untouched s (after_exit s e.pid) e p d
@@ -464,11 +468,11 @@ module _ (s : State) (e : Event) (p : ℕ) (w : IsWellFormed s) (live_p : is_liv
       offers key false target other = inl (retain_same s.offers
           (λ (k : OfferKey). not ((k.offerer == e.pid) || (k.target == e.pid))) key (λ i. not (other i || target i)))
 
-  nothing_untouched : IsUntouched s s e p
+  nothing_untouched : LeavesAll s s e p
   nothing_untouched = same_untouched s s e p d refl (λ n. refl) (inl (refl, refl)) offers_same
 
   after_untouched : (c : Call) → e.call ≡ c → completes (answer_of s e.pid c) ≡ true
-      → IsUntouched s (after s e.pid c) e p
+      → LeavesAll s (after s e.pid c) e p
   after_untouched (call.Load addr size) is h = load_untouched addr size
   after_untouched (call.Store addr size value) is h = store_untouched addr size value is h
   after_untouched (call.Map page write) is h = map_untouched page (fresh (at_page e.pid page) write)
@@ -500,21 +504,27 @@ caller_live s e h = by (is_live s e.pid) h
     by true k = (refl, k)
     by false k = cc
 
-still_untouched : (s : State) (e : Event) (p : ℕ) → p ≢ e.pid → IsUntouched s s e p
+still_untouched : (s : State) (e : Event) (p : ℕ) → p ≢ e.pid → LeavesAll s s e p
 still_untouched s e p d = same_untouched s s e p d refl (λ n. refl) (inl (refl, refl)) (λ key own. inl refl)
 
-pub integrity : Integrity
-integrity s e p w live d = by (completes (answer s e)) refl
+pub leaves_all : (s : State) (e : Event) (p : ℕ) → IsWellFormed s → is_live s p ≡ true → p ≢ e.pid
+    → LeavesAll s (next s e) e p
+leaves_all s e p w live d = by (completes (answer s e)) refl
   where
-    by : (b : Bool) → completes (answer s e) ≡ b → IsUntouched s (next s e) e p
-    by true h = let l = caller_live s e h in subst (λ t. IsUntouched s t e p) (sym (next-goes s e h))
+    by : (b : Bool) → completes (answer s e) ≡ b → LeavesAll s (next s e) e p
+    by true h = let l = caller_live s e h in subst (λ t. LeavesAll s t e p) (sym (next-goes s e h))
         (after_untouched s e p w live d l.0 e.call refl l.1)
-    by false h = subst (λ t. IsUntouched s t e p) (sym (next-stays s e h)) (still_untouched s e p d)
+    by false h = subst (λ t. LeavesAll s t e p) (sym (next-stays s e h)) (still_untouched s e p d)
+
+pub integrity : Integrity
+integrity s e p w live d =
+    let u = leaves_all s e p w live d in
+    record { member = u.member; flags = u.flags; given = u.given }
 
 pub nobody_takes_back : NobodyTakesBack
 nobody_takes_back s [] p page w live others = refl
 nobody_takes_back s (e ∷ events) p page w live others =
-    let u = integrity s e p w live (All-head (λ (e : Event). p ≢ e.pid) e events others) in
+    let u = leaves_all s e p w live (All-head (λ (e : Event). p ≢ e.pid) e events others) in
     nobody_takes_back (next s e) events p page (kept-next s e w).0 (ap is_some u.member ∙ live)
     (All-tail (λ (e : Event). p ≢ e.pid) e events others)
     ∙ u.flags page

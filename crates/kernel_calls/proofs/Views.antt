@@ -27,7 +27,6 @@ use Rattle.std.proofs.Common.{
 }
 use Rattle.std.specs.Prelude.{if◌then◌else◌, nat_lt, nat_le, find, slice_index}
 use Rattle.std.specs.Option.{option_map}
-use Rattle.std.specs.List.{range_with_len}
 use Rattle.page_words.specs.Addresses.{
   slot_number,
   is_user_page,
@@ -39,7 +38,7 @@ use Rattle.page_words.specs.Addresses.{
 }
 use Rattle.page_words.specs.declared.addresses.Size.{Size}
 use Rattle.page_words.specs.FiniteMap as map
-use Rattle.page_words.specs.FiniteMap.{Map, same, nat_order}
+use Rattle.page_words.specs.FiniteMap.{nat_order}
 use Rattle.page_words.specs.FiniteSet as set
 use Rattle.page_words.specs.FiniteSet.{Set}
 use Rattle.page_words.proofs.MapLemmas.{same_map, get-retain_keys}
@@ -57,10 +56,11 @@ use Rattle.address_space.specs.Spaces.{
   missing,
   access_need,
   value_of,
+  is_of,
   at_page,
 }
 use Rattle.address_space.proofs.costs.Costs.{same_pages}
-use Rattle.quota_tree.specs.Book.{next_number}
+use Rattle.quota_tree.specs.Book.{given, quota_of, number_of_children, next_number}
 use Rattle.page_sharing.specs.Offers.{OfferKey, offer_of, pending}
 use Rattle.table_walk.specs.declared.Access.{Access}
 use Rattle.table_walk.specs.declared.Access.TheVariants.{Read, Write}
@@ -71,8 +71,19 @@ use Rattle.process_table.specs.declared.causes.Cause.TheVariants as cause
 use Rattle.fault_handler.specs.Plans.{plan_of, step_of, outside, fault_or}
 use Rattle.fault_handler.specs.declared.plans.PageStep.TheVariants as step
 use Rattle.fault_handler.specs.declared.plans.Plan.TheVariants as plan
-use Rattle.kernel_calls.specs.Authority.{Flags, flags_of, Shown, shown_of, sees, is_offered}
-use Rattle.kernel_calls.specs.Own.{HasTheSame, reads_live, takes_offer, AcceptsReadTheirOffer}
+use Rattle.kernel_calls.specs.Authority.{
+  Flags,
+  flags_of,
+  flags_at,
+  Shown,
+  shown_of,
+  shown_at,
+  shares,
+  is_offered,
+  HaveTheSame,
+  found,
+  MembersToldTheSame,
+}
 use Rattle.kernel_calls.specs.Machine.{answer, answer_of, refused_or, planned_or}
 use Rattle.kernel_calls.specs.declared.calls.Call.{Call}
 use Rattle.kernel_calls.specs.declared.calls.Call.TheVariants as call
@@ -80,6 +91,49 @@ use Rattle.kernel_calls.specs.declared.calls.Event.{Event}
 use Rattle.kernel_calls.specs.declared.calls.Reply.{Reply}
 use Rattle.kernel_calls.specs.declared.calls.Reply.TheVariants as reply
 use borrow.Author.Tests.{eqb-true, eq-eqb}
+
+-- a slot is q's own, or offered to it
+abbrev pub sees : State → ℕ → Slot → Bool
+sees s q slot = is_of q slot || is_offered s q slot
+
+-- what one process has in two states
+pub record HasTheSame (s t : State) (q : ℕ) : Type 0 where
+  pub live : is_live s q ≡ is_live t q
+  pub quota : quota_of s.book q ≡ quota_of t.book q
+  pub given : given s.book q ≡ given t.book q
+  pub children : number_of_children s.book q ≡ number_of_children t.book q
+  pub flags : (page : ℕ) → flags_at s (at_page q page) ≡ flags_at t (at_page q page)
+  pub pages : (page : ℕ) → shown_at s (at_page q page) ≡ shown_at t (at_page q page)
+  pub same_page : (page other : ℕ)
+      → shares s (at_page q page) (at_page q other) ≡ shares t (at_page q page) (at_page q other)
+  pub made : (page target : ℕ) → map.get s.offers (offer_of q page target) ≡ map.get t.offers (offer_of q page target)
+
+pub member_has : (s t : State) (Q : ℕ → Bool) (q : ℕ) → Q q ≡ true → HaveTheSame s t Q → HasTheSame s t q
+member_has s t Q q mine l = record {
+  live = l.live q mine;
+  quota = l.quota q mine;
+  given = l.given q mine;
+  children = l.children q mine;
+  flags = λ page. l.flags (at_page q page) mine;
+  pages = λ page. l.pages (at_page q page) mine;
+  same_page = λ page other. l.same_page (at_page q page) (at_page q other) mine mine;
+  made = λ page target. l.offers (offer_of q page target) mine;
+}
+
+abbrev pub takes_offer : Call → Bool
+takes_offer (call.Accept _ _ _) = true
+takes_offer _ = false
+
+-- ---- Who is live, as calls find it
+
+pub child_is_same : (s t : State) → next_number s.book ≡ next_number t.book → child_of s ≡ child_of t
+child_is_same s t h = λ i. unwrap_or (h i) 0
+
+target_same : (a b : Bool) (target : ℕ) → (if a then Some target else None) ≡ (if b then Some target else None) → a ≡ b
+target_same true true target h = refl
+target_same false false target h = refl
+target_same true false target h = cc
+target_same false true target h = cc
 
 -- a process sees its own slots
 pub sees_own : (s : State) (q page : ℕ) → sees s q (at_page q page) ≡ true
@@ -177,77 +231,101 @@ module _ (s t : State) (q : ℕ) (l : HasTheSame s t q) where
       then Some cause.NotMapped else if write && not (own_flags_same page i).may then Some cause.Rights else None
 
   -- what an accept is told, by the offer that it takes
-  accept_same : (giver giver_page page : ℕ) → map.get s.offers (offer_of giver giver_page q) ≡ map.get t.offers
-      (offer_of giver giver_page q) → answer_of s q (call.Accept giver giver_page page) ≡ answer_of t q
-      (call.Accept giver giver_page page)
+  accept_same : (giver giver_page page : ℕ)
+      → is_offered s q (at_page giver giver_page) ≡ is_offered t q (at_page giver giver_page)
+      → answer_of s q (call.Accept giver giver_page page) ≡ answer_of t q (call.Accept giver giver_page page)
   accept_same giver giver_page page same_offer = λ i. refused_or
       (if not (is_user_page page) then Some cause.BadPage else
-      if not (is_some (same_offer i)) then Some cause.NoOffer else
+      if not (same_offer i) then Some cause.NoOffer else
       if mapped_same page i then Some cause.Mapped else
       if no_room_same page i then Some cause.Quota else
       None) reply.Done
 
-  next_same : ((p : ℕ) → is_live s p ≡ is_live t p) → next_number s.book ≡ next_number t.book
-  next_same lives = λ i. find (λ p. not (lives p i)) (range_with_len 0 64)
-
-  pub child_is_same : ((p : ℕ) → is_live s p ≡ is_live t p) → child_of s ≡ child_of t
-  child_is_same lives = λ i. unwrap_or (next_same lives i) 0
-
-  answer_of_same : (c : Call) → takes_offer c ≡ false → (reads_live c ≡ true → (p : ℕ) → is_live s p ≡ is_live t p)
-      → answer_of s q c ≡ answer_of t q c
-  answer_of_same (call.Load addr size) none lives = λ i.
+  pub answer_of_same : (c : Call) → takes_offer c ≡ false → found s c ≡ found t c → answer_of s q c ≡ answer_of t q c
+  answer_of_same (call.Load addr size) none finds = λ i.
       planned_or (plan_same addr size Read i) (reply.Value (loaded_same addr size i))
-  answer_of_same (call.Store addr size value) none lives = λ i. planned_or (plan_same addr size Write i) reply.Done
-  answer_of_same (call.Map page write) none lives = λ i.
+  answer_of_same (call.Store addr size value) none finds = λ i. planned_or (plan_same addr size Write i) reply.Done
+  answer_of_same (call.Map page write) none finds = λ i.
       refused_or (if not (is_user_page page) then Some cause.BadPage else if mapped_same page i then Some cause.Mapped
       else if no_room_same page i then Some cause.Quota else None) reply.Done
-  answer_of_same (call.Unmap page) none lives = λ i.
+  answer_of_same (call.Unmap page) none finds = λ i.
       refused_or (if not (is_user_page page) then Some cause.BadPage else if not (mapped_same page i) then Some
       cause.NotMapped else None) reply.Done
-  answer_of_same (call.Protect page write) none lives = λ i. refused_or (protect_same page write i) reply.Done
-  answer_of_same (call.Info page) none lives = λ i.
+  answer_of_same (call.Protect page write) none finds = λ i. refused_or (protect_same page write i) reply.Done
+  answer_of_same (call.Info page) none finds = λ i.
       refused_or (protect_same page false i) (told (own_flags_same page i) (own_shown_same page i))
     where
       told : Flags → Shown → Reply
       told flags shown = reply.Info flags.write flags.may flags.accessed flags.dirty shown.holders
-  answer_of_same (call.Offer page target write) none lives = λ i. refused_or
+  answer_of_same (call.Offer page target write) none finds = λ i. refused_or
       (if not (is_user_page page) then Some cause.BadPage else
       if not (mapped_same page i) then Some cause.NotMapped else
       if target == q then Some cause.SelfOffer else
-      if not (lives refl target i) then Some cause.NoTarget else
+      if not (target_same (is_live s target) (is_live t target) target finds i) then Some cause.NoTarget else
       if write && not (own_flags_same page i).may then Some cause.Rights else
       if is_some (l.made page target i) then Some cause.OfferPending else
       if nat_le 32 (map.len (pending_same i)) then Some cause.TooManyOffers else
       None) reply.Done
-  answer_of_same (call.Withdraw page target) none lives = λ i.
+  answer_of_same (call.Withdraw page target) none finds = λ i.
       refused_or (if not (is_user_page page) then Some cause.BadPage else if not (is_some (l.made page target i))
       then Some cause.NoOffer else None) reply.Done
-  answer_of_same (call.Accept giver giver_page page) none lives = cc
-  answer_of_same (call.Spawn quota) none lives = λ i. refused_or
+  answer_of_same (call.Accept giver giver_page page) none finds = cc
+  answer_of_same (call.Spawn quota) none finds = λ i. refused_or
       (if quota == 0 then Some cause.BadQuota else
-      if is_none (next_same (lives refl) i) then Some cause.TableFull else
+      if is_none (finds i) then Some cause.TableFull else
       if nat_lt (room_same i) quota then Some cause.Quota else
-      None) (reply.Child (child_is_same (lives refl) i))
-  answer_of_same (call.Fork quota) none lives = λ i. refused_or
+      None) (reply.Child (unwrap_or (finds i) 0))
+  answer_of_same (call.Fork quota) none finds = λ i. refused_or
       (if quota == 0 then Some cause.BadQuota else
-      if is_none (next_same (lives refl) i) then Some cause.TableFull else
+      if is_none (finds i) then Some cause.TableFull else
       if nat_lt quota (cost_same i) then Some cause.TooSmall else
       if nat_lt (room_same i) quota then Some cause.Quota else
-      None) (reply.Child (child_is_same (lives refl) i))
-  answer_of_same call.Exit none lives = λ i. refused_or
+      None) (reply.Child (unwrap_or (finds i) 0))
+  answer_of_same call.Exit none finds = λ i. refused_or
       (if q == 0 then Some cause.RootExit else if nat_lt 0 (l.children i) then Some cause.HasChildren else None)
       reply.Done
-  answer_of_same call.Quota none lives = λ i. reply.Quota (l.quota i) (cost_same i) (l.given i)
+  answer_of_same call.Quota none finds = λ i. reply.Quota (l.quota i) (cost_same i) (l.given i)
 
 -- any call but an accept is told the same, where it finds the same processes live if it reads that
 pub told_by_own : (s t : State) (e : Event) → HasTheSame s t e.pid → takes_offer e.call ≡ false
-    → (reads_live e.call ≡ true → (p : ℕ) → is_live s p ≡ is_live t p) → answer s e ≡ answer t e
-told_by_own s t e l none lives = λ i. if l.live i then answer_of_same s t e.pid l e.call none lives i else reply.Refused
+    → found s e.call ≡ found t e.call → answer s e ≡ answer t e
+told_by_own s t e l none finds = λ i. if l.live i then answer_of_same s t e.pid l e.call none finds i else reply.Refused
     cause.NoProcess
 
-pub accepts_read_their_offer : AcceptsReadTheirOffer
-accepts_read_their_offer s t e giver giver_page page l is same_offer =
+-- and an accept, where the offer that it takes is pending in both
+accept_told : (s t : State) (e : Event) (giver giver_page page : ℕ) → HasTheSame s t e.pid
+    → e.call ≡ call.Accept giver giver_page page
+    → is_offered s e.pid (at_page giver giver_page) ≡ is_offered t e.pid (at_page giver giver_page)
+    → answer s e ≡ answer t e
+accept_told s t e giver giver_page page l is same_offer =
     ap (λ c. if is_live s e.pid then answer_of s e.pid c else reply.Refused cause.NoProcess) is
     ∙ (λ i. if l.live i then accept_same s t e.pid l giver giver_page page same_offer i else reply.Refused
     cause.NoProcess)
     ∙ sym (ap (λ c. if is_live t e.pid then answer_of t e.pid c else reply.Refused cause.NoProcess) is)
+
+pub process_told : (s t : State) (e : Event) → HasTheSame s t e.pid → found s e.call ≡ found t e.call
+    → ((giver page own : ℕ) → e.call ≡ call.Accept giver page own
+    → is_offered s e.pid (at_page giver page) ≡ is_offered t e.pid (at_page giver page)) → answer s e ≡ answer t e
+process_told s t e l finds accepts = by e.call refl
+  where
+    other : (c : Call) → e.call ≡ c → takes_offer c ≡ false → answer s e ≡ answer t e
+    other c is none = told_by_own s t e l (ap takes_offer is ∙ none) finds
+
+    by : (c : Call) → e.call ≡ c → answer s e ≡ answer t e
+    by (call.Accept giver giver_page page) is = accept_told s t e giver giver_page page l is
+        (accepts giver giver_page page is)
+    by (call.Load addr size) is = other (call.Load addr size) is refl
+    by (call.Store addr size value) is = other (call.Store addr size value) is refl
+    by (call.Map page write) is = other (call.Map page write) is refl
+    by (call.Unmap page) is = other (call.Unmap page) is refl
+    by (call.Protect page write) is = other (call.Protect page write) is refl
+    by (call.Info page) is = other (call.Info page) is refl
+    by (call.Offer page target write) is = other (call.Offer page target write) is refl
+    by (call.Withdraw page target) is = other (call.Withdraw page target) is refl
+    by (call.Spawn quota) is = other (call.Spawn quota) is refl
+    by (call.Fork quota) is = other (call.Fork quota) is refl
+    by call.Exit is = other call.Exit is refl
+    by call.Quota is = other call.Quota is refl
+
+pub members_told_the_same : MembersToldTheSame
+members_told_the_same s t e Q l mine finds accepts = process_told s t e (member_has s t Q e.pid mine l) finds accepts

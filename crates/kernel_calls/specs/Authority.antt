@@ -1,39 +1,24 @@
--- What an event of one process may do to others, and what it lets them learn: integrity, consent and confidentiality.
-use Rattle.std.proofs.Common.{
-  ◌≡◌,
-  ◌≢◌,
-  ℕ,
-  ◌+◌,
-  ◌-◌,
-  ◌<◌,
-  ◌≤◌,
-  Bool,
-  true,
-  false,
-  ◌||◌,
-  IsTrue,
-  List,
-  Option,
-  Some,
-  None,
-  unwrap_or,
-}
+-- What one process can do to another, and learn of it. An event e leads from state s to t; a set is given by its test.
+use Rattle.std.proofs.Common.{◌≡◌, ◌≢◌, ℕ, ◌+◌, ◌-◌, ◌<◌, ◌≤◌, Bool, true, false, not, ◌&&◌, ◌||◌, ◌==◌, IsTrue}
+use Rattle.std.proofs.Common.{if◌then◌else◌, List, [], ◌∷◌, Option, Some, None, unwrap_or}
 use Rattle.std.specs.Prelude.{◌⊎◌, slice_index}
 use Rattle.std.specs.Option.{option_map}
-use Rattle.std.specs.List.{All}
+use Rattle.std.specs.List.{All, zip}
 use Rattle.page_words.specs.Addresses.{offset_number, byte_count}
 use Rattle.page_words.specs.declared.addresses.Size.{Size}
 use Rattle.page_words.specs.FiniteMap as map
 use Rattle.page_words.specs.FiniteSet as set
-use Rattle.address_space.specs.Spaces.{Slot, Cell, cost, cell_or_fresh, at_page, slot_at, is_of, bytes_of, copy_of}
-use Rattle.quota_tree.specs.Book.{Member, given, number_of_children}
+use Rattle.address_space.specs.Spaces.{Slot, Cell, cell_or_fresh, at_page, slot_at, is_of, bytes_of, copy_of}
+use Rattle.quota_tree.specs.Book.{Member, is_child, given, quota_of, number_of_children, next_number}
 use Rattle.page_sharing.specs.Offers.{OfferKey, offer_of}
 use Rattle.process_table.specs.State.{State, is_live, child_of}
 use Rattle.process_table.specs.WellFormed.{IsWellFormed}
-use Rattle.kernel_calls.specs.Machine.{answer, next, end_of}
+use Rattle.kernel_calls.specs.Isolation.{Exchange, exchanges, quota_asked}
+use Rattle.kernel_calls.specs.Machine.{answer, answers, next, end_of, completes}
 use Rattle.kernel_calls.specs.declared.calls.Call.{Call}
 use Rattle.kernel_calls.specs.declared.calls.Call.TheVariants as call
 use Rattle.kernel_calls.specs.declared.calls.Event.{Event}
+use Rattle.kernel_calls.specs.declared.calls.Reply.{Reply}
 use Rattle.kernel_calls.specs.declared.calls.Reply.TheVariants as reply
 
 -- the flags of a page
@@ -56,10 +41,25 @@ byte_in s slot place = slice_index (cell_or_fresh s.spaces slot).bytes place
 
 -- a slot is mapped, and another is in its group
 abbrev pub shares : State → Slot → Slot → Bool
-shares s slot other = unwrap_or (option_map (λ (cell : Cell). set.contains cell.holders other) (map.get s.spaces slot))
-    false
+shares s slot other = unwrap_or (option_map (λ (c : Cell). set.contains c.holders other) (map.get s.spaces slot)) false
 
--- ---- Integrity: what an event leaves of all other processes
+-- a slot is offered to a process
+abbrev pub is_offered : State → ℕ → Slot → Bool
+is_offered s q slot = map.contains_key s.offers (offer_of slot.pid slot.page q)
+
+-- q is a child of p
+abbrev pub is_child_of : State → ℕ → ℕ → Bool
+is_child_of s p q = unwrap_or (option_map (λ (m : Member). is_child p (q, m)) (map.get s.book q)) false
+
+-- ---- Integrity: what an event leaves
+
+-- an event leaves states well formed
+abbrev pub StatesStayWellFormed : Type 0
+StatesStayWellFormed = (s : State) (e : Event) → IsWellFormed s → IsWellFormed (next s e)
+
+-- a call that is refused or faults changes nothing
+abbrev pub RefusalsChangeNothing : Type 0
+RefusalsChangeNothing = (s : State) (e : Event) → completes (answer s e) ≡ false → next s e ≡ s
 
 -- the event is a store of its process that covers this byte, through a slot of its own, with write, whose page this
 -- slot shares; and the byte there is then that byte of the value
@@ -77,46 +77,33 @@ pub record IsStoreInto (s t : State) (e : Event) (slot : Slot) (place : ℕ) : T
   pub shared : IsTrue (set.contains own.holders slot)
   pub stored : byte_in t slot place ≡ slice_index (bytes_of (byte_count size) value) (byte - address)
 
--- the event is the exit of a child of p, whose quota p has back
-pub record IsChildsExit (s t : State) (e : Event) (p : ℕ) : Type 0 where
-  pub exit : e.call ≡ call.Exit
-  pub member : Member
-  pub child : map.get s.book e.pid ≡ Some member
-  pub parent : member.parent ≡ p
-  pub returned : given s.book p ≡ given t.book p + member.quota
-  pub fewer : number_of_children s.book p ≡ number_of_children t.book p + 1
+-- of a slot that is mapped before and after an event, whosever it is, the event leaves what it may have; the right to
+-- write, but for a Protect by its process; what was accessed and dirty; and each byte, but for a store into it
+pub record IsKept (s t : State) (e : Event) (slot : Slot) (before after : Cell) : Type 0 where
+  pub may : after.may ≡ before.may
+  pub write : (after.write ≡ before.write) ⊎ ((slot.pid ≡ e.pid) × (e.call ≡ call.Protect slot.page after.write))
+  pub marks : (IsTrue before.accessed → IsTrue after.accessed) × (IsTrue before.dirty → IsTrue after.dirty)
+  pub bytes : (place : ℕ) → (slice_index after.bytes place ≡ slice_index before.bytes place)
+      ⊎ IsStoreInto s t e slot place
 
--- the event ends an offer to its process: that accepts it, or exits
-pub record EndsOffer (e : Event) (key : OfferKey) : Type 0 where
-  pub target : key.target ≡ e.pid
-  pub how : ((page : ℕ) × (e.call ≡ call.Accept key.offerer key.page page)) ⊎ (e.call ≡ call.Exit)
+abbrev pub SlotsAreKept : Type 0
+SlotsAreKept = (s : State) (e : Event) (slot : Slot) (before after : Cell) → IsWellFormed s
+    → map.get s.spaces slot ≡ Some before → map.get (next s e).spaces slot ≡ Some after
+    → IsKept s (next s e) e slot before after
 
--- what p has in one state and another, where an event of another process lies between them
+-- the event of another leaves a live process its place in the book; its mapped pages with their flags, so that they
+-- cost the same; and what it has given to how many children, unless it is the exit of one
 pub record IsUntouched (s t : State) (e : Event) (p : ℕ) : Type 0 where
-  -- p is live, with the same parent and quota
   pub member : map.get t.book p ≡ map.get s.book p
-  -- the same pages are mapped, with the same flags, and cost the same
   pub flags : (page : ℕ) → flags_at t (at_page p page) ≡ flags_at s (at_page p page)
-  pub cost : cost t.spaces p ≡ cost s.spaces p
-  -- each byte is the same, or stored by the event
-  pub bytes : (page place : ℕ) → (byte_in t (at_page p page) place ≡ byte_in s (at_page p page) place)
-      ⊎ IsStoreInto s t e (at_page p page) place
-  -- of the slots that share a page, only those of the event's process come and go
-  pub holders : (page : ℕ) (other : Slot) → other.pid ≢ e.pid
-      → shares t (at_page p page) other ≡ shares s (at_page p page) other
-  -- what it has given, and to how many children, unless one of them exits
   pub given : ((given t.book p ≡ given s.book p) × (number_of_children t.book p ≡ number_of_children s.book p))
-      ⊎ IsChildsExit s t e p
-  -- an offer that p has made is as it was, or ended by the process that it names
-  pub offers : (key : OfferKey) → key.offerer ≡ p
-      → (map.get t.offers key ≡ map.get s.offers key) ⊎ ((map.get t.offers key ≡ None) × EndsOffer e key)
+      ⊎ ((is_child_of s p e.pid ≡ true) × (e.call ≡ call.Exit))
 
 abbrev pub Integrity : Type 0
 Integrity = (s : State) (e : Event) (p : ℕ) → IsWellFormed s → is_live s p ≡ true → p ≢ e.pid
     → IsUntouched s (next s e) e p
 
--- no run of events of others unmaps a page of a live process or changes its flags: so nobody can take back a page
--- that it accepted, nor a right to it
+-- no run of events of others unmaps a page of p or changes its flags: so nobody can take back a page that it accepted
 abbrev pub NobodyTakesBack : Type 0
 NobodyTakesBack = (s : State) (events : List Event) (p page : ℕ) → IsWellFormed s → is_live s p ≡ true
     → All (λ (e : Event). p ≢ e.pid) events → flags_at (end_of s events) (at_page p page) ≡ flags_at s (at_page p page)
@@ -126,12 +113,11 @@ NobodyTakesBack = (s : State) (events : List Event) (p page : ℕ) → IsWellFor
 -- the event accepts a pending offer to its process, at this new slot: the slot joins the group of the slot that was
 -- offered, with the right of the offer, and not with more than that slot may have
 pub record IsJoin (s : State) (e : Event) (slot other : Slot) : Type 0 where
-  pub page : ℕ
-  pub slot_is : slot ≡ at_page e.pid page
+  pub own : slot.pid ≡ e.pid
   pub new : map.get s.spaces slot ≡ None
   pub giver : Slot
   pub right : Bool
-  pub call : e.call ≡ call.Accept giver.pid giver.page page
+  pub call : e.call ≡ call.Accept giver.pid giver.page slot.page
   pub offered : map.get s.offers (offer_of giver.pid giver.page e.pid) ≡ Some right
   pub cell : Cell
   pub given : map.get s.spaces giver ≡ Some cell
@@ -160,28 +146,9 @@ abbrev pub OffersByOfferer : Type 0
 OffersByOfferer = (s : State) (e : Event) (key : OfferKey) (right : Bool) → map.get (next s e).offers key ≡ Some right
     → (map.get s.offers key ≡ Some right) ⊎ ((e.pid ≡ key.offerer) × (e.call ≡ call.Offer key.page key.target right))
 
--- as long as a slot is mapped, what it may have stays
-abbrev pub RightsStay : Type 0
-RightsStay = (s : State) (e : Event) (slot : Slot) (before after : Cell) → IsWellFormed s
-    → map.get s.spaces slot ≡ Some before → map.get (next s e).spaces slot ≡ Some after → after.may ≡ before.may
-
 -- ---- What is given up goes
 
--- after an exit that is done the process, its slots and all offers by it and to it are gone, and its parent has its
--- quota back
-pub record HasExited (s t : State) (p : ℕ) : Type 0 where
-  pub gone : map.get t.book p ≡ None
-  pub pages : (page : ℕ) → map.get t.spaces (at_page p page) ≡ None
-  pub groups : (slot : Slot) (page : ℕ) → shares t slot (at_page p page) ≡ false
-  pub offers : (page other : ℕ)
-      → (map.get t.offers (offer_of p page other) ≡ None) × (map.get t.offers (offer_of other page p) ≡ None)
-  pub returned : (member : Member) → map.get s.book p ≡ Some member
-      → given s.book member.parent ≡ given t.book member.parent + member.quota
-
-abbrev pub ExitsEnd : Type 0
-ExitsEnd = (s : State) (e : Event) → e.call ≡ call.Exit → answer s e ≡ reply.Done → HasExited s (next s e) e.pid
-
--- after an unmap that is done the slot is in no group, and its offers are gone
+-- the slot is in no group, and its offers are gone: so it is after an unmap that is done
 pub record HasLeft (t : State) (slot : Slot) : Type 0 where
   pub gone : map.get t.spaces slot ≡ None
   pub groups : (other : Slot) → shares t other slot ≡ false
@@ -191,32 +158,57 @@ abbrev pub UnmapsEnd : Type 0
 UnmapsEnd = (s : State) (e : Event) (page : ℕ) → e.call ≡ call.Unmap page → answer s e ≡ reply.Done
     → HasLeft (next s e) (at_page e.pid page)
 
--- the event withdraws an offer of its process, or accepts one to it
+-- after an exit that is done the process, its slots and all offers by it and to it are gone, and its parent has its
+-- quota back
+pub record HasExited (s t : State) (p : ℕ) : Type 0 where
+  pub gone : map.get t.book p ≡ None
+  pub pages : (page : ℕ) → HasLeft t (at_page p page)
+  pub offers : (slot : Slot) → is_offered t p slot ≡ false
+  pub returned : (member : Member) → map.get s.book p ≡ Some member
+      → given s.book member.parent ≡ given t.book member.parent + member.quota
+
+abbrev pub ExitsEnd : Type 0
+ExitsEnd = (s : State) (e : Event) → e.call ≡ call.Exit → answer s e ≡ reply.Done → HasExited s (next s e) e.pid
+
+-- the event withdraws an offer of its process, or accepts one to it: after that is done the offer is gone
 abbrev pub Settles : Event → OfferKey → Type 0
 Settles e key = ((e.pid ≡ key.offerer) × (e.call ≡ call.Withdraw key.page key.target))
     ⊎ ((e.pid ≡ key.target) × ((page : ℕ) × (e.call ≡ call.Accept key.offerer key.page page)))
 
--- after that is done the offer is gone
 abbrev pub OffersEnd : Type 0
 OffersEnd = (s : State) (e : Event) (key : OfferKey) → Settles e key → answer s e ≡ reply.Done
     → map.get (next s e).offers key ≡ None
 
--- an offer that is pending before an event is so after it, or is settled, or its page or one of its processes is given
--- up
+-- a pending offer stays, or is settled, or its page or one of its processes is given up
 abbrev pub OffersStay : Type 0
 OffersStay = (s : State) (e : Event) (key : OfferKey) (right : Bool) → map.get s.offers key ≡ Some right
     → (map.get (next s e).offers key ≡ Some right)
     ⊎ (Settles e key ⊎ (IsLeave e (at_page key.offerer key.page) ⊎ ((key.target ≡ e.pid) × (e.call ≡ call.Exit))))
 
--- ---- Confidentiality: what a process sees
+-- ---- Births
 
--- a slot that is offered to a process
-abbrev pub is_offered : State → ℕ → Slot → Bool
-is_offered s q slot = map.contains_key s.offers (offer_of slot.pid slot.page q)
+-- what a new child has in a slot: after a fork a copy of its maker's page, with a group of its own, and else nothing
+abbrev pub born_with : State → ℕ → Call → Slot → Option Cell
+born_with s p (call.Fork _) slot = option_map (copy_of slot) (map.get s.spaces (at_page p slot.page))
+born_with s p _ slot = None
 
--- the slots whose pages a process sees: its own, and those that are offered to it
-abbrev pub sees : State → ℕ → Slot → Bool
-sees s q slot = is_of q slot || is_offered s q slot
+-- the child was not live; it is, as its maker's, with the quota that was asked for, and has these pages and no other
+pub record IsBorn (s t : State) (e : Event) (child : ℕ) : Type 0 where
+  pub free : map.get s.book child ≡ None
+  pub member : map.get t.book child ≡ Some (record { parent = e.pid; quota = quota_asked e.call })
+  pub pages : (page : ℕ) → map.get t.spaces (at_page child page) ≡ born_with s e.pid e.call (at_page child page)
+
+-- so it is with the child whose number its maker is told
+abbrev pub ChildrenAreTheirMakers : Type 0
+ChildrenAreTheirMakers = (s : State) (e : Event) (child : ℕ) → IsWellFormed s → answer s e ≡ reply.Child child
+    → IsBorn s (next s e) e child
+
+-- and no other place in the book changes but that of who exits
+abbrev pub PlacesStay : Type 0
+PlacesStay = (s : State) (e : Event) (p : ℕ) → (map.get (next s e).book p ≡ map.get s.book p)
+    ⊎ ((answer s e ≡ reply.Child p) ⊎ ((p ≡ e.pid) × (e.call ≡ call.Exit)))
+
+-- ---- Views: what is enough to know
 
 -- what shows of a page, whoever has it: its bytes, and how many slots share it
 pub record Shown : Type 0 where
@@ -229,45 +221,180 @@ shown_of cell = record { bytes = cell.bytes; holders = set.len cell.holders }
 abbrev pub shown_at : State → Slot → Option Shown
 shown_at s slot = option_map shown_of (map.get s.spaces slot)
 
--- ---- What an event of another process changes of what q sees
+-- two states are one to the members of Q, who see these offers and the pages of these slots: which members are live,
+-- with what quota, what each has given to how many children, and whose child it is among them; the flags of their
+-- pages; the offers; the pages, and which of all of them are one
+pub record AreOne (s t : State) (Q : ℕ → Bool) (Known : OfferKey → Type 0) (Seen : Slot → Type 0) : Type 0 where
+  pub live : (q : ℕ) → Q q ≡ true → is_live s q ≡ is_live t q
+  pub quota : (q : ℕ) → Q q ≡ true → quota_of s.book q ≡ quota_of t.book q
+  pub given : (q : ℕ) → Q q ≡ true → given s.book q ≡ given t.book q
+  pub children : (q : ℕ) → Q q ≡ true → number_of_children s.book q ≡ number_of_children t.book q
+  pub families : (p q : ℕ) → Q p ≡ true → Q q ≡ true → p ≢ q → is_child_of s p q ≡ is_child_of t p q
+  pub flags : (slot : Slot) → Q slot.pid ≡ true → flags_at s slot ≡ flags_at t slot
+  pub offers : (key : OfferKey) → Known key → map.get s.offers key ≡ map.get t.offers key
+  pub pages : (slot : Slot) → Seen slot → shown_at s slot ≡ shown_at t slot
+  pub same_page : (slot other : Slot) → Seen slot → Seen other → shares s slot other ≡ shares t slot other
 
--- the event makes a child, as a spawn and a fork do
-abbrev pub makes_child : Call → Bool
-makes_child (call.Spawn _) = true
-makes_child (call.Fork _) = true
-makes_child _ = false
+-- the members have the same: with their own slots, and the offers that they made
+abbrev pub HaveTheSame : State → State → (ℕ → Bool) → Type 0
+HaveTheSame s t Q = AreOne s t Q (λ key. Q key.offerer ≡ true) (λ slot. Q slot.pid ≡ true)
 
--- besides what integrity says of q's own
-pub record ShowsAtMost (s t : State) (e : Event) (q : ℕ) : Type 0 where
-  -- which processes are live: a new child is, who exits is not
-  pub live : (p : ℕ) → (is_live t p ≡ is_live s p)
-      ⊎ (((p ≡ child_of s) × (makes_child e.call ≡ true)) ⊎ ((p ≡ e.pid) × (e.call ≡ call.Exit)))
-  -- the offers to q by the event's process
-  pub offered : (giver page : ℕ) → giver ≢ e.pid → map.get t.offers (offer_of giver page q) ≡ map.get s.offers
-      (offer_of giver page q)
-  -- of a page that q saw and sees: the bytes that the event stores, and the slots of its process that come and go
-  pub bytes : (slot : Slot) (place : ℕ) → sees s q slot ≡ true → sees t q slot ≡ true
-      → (byte_in t slot place ≡ byte_in s slot place) ⊎ IsStoreInto s t e slot place
-  pub holders : (slot other : Slot) → sees s q slot ≡ true → sees t q slot ≡ true → other.pid ≢ e.pid
-      → shares t slot other ≡ shares s slot other
-  -- and which of those pages are one stays
-  pub same_page : (slot other : Slot) → sees s q slot ≡ true → sees t q slot ≡ true → sees s q other ≡ true
-      → sees t q other ≡ true → shares t slot other ≡ shares s slot other
+-- a member of Q sees a slot: it is its own, or offered to it
+abbrev pub Sees : State → (ℕ → Bool) → Slot → Type 0
+Sees s Q slot = (q : ℕ) × (Q q ≡ true) × ((is_of q slot || is_offered s q slot) ≡ true)
 
-abbrev pub ShowsLittle : Type 0
-ShowsLittle = (s : State) (e : Event) (q : ℕ) → IsWellFormed s → is_live s q ≡ true → q ≢ e.pid
-    → ShowsAtMost s (next s e) e q
+-- the members see the same: with the offers to them too, and all slots that they see
+abbrev pub LooksSame : State → State → (ℕ → Bool) → Type 0
+LooksSame s t Q = AreOne s t Q (λ key. (Q key.offerer ≡ true) ⊎ (Q key.target ≡ true)) (Sees s Q)
 
--- ---- Births
+-- what a call finds of who is live: an offer whether its target is, a spawn and a fork which number is free
+abbrev pub found : State → Call → Option ℕ
+found s (call.Offer _ target _) = if is_live s target then Some target else None
+found s (call.Spawn _) = next_number s.book
+found s (call.Fork _) = next_number s.book
+found s _ = None
 
--- the child of a spawn has no page
-abbrev pub SpawnsAreEmpty : Type 0
-SpawnsAreEmpty = (s : State) (e : Event) (quota child page : ℕ) → IsWellFormed s → e.call ≡ call.Spawn quota
-    → answer s e ≡ reply.Child child → map.get (next s e).spaces (at_page child page) ≡ None
+-- a member is told the same where members have the same and it finds the same, and where an accept finds the offer that
+-- it takes in both states or in neither, whatever the page
+abbrev pub MembersToldTheSame : Type 0
+MembersToldTheSame = (s t : State) (e : Event) (Q : ℕ → Bool) → HaveTheSame s t Q → Q e.pid ≡ true
+    → found s e.call ≡ found t e.call → ((giver page own : ℕ) → e.call ≡ call.Accept giver page own
+    → is_offered s e.pid (at_page giver page) ≡ is_offered t e.pid (at_page giver page)) → answer s e ≡ answer t e
 
--- the child of a fork has a copy of each page of its maker, with a group of its own, and no other page
-abbrev pub ForksAreCopies : Type 0
-ForksAreCopies = (s : State) (e : Event) (quota child page : ℕ) → e.call ≡ call.Fork quota
-    → answer s e ≡ reply.Child child
-    → map.get (next s e).spaces (at_page child page)
-    ≡ option_map (copy_of (at_page child page)) (map.get s.spaces (at_page e.pid page))
+-- after any call but an accept its process, taken alone, has the same
+abbrev pub OwnIsEnough : Type 0
+OwnIsEnough = (s t : State) (e : Event) → HaveTheSame s t (λ q. q == e.pid) → found s e.call ≡ found t e.call
+    → ((giver page own : ℕ) → e.call ≢ call.Accept giver page own)
+    → HaveTheSame (next s e) (next t e) (λ q. q == e.pid)
+
+-- who is a member after an event: of those who are live then, who was one, and who is new where its maker was one
+abbrev pub members_after : State → (ℕ → Bool) → Event → ℕ → Bool
+members_after s Q e p = is_live (next s e) p && (if is_live s p then Q p else Q e.pid)
+
+-- after the event of a member all members see the same, a child that it makes among them
+abbrev pub MembersSeeTheSame : Type 0
+MembersSeeTheSame = (s t : State) (e : Event) (Q : ℕ → Bool) → IsWellFormed s → IsWellFormed t → LooksSame s t Q
+    → Q e.pid ≡ true → found s e.call ≡ found t e.call → LooksSame (next s e) (next t e) (members_after s Q e)
+
+-- ---- Channels from an outsider to members
+
+-- no member sees the page of a slot, at this slot or at any other
+abbrev pub IsUnseen : State → (ℕ → Bool) → Slot → Type 0
+IsUnseen s Q slot = (other : Slot) → shares s slot other ≡ true → Sees s Q other → ⊥
+
+-- p is no child of a member, and no member offers it a page
+abbrev pub IsStranger : State → (ℕ → Bool) → ℕ → Type 0
+IsStranger s Q p = (q page : ℕ) → Q q ≡ true → (is_child_of s q p || is_offered s p (at_page q page)) ≡ false
+
+-- p's call is through no channel: it offers nothing to a member, withdraws nothing from one, takes no offer of one,
+-- stores into no page, leaves none and joins none that a member sees, makes nobody with a member's number, and is no
+-- exit but a stranger's
+abbrev pub IsQuietCall : State → (ℕ → Bool) → ℕ → Call → Type 0
+IsQuietCall s Q p (call.Store address size _) =
+    (byte : ℕ) → address ≤ byte → byte < address + byte_count size → IsUnseen s Q (slot_at p byte)
+IsQuietCall s Q p (call.Unmap page) = IsUnseen s Q (at_page p page)
+IsQuietCall s Q p (call.Offer _ target _) = Q target ≡ false
+IsQuietCall s Q p (call.Withdraw _ target) = Q target ≡ false
+IsQuietCall s Q p (call.Accept giver giver_page _) = (Q giver ≡ false) × IsUnseen s Q (at_page giver giver_page)
+IsQuietCall s Q p (call.Spawn _) = Q (child_of s) ≡ false
+IsQuietCall s Q p (call.Fork _) = Q (child_of s) ≡ false
+IsQuietCall s Q p call.Exit = IsStranger s Q p × ((page : ℕ) → IsUnseen s Q (at_page p page))
+IsQuietCall s Q p _ = Unit {0}
+
+-- an outsider's event is through no channel, as each is that is refused or faults
+abbrev pub IsQuiet : State → (ℕ → Bool) → Event → Type 0
+IsQuiet s Q e = Q e.pid ≡ false → completes (answer s e) ≡ true → IsQuietCall s Q e.pid e.call
+
+-- such an event leaves what the members see
+abbrev pub OutsidersUnseen : Type 0
+OutsidersUnseen = (s : State) (e : Event) (Q : ℕ → Bool) → IsWellFormed s → Q e.pid ≡ false → IsQuiet s Q e
+    → LooksSame s (next s e) Q
+
+-- each event of a run is so, of the members by then, with all children that members make
+abbrev pub Along : (State → (ℕ → Bool) → Event → Type 0) → State → (ℕ → Bool) → List Event → Type 0
+Along P s Q [] = Unit {0}
+Along P s Q (e ∷ events) = P s Q e × Along P (next s e) (members_after s Q e) events
+
+-- what the members are told in a run, each with what its call finds
+abbrev pub heard : State → (ℕ → Bool) → List Exchange → List (Exchange × Option ℕ)
+heard s Q [] = []
+heard s Q (x ∷ run) =
+    let later = heard (next s x.0) (members_after s Q x.0) run in
+    if Q x.0.pid then (x, found s x.0.call) ∷ later else later
+
+-- as long as they are told the same, members ask and find the same
+abbrev pub AskAlike : List (Exchange × Option ℕ) → List (Exchange × Option ℕ) → Type 0
+AskAlike [] [] = Unit {0}
+AskAlike (x ∷ xs) (y ∷ ys) = (x.0.0 ≡ y.0.0) × (x.1 ≡ y.1) × (x ≡ y → AskAlike xs ys)
+AskAlike _ _ = ⊥
+
+-- in a run with these replies live members that ask and find alike are told what they are told in any other run, from a
+-- state that looks the same to them, where outsiders use no channel in either
+abbrev pub HearTheirOwn : State → List Event → List Reply → Type 0
+HearTheirOwn s events replies = (t : State) (Q : ℕ → Bool) (other : List Event) → IsWellFormed t
+    → ((q : ℕ) → Q q ≡ true → is_live s q ≡ true) → LooksSame s t Q → Along IsQuiet s Q events → Along IsQuiet t Q other
+    → AskAlike (heard s Q (zip events replies)) (heard t Q (exchanges t other))
+    → heard s Q (zip events replies) ≡ heard t Q (exchanges t other)
+
+abbrev pub MembersHearTheSame : Type 0
+MembersHearTheSame = (s : State) (events : List Event) → IsWellFormed s → HearTheirOwn s events (answers s events)
+
+-- ---- Confined sets
+
+-- no slot of a member shares a page with a slot of an outsider, and what a member offers it offers to members
+pub record IsConfined (s : State) (C : ℕ → Bool) : Type 0 where
+  pub shares_none : (slot other : Slot) → C slot.pid ≡ true → C other.pid ≡ false → shares s slot other ≡ false
+  pub offers_none : (key : OfferKey) (right : Bool) → map.get s.offers key ≡ Some right
+      → C key.offerer ≡ true → C key.target ≡ true
+
+-- a call that makes no offer but to members, and takes none but of members
+abbrev pub keeps_within : (ℕ → Bool) → Call → Bool
+keeps_within C (call.Offer _ target _) = C target
+keeps_within C (call.Accept giver _ _) = C giver
+keeps_within C _ = true
+
+-- a member's event has such a call, refused or not
+abbrev pub KeepsWithin : (ℕ → Bool) → Event → Type 0
+KeepsWithin C e = C e.pid ≡ true → keeps_within C e.call ≡ true
+
+-- who is a member after several events
+abbrev pub members_at_end : State → (ℕ → Bool) → List Event → ℕ → Bool
+members_at_end s C [] = C
+members_at_end s C (e ∷ events) = members_at_end (next s e) (members_after s C e) events
+
+-- p's place in the book, its pages and the offers that it made are as they were
+pub record IsAsBefore (s t : State) (p : ℕ) : Type 0 where
+  pub member : map.get t.book p ≡ map.get s.book p
+  pub pages : (page : ℕ) → map.get t.spaces (at_page p page) ≡ map.get s.spaces (at_page p page)
+  pub offers : (page target : ℕ) → map.get t.offers (offer_of p page target) ≡ map.get s.offers (offer_of p page target)
+
+-- what a run from s to t leaves of each confined set: where its members' events keep within it, it stays confined as a
+-- set of numbers, whoever has these, and with all children that its members make, and their children; and events of
+-- outsiders change nothing that a live member has
+pub record KeepsBorders (s : State) (events : List Event) (t : State) : Type 0 where
+  pub numbers : (C : ℕ → Bool) → IsConfined s C → All (KeepsWithin C) events → IsConfined t C
+  pub families : (C : ℕ → Bool) → IsConfined s C → Along (λ _. KeepsWithin) s C events
+      → IsConfined t (members_at_end s C events)
+  pub untouched : (C : ℕ → Bool) (p : ℕ) → IsConfined s C → C p ≡ true → is_live s p ≡ true
+      → All (λ (e : Event). C e.pid ≡ false) events → IsAsBefore s t p
+
+abbrev pub RunsKeepBorders : Type 0
+RunsKeepBorders = (s : State) (events : List Event) → IsWellFormed s → KeepsBorders s events (end_of s events)
+
+-- who is live and no member
+abbrev pub outside : State → (ℕ → Bool) → ℕ → Bool
+outside s C p = is_live s p && not (C p)
+
+-- a member's event keeps within the members, and is no exit but of a stranger to all outside
+abbrev pub IsDiscreet : State → (ℕ → Bool) → Event → Type 0
+IsDiscreet s C e = C e.pid ≡ true
+    → (keeps_within C e.call ≡ true) × (e.call ≡ call.Exit → IsStranger s (outside s C) e.pid)
+
+-- where two states have the same outsiders of a confined set and look the same to them, those who ask and find alike
+-- are told the same in any two runs, whatever the members have, and whatever they do in that way
+abbrev pub OutsidersHearNothing : Type 0
+OutsidersHearNothing = (s t : State) (C : ℕ → Bool) (events others : List Event) → IsWellFormed s → IsWellFormed t
+    → IsConfined s C → IsConfined t C → ((p : ℕ) → outside s C p ≡ outside t C p) → LooksSame s t (outside s C)
+    → Along IsDiscreet s C events → Along IsDiscreet t C others
+    → AskAlike (heard s (outside s C) (exchanges s events)) (heard t (outside t C) (exchanges t others))
+    → heard s (outside s C) (exchanges s events) ≡ heard t (outside t C) (exchanges t others)

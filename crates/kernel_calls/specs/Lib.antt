@@ -1,13 +1,10 @@
 pub mod Authority
-pub mod Confinement
 pub mod Decisions
 pub mod Gone
 pub mod Isolation
 pub mod Kept
 pub mod Laws
 pub mod Machine
-pub mod Own
-pub mod Together
 pub mod Translations
 pub mod Walked
 pub mod WorkedAccesses

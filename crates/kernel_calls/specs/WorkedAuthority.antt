@@ -1,10 +1,10 @@
 -- Worked runs on what processes can do to each other, and what they learn, each with the answers that it must give.
-use Rattle.std.proofs.Common.{◌≡◌, ◌==◌, Bool, true, false, List, [], ◌∷◌, map as each}
+use Rattle.std.proofs.Common.{◌≡◌, ◌==◌, Bool, true, false, List, [], ◌∷◌, map as each, Some, None}
 use Rattle.page_words.specs.declared.addresses.Size.TheVariants.{Four}
 use Rattle.process_table.specs.declared.causes.Cause.TheVariants as cause
 use Rattle.process_table.specs.State.{State, open_with}
-use Rattle.kernel_calls.specs.Confinement.{members_at_end}
-use Rattle.kernel_calls.specs.Together.{heard}
+use Rattle.kernel_calls.specs.Authority.{members_at_end, heard}
+use Rattle.kernel_calls.specs.Isolation.{exchanges}
 use Rattle.kernel_calls.specs.Machine.{end_of}
 use Rattle.kernel_calls.specs.declared.calls.Call.TheVariants as call
 use Rattle.kernel_calls.specs.declared.calls.Event.{Event}
@@ -302,6 +302,36 @@ TwoHaveTwoPages = Gives 64
     (reply.Value 0) ∷
     [])
 
+-- two processes that share nothing: what one makes shows in the number that the other's child has
+abbrev pub BirthsShow : Type 0
+BirthsShow = (Gives 32
+    ((event 0 0 (call.Spawn 8)) ∷
+    (event 0 0 (call.Spawn 8)) ∷
+    (event 1 1 (call.Spawn 2)) ∷
+    (event 2 2 (call.Spawn 2)) ∷
+    [])
+    ((reply.Child 1) ∷ (reply.Child 2) ∷ (reply.Child 3) ∷ (reply.Child 4) ∷ []))
+    × (Gives 32
+    ((event 0 0 (call.Spawn 8)) ∷ (event 0 0 (call.Spawn 8)) ∷ (event 2 2 (call.Spawn 2)) ∷ [])
+    ((reply.Child 1) ∷ (reply.Child 2) ∷ (reply.Child 3) ∷ []))
+
+-- the exit of a process shows to its parent, which has its quota back
+abbrev pub ExitShows : Type 0
+ExitShows = Gives 32
+    ((event 0 0 (call.Spawn 8)) ∷ (event 0 0 call.Quota) ∷ (event 1 1 call.Exit) ∷ (event 0 0 call.Quota) ∷ [])
+    ((reply.Child 1) ∷ (reply.Quota 31 1 8) ∷ reply.Done ∷ (reply.Quota 31 1 0) ∷ [])
+
+-- and to who offers it a page
+abbrev pub ExitEndsOffers : Type 0
+ExitEndsOffers = Gives 32
+    ((event 0 0 (call.Map 0x40000 true)) ∷
+    (event 0 0 (call.Spawn 4)) ∷
+    (event 0 0 (call.Offer 0x40000 1 false)) ∷
+    (event 1 1 call.Exit) ∷
+    (event 0 0 (call.Withdraw 0x40000 1)) ∷
+    [])
+    (reply.Done ∷ (reply.Child 1) ∷ reply.Done ∷ reply.Done ∷ (reply.Refused cause.NoOffer) ∷ [])
+
 -- process 1, to which the root gave 8, with what it makes: a child joins, and leaves as it exits; who has its number
 -- then does not
 abbrev pub first_child : State
@@ -316,8 +346,11 @@ FamilyGrows = (family_after ((event 1 1 (call.Spawn 4)) ∷ []) ≡ (false ∷ t
     × (family_after ((event 1 1 (call.Spawn 4)) ∷ (event 2 2 call.Exit) ∷ (event 0 0 (call.Spawn 4)) ∷ [])
     ≡ (false ∷ true ∷ false ∷ []))
 
--- and what that family hears of such a run
+-- and what that family hears of such a run: who asks for a child finds its number
+abbrev pub family_run : List Event
+family_run = (event 1 1 (call.Spawn 4)) ∷ (event 0 0 call.Quota) ∷ (event 2 2 call.Exit) ∷ (event 0 0 (call.Spawn 4))
+    ∷ (event 2 2 call.Quota) ∷ []
+
 abbrev pub FamilyHears : Type 0
-FamilyHears = heard first_child (λ q. q == 1) ((event 1 1 (call.Spawn 4)) ∷ (event 0 0 call.Quota)
-    ∷ (event 2 2 call.Exit) ∷ (event 0 0 (call.Spawn 4)) ∷ (event 2 2 call.Quota) ∷ [])
-    ≡ ((event 1 1 (call.Spawn 4), reply.Child 2) ∷ (event 2 2 call.Exit, reply.Done) ∷ [])
+FamilyHears = heard first_child (λ q. q == 1) (exchanges first_child family_run)
+    ≡ (((event 1 1 (call.Spawn 4), reply.Child 2), Some 2) ∷ ((event 2 2 call.Exit, reply.Done), None) ∷ [])

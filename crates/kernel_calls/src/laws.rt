@@ -1,9 +1,6 @@
 //! Laws of the machine's runs. Each is the contract of a function that computes nothing.
 
-ghost use Rattle.kernel_calls.specs.Authority.{Integrity, NobodyTakesBack, SharingByConsent, OffersByOfferer, RightsStay, ShowsLittle, SharingStays, ExitsEnd, UnmapsEnd, OffersEnd, OffersStay, SpawnsAreEmpty, ForksAreCopies};
-ghost use Rattle.kernel_calls.specs.Confinement.{RunsStayConfined, FamiliesStayConfined, OutsidersLeaveMembers};
-ghost use Rattle.kernel_calls.specs.Own.{OwnIsEnough, AcceptsReadTheirOffer};
-ghost use Rattle.kernel_calls.specs.Together.{MembersToldTheSame, MembersSeeTheSame, OutsidersUnseen, MembersHearTheSame, OutsidersHearNothing};
+ghost use Rattle.kernel_calls.specs.Authority.{StatesStayWellFormed, RefusalsChangeNothing, SlotsAreKept, Integrity, NobodyTakesBack, SharingByConsent, SharingStays, OffersByOfferer, ExitsEnd, UnmapsEnd, OffersEnd, OffersStay, ChildrenAreTheirMakers, PlacesStay, MembersToldTheSame, OwnIsEnough, MembersSeeTheSame, OutsidersUnseen, MembersHearTheSame, RunsKeepBorders, OutsidersHearNothing};
 ghost use Rattle.kernel_calls.specs.Isolation.{RunsAreIsolated, OthersMakeNoDifference};
 ghost use Rattle.kernel_calls.specs.Laws.{RunsStayWellFormed};
 ghost use Rattle.kernel_calls.specs.Kept.{KeptFind, KeptReply, KeptLoads, KeptStores};
@@ -43,27 +40,31 @@ pub fn kept_translations_serve_accesses()
     ensures stores { KeptStores }
 {}
 
-/// What an event of one process does to another that is live: it leaves its place in the book, its pages with
-/// their flags, its cost, what it gives and the offers that it made, but for the bytes that it stores through
-/// a page that they share, the slots of its own that come and go, the exit of a child, and offers to it that
-/// it takes or that its exit ends. So nobody can take back a page that a process accepted. It computes nothing.
+/// What an event may change. States stay well formed, and a call that is refused or faults changes nothing. A slot that
+/// is mapped before and after an event keeps what it may have, the right to write but for a Protect by its process, its
+/// accessed and dirty, and each byte, but for a store by the event through a slot of its own that may write the page
+/// that both share. A live process keeps its place in the book, its mapped pages with their flags, and what it has given,
+/// but for the exit of a child, through each event of another: so nobody can take back a page that it accepted. It
+/// computes nothing.
 pub fn processes_keep_their_integrity()
+    ensures well_formed { StatesStayWellFormed }
+    ensures refused { RefusalsChangeNothing }
+    ensures slots { SlotsAreKept }
     ensures events { Integrity }
     ensures runs { NobodyTakesBack }
 {}
 
 /// Two slots come to share a page by an Accept alone, which the owner of a slot of that page offered, with no
-/// more right than that slot may have; an offer is made by its offerer alone; and what a mapped slot may have
-/// stays. It computes nothing.
+/// more right than that slot may have; they share it until one of them is given up; and an offer is made by its offerer
+/// alone. It computes nothing.
 pub fn authority_spreads_by_consent()
     ensures sharing { SharingByConsent }
     ensures stays { SharingStays }
     ensures offers { OffersByOfferer }
-    ensures rights { RightsStay }
 {}
 
 /// What a process gives up goes: an exit leaves nothing of the process, an unmap nothing of the slot, and an offer that
-/// is withdrawn or accepted is gone. It computes nothing.
+/// is withdrawn or accepted is gone; nothing else ends one. It computes nothing.
 pub fn what_is_given_up_goes()
     ensures exits { ExitsEnd }
     ensures unmaps { UnmapsEnd }
@@ -71,31 +72,27 @@ pub fn what_is_given_up_goes()
     ensures stays { OffersStay }
 {}
 
-/// The child of a spawn has no page, that of a fork copies of its maker's. It computes nothing.
+/// The child whose number a process is told was not live, and is, as its child, with the quota that it asked for: with
+/// no page after a spawn, and copies of its maker's after a fork. No other place in the book changes but that of a
+/// process that exits. It computes nothing.
 pub fn children_are_their_makers()
-    ensures spawns { SpawnsAreEmpty }
-    ensures forks { ForksAreCopies }
+    ensures births { ChildrenAreTheirMakers }
+    ensures places { PlacesStay }
 {}
 
-/// The event of another changes no more of what a process sees than is listed. It computes nothing.
-pub fn others_show_little()
-    ensures { ShowsLittle }
-{}
-
-/// What a process is told by any call but an accept, and what it has afterwards, depends on what it has alone,
-/// and for an offer, a spawn and a fork on who is live; what an accept is told depends also on the offer that it
-/// takes, whatever the page that is offered. It computes nothing.
+/// What a process is told, and what it has afterwards, depends on what it has alone, and for an offer, a spawn and a
+/// fork on what these find of who is live; what an accept is told depends also on whether the offer that it takes is
+/// pending, whatever the page. It computes nothing.
 pub fn what_a_process_has_is_enough()
+    ensures told { MembersToldTheSame }
     ensures own { OwnIsEnough }
-    ensures accepts { AcceptsReadTheirOffer }
 {}
 
-/// What the members of a set of processes are told, and what they see together after an event of one of them, with the
-/// child that it may make, depends on what they see together alone; the event of another through none of the channels
-/// that are listed leaves that; so in two runs in which the members ask the same, they are told the same, whatever
-/// others do through no channel. It computes nothing.
+/// What the members of a set of processes see together after an event of one of them, with the child that it may make,
+/// depends on what they see together alone; the event of another through none of the channels that are listed leaves
+/// that; so in two runs in which the members ask and find the same, they are told the same, whatever others do through no
+/// channel, also where these make processes and exit. It computes nothing.
 pub fn members_see_their_own()
-    ensures told { MembersToldTheSame }
     ensures sees { MembersSeeTheSame }
     ensures unseen { OutsidersUnseen }
     ensures runs { MembersHearTheSame }
@@ -104,11 +101,9 @@ pub fn members_see_their_own()
 /// A set of processes that has no page in common with others and offers them none, and that from then on asks for no
 /// offer but to members and for no accept but from members, refused ones too, stays so in every run, as a set of numbers
 /// and with all children that its members make; no run of events of others changes a member's place in the book, its
-/// pages or the offers that it made; and as long as members ask for no process and no exit, others learn nothing of what
-/// members have and do. It computes nothing.
+/// pages or the offers that it made; and others learn nothing of what members have and do, but which numbers are free,
+/// as long as no child of theirs, and nobody to whom they offer a page, exits among the members. It computes nothing.
 pub fn confined_processes_stay_confined()
-    ensures stay { RunsStayConfined }
-    ensures grow { FamiliesStayConfined }
-    ensures untouched { OutsidersLeaveMembers }
+    ensures borders { RunsKeepBorders }
     ensures unheard { OutsidersHearNothing }
 {}

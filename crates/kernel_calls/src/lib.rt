@@ -20,8 +20,8 @@ pub use fault_handler::{PageStep, Plan};
 pub use laws::{
     authority_spreads_by_consent, children_are_their_makers, confined_processes_stay_confined,
     kept_translations_are_given, kept_translations_serve_accesses, members_see_their_own,
-    others_show_little, processes_are_isolated, processes_keep_their_integrity,
-    runs_stay_well_formed, what_a_process_has_is_enough, what_is_given_up_goes,
+    processes_are_isolated, processes_keep_their_integrity, runs_stay_well_formed,
+    what_a_process_has_is_enough, what_is_given_up_goes,
 };
 pub use page_words::{Frame, Page, Pid, Size, Vaddr};
 pub use phys_memory::Memory;

@@ -1,6 +1,6 @@
 //! Worked runs, as theorems on the definitions of the machine: they are computed from them.
 
-ghost use Rattle.kernel_calls.specs.WorkedAuthority.{PassedOn, MoreThanTheGiverHas, OfferedPageShows, TwoSlotsOnePage, TwoSlotsTwoPages, BehindItsBack, NumberComesAgain, CopiesPassOn, TwoHaveOnePage, TwoHaveTwoPages, FamilyGrows, FamilyHears};
+ghost use Rattle.kernel_calls.specs.WorkedAuthority.{PassedOn, MoreThanTheGiverHas, OfferedPageShows, TwoSlotsOnePage, TwoSlotsTwoPages, BehindItsBack, NumberComesAgain, CopiesPassOn, TwoHaveOnePage, TwoHaveTwoPages, BirthsShow, ExitShows, ExitEndsOffers, FamilyGrows, FamilyHears};
 ghost use Rattle.kernel_calls.specs.WorkedRuns.{Empty, MapStoreLoad, OneProcessIsFull, FramesComeBack, UserRangeEdges, DemandZero, TableIsCharged, UnmapReturnsTable, LazyPage};
 ghost use Rattle.kernel_calls.specs.WorkedAccesses.{AcrossTwoPages, BothPagesOrNeither, FaultsAtTheFirstByte, AcrossTwoRegions, AcrossOneGroup};
 ghost use Rattle.kernel_calls.specs.WorkedForks.{ForkCopies, ForkOfShared};
@@ -80,6 +80,9 @@ pub fn worked_runs_of_authority()
     ensures copies_pass_on { CopiesPassOn }
     ensures two_have_one_page { TwoHaveOnePage }
     ensures two_have_two_pages { TwoHaveTwoPages }
+    ensures births_show { BirthsShow }
+    ensures exit_shows { ExitShows }
+    ensures exit_ends_offers { ExitEndsOffers }
     ensures family_grows { FamilyGrows }
     ensures family_hears { FamilyHears }
 {}

@@ -4,6 +4,7 @@ ghost use Rattle.std.specs.Prelude.{◌≡◌, ◌≢◌, ◌+◌, ◌<◌, ◌^
 ghost use Rattle.locked_core.specs.Endings.{EndsAtLast};
 ghost use Rattle.locked_core.specs.Makers.{Maker, maker, Makes, BeginOne, IsFit, IsRefused};
 ghost use Rattle.memory_report.specs.Histories.{AreIsolated, StartsWith, calls_of};
+ghost use Rattle.memory_report.specs.Histories.{AreGuarded};
 ghost use Rattle.memory_report.specs.declared.entries.LogEntry.{LogEntry};
 
 use crate::book::{Front, Name};
@@ -144,6 +145,7 @@ impl<N: Name> Cpu<N> {
     ) -> Result<Reply, Fault>
         ensures made { IfOk result (Makes N.frames self.old pid call self.new) }
         ensures isolated { IfOk result (λ _. AreIsolated N.frames self.new.seen) }
+        ensures guarded { IfOk result (λ _. AreGuarded N.frames self.new.seen) }
         ensures number { self.new.number ≡ self.old.number }
         ensures calls { IfOk result (λ _. calls_of self.new.number self.new.seen ≡ calls_of self.old.number self.old.seen + 1) }
         ensures refused { IfErr result (λ f. (log : List LogEntry) × IsRefused N.frames log self.old f) }

@@ -5,7 +5,7 @@ ghost use Rattle.left_right.specs.Sides.{view};
 ghost use Rattle.locked_core.specs.Makers.{Closes, IsRefused, IsSnapshot, new_makers};
 ghost use Rattle.locked_core.specs.Pages.{page};
 ghost use Rattle.locked_core.specs.Published.{view_of};
-ghost use Rattle.memory_report.specs.Histories.{AreIsolated, Legal, state_after, calls_of};
+ghost use Rattle.memory_report.specs.Histories.{AreGuarded, AreIsolated, Legal, state_after, calls_of};
 ghost use Rattle.memory_report.specs.declared.entries.LogEntry.{LogEntry};
 
 use crate::book::{Name, Opened};
@@ -165,6 +165,7 @@ impl<N: Name, G: Gate + Drop> Kernel<N, G> {
         ensures calls { IfOk result (λ h. All (λ c. calls_of c.number h.entries.items ≡ calls_of c.number c.seen) cpus.items) }
         ensures all { IfOk result (λ h. All (λ e. Any (λ c. c.number ≡ e.cpu) cpus.items) h.entries.items) }
         ensures isolated { IfOk result (λ h. AreIsolated N.frames h.entries.items) }
+        ensures guarded { IfOk result (λ h. AreGuarded N.frames h.entries.items) }
         ensures closes { (log : List LogEntry) × Legal N.frames log × Closes self.cpus log cpus.items result }
     {
         let Kernel {

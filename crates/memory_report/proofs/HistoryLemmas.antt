@@ -1,6 +1,6 @@
 -- Laws of histories: what one entry more leaves of their state, and which of them are legal.
-use Rattle.std.proofs.Common.{◌≡◌, ◌⊎◌, ℕ, suc, ◌+◌, List, [], ◌∷◌, ◌++◌, take, length, refl, sym, ap, subst, ◌∙◌, arith, inl, inr, append_assoc, length-append}
-use Rattle.std.proofs.Math.Seq.{take-append_seam}
+use Rattle.std.proofs.Common.{◌≡◌, ◌⊎◌, ℕ, suc, ◌+◌, List, [], ◌∷◌, ◌++◌, take, drop, length, refl, sym, ap, subst, ◌∙◌, arith, inl, inr, append_assoc, length-append}
+use Rattle.std.proofs.Math.Seq.{take-append_seam, drop-append_seam}
 use Rattle.kernel_calls.specs.Machine.{answer, answers, end_of, next}
 use Rattle.kernel_calls.specs.declared.calls.Event.{Event}
 use Rattle.kernel_calls.specs.declared.calls.Reply.{Reply}
@@ -97,6 +97,16 @@ begins_legal frames log rest h = record {
       (length-replies log ∙ sym (length-answers (open_with frames) (events_of log) ∙ length-events log));
   entries = λ before e later is. h.entries before e (later ++ rest) (ap (λ l. l ++ rest) is ∙ append_assoc before (e ∷ later) rest);
 }
+
+back_of : {X : Type 0} (a b c d : List X) → a ++ b ≡ c ++ d → length a ≡ length c → b ≡ d
+back_of a b c d is long = sym (drop-append_seam a b) ∙ ap (drop (length a)) is ∙ ap (λ n. drop n (c ++ d)) long ∙ drop-append_seam c d
+
+-- the replies behind some entries of a legal history are the machine's, from the state after those
+pub later_replies : (frames : ℕ) (before later : List LogEntry) → Legal frames (before ++ later) → replies_of later ≡ answers (state_after frames before) (events_of later)
+later_replies frames before later h =
+    back_of (replies_of before) (replies_of later) (answers (open_with frames) (events_of before)) (answers (state_after frames before) (events_of later))
+    (sym (replies-append before later) ∙ h.replies ∙ answers-push frames before later)
+    (length-replies before ∙ sym (length-answers (open_with frames) (events_of before) ∙ length-events before))
 
 last_or : Reply → List Reply → Reply
 last_or d [] = d

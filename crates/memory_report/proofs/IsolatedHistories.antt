@@ -13,7 +13,7 @@ use Rattle.memory_report.specs.declared.entries.LogEntry.{LogEntry}
 use Rattle.process_table.specs.State.{State, open_with}
 use Rattle.process_table.specs.WellFormed.{IsWellFormed}
 
-opens_well : (frames : ℕ) (log : List LogEntry) → Legal frames log → IsWellFormed (open_with frames)
+pub opens_well : (frames : ℕ) (log : List LogEntry) → Legal frames log → IsWellFormed (open_with frames)
 opens_well frames log h = let low = h.size.0 in (runs-stay frames [] (omega arith)).0
 
 pub histories_isolated : HistoriesAreIsolated

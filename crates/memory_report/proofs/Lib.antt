@@ -1,3 +1,4 @@
+pub mod GuardedHistories
 pub mod HistoryLemmas
 pub mod IsolatedHistories
 pub mod ReportLemmas

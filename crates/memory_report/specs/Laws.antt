@@ -4,7 +4,7 @@ use Rattle.kernel_calls.specs.Isolation.{InvolvesNobody, own, own_behind}
 use Rattle.kernel_calls.specs.declared.calls.Call.{Call}
 use Rattle.kernel_calls.specs.declared.calls.Event.{Event}
 use Rattle.kernel_calls.specs.declared.calls.Reply.TheVariants.{Child}
-use Rattle.memory_report.specs.Histories.{Legal, AreIsolated, entry_after, event_of, events_of, exchanges_of}
+use Rattle.memory_report.specs.Histories.{Legal, AreIsolated, AreGuarded, entry_after, event_of, events_of, exchanges_of}
 use Rattle.memory_report.specs.Reports.{report_of, total_of}
 use Rattle.memory_report.specs.declared.entries.LogEntry.{LogEntry}
 use Rattle.process_table.specs.State.{State, open_with}
@@ -31,6 +31,10 @@ abbrev pub OthersMakeNoDifference : Type 0
 OthersMakeNoDifference = (frames : ℕ) (before : List LogEntry) (e : LogEntry) (later : List LogEntry) (p : ℕ) → Legal frames (before ++ e ∷ later) → e.reply ≡ Child p
     → InvolvesNobody (own p (exchanges_of later))
     → own_behind p (open_with frames) (events_of before) (event_of e) (filter (λ (other : Event). other.pid == p) (events_of later)) ≡ own p (exchanges_of later)
+
+-- from each place of a legal history on, members of sets are told their own, and confined sets stay so
+abbrev pub HistoriesAreGuarded : Type 0
+HistoriesAreGuarded = (frames : ℕ) (log : List LogEntry) → Legal frames log → AreGuarded frames log
 
 -- the total of a report is what all live processes cost together
 abbrev pub TotalIsCost : Type 0

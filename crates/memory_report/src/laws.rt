@@ -1,6 +1,6 @@
 //! Laws of histories and reports. Each is the contract of a function that computes nothing.
 
-ghost use Rattle.memory_report.specs.Laws.{BeginsLegal, EmptyIsLegal, GrowsLegal, HistoriesAreIsolated, OthersMakeNoDifference, TotalIsCost};
+ghost use Rattle.memory_report.specs.Laws.{BeginsLegal, EmptyIsLegal, GrowsLegal, HistoriesAreGuarded, HistoriesAreIsolated, OthersMakeNoDifference, TotalIsCost};
 
 /// What is logged of one call after another, from the opening, is a legal history, and so is each
 /// beginning of one. It computes nothing.
@@ -19,6 +19,14 @@ pub fn runs_are_legal()
 pub fn histories_are_isolated()
     ensures alone { HistoriesAreIsolated }
     ensures others { OthersMakeNoDifference }
+{}
+
+/// From each place of a legal history on, the members of any set are told what they would be told in any run from a state
+/// that looks the same to them, in which they ask and find the same and others use no channel to them; and a set that
+/// shares and offers nothing outside and keeps to itself stays so, and has from the calls of others what it had. It
+/// computes nothing.
+pub fn histories_are_guarded()
+    ensures { HistoriesAreGuarded }
 {}
 
 /// The total of a report of a well-formed state is what all live processes cost together. It computes

@@ -13,7 +13,9 @@ mod rows;
 mod text;
 
 pub use entries::LogEntry;
-pub use laws::{histories_are_isolated, reports_add_up_costs, runs_are_legal};
+pub use laws::{
+    histories_are_guarded, histories_are_isolated, reports_add_up_costs, runs_are_legal,
+};
 pub use report::{Report, report_of};
 pub use rows::Row;
 pub use text_output::WriteFailed;

@@ -1,5 +1,5 @@
 use Rattle.kernel_calls.proofs.Consent.{sharing_by_consent, offers_by_offerer}
-use Rattle.kernel_calls.proofs.Stays.{rights_stay, sharing_stays}
+use Rattle.kernel_calls.proofs.Stays.{sharing_stays}
 use Rattle.kernel_calls.proofs.laws.authority_spreads_by_consent.Goals as goal
 
 pub returns-clause-sharing : goal.returns-clause-sharing
@@ -10,6 +10,3 @@ returns-clause-stays c = sharing_stays
 
 pub returns-clause-offers : goal.returns-clause-offers
 returns-clause-offers c = offers_by_offerer
-
-pub returns-clause-rights : goal.returns-clause-rights
-returns-clause-rights c = rights_stay

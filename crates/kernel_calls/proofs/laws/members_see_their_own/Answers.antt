@@ -1,10 +1,7 @@
 use Rattle.kernel_calls.proofs.Hearing.{members_hear_the_same}
 use Rattle.kernel_calls.proofs.Outsiders.{outsiders_unseen}
-use Rattle.kernel_calls.proofs.SeenTogether.{members_told_the_same, members_see_the_same}
+use Rattle.kernel_calls.proofs.SeenTogether.{members_see_the_same}
 use Rattle.kernel_calls.proofs.laws.members_see_their_own.Goals as goal
-
-pub returns-clause-told : goal.returns-clause-told
-returns-clause-told c = members_told_the_same
 
 pub returns-clause-sees : goal.returns-clause-sees
 returns-clause-sees c = members_see_the_same

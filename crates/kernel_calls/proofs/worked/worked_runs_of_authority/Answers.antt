@@ -31,6 +31,15 @@ returns-clause-two_have_one_page c = refl
 pub returns-clause-two_have_two_pages : goal.returns-clause-two_have_two_pages
 returns-clause-two_have_two_pages c = refl
 
+pub returns-clause-births_show : goal.returns-clause-births_show
+returns-clause-births_show c = (refl, refl)
+
+pub returns-clause-exit_shows : goal.returns-clause-exit_shows
+returns-clause-exit_shows c = refl
+
+pub returns-clause-exit_ends_offers : goal.returns-clause-exit_ends_offers
+returns-clause-exit_ends_offers c = refl
+
 pub returns-clause-family_grows : goal.returns-clause-family_grows
 returns-clause-family_grows c = (refl, refl, refl)
 

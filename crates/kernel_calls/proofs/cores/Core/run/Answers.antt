@@ -1,6 +1,10 @@
 use Rattle.std.proofs.Common.{subst, sym, List}
+use Rattle.process_table.specs.State.{State}
+use Rattle.kernel_calls.specs.Authority.{HearTheirOwn, KeepsBorders}
 use Rattle.kernel_calls.specs.Isolation.{IsIsolated}
 use Rattle.kernel_calls.specs.declared.calls.Reply.{Reply}
+use Rattle.kernel_calls.proofs.Confined.{runs_keep_borders}
+use Rattle.kernel_calls.proofs.Hearing.{members_hear_the_same}
 use Rattle.kernel_calls.proofs.Isolated.{runs_isolated}
 use Rattle.kernel_calls.proofs.cores.Core.run.Goals as goal
 
@@ -8,3 +12,13 @@ pub returns-clause-isolated : goal.returns-clause-isolated
 returns-clause-isolated c =
     subst (λ (replies : List Reply). IsIsolated c.args.self.now.state c.args.events.now replies) (sym c.run_all.ensures.replies)
     (runs_isolated c.args.self.now.state c.args.events.now c.stands.ensures.well_formed)
+
+pub returns-clause-heard : goal.returns-clause-heard
+returns-clause-heard c =
+    subst (λ (replies : List Reply). HearTheirOwn c.args.self.now.state c.args.events.now replies) (sym c.run_all.ensures.replies)
+    (members_hear_the_same c.args.self.now.state c.args.events.now c.stands.ensures.well_formed)
+
+pub returns-clause-borders : goal.returns-clause-borders
+returns-clause-borders c =
+    subst (λ (t : State). KeepsBorders c.args.self.now.state c.args.events.now t) (sym c.run_all.ensures.state)
+    (runs_keep_borders c.args.self.now.state c.args.events.now c.stands.ensures.well_formed)

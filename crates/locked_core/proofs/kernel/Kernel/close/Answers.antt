@@ -5,6 +5,7 @@ use Rattle.locked_core.specs.Makers.{Maker, AreAll, IsFit, IsOneOf}
 use Rattle.locked_core.specs.declared.faults.Fault.{Fault}
 use Rattle.locked_core.proofs.kernel.Kernel.close.Goals as goal
 use Rattle.memory_report.specs.Histories.{calls_of}
+use Rattle.memory_report.proofs.GuardedHistories.{histories_guarded}
 use Rattle.memory_report.proofs.IsolatedHistories.{histories_isolated}
 
 -- what follows from what is known of a value that is there
@@ -14,6 +15,9 @@ ok_weaker (Err e) p f = tt
 
 pub returns-clause-isolated : goal.returns-clause-isolated
 returns-clause-isolated g c = ok_weaker c.close.result c.close.ensures.legal (λ h legal. histories_isolated g.N.Name.frames h.entries.items legal.0)
+
+pub returns-clause-guarded : goal.returns-clause-guarded
+returns-clause-guarded g c = ok_weaker c.close.result c.close.ensures.legal (λ h legal. histories_guarded g.N.Name.frames h.entries.items legal.0)
 
 pub returns-clause-begins : goal.returns-clause-begins
 returns-clause-begins g c =

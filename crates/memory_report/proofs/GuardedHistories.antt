@@ -1,0 +1,37 @@
+-- What members of sets are told in a legal history, and that confined sets stay so.
+use Rattle.std.proofs.Common.{◌≡◌, ℕ, List, [], ◌∷◌, ◌++◌, sym, ap, subst, ◌∙◌}
+use Rattle.kernel_calls.specs.Authority.{HearTheirOwn, KeepsBorders}
+use Rattle.kernel_calls.specs.Machine.{answers, end_of}
+use Rattle.kernel_calls.specs.declared.calls.Reply.{Reply}
+use Rattle.kernel_calls.proofs.Confined.{runs_keep_borders}
+use Rattle.kernel_calls.proofs.Hearing.{members_hear_the_same}
+use Rattle.kernel_calls.proofs.Runs.{kept-run, end_of-append}
+use Rattle.memory_report.proofs.HistoryLemmas.{events-append, later_replies}
+use Rattle.memory_report.proofs.IsolatedHistories.{opens_well}
+use Rattle.memory_report.specs.Histories.{events_of, state_after, Legal}
+use Rattle.memory_report.specs.Laws.{HistoriesAreGuarded}
+use Rattle.memory_report.specs.declared.entries.LogEntry.{LogEntry}
+use Rattle.process_table.specs.State.{State, open_with}
+use Rattle.process_table.specs.WellFormed.{IsWellFormed}
+
+well_after : (frames : ℕ) (log before : List LogEntry) → Legal frames log → IsWellFormed (state_after frames before)
+well_after frames log before h = (kept-run (open_with frames) (events_of before) (opens_well frames log h)).0
+
+-- the last state is that of the run of the later entries
+goes_on_to : (frames : ℕ) (log before later : List LogEntry) → log ≡ before ++ later
+    → end_of (state_after frames before) (events_of later) ≡ state_after frames log
+goes_on_to frames log before later is =
+    sym (end_of-append (open_with frames) (events_of before) (events_of later))
+    ∙ ap (end_of (open_with frames)) (sym (events-append before later) ∙ ap events_of (sym is))
+
+pub histories_guarded : HistoriesAreGuarded
+histories_guarded frames log h = record {
+  heard = λ before later is.
+      subst (λ (replies : List Reply). HearTheirOwn (state_after frames before) (events_of later) replies)
+      (sym (later_replies frames before later (subst (Legal frames) is h)))
+      (members_hear_the_same (state_after frames before) (events_of later) (well_after frames log before h));
+  borders = λ before later is.
+      subst (λ (t : State). KeepsBorders (state_after frames before) (events_of later) t)
+      (goes_on_to frames log before later is)
+      (runs_keep_borders (state_after frames before) (events_of later) (well_after frames log before h));
+}
