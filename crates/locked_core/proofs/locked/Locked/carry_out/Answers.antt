@@ -44,3 +44,16 @@ invariant_of-self-2 g c =
       lags_by_one g.N.Name.frames g.N.Name.book c.self.inside.log.entries new e c.publish.new.writer.desk.spare.value (c.publish.ensures.spare ∙ c.self.invariant.2) longer,
       added,
     )
+
+-- the core is in the state after the log with its entry
+pub returns-clause-state : goal.returns-clause-state
+returns-clause-state g c =
+    let h : Held = c.args.self.now in
+    let event : Event = c.args.ready.event in
+    let e : LogEntry = c.entry_of-entry.result in
+    let new : List LogEntry = c.push.new.self.entries in
+    let stands = subst (Stands g.N.Name.frames) c.self.view_is (c.self.invariant.0, c.self.invariant.1) in
+    let ends = judged g.N.Name.frames h c.args.ready.nth event c.carry_out-decision.result.reply c.carry_out-decision.result.used_after e stands c.requires.nth.1 (c.carry_out-decision.ensures.reply ∙ ap (λ (k : Held). answer k.core.state event) c.self.view_is) (c.carry_out-decision.ensures.charge ∙ ap (λ (k : Held). charge_after k.core.state event) c.self.view_is) c.entry_of-entry.ensures in
+    let grown : new ≡ h.log ++ e ∷ [] = c.push.ensures.entries ∙ ap (λ l. l ++ e ∷ []) c.reserve.ensures.entries ∙ ap (λ (k : Held). k.log ++ e ∷ []) c.self.view_is in
+    let moved : c.carry_out-decision.new.self.state ≡ next h.core.state event = c.carry_out-decision.ensures.state ∙ ap (λ (k : Held). next k.core.state event) c.self.view_is in
+    (logged g.N.Name.frames h.log new h.core.state c.carry_out-decision.new.self.state event.cpu event.pid event.call e stands.0 stands.1 ends.0 grown moved).stands
