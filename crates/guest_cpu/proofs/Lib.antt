@@ -1,3 +1,4 @@
 pub mod AloneLemmas
 pub mod Chains
+pub mod HeardLemmas
 pub mod RunLemmas

@@ -1,12 +1,13 @@
 -- What a core answers to a guest, and laws of all runs.
-use Rattle.std.proofs.Common.{◌≡◌, ℕ, ◌+◌, List, ◌++◌, take, drop, Some, Ok}
+use Rattle.std.proofs.Common.{◌≡◌, ℕ, ◌+◌, ◌==◌, true, List, ◌++◌, take, drop, Option, Some, Ok}
 use Rattle.std.specs.Prelude.{map, slice_get}
+use Rattle.kernel_calls.specs.Authority.{LooksSame, IsQuiet, Along, heard}
 use Rattle.kernel_calls.specs.Isolation.{Exchange, exchanges, own, InvolvesNobody, quota_asked, pages_given}
 use Rattle.kernel_calls.specs.Machine.{answers, end_of}
 use Rattle.kernel_calls.specs.declared.calls.Event.{Event}
 use Rattle.kernel_calls.specs.declared.calls.Reply.TheVariants.{Child}
 use Rattle.process_table.specs.Apart.{alone_with}
-use Rattle.process_table.specs.State.{State}
+use Rattle.process_table.specs.State.{State, is_live}
 use Rattle.process_table.specs.WellFormed.{IsWellFormed}
 use Rattle.process_table.specs.View as core
 use Rattle.guest_cpu.specs.declared.instructions.Instruction.{Instruction}
@@ -50,3 +51,29 @@ GuestsAreIsolated = (s : State) (events : List Event) (k p : ℕ) (e : Event) (m
     → (program : List Instruction) (turns : ℕ) (g h : GuestView) (ends : End) → IsRun program turns g (answered mine) (asked mine) ends h
     → (before after : core.View) (last : GuestView) (ends_alone : End) → before.state ≡ alone_with (quota_asked e.call) (pages_given (end_of s (take k events)) e.pid e.call)
     → HasRun IsCoreStep program turns (alone g) before ends_alone last after → (ends_alone ≡ ends) × (last ≡ alone h)
+
+-- what is heard of an event: its exchange, and what its call finds
+abbrev pub Told : Type 0
+Told = Exchange × Option ℕ
+
+abbrev pub events_told : List Told → List Event
+events_told xs = map (λ (x : Told). x.0.0) xs
+
+abbrev pub answers_told : List Told → List Answer
+answers_told xs = map (λ (x : Told). Ok x.0.1) xs
+
+abbrev pub founds : List Told → List (Option ℕ)
+founds xs = map (λ (x : Told). x.1) xs
+
+-- where two states look the same to a live process, and outsiders use no channel to it in a run from each, two guests of
+-- one program that make all of its calls there, and find the same, are told the same, and end in the same way, with the
+-- same registers and the same counter
+abbrev pub GuestsHearTheSame : Type 0
+GuestsHearTheSame = (s t : State) (p : ℕ) (events others : List Event) → IsWellFormed s → IsWellFormed t
+    → is_live s p ≡ true → LooksSame s t (λ q. q == p)
+    → Along IsQuiet s (λ q. q == p) events → Along IsQuiet t (λ q. q == p) others
+    → (mine theirs : List Told) → heard s (λ q. q == p) (exchanges s events) ≡ mine
+    → heard t (λ q. q == p) (exchanges t others) ≡ theirs → founds mine ≡ founds theirs
+    → (program : List Instruction) (turns : ℕ) (g h k : GuestView) (e f : End)
+    → IsRun program turns g (answers_told mine) (events_told mine) e h
+    → IsRun program turns g (answers_told theirs) (events_told theirs) f k → (mine ≡ theirs) × (e ≡ f) × (h ≡ k)

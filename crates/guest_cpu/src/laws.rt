@@ -1,6 +1,6 @@
 //! Laws of guests' runs. Each is the contract of a function that computes nothing.
 
-ghost use Rattle.guest_cpu.specs.Laws.{CoresAnswer, GuestsAreIsolated, RunsAreDetermined, RunsGoOn};
+ghost use Rattle.guest_cpu.specs.Laws.{CoresAnswer, GuestsAreIsolated, GuestsHearTheSame, RunsAreDetermined, RunsGoOn};
 
 /// What a core answers to a guest's calls, one after another, are the machine's answers to their events,
 /// and the core is then in the machine's last state. It computes nothing.
@@ -28,4 +28,12 @@ pub fn runs_are_determined()
 /// computes nothing.
 pub fn guests_are_isolated()
     ensures { GuestsAreIsolated }
+{}
+
+/// What a guest is told, and how it ends, depends on what its process sees. Of two runs from states that look the same
+/// to a live process, in which others use no channel to it, and in which a guest of one program makes all calls of that
+/// process and finds the same processes live, each tells its guest the same, and both guests end in the same way, with the
+/// same registers and the same counter. It computes nothing.
+pub fn guests_hear_their_own()
+    ensures { GuestsHearTheSame }
 {}

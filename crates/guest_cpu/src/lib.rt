@@ -14,6 +14,9 @@ mod runs;
 
 pub use guests::Guest;
 pub use instructions::{Instruction, Reg};
-pub use laws::{cores_answer_as_the_machine, guests_are_isolated, runs_are_determined, runs_go_on};
+pub use laws::{
+    cores_answer_as_the_machine, guests_are_isolated, guests_hear_their_own, runs_are_determined,
+    runs_go_on,
+};
 pub use ports::{Port, PortFault};
 pub use runs::{End, run};

@@ -59,7 +59,6 @@ use Rattle.kernel_calls.specs.Authority.{
   Shown,
   shown_of,
   is_offered,
-  born_with,
   ChildrenAreTheirMakers,
   PlacesStay,
 }
@@ -176,29 +175,20 @@ birth_member s p c child b = elim b.1 [
       ∙ ap (λ (d : Call). Some (record { parent = p; quota = quota_asked d })) (sym forked.1)
 ]
 
-birth_page : (s : State) (p : ℕ) (c : Call) (child page : ℕ) → IsWellFormed s → IsBirth s p c child
-    → map.get (after s p c).spaces (at_page child page) ≡ born_with s p c (at_page child page)
-birth_page s p c child page w b = elim b.1 [
-  | inl spawned ↦
-      ap (λ (d : Call). map.get (after s p d).spaces (at_page child page)) spawned.1
-      ∙ no_page s child w (birth_free s p c child b) page
-      ∙ ap (λ (d : Call). born_with s p d (at_page child page)) (sym spawned.1)
-  | inr forked ↦
-      ap (λ (d : Call). map.get (after s p d).spaces (at_page child page)) forked.1
-      ∙ ap (λ k. map.get (copied s.spaces p k) (at_page child page)) b.0
-      ∙ copied-own s.spaces p child page
-      ∙ ap (λ (d : Call). born_with s p d (at_page child page)) (sym forked.1)
-]
-
 pub children_are_their_makers : ChildrenAreTheirMakers
-children_are_their_makers s e child w told =
+children_are_their_makers s e child told =
     let b = maker_of s e child told in
     record {
       free = no_value (map.get s.book child) (birth_free s e.pid e.call child b.birth);
       member = ap (λ (u : State). map.get u.book child) (next-goes s e b.done)
           ∙ birth_member s e.pid e.call child b.birth;
-      pages = λ page. ap (λ (u : State). map.get u.spaces (at_page child page)) (next-goes s e b.done)
-          ∙ birth_page s e.pid e.call child page w b.birth;
+      spawned = λ quota page is w. ap (λ (u : State). map.get u.spaces (at_page child page))
+          (next-goes s e b.done ∙ ap (after s e.pid) is)
+          ∙ no_page s child w (birth_free s e.pid e.call child b.birth) page;
+      forked = λ quota page is. ap (λ (u : State). map.get u.spaces (at_page child page))
+          (next-goes s e b.done ∙ ap (after s e.pid) is)
+          ∙ ap (λ k. map.get (copied s.spaces e.pid k) (at_page child page)) b.birth.0
+          ∙ copied-own s.spaces e.pid child page;
     }
 
 -- ---- All other places in the book

@@ -187,20 +187,19 @@ OffersStay = (s : State) (e : Event) (key : OfferKey) (right : Bool) → map.get
 
 -- ---- Births
 
--- what a new child has in a slot: after a fork a copy of its maker's page, with a group of its own, and else nothing
-abbrev pub born_with : State → ℕ → Call → Slot → Option Cell
-born_with s p (call.Fork _) slot = option_map (copy_of slot) (map.get s.spaces (at_page p slot.page))
-born_with s p _ slot = None
-
--- the child was not live; it is, as its maker's, with the quota that was asked for, and has these pages and no other
+-- the child was not live; it is, as its maker's, with the quota that was asked for; after a spawn it has no page, after
+-- a fork copies of its maker's, each with a group of its own, and no other
 pub record IsBorn (s t : State) (e : Event) (child : ℕ) : Type 0 where
   pub free : map.get s.book child ≡ None
   pub member : map.get t.book child ≡ Some (record { parent = e.pid; quota = quota_asked e.call })
-  pub pages : (page : ℕ) → map.get t.spaces (at_page child page) ≡ born_with s e.pid e.call (at_page child page)
+  pub spawned : (quota page : ℕ) → e.call ≡ call.Spawn quota → IsWellFormed s
+      → map.get t.spaces (at_page child page) ≡ None
+  pub forked : (quota page : ℕ) → e.call ≡ call.Fork quota → map.get t.spaces (at_page child page)
+      ≡ option_map (copy_of (at_page child page)) (map.get s.spaces (at_page e.pid page))
 
 -- so it is with the child whose number its maker is told
 abbrev pub ChildrenAreTheirMakers : Type 0
-ChildrenAreTheirMakers = (s : State) (e : Event) (child : ℕ) → IsWellFormed s → answer s e ≡ reply.Child child
+ChildrenAreTheirMakers = (s : State) (e : Event) (child : ℕ) → answer s e ≡ reply.Child child
     → IsBorn s (next s e) e child
 
 -- and no other place in the book changes but that of who exits

@@ -188,6 +188,7 @@ impl<N: Name> Cpu<N> {
         ensures made { IfOk result (λ r. Makes N.frames self.old pid call self.new r.0) }
         ensures ended { IfOk result (λ r. EndsAtLast N.frames self.new.seen r.1) }
         ensures isolated { IfOk result (λ _. AreIsolated N.frames self.new.seen) }
+        ensures guarded { IfOk result (λ _. AreGuarded N.frames self.new.seen) }
         ensures number { self.new.number ≡ self.old.number }
         ensures calls { IfOk result (λ _. calls_of self.new.number self.new.seen ≡ calls_of self.old.number self.old.seen + 1) }
         ensures refused { IfErr result (λ f. (log : List LogEntry) × IsRefused N.frames log self.old f) }

@@ -1,7 +1,7 @@
 -- What members of sets are told in a legal history, and that confined sets stay so.
-use Rattle.std.proofs.Common.{◌≡◌, ℕ, List, [], ◌∷◌, ◌++◌, sym, ap, subst, ◌∙◌}
+use Rattle.std.proofs.Common.{◌≡◌, ℕ, List, ◌++◌, sym, ap, subst, ◌∙◌}
 use Rattle.kernel_calls.specs.Authority.{HearTheirOwn, KeepsBorders}
-use Rattle.kernel_calls.specs.Machine.{answers, end_of}
+use Rattle.kernel_calls.specs.Machine.{end_of}
 use Rattle.kernel_calls.specs.declared.calls.Reply.{Reply}
 use Rattle.kernel_calls.proofs.Confined.{runs_keep_borders}
 use Rattle.kernel_calls.proofs.Hearing.{members_hear_the_same}

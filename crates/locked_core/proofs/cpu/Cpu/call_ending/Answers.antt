@@ -7,7 +7,8 @@ use Rattle.locked_core.proofs.cpu.Cpu.call_ending.Goals as goal
 use Rattle.locked_core.specs.Held.{Held}
 use Rattle.locked_core.specs.Makers.{Maker}
 use Rattle.memory_report.proofs.IsolatedHistories.{histories_isolated}
-use Rattle.memory_report.specs.Histories.{AreIsolated, Legal, StartsWith, calls_of, entry_after, state_after}
+use Rattle.memory_report.proofs.GuardedHistories.{histories_guarded}
+use Rattle.memory_report.specs.Histories.{AreGuarded, AreIsolated, Legal, StartsWith, calls_of, entry_after, state_after}
 
 -- the log on which a call was judged is the one that it was to be carried out on
 pub returns-in-Err-carry_out-clause-refused : goal.returns-in-Err-carry_out-clause-refused
@@ -58,3 +59,9 @@ returns-clause-isolated g c =
     let done = c.in-Ok-carry_out.ensures in
     let seen : c.made.new.self.seen ≡ c.carry_out.new.self.log = ap (λ (m : Maker). m.seen) c.made.ensures ∙ done.front.0 in
     subst (AreIsolated g.N.Name.frames) (sym seen) (histories_isolated g.N.Name.frames c.carry_out.new.self.log done.legal)
+
+pub returns-clause-guarded : goal.returns-clause-guarded
+returns-clause-guarded g c =
+    let done = c.in-Ok-carry_out.ensures in
+    let seen : c.made.new.self.seen ≡ c.carry_out.new.self.log = ap (λ (m : Maker). m.seen) c.made.ensures ∙ done.front.0 in
+    subst (AreGuarded g.N.Name.frames) (sym seen) (histories_guarded g.N.Name.frames c.carry_out.new.self.log done.legal)
