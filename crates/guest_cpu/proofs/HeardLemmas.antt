@@ -6,12 +6,12 @@ use Rattle.kernel_calls.specs.Authority.{AskAlike, heard}
 use Rattle.kernel_calls.specs.Isolation.{exchanges}
 use Rattle.kernel_calls.specs.declared.calls.Event.{Event}
 use Rattle.kernel_calls.specs.declared.calls.Reply.{Reply}
-use Rattle.kernel_calls.proofs.Hearing.{members_hear_the_same}
+use Rattle.kernel_calls.proofs.Hearing.{members_hear_the_same, families_hear_their_own}
 use Rattle.process_table.specs.State.{is_live}
 use Rattle.guest_cpu.specs.declared.instructions.Instruction.{Instruction}
 use Rattle.guest_cpu.specs.declared.runs.End.{End}
 use Rattle.guest_cpu.specs.Guests.{GuestView, event_asked, value_of, after}
-use Rattle.guest_cpu.specs.Laws.{Told, events_told, answers_told, founds, GuestsHearTheSame}
+use Rattle.guest_cpu.specs.Laws.{Told, events_told, answers_told, founds, GuestsHearTheSame, GuestsAreUnreached}
 use Rattle.guest_cpu.specs.Ports.{Answer}
 use Rattle.guest_cpu.specs.Runs.{IsRun}
 use Rattle.guest_cpu.proofs.RunLemmas.{Outcome, in_front, is_last, replied, answered, quiet, acted, stepped, stood, follow, followed, determined}
@@ -123,13 +123,32 @@ asks_alike program zero g xs ys x y h k f = by_stood g (slice_get program g.coun
 asks_alike program (suc turns) g xs ys x y h k f =
     by_step (λ h more. follow program turns h more) (asks_alike program turns) g (slice_get program g.counter) xs ys x y h k f
 
+-- where what is heard is the same, guests end the same
+module _ (program : List Instruction) (turns : ℕ) (g h k : GuestView) (e d : End) (mine theirs : List Told)
+    (first : IsRun program turns g (answers_told mine) (events_told mine) e h)
+    (second : IsRun program turns g (answers_told theirs) (events_told theirs) d k) where
+  ask_alike : founds mine ≡ founds theirs → AskAlike mine theirs
+  ask_alike f = asks_alike program turns g mine theirs (e, h) (d, k) (followed first) (followed second) f
+
+  end_same : mine ≡ theirs → (mine ≡ theirs) × (e ≡ d) × (h ≡ k)
+  end_same same =
+      let ended = determined (subst (λ xs. IsRun program turns g (answers_told xs) (events_told xs) e h) same first) second in
+      (same, ended.1, ended.2)
+
 pub guests_hear_the_same : GuestsHearTheSame
 guests_hear_the_same s t p events others w v live l quiet_s quiet_t mine theirs is_mine is_theirs f program turns g h k e d first second =
-    let alike = asks_alike program turns g mine theirs (e, h) (d, k) (followed first) (followed second) f in
-    let same : mine ≡ theirs =
-    sym is_mine
+    end_same program turns g h k e d mine theirs first second
+    (sym is_mine
     ∙ members_hear_the_same s events w t (λ q. q == p) others v (λ q here. ap (is_live s) (eqb-true q p here) ∙ live) l quiet_s quiet_t
-    (subst (λ xs. AskAlike xs (heard t (λ q. q == p) (exchanges t others))) (sym is_mine) (subst (λ ys. AskAlike mine ys) (sym is_theirs) alike))
-    ∙ is_theirs in
-    let ended = determined (subst (λ xs. IsRun program turns g (answers_told xs) (events_told xs) e h) same first) second in
-    (same, ended.1, ended.2)
+    (subst (λ xs. AskAlike xs (heard t (λ q. q == p) (exchanges t others))) (sym is_mine)
+    (subst (λ ys. AskAlike mine ys) (sym is_theirs) (ask_alike program turns g h k e d mine theirs first second f)))
+    ∙ is_theirs)
+
+pub guests_are_unreached : GuestsAreUnreached
+guests_are_unreached s t p events others w v family family_t l within within_t mine theirs is_mine is_theirs f program turns g h k e d first second =
+    end_same program turns g h k e d mine theirs first second
+    (sym is_mine
+    ∙ families_hear_their_own s events w t (λ q. q == p) others v family family_t l within within_t
+    (subst (λ xs. AskAlike xs (heard t (λ q. q == p) (exchanges t others))) (sym is_mine)
+    (subst (λ ys. AskAlike mine ys) (sym is_theirs) (ask_alike program turns g h k e d mine theirs first second f)))
+    ∙ is_theirs)

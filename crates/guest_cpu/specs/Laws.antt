@@ -1,7 +1,8 @@
 -- What a core answers to a guest, and laws of all runs.
 use Rattle.std.proofs.Common.{◌≡◌, ℕ, ◌+◌, ◌==◌, true, List, ◌++◌, take, drop, Option, Some, Ok}
 use Rattle.std.specs.Prelude.{map, slice_get}
-use Rattle.kernel_calls.specs.Authority.{LooksSame, IsQuiet, Along, heard}
+use Rattle.kernel_calls.specs.Authority.{HaveTheSame, LooksSame, IsQuiet, KeepsWithin, Along, heard}
+use Rattle.kernel_calls.specs.Families.{IsFamily}
 use Rattle.kernel_calls.specs.Isolation.{Exchange, exchanges, own, InvolvesNobody, quota_asked, pages_given}
 use Rattle.kernel_calls.specs.Machine.{answers, end_of}
 use Rattle.kernel_calls.specs.declared.calls.Event.{Event}
@@ -72,6 +73,18 @@ abbrev pub GuestsHearTheSame : Type 0
 GuestsHearTheSame = (s t : State) (p : ℕ) (events others : List Event) → IsWellFormed s → IsWellFormed t
     → is_live s p ≡ true → LooksSame s t (λ q. q == p)
     → Along IsQuiet s (λ q. q == p) events → Along IsQuiet t (λ q. q == p) others
+    → (mine theirs : List Told) → heard s (λ q. q == p) (exchanges s events) ≡ mine
+    → heard t (λ q. q == p) (exchanges t others) ≡ theirs → founds mine ≡ founds theirs
+    → (program : List Instruction) (turns : ℕ) (g h k : GuestView) (e f : End)
+    → IsRun program turns g (answers_told mine) (events_told mine) e h
+    → IsRun program turns g (answers_told theirs) (events_told theirs) f k → (mine ≡ theirs) × (e ≡ f) × (h ≡ k)
+
+-- the same, whatever outsiders do, where the process is a family of its own, which has the same in both states, and keeps
+-- within itself in both runs
+abbrev pub GuestsAreUnreached : Type 0
+GuestsAreUnreached = (s t : State) (p : ℕ) (events others : List Event) → IsWellFormed s → IsWellFormed t
+    → IsFamily s (λ q. q == p) → IsFamily t (λ q. q == p) → HaveTheSame s t (λ q. q == p)
+    → Along (λ _. KeepsWithin) s (λ q. q == p) events → Along (λ _. KeepsWithin) t (λ q. q == p) others
     → (mine theirs : List Told) → heard s (λ q. q == p) (exchanges s events) ≡ mine
     → heard t (λ q. q == p) (exchanges t others) ≡ theirs → founds mine ≡ founds theirs
     → (program : List Instruction) (turns : ℕ) (g h k : GuestView) (e f : End)

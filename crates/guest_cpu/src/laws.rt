@@ -1,6 +1,6 @@
 //! Laws of guests' runs. Each is the contract of a function that computes nothing.
 
-ghost use Rattle.guest_cpu.specs.Laws.{CoresAnswer, GuestsAreIsolated, GuestsHearTheSame, RunsAreDetermined, RunsGoOn};
+ghost use Rattle.guest_cpu.specs.Laws.{CoresAnswer, GuestsAreIsolated, GuestsAreUnreached, GuestsHearTheSame, RunsAreDetermined, RunsGoOn};
 
 /// What a core answers to a guest's calls, one after another, are the machine's answers to their events,
 /// and the core is then in the machine's last state. It computes nothing.
@@ -33,7 +33,9 @@ pub fn guests_are_isolated()
 /// What a guest is told, and how it ends, depends on what its process sees. Of two runs from states that look the same
 /// to a live process, in which others use no channel to it, and in which a guest of one program makes all calls of that
 /// process and finds the same processes live, each tells its guest the same, and both guests end in the same way, with the
-/// same registers and the same counter. It computes nothing.
+/// same registers and the same counter. Where the process is a family of its own, which keeps within itself, it is so
+/// whatever others do. It computes nothing.
 pub fn guests_hear_their_own()
-    ensures { GuestsHearTheSame }
+    ensures seen { GuestsHearTheSame }
+    ensures unreached { GuestsAreUnreached }
 {}

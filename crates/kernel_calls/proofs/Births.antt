@@ -27,7 +27,7 @@ use Rattle.page_words.specs.FiniteMap.{nat_order}
 use Rattle.page_words.specs.FiniteSet as set
 use Rattle.page_words.proofs.MapLemmas.{same_itself, get-insert}
 use Rattle.page_words.proofs.OptionLemmas.{no_value}
-use Rattle.page_words.proofs.SetLemmas.{same_cases, get-remove_other}
+use Rattle.page_words.proofs.SetLemmas.{same_cases, get-remove_other, get-removed}
 use Rattle.address_space.specs.Spaces.{Slot, Cell, Spaces, at_page, is_of, copy_of, copied}
 use Rattle.address_space.proofs.costs.Copied.{copied-own}
 use Rattle.quota_tree.specs.Book.{Book}
@@ -193,9 +193,10 @@ children_are_their_makers s e child told =
 
 -- ---- All other places in the book
 
-abbrev PlaceStays : State → State → Event → ℕ → Type 0
+-- the place of who exits is empty
+abbrev pub PlaceStays : State → State → Event → ℕ → Type 0
 PlaceStays s t e p = (map.get t.book p ≡ map.get s.book p)
-    ⊎ ((answer s e ≡ reply.Child p) ⊎ ((p ≡ e.pid) × (e.call ≡ call.Exit)))
+    ⊎ ((answer s e ≡ reply.Child p) ⊎ ((p ≡ e.pid) × (e.call ≡ call.Exit) × (map.get t.book p ≡ None)))
 
 module _ (s : State) (e : Event) (p : ℕ) (live : is_live s e.pid ≡ true) where
   told_by : (c : Call) → e.call ≡ c → answer s e ≡ answer_of s e.pid c
@@ -203,7 +204,8 @@ module _ (s : State) (e : Event) (p : ℕ) (live : is_live s e.pid ≡ true) whe
 
   one_more : (quota : ℕ) → (answer s e ≡ reply.Child (child_of s))
       → (map.get (map.insert s.book (child_of s) (record { parent = e.pid; quota = quota })) p ≡ map.get s.book p)
-      ⊎ ((answer s e ≡ reply.Child p) ⊎ ((p ≡ e.pid) × (e.call ≡ call.Exit)))
+      ⊎ ((answer s e ≡ reply.Child p) ⊎ ((p ≡ e.pid) × (e.call ≡ call.Exit)
+      × (map.get (map.insert s.book (child_of s) (record { parent = e.pid; quota = quota })) p ≡ None)))
   one_more quota told = elim (same_cases nat_order p (child_of s)) [
     | inl here ↦ inr (inl (told ∙ ap reply.Child (sym here.0)))
     | inr other ↦ inl (get-insert s.book (child_of s) (record { parent = e.pid; quota = quota }) p
@@ -227,18 +229,27 @@ module _ (s : State) (e : Event) (p : ℕ) (live : is_live s e.pid ≡ true) whe
       ∙ ap (λ (x : Option Cause). refused_or x (reply.Child (child_of s)))
       (not-refused (fork_refusal s e.pid quota) _ h))
   after_place call.Exit is h = elim (same_cases nat_order p e.pid) [
-    | inl here ↦ inr (inr (here.0, is))
+    | inl here ↦ inr (inr (here.0, is, ap (map.get (map.remove s.book e.pid)) here.0 ∙ get-removed s.book e.pid))
     | inr other ↦ inl (get-remove_other s.book e.pid p other.0)
   ]
   after_place call.Quota is h = inl refl
 
-pub places_stay : PlacesStay
-places_stay s e p = by (completes (answer s e)) refl
+pub place_of : (s : State) (e : Event) (p : ℕ) → PlaceStays s (next s e) e p
+place_of s e p = by (completes (answer s e)) refl
   where
     by : (b : Bool) → completes (answer s e) ≡ b → PlaceStays s (next s e) e p
     by true h = let l = caller_live s e h in
         subst (λ t. PlaceStays s t e p) (sym (next-goes s e h)) (after_place s e p l.0 e.call refl l.1)
     by false h = inl (ap (λ (t : State). map.get t.book p) (next-stays s e h))
+
+pub places_stay : PlacesStay
+places_stay s e p = elim (place_of s e p) [
+  | inl same_place ↦ inl same_place
+  | inr differs ↦ elim differs [
+    | inl born ↦ inr (inl born)
+    | inr gone ↦ inr (inr (gone.0, gone.1))
+  ]
+]
 
 -- ---- What it sees
 

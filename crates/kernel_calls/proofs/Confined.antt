@@ -304,7 +304,7 @@ module _ (s : State) (e : Event) (C : ℕ → Bool) (p : ℕ) (w : IsWellFormed 
           let out : C target ≡ false = ap C ends.target ∙ outsider in
           cc)
 
-  one_leaves : IsAsBefore s (next s e) p
+  pub one_leaves : IsAsBefore s (next s e) p
   one_leaves = record { member = u.member; pages = pages_same; offers = offers_same }
 
 outsiders_leave_members : (s : State) (events : List Event) (C : ℕ → Bool) (p : ℕ) → IsWellFormed s → IsConfined s C

@@ -35,13 +35,17 @@ use Rattle.kernel_calls.specs.Authority.{
   heard,
   AskAlike,
   MembersHearTheSame,
+  HaveTheSame,
+  KeepsWithin,
 }
+use Rattle.kernel_calls.specs.Families.{IsFamily, FamiliesHearTheirOwn}
 use Rattle.kernel_calls.specs.Isolation.{Exchange, exchanges}
 use Rattle.kernel_calls.specs.Machine.{answer, next}
 use Rattle.kernel_calls.specs.declared.calls.Event.{Event}
 use Rattle.kernel_calls.proofs.Outsiders.{outsiders_unseen}
 use Rattle.kernel_calls.proofs.Runs.{kept-next}
 use Rattle.kernel_calls.proofs.Births.{child_dead, places_stay}
+use Rattle.kernel_calls.proofs.Families.{next_family, others_leave, family_told, family_sees}
 use Rattle.kernel_calls.proofs.SeenTogether.{told_same, members_see_the_same}
 
 -- ---- Looking the same, there and back
@@ -94,7 +98,7 @@ looks_on s t u Q l m = record {
 abbrev AreLive : State → (ℕ → Bool) → Type 0
 AreLive s Q = (q : ℕ) → Q q ≡ true → is_live s q ≡ true
 
--- who is live and a member still is after an outsider's event through no channel, and nobody else
+-- who is live and a member still is after an outsider's event that leaves them live, and nobody else
 module _ (s : State) (e : Event) (Q : ℕ → Bool) (out : Q e.pid ≡ false)
     (lives : (q : ℕ) → Q q ≡ true → is_live s q ≡ is_live (next s e) q) (members : AreLive s Q) where
   same_members : members_after s Q e ≡ Q
@@ -120,38 +124,7 @@ second false b h = cc
 members_live : (s : State) (e : Event) (Q : ℕ → Bool) → AreLive (next s e) (members_after s Q e)
 members_live s e Q p h = (second (is_live (next s e) p) (if is_live s p then Q p else Q e.pid) h).0
 
--- after a member's event who is a member in one run is one in the other
-module _ (s t : State) (e : Event) (Q : ℕ → Bool) (w : IsWellFormed s) (v : IsWellFormed t) (members : AreLive s Q)
-    (mine : Q e.pid ≡ true) (l : LooksSame s t Q) (finds : found s e.call ≡ found t e.call) where
-  too : (p : ℕ) → members_after s Q e p ≡ true → members_after t Q e p ≡ true
-  too p m = by (is_live s p) refl (second (is_live (next s e) p) (if is_live s p then Q p else Q e.pid) m).1
-    where
-      now : is_live (next s e) p ≡ true
-      now = members_live s e Q p m
-
-      now_too : is_live (next t e) p ≡ true
-      now_too = sym ((members_see_the_same s t e Q w v l mine finds).live p m) ∙ now
-
-      by : (b : Bool) → is_live s p ≡ b → (if b then Q p else Q e.pid) ≡ true → members_after t Q e p ≡ true
-      by true is old = (λ i. now_too i && (if (sym (l.live p old) ∙ is) i then Q p else Q e.pid)) ∙ old
-      by false is new = elim (places_stay s e p) [
-        | inl same_place ↦ absurd (let a = ap is_some same_place in let n = now in let f = is in cc)
-        | inr differs ↦ elim differs [
-          | inl born ↦ (
-              let dead = child_dead t e p (sym (told_same s t e Q l mine finds) ∙ born) in
-              (λ i. now_too i && (if dead i then Q p else Q e.pid)) ∙ mine)
-          | inr gone ↦ absurd (let a = members e.pid mine in let b = ap (is_live s) gone.0 in let f = is in cc)
-        ]
-      ]
-
 -- ---- Runs
-
--- the law, at the events of the first run
-abbrev Hear : List Event → Type 0
-Hear events = (s t : State) (Q : ℕ → Bool) (others : List Event) → IsWellFormed s → IsWellFormed t → AreLive s Q
-    → LooksSame s t Q → Along IsQuiet s Q events → Along IsQuiet t Q others
-    → AskAlike (heard s Q (exchanges s events)) (heard t Q (exchanges t others))
-    → heard s Q (exchanges s events) ≡ heard t Q (exchanges t others)
 
 abbrev Told : Type 0
 Told = Exchange × Option ℕ
@@ -164,123 +137,220 @@ nothing_heard (x ∷ xs) h = absurd h
 abbrev first_of : State → Event → Told
 first_of s e = ((e, answer s e), found s e.call)
 
--- an outsider's event at the head of a run
-module _ (t : State) (o : Event) (os : List Event) (Q : ℕ → Bool) (v : IsWellFormed t) (members : AreLive t Q)
-    (out : Q o.pid ≡ false) (quiet : Along IsQuiet t Q (o ∷ os)) where
-  unseen : LooksSame t (next t o) Q
-  unseen = outsiders_unseen t o Q v out quiet.0
-
-  same_set_then : members_after t Q o ≡ Q
-  same_set_then = same_members t o Q out unseen.live members
-
-  quiet_later : Along IsQuiet (next t o) Q os
-  quiet_later = subst (λ D. Along IsQuiet (next t o) D os) same_set_then quiet.1
-
-  members_later : AreLive (next t o) Q
-  members_later = λ q h. sym (unseen.live q h) ∙ members q h
-
--- a member's event at the head of the first run: the second comes to it
-module _ (events : List Event) (law : Hear events) (s : State) (e : Event) (Q : ℕ → Bool) (w : IsWellFormed s)
-    (members : AreLive s Q) (mine : Q e.pid ≡ true) (quiet : Along IsQuiet (next s e) (members_after s Q e) events)
-  where
-    abbrev first : List Told
-    first = first_of s e ∷ heard (next s e) (members_after s Q e) (exchanges (next s e) events)
-
-    meets : (t : State) (o : Event) (os : List Event) → IsWellFormed t → LooksSame s t Q
-        → Along IsQuiet (next t o) (members_after t Q o) os
-        → AskAlike first (first_of t o ∷ heard (next t o) (members_after t Q o) (exchanges (next t o) os))
-        → first ≡ first_of t o ∷ heard (next t o) (members_after t Q o) (exchanges (next t o) os)
-    meets t o os v l quiet_t alike = λ i. same_first i ∷ later i
+-- For a view of two states, a set that stands well in a state, and events that are good there: where views go there and
+-- back and on, a member's good event is told the same and keeps the view, and an outsider's leaves it.
+module _ (View : State → State → (ℕ → Bool) → Type 0) (Stands : State → (ℕ → Bool) → Type 0)
+    (IsGood : State → (ℕ → Bool) → Event → Type 0)
+    (alive : (s : State) (Q : ℕ → Bool) → Stands s Q → AreLive s Q)
+    (lasts : (s : State) (Q : ℕ → Bool) (e : Event) → Stands s Q → IsGood s Q e
+    → Stands (next s e) (members_after s Q e))
+    (lives : (s t : State) (Q : ℕ → Bool) → View s t Q → (q : ℕ) → Q q ≡ true → is_live s q ≡ is_live t q)
+    (back : (s t : State) (Q : ℕ → Bool) → View s t Q → View t s Q)
+    (onward : (s t u : State) (Q : ℕ → Bool) → View s t Q → View t u Q → View s u Q)
+    (told : (s t : State) (e : Event) (Q : ℕ → Bool) → View s t Q → IsGood s Q e → Q e.pid ≡ true
+    → found s e.call ≡ found t e.call → answer s e ≡ answer t e)
+    (sees : (s t : State) (e : Event) (Q : ℕ → Bool) → Stands s Q → Stands t Q → View s t Q → IsGood s Q e
+    → Q e.pid ≡ true → found s e.call ≡ found t e.call → View (next s e) (next t e) (members_after s Q e))
+    (leaves : (s : State) (e : Event) (Q : ℕ → Bool) → Stands s Q → IsGood s Q e → Q e.pid ≡ false
+    → View s (next s e) Q) where
+  -- after a member's event who is a member in one run is one in the other
+  module _ (s t : State) (e : Event) (Q : ℕ → Bool) (w : Stands s Q) (v : Stands t Q) (mine : Q e.pid ≡ true)
+      (l : View s t Q) (good : IsGood s Q e) (finds : found s e.call ≡ found t e.call) where
+    too : (p : ℕ) → members_after s Q e p ≡ true → members_after t Q e p ≡ true
+    too p m = by (is_live s p) refl (second (is_live (next s e) p) (if is_live s p then Q p else Q e.pid) m).1
       where
-        same_event : e ≡ o
-        same_event = alike.0
+        now : is_live (next s e) p ≡ true
+        now = members_live s e Q p m
 
-        same_found : found s e.call ≡ found t o.call
-        same_found = alike.1
+        now_too : is_live (next t e) p ≡ true
+        now_too = sym (lives (next s e) (next t e) (members_after s Q e) (sees s t e Q w v l good mine finds) p m)
+            ∙ now
 
-        finds : found s e.call ≡ found t e.call
-        finds = same_found ∙ sym (ap (λ (x : Event). found t x.call) same_event)
+        by : (b : Bool) → is_live s p ≡ b → (if b then Q p else Q e.pid) ≡ true → members_after t Q e p ≡ true
+        by true is old = (λ i. now_too i && (if (sym (lives s t Q l p old) ∙ is) i then Q p else Q e.pid)) ∙ old
+        by false is new = elim (places_stay s e p) [
+          | inl same_place ↦ absurd (let a = ap is_some same_place in let n = now in let f = is in cc)
+          | inr differs ↦ elim differs [
+            | inl born ↦ (
+                let dead = child_dead t e p (sym (told s t e Q l good mine finds) ∙ born) in
+                (λ i. now_too i && (if dead i then Q p else Q e.pid)) ∙ mine)
+            | inr gone ↦ absurd (let a = alive s Q w e.pid mine in let b = ap (is_live s) gone.0 in let f = is in cc)
+          ]
+        ]
 
-        reply : answer s e ≡ answer t o
-        reply = told_same s t e Q l mine finds ∙ ap (answer t) same_event
+  -- the law, at the events of the first run
+  abbrev Hear : List Event → Type 0
+  Hear events = (s t : State) (Q : ℕ → Bool) (others : List Event) → Stands s Q → Stands t Q
+      → View s t Q → Along IsGood s Q events → Along IsGood t Q others
+      → AskAlike (heard s Q (exchanges s events)) (heard t Q (exchanges t others))
+      → heard s Q (exchanges s events) ≡ heard t Q (exchanges t others)
 
-        same_first : first_of s e ≡ first_of t o
-        same_first = λ i. ((same_event i, reply i), same_found i)
+  -- an outsider's event at the head of a run
+  module _ (t : State) (o : Event) (os : List Event) (Q : ℕ → Bool) (v : Stands t Q) (out : Q o.pid ≡ false)
+      (good : Along IsGood t Q (o ∷ os)) where
+    unseen : View t (next t o) Q
+    unseen = leaves t o Q v good.0 out
 
-        after : LooksSame (next s e) (next t e) (members_after s Q e)
-        after = members_see_the_same s t e Q w v l mine finds
+    same_set_then : members_after t Q o ≡ Q
+    same_set_then = same_members t o Q out (lives t (next t o) Q unseen) (alive t Q v)
 
-        members_t : AreLive t Q
-        members_t q h = sym (l.live q h) ∙ members q h
+    good_later : Along IsGood (next t o) Q os
+    good_later = subst (λ D. Along IsGood (next t o) D os) same_set_then good.1
 
-        both : (p : ℕ) (a b : Bool) → members_after s Q e p ≡ a → members_after t Q e p ≡ b → a ≡ b
-        both p true true x y = refl
-        both p false false x y = refl
-        both p true false x y = sym (too s t e Q w v members mine l finds p x) ∙ y
-        both p false true x y = sym x ∙ too t s e Q v w members_t mine (looks_back s t Q l) (sym finds) p y
+    stands_later : Stands (next t o) Q
+    stands_later = subst (λ D. Stands (next t o) D) same_set_then (lasts t Q o v good.0)
 
-        sets : members_after s Q e ≡ members_after t Q e
-        sets = λ i. λ p. both p (members_after s Q e p) (members_after t Q e p) refl refl i
+  -- a member's event at the head of the first run: the second comes to it
+  module _ (events : List Event) (law : Hear events) (s : State) (e : Event) (Q : ℕ → Bool) (w : Stands s Q)
+      (mine : Q e.pid ≡ true) (good : IsGood s Q e) (good_s : Along IsGood (next s e) (members_after s Q e) events)
+    where
+      abbrev first : List Told
+      first = first_of s e ∷ heard (next s e) (members_after s Q e) (exchanges (next s e) events)
 
-        heard_is : heard (next t o) (members_after t Q o) (exchanges (next t o) os) ≡ heard (next t e)
-            (members_after s Q e) (exchanges (next t e) os)
-        heard_is = ap (λ (x : Event). heard (next t x) (members_after t Q x) (exchanges (next t x) os)) (sym same_event)
-            ∙ ap (λ D. heard (next t e) D (exchanges (next t e) os)) (sym sets)
+      meets : (t : State) (o : Event) (os : List Event) → Stands t Q → View s t Q → IsGood t Q o
+          → Along IsGood (next t o) (members_after t Q o) os
+          → AskAlike first (first_of t o ∷ heard (next t o) (members_after t Q o) (exchanges (next t o) os))
+          → first ≡ first_of t o ∷ heard (next t o) (members_after t Q o) (exchanges (next t o) os)
+      meets t o os v l good_o good_t alike = λ i. same_first i ∷ later i
+        where
+          same_event : e ≡ o
+          same_event = alike.0
 
-        later : heard (next s e) (members_after s Q e) (exchanges (next s e) events) ≡ heard (next t o)
-            (members_after t Q o) (exchanges (next t o) os)
-        later =
-            law (next s e) (next t e) (members_after s Q e) os (kept-next s e w).0 (kept-next t e v).0
-            (members_live s e Q) after quiet
-            (subst (λ D. Along IsQuiet (next t e) D os) (sym sets)
-            (subst (λ (x : Event). Along IsQuiet (next t x) (members_after t Q x) os) (sym same_event) quiet_t))
-            (subst (λ xs. AskAlike (heard (next s e) (members_after s Q e) (exchanges (next s e) events)) xs) heard_is
-            (alike.2 same_first))
-            ∙ sym heard_is
+          same_found : found s e.call ≡ found t o.call
+          same_found = alike.1
 
-    comes : (others : List Event) (t : State) → IsWellFormed t → LooksSame s t Q → Along IsQuiet t Q others
-        → AskAlike first (heard t Q (exchanges t others)) → first ≡ heard t Q (exchanges t others)
-    comes [] t v l quiet_t alike = absurd alike
-    comes (o ∷ os) t v l quiet_t alike = by (comes os) (Q o.pid) refl alike
-      where
-        by : ((t : State) → IsWellFormed t → LooksSame s t Q → Along IsQuiet t Q os
-            → AskAlike first (heard t Q (exchanges t os)) → first ≡ heard t Q (exchanges t os))
-            → (b : Bool) → Q o.pid ≡ b
-            → AskAlike first (if b then first_of t o ∷ heard (next t o) (members_after t Q o)
-            (exchanges (next t o) os) else heard (next t o) (members_after t Q o) (exchanges (next t o) os))
-            → first ≡ (if b then first_of t o ∷ heard (next t o) (members_after t Q o) (exchanges (next t o) os)
-            else heard (next t o) (members_after t Q o) (exchanges (next t o) os))
-        by go_on true is h = meets t o os v l quiet_t.1 h
-        by go_on false out h =
-            let members_t : AreLive t Q = (λ q k. sym (l.live q k) ∙ members q k) in
-            let same_later = ap (λ D. heard (next t o) D (exchanges (next t o) os))
-            (same_set_then t o os Q v members_t out quiet_t) in
-            go_on (next t o) (kept-next t o v).0
-            (looks_on s t (next t o) Q l (unseen t o os Q v members_t out quiet_t))
-            (quiet_later t o os Q v members_t out quiet_t)
-            (subst (λ xs. AskAlike first xs) same_later h)
-            ∙ sym same_later
+          finds : found s e.call ≡ found t e.call
+          finds = same_found ∙ sym (ap (λ (x : Event). found t x.call) same_event)
 
-hear_the_same : (events : List Event) → Hear events
-hear_the_same [] s t Q others w v members l quiet quiet_t alike = nothing_heard (heard t Q (exchanges t others)) alike
-hear_the_same (e ∷ events) s t Q others w v members l quiet quiet_t alike =
-    by (hear_the_same events) (Q e.pid) refl alike
-  where
-    by : Hear events → (b : Bool) → Q e.pid ≡ b
-        → AskAlike (if b then first_of s e ∷ heard (next s e) (members_after s Q e) (exchanges (next s e) events)
-        else heard (next s e) (members_after s Q e) (exchanges (next s e) events)) (heard t Q (exchanges t others))
-        → (if b then first_of s e ∷ heard (next s e) (members_after s Q e) (exchanges (next s e) events)
-        else heard (next s e) (members_after s Q e) (exchanges (next s e) events)) ≡ heard t Q (exchanges t others)
-    by law true mine h = comes events law s e Q w members mine quiet.1 others t v l quiet_t h
-    by law false out h =
-        let same_later = ap (λ D. heard (next s e) D (exchanges (next s e) events))
-        (same_set_then s e events Q w members out quiet) in
-        same_later
-        ∙ law (next s e) t Q others (kept-next s e w).0 v (members_later s e events Q w members out quiet)
-        (looks_on (next s e) s t Q (looks_back s (next s e) Q (unseen s e events Q w members out quiet)) l)
-        (quiet_later s e events Q w members out quiet) quiet_t
-        (subst (λ xs. AskAlike xs (heard t Q (exchanges t others))) same_later h)
+          reply : answer s e ≡ answer t o
+          reply = told s t e Q l good mine finds ∙ ap (answer t) same_event
+
+          same_first : first_of s e ≡ first_of t o
+          same_first = λ i. ((same_event i, reply i), same_found i)
+
+          after : View (next s e) (next t e) (members_after s Q e)
+          after = sees s t e Q w v l good mine finds
+
+          good_too : IsGood t Q e
+          good_too = subst (IsGood t Q) (sym same_event) good_o
+
+          both : (p : ℕ) (a b : Bool) → members_after s Q e p ≡ a → members_after t Q e p ≡ b → a ≡ b
+          both p true true x y = refl
+          both p false false x y = refl
+          both p true false x y = sym (too s t e Q w v mine l good finds p x) ∙ y
+          both p false true x y = sym x ∙ too t s e Q v w mine (back s t Q l) good_too (sym finds) p y
+
+          sets : members_after s Q e ≡ members_after t Q e
+          sets = λ i. λ p. both p (members_after s Q e p) (members_after t Q e p) refl refl i
+
+          heard_is : heard (next t o) (members_after t Q o) (exchanges (next t o) os) ≡ heard (next t e)
+              (members_after s Q e) (exchanges (next t e) os)
+          heard_is = ap (λ (x : Event). heard (next t x) (members_after t Q x) (exchanges (next t x) os))
+              (sym same_event) ∙ ap (λ D. heard (next t e) D (exchanges (next t e) os)) (sym sets)
+
+          later : heard (next s e) (members_after s Q e) (exchanges (next s e) events) ≡ heard (next t o)
+              (members_after t Q o) (exchanges (next t o) os)
+          later =
+              law (next s e) (next t e) (members_after s Q e) os (lasts s Q e w good)
+              (subst (λ D. Stands (next t e) D) (sym sets) (lasts t Q e v good_too))
+              after good_s
+              (subst (λ D. Along IsGood (next t e) D os) (sym sets)
+              (subst (λ (x : Event). Along IsGood (next t x) (members_after t Q x) os) (sym same_event) good_t))
+              (subst (λ xs. AskAlike (heard (next s e) (members_after s Q e) (exchanges (next s e) events)) xs) heard_is
+              (alike.2 same_first))
+              ∙ sym heard_is
+
+      comes : (others : List Event) (t : State) → Stands t Q → View s t Q → Along IsGood t Q others
+          → AskAlike first (heard t Q (exchanges t others)) → first ≡ heard t Q (exchanges t others)
+      comes [] t v l good_t alike = absurd alike
+      comes (o ∷ os) t v l good_t alike = by (comes os) (Q o.pid) refl alike
+        where
+          by : ((t : State) → Stands t Q → View s t Q → Along IsGood t Q os
+              → AskAlike first (heard t Q (exchanges t os)) → first ≡ heard t Q (exchanges t os))
+              → (b : Bool) → Q o.pid ≡ b
+              → AskAlike first (if b then first_of t o ∷ heard (next t o) (members_after t Q o)
+              (exchanges (next t o) os) else heard (next t o) (members_after t Q o) (exchanges (next t o) os))
+              → first ≡ (if b then first_of t o ∷ heard (next t o) (members_after t Q o) (exchanges (next t o) os)
+              else heard (next t o) (members_after t Q o) (exchanges (next t o) os))
+          by go_on true is h = meets t o os v l good_t.0 good_t.1 h
+          by go_on false out h =
+              let same_later = ap (λ D. heard (next t o) D (exchanges (next t o) os))
+              (same_set_then t o os Q v out good_t) in
+              go_on (next t o) (stands_later t o os Q v out good_t)
+              (onward s t (next t o) Q l (unseen t o os Q v out good_t))
+              (good_later t o os Q v out good_t)
+              (subst (λ xs. AskAlike first xs) same_later h)
+              ∙ sym same_later
+
+  pub hear_the_same : (events : List Event) → Hear events
+  hear_the_same [] s t Q others w v l good good_t alike = nothing_heard (heard t Q (exchanges t others)) alike
+  hear_the_same (e ∷ events) s t Q others w v l good good_t alike = by (hear_the_same events) (Q e.pid) refl alike
+    where
+      by : Hear events → (b : Bool) → Q e.pid ≡ b
+          → AskAlike (if b then first_of s e ∷ heard (next s e) (members_after s Q e) (exchanges (next s e) events)
+          else heard (next s e) (members_after s Q e) (exchanges (next s e) events)) (heard t Q (exchanges t others))
+          → (if b then first_of s e ∷ heard (next s e) (members_after s Q e) (exchanges (next s e) events)
+          else heard (next s e) (members_after s Q e) (exchanges (next s e) events)) ≡ heard t Q (exchanges t others)
+      by law true mine h = comes events law s e Q w mine good.0 good.1 others t v l good_t h
+      by law false out h =
+          let same_later = ap (λ D. heard (next s e) D (exchanges (next s e) events))
+          (same_set_then s e events Q w out good) in
+          same_later
+          ∙ law (next s e) t Q others (stands_later s e events Q w out good) v
+          (onward (next s e) s t Q (back s (next s e) Q (unseen s e events Q w out good)) l)
+          (good_later s e events Q w out good) good_t
+          (subst (λ xs. AskAlike xs (heard t Q (exchanges t others))) same_later h)
+
+-- ---- What members see, where outsiders use no channel
+
+abbrev IsWellSet : State → (ℕ → Bool) → Type 0
+IsWellSet s Q = IsWellFormed s × AreLive s Q
 
 pub members_hear_the_same : MembersHearTheSame
 members_hear_the_same s events w t Q others v members l quiet quiet_t alike =
-    hear_the_same events s t Q others w v members l quiet quiet_t alike
+    hear_the_same LooksSame IsWellSet IsQuiet (λ s Q x. x.1)
+    (λ s Q e x good. ((kept-next s e x.0).0, members_live s e Q)) (λ s t Q l. l.live) looks_back looks_on
+    (λ s t e Q l good mine finds. told_same s t e Q l mine finds)
+    (λ s t e Q x y l good mine finds. members_see_the_same s t e Q x.0 y.0 l mine finds)
+    (λ s e Q x good out. outsiders_unseen s e Q x.0 out good)
+    events s t Q others (w, members) (v, λ q h. sym (l.live q h) ∙ members q h) l quiet quiet_t alike
+
+-- ---- What a family has, whatever outsiders do
+
+has_back : (s t : State) (Q : ℕ → Bool) → HaveTheSame s t Q → HaveTheSame t s Q
+has_back s t Q l = record {
+  live = λ q h. sym (l.live q h);
+  quota = λ q h. sym (l.quota q h);
+  given = λ q h. sym (l.given q h);
+  children = λ q h. sym (l.children q h);
+  families = λ p q hp hq d. sym (l.families p q hp hq d);
+  flags = λ slot h. sym (l.flags slot h);
+  offers = λ key h. sym (l.offers key h);
+  pages = λ slot h. sym (l.pages slot h);
+  same_page = λ slot other h k. sym (l.same_page slot other h k);
+}
+
+has_on : (s t u : State) (Q : ℕ → Bool) → HaveTheSame s t Q → HaveTheSame t u Q → HaveTheSame s u Q
+has_on s t u Q l m = record {
+  live = λ q h. l.live q h ∙ m.live q h;
+  quota = λ q h. l.quota q h ∙ m.quota q h;
+  given = λ q h. l.given q h ∙ m.given q h;
+  children = λ q h. l.children q h ∙ m.children q h;
+  families = λ p q hp hq d. l.families p q hp hq d ∙ m.families p q hp hq d;
+  flags = λ slot h. l.flags slot h ∙ m.flags slot h;
+  offers = λ key h. l.offers key h ∙ m.offers key h;
+  pages = λ slot h. l.pages slot h ∙ m.pages slot h;
+  same_page = λ slot other h k. l.same_page slot other h k ∙ m.same_page slot other h k;
+}
+
+abbrev IsWellKept : State → (ℕ → Bool) → Type 0
+IsWellKept s Q = IsWellFormed s × IsFamily s Q
+
+pub families_hear_their_own : FamiliesHearTheirOwn
+families_hear_their_own s events w t C others v family family_t l within within_t alike =
+    hear_the_same HaveTheSame IsWellKept (λ _. KeepsWithin) (λ s Q x. x.1.live)
+    (λ s Q e x keeps. ((kept-next s e x.0).0, next_family s e Q x.0 x.1 keeps)) (λ s t Q l. l.live) has_back has_on
+    (λ s t e Q l keeps mine finds. family_told s t e Q l mine (keeps mine) finds)
+    (λ s t e Q x y l keeps mine finds. family_sees s t e Q x.0 y.0 l mine (keeps mine) finds)
+    (λ s e Q x keeps out. others_leave s e Q x.0 x.1 out)
+    events s t C others (w, family) (v, family_t) l within within_t alike

@@ -5,6 +5,7 @@ pub mod Consent
 pub mod Decided
 pub mod Discreet
 pub mod Ends
+pub mod Families
 pub mod Flags
 pub mod GivenUp
 pub mod Hearing

@@ -17,6 +17,7 @@ ghost use Rattle.address_space.specs.Spaces.{zeros};
 ghost use Rattle.phys_memory.specs.Bytes.{frame_bytes};
 ghost use Rattle.fault_handler.specs.Plans.{at_once, goes_on, plan_of, takes_no_frame};
 ghost use Rattle.kernel_calls.specs.Authority.{HearTheirOwn, KeepsBorders};
+ghost use Rattle.kernel_calls.specs.Families.{IsUnreached};
 ghost use Rattle.kernel_calls.specs.Isolation.{IsIsolated};
 ghost use Rattle.kernel_calls.specs.Machine.{answer, after, next, answers, end_of, completes, none_completes};
 ghost use Rattle.kernel_calls.specs.Decisions.{decision_of, charge_in, charge_after, plan_of_event};
@@ -289,8 +290,8 @@ impl Core {
     /// Carries out events in order, and writes the reply to each in its place. What a process is told that
     /// was made on the way, and that involves no other, is what it would be told alone. The members of any set
     /// are told what they would be told in any other run in which they ask and find the same, and others use no
-    /// channel to them; and a set that keeps to itself stays confined. Where each reply is a refusal or a fault,
-    /// nothing changes, and no byte of memory either.
+    /// channel to them; a set that keeps to itself stays confined; and such a family is told the same, whatever
+    /// others do. Where each reply is a refusal or a fault, nothing changes, and no byte of memory either.
     pub fn run(&mut self, events: &[Event], replies: &mut [Reply])
         requires { length events.now ≡ length replies.old }
         ensures replies { replies.new ≡ answers self.old.state events.now }
@@ -299,6 +300,7 @@ impl Core {
         ensures isolated { IsIsolated self.old.state events.now replies.new }
         ensures heard { HearTheirOwn self.old.state events.now replies.new }
         ensures borders { KeepsBorders self.old.state events.now self.new.state }
+        ensures unreached { IsUnreached self.old.state events.now replies.new }
         ensures kept { none_completes replies.new ≡ true → self.new ≡ self.old }
     {
         self.stands();

@@ -1,6 +1,7 @@
 //! Laws of the machine's runs. Each is the contract of a function that computes nothing.
 
 ghost use Rattle.kernel_calls.specs.Authority.{StatesStayWellFormed, RefusalsChangeNothing, SlotsAreKept, Integrity, NobodyTakesBack, SharingByConsent, SharingStays, OffersByOfferer, ExitsEnd, UnmapsEnd, OffersEnd, OffersStay, ChildrenAreTheirMakers, PlacesStay, MembersToldTheSame, OwnIsEnough, MembersSeeTheSame, OutsidersUnseen, MembersHearTheSame, RunsKeepBorders, OutsidersHearNothing};
+ghost use Rattle.kernel_calls.specs.Families.{FamiliesHearTheirOwn};
 ghost use Rattle.kernel_calls.specs.Isolation.{RunsAreIsolated, OthersMakeNoDifference};
 ghost use Rattle.kernel_calls.specs.Laws.{RunsStayWellFormed};
 ghost use Rattle.kernel_calls.specs.Kept.{KeptFind, KeptReply, KeptLoads, KeptStores};
@@ -102,8 +103,11 @@ pub fn members_see_their_own()
 /// offer but to members and for no accept but from members, refused ones too, stays so in every run, as a set of numbers
 /// and with all children that its members make; no run of events of others changes a member's place in the book, its
 /// pages or the offers that it made; and others learn nothing of what members have and do, but which numbers are free,
-/// as long as no child of theirs, and nobody to whom they offer a page, exits among the members. It computes nothing.
+/// as long as no child of theirs, and nobody to whom they offer a page, exits among the members. Such a set of live
+/// processes with all their children is told the same, whatever others do, but which numbers are free. It computes
+/// nothing.
 pub fn confined_processes_stay_confined()
     ensures borders { RunsKeepBorders }
     ensures unheard { OutsidersHearNothing }
+    ensures unreached { FamiliesHearTheirOwn }
 {}

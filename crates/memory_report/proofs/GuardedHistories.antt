@@ -1,10 +1,11 @@
 -- What members of sets are told in a legal history, and that confined sets stay so.
 use Rattle.std.proofs.Common.{◌≡◌, ℕ, List, ◌++◌, sym, ap, subst, ◌∙◌}
 use Rattle.kernel_calls.specs.Authority.{HearTheirOwn, KeepsBorders}
+use Rattle.kernel_calls.specs.Families.{IsUnreached}
 use Rattle.kernel_calls.specs.Machine.{end_of}
 use Rattle.kernel_calls.specs.declared.calls.Reply.{Reply}
 use Rattle.kernel_calls.proofs.Confined.{runs_keep_borders}
-use Rattle.kernel_calls.proofs.Hearing.{members_hear_the_same}
+use Rattle.kernel_calls.proofs.Hearing.{members_hear_the_same, families_hear_their_own}
 use Rattle.kernel_calls.proofs.Runs.{kept-run, end_of-append}
 use Rattle.memory_report.proofs.HistoryLemmas.{events-append, later_replies}
 use Rattle.memory_report.proofs.IsolatedHistories.{opens_well}
@@ -34,4 +35,8 @@ histories_guarded frames log h = record {
       subst (λ (t : State). KeepsBorders (state_after frames before) (events_of later) t)
       (goes_on_to frames log before later is)
       (runs_keep_borders (state_after frames before) (events_of later) (well_after frames log before h));
+  unreached = λ before later is.
+      subst (λ (replies : List Reply). IsUnreached (state_after frames before) (events_of later) replies)
+      (sym (later_replies frames before later (subst (Legal frames) is h)))
+      (families_hear_their_own (state_after frames before) (events_of later) (well_after frames log before h));
 }

@@ -2,6 +2,7 @@
 use Rattle.std.specs.Prelude.{◌≡◌, ◌≤◌, ℕ, ◌==◌, List, ◌∷◌, ◌++◌, map, length, filter, nat_lt, if◌then◌else◌}
 use Rattle.kernel_calls.specs.Authority.{HearTheirOwn, KeepsBorders}
 use Rattle.kernel_calls.specs.Decisions.{charge_after}
+use Rattle.kernel_calls.specs.Families.{IsUnreached}
 use Rattle.kernel_calls.specs.Isolation.{Exchange, IsIsolated}
 use Rattle.kernel_calls.specs.Machine.{answer, answers, end_of}
 use Rattle.kernel_calls.specs.declared.calls.Call.{Call}
@@ -31,13 +32,15 @@ exchanges_of log = map (λ e. (event_of e, e.reply)) log
 abbrev pub AreIsolated : ℕ → List LogEntry → Type 0
 AreIsolated frames log = IsIsolated (open_with frames) (events_of log) (replies_of log)
 
--- from each place of these entries on, the members of every set hear their own, and every set that keeps to itself stays
--- confined
+-- from each place of these entries on, the members of every set hear their own, every set that keeps to itself stays
+-- confined, and every such family is told the same, whatever others do
 pub record AreGuarded (frames : ℕ) (log : List LogEntry) : Type 0 where
   pub heard : (before later : List LogEntry) → log ≡ before ++ later
       → HearTheirOwn (state_after frames before) (events_of later) (replies_of later)
   pub borders : (before later : List LogEntry) → log ≡ before ++ later
       → KeepsBorders (state_after frames before) (events_of later) (state_after frames log)
+  pub unreached : (before later : List LogEntry) → log ≡ before ++ later
+      → IsUnreached (state_after frames before) (events_of later) (replies_of later)
 
 -- the entries of one CPU
 abbrev pub entries_of : ℕ → List LogEntry → List LogEntry

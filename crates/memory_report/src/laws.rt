@@ -23,8 +23,8 @@ pub fn histories_are_isolated()
 
 /// From each place of a legal history on, the members of any set are told what they would be told in any run from a state
 /// that looks the same to them, in which they ask and find the same and others use no channel to them; and a set that
-/// shares and offers nothing outside and keeps to itself stays so, and has from the calls of others what it had. It
-/// computes nothing.
+/// shares and offers nothing outside and keeps to itself stays so, has from the calls of others what it had, and is told
+/// the same, as a family, whatever others do. It computes nothing.
 pub fn histories_are_guarded()
     ensures { HistoriesAreGuarded }
 {}

@@ -1,0 +1,392 @@
+-- What a family that keeps within itself has, whatever others do, and what its members' events make of it.
+use Rattle.std.proofs.Common.{
+  ◌≡◌,
+  ◌≢◌,
+  ℕ,
+  ◌&&◌,
+  ◌||◌,
+  ◌==◌,
+  not,
+  Bool,
+  true,
+  false,
+  cond,
+  if◌then◌else◌,
+  refl,
+  sym,
+  ap,
+  subst,
+  ◌∙◌,
+  Option,
+  Some,
+  None,
+  is_some,
+  unwrap_or,
+  arith,
+  inl,
+  inr,
+}
+use Rattle.std.specs.Prelude.{◌⊎◌}
+use Rattle.std.specs.Option.{option_map}
+use Rattle.page_words.specs.FiniteMap as map
+use Rattle.page_words.specs.FiniteMap.{same}
+use Rattle.page_words.specs.FiniteSet as set
+use Rattle.page_words.proofs.MapLemmas.{get-insert, get-retain_keys}
+use Rattle.page_words.proofs.OptionLemmas.{some_value}
+use Rattle.address_space.specs.Spaces.{Slot, Cell, is_of, at_page, joined}
+use Rattle.quota_tree.specs.Book.{Book, Member, is_child, given, quota_of, number_of_children}
+use Rattle.page_sharing.specs.Offers.{OfferKey, offer_order, offer_of}
+use Rattle.process_table.specs.State.{State, is_live}
+use Rattle.process_table.specs.WellFormed.{IsWellFormed}
+use Rattle.process_table.proofs.BookLaws.{retained, parents_in}
+use Rattle.process_table.proofs.Sizes.{len-retain}
+use Rattle.kernel_calls.specs.Authority.{flags_of, shown_of, is_offered, is_child_of, HaveTheSame, Sees, LooksSame, found, members_after, keeps_within, KeepsWithin, IsAsBefore}
+use Rattle.kernel_calls.specs.Families.{IsFamily}
+use Rattle.kernel_calls.specs.Machine.{answer, after, next, completes}
+use Rattle.kernel_calls.specs.declared.calls.Call.{Call}
+use Rattle.kernel_calls.specs.declared.calls.Call.TheVariants as call
+use Rattle.kernel_calls.specs.declared.calls.Event.{Event}
+use Rattle.kernel_calls.proofs.Births.{place_of, child_dead, maker_of, children_are_their_makers, no_offer_by}
+use Rattle.kernel_calls.proofs.Confined.{next_confined, one_leaves}
+use Rattle.kernel_calls.proofs.Decided.{next-stays, next-goes}
+use Rattle.kernel_calls.proofs.Seen.{kept_offers}
+use Rattle.kernel_calls.proofs.SeenTogether.{members_see_the_same}
+use Rattle.kernel_calls.proofs.Untouched.{leaves_all}
+use Rattle.kernel_calls.proofs.Views.{HasTheSame, member_has, process_told}
+use borrow.Author.Tests.{eqb-true, eq-eqb}
+
+second : (a b : Bool) → (a && b) ≡ true → (a ≡ true) × (b ≡ true)
+second true b h = (refl, h)
+second false b h = cc
+
+-- ---- A child, by the book
+
+abbrev child_in : ℕ → ℕ → Option Member → Bool
+child_in p q x = unwrap_or (option_map (λ (m : Member). is_child p (q, m)) x) false
+
+-- who is a child has a place, and its parent
+child_place : (p q : ℕ) (x : Option Member) → child_in p q x ≡ true → (m : Member) × (x ≡ Some m) × (m.parent ≡ p)
+child_place p q None h = cc
+child_place p q (Some m) h = (m, refl, eqb-true m.parent p (second (not (q == 0)) (m.parent == p) h).1)
+
+-- ---- A family stays one
+
+module _ (s : State) (e : Event) (C : ℕ → Bool) (w : IsWellFormed s) (family : IsFamily s C) (keeps : KeepsWithin C e)
+  where
+    -- a child of a member that was there is a member, and so is a new one
+    child_member : (p q : ℕ) → members_after s C e p ≡ true → is_child_of (next s e) p q ≡ true
+        → members_after s C e q ≡ true
+    child_member p q member is = elim (place_of s e q) [
+      | inl same_place ↦ (
+          let m = child_place p q (map.get s.book q) (sym (ap (child_in p q) same_place) ∙ is) in
+          let parent = parents_in s w q m.0 m.1 in
+          let live_p : is_live s p ≡ true = ap (is_live s) (sym m.2) ∙ ap is_some parent.1 in
+          let live_q : is_live s q ≡ true = ap is_some m.1 in
+          let old : C p ≡ true = sym (λ i. if live_p i then C p else C e.pid) ∙ was.1 in
+          (λ i. now i && (if live_q i then C q else C e.pid))
+          ∙ family.children p q old (sym (ap (child_in p q) same_place) ∙ is))
+      | inr differs ↦ elim differs [
+        | inl born ↦ (
+            let b = children_are_their_makers s e q born in
+            let m = child_place p q (map.get (next s e).book q) is in
+            let mother : e.pid ≡ p = ap (λ (x : Option Member). (unwrap_or x m.0).parent) (sym b.member ∙ m.1) ∙ m.2 in
+            let live_p : is_live s p ≡ true = ap (is_live s) (sym mother) ∙ (maker_of s e q born).live in
+            let old : C p ≡ true = sym (λ i. if live_p i then C p else C e.pid) ∙ was.1 in
+            let dead = child_dead s e q born in
+            (λ i. now i && (if dead i then C q else C e.pid)) ∙ ap C mother ∙ old)
+        | inr gone ↦ absurd (let x = ap (child_in p q) gone.2 in let y = is in cc)
+      ]
+    ]
+      where
+        was : (is_live (next s e) p ≡ true) × ((if is_live s p then C p else C e.pid) ≡ true)
+        was = second (is_live (next s e) p) (if is_live s p then C p else C e.pid) member
+
+        now : is_live (next s e) q ≡ true
+        now = ap is_some (child_place p q (map.get (next s e).book q) is).1
+
+    pub next_family : IsFamily (next s e) (members_after s C e)
+    next_family = record {
+      confined = next_confined s e C (members_after s C e) w family.confined keeps
+          (λ p before after_it. (λ i. after_it i && (if before i then C p else C e.pid)));
+      live = λ p h. (second (is_live (next s e) p) (if is_live s p then C p else C e.pid) h).0;
+      children = child_member;
+    }
+
+-- ---- Events of others leave what it has
+
+module _ (s : State) (e : Event) (C : ℕ → Bool) (w : IsWellFormed s) (family : IsFamily s C) (out : C e.pid ≡ false)
+  where
+    before : (q : ℕ) → C q ≡ true → IsAsBefore s (next s e) q
+    before q h = one_leaves s e C q w family.confined h (family.live q h) out
+
+    abbrev GivesTheSame : ℕ → Type 0
+    GivesTheSame q = (given s.book q ≡ given (next s e).book q)
+        × (number_of_children s.book q ≡ number_of_children (next s e).book q)
+
+    gives_same : (q : ℕ) → C q ≡ true → GivesTheSame q
+    gives_same q h = let u = leaves_all s e q w (family.live q h) apart in elim u.given [
+      | inl same_given ↦ (sym same_given.0, sym same_given.1)
+      | inr exits ↦ absurd (let inside = family.children q e.pid h exits.0 in let o = out in cc)
+    ]
+      where
+        apart : q ≢ e.pid
+        apart x = let a = ap C x in let b = h in let o = out in cc
+
+    pub others_leave : HaveTheSame s (next s e) C
+    others_leave = record {
+      live = λ q h. sym (ap is_some (before q h).member);
+      quota = λ q h. sym (ap (λ (x : Option Member). unwrap_or (option_map (λ (m : Member). m.quota) x) 0)
+          (before q h).member);
+      given = λ q h. (gives_same q h).0;
+      children = λ q h. (gives_same q h).1;
+      families = λ p q hp hq d. sym (ap (child_in p q) (before q hq).member);
+      flags = λ slot h. sym (ap (option_map flags_of) ((before slot.pid h).pages slot.page));
+      offers = λ key h. sym ((before key.offerer h).offers key.page key.target);
+      pages = λ slot h. sym (ap (option_map shown_of) ((before slot.pid h).pages slot.page));
+      same_page = λ slot other h k. sym (ap (λ (x : Option Cell).
+          unwrap_or (option_map (λ (c : Cell). set.contains c.holders other) x) false)
+          ((before slot.pid h).pages slot.page));
+    }
+
+-- ---- States that are left with the offers of members alone
+
+abbrev by_member : (ℕ → Bool) → OfferKey → Bool
+by_member Q k = Q k.offerer
+
+abbrev within : (ℕ → Bool) → State → State
+within Q s = record s { offers = map.retain_keys s.offers (by_member Q) }
+
+well_within : (Q : ℕ → Bool) (s : State) → IsWellFormed s → IsWellFormed (within Q s)
+well_within Q s w = record {
+  root = w.root;
+  root_parent = w.root_parent;
+  processes = w.processes;
+  rooms = w.rooms;
+  owners = w.owners;
+  cells = w.cells;
+  offers = λ key right h.
+      let o = w.offers key right (retained s.offers (by_member Q) key right h).1 in
+      record { target = o.target; another = o.another; offered = o.offered };
+  few = λ p. let a = len-retain s.offers (by_member Q) (λ key. key.offerer == p) in let b = w.few p in omega (arith, a, b);
+}
+
+-- an offer by a member is there in both, and so is none by who isn't live
+offer_within : (Q : ℕ → Bool) (s : State) (key : OfferKey) → Q key.offerer ≡ true
+    → map.get (within Q s).offers key ≡ map.get s.offers key
+offer_within Q s key h = get-retain_keys s.offers (by_member Q) key ∙ ap (λ b. cond b (map.get s.offers key) None) h
+
+none_within : (Q : ℕ → Bool) (s : State) (key : OfferKey) → IsWellFormed s → is_live s key.offerer ≡ false
+    → map.get (within Q s).offers key ≡ map.get s.offers key
+none_within Q s key w dead =
+    no_offer_by (within Q s) key.offerer key.page key.target (well_within Q s w) dead
+    ∙ sym (no_offer_by s key.offerer key.page key.target w dead)
+
+module _ (s t : State) (Q : ℕ → Bool) (l : HaveTheSame s t Q) where
+  offers_within : (key : OfferKey) → map.get (within Q s).offers key ≡ map.get (within Q t).offers key
+  offers_within key =
+      get-retain_keys s.offers (by_member Q) key ∙ by (Q key.offerer) refl
+      ∙ sym (get-retain_keys t.offers (by_member Q) key)
+    where
+      by : (b : Bool) → Q key.offerer ≡ b → cond (Q key.offerer) (map.get s.offers key) None ≡ cond (Q key.offerer)
+          (map.get t.offers key) None
+      by true is = ap (cond (Q key.offerer) (map.get s.offers key)) refl
+          ∙ (λ i. cond (Q key.offerer) (l.offers key is i) None)
+      by false is = (λ i. cond (is i) (map.get s.offers key) None)
+          ∙ sym (λ i. cond (is i) (map.get t.offers key) None)
+
+  -- what is seen there is a member's own
+  own_within : (slot : Slot) → Sees (within Q s) Q slot → Q slot.pid ≡ true
+  own_within slot v = by (is_of v.0 slot) refl v.2
+    where
+      by : (b : Bool) → is_of v.0 slot ≡ b → (b || is_offered (within Q s) v.0 slot) ≡ true → Q slot.pid ≡ true
+      by true is h = ap Q (eqb-true slot.pid v.0 is) ∙ v.1
+      by false is h =
+          let r = some_value (map.get (within Q s).offers (offer_of slot.pid slot.page v.0)) h in
+          (retained s.offers (by_member Q) (offer_of slot.pid slot.page v.0) r.0 r.1).0
+
+  looks_within : LooksSame (within Q s) (within Q t) Q
+  looks_within = record {
+    live = l.live;
+    quota = l.quota;
+    given = l.given;
+    children = l.children;
+    families = l.families;
+    flags = l.flags;
+    offers = λ key h. offers_within key;
+    pages = λ slot v. l.pages slot (own_within slot v);
+    same_page = λ slot other v o. l.same_page slot other (own_within slot v) (own_within other o);
+  }
+
+-- ---- A member's event does the same there
+
+-- but for offers that differ before it
+record Follows (s u v : State) (Q : ℕ → Bool) : Type 0 where
+  spaces : u.spaces ≡ v.spaces
+  book : u.book ≡ v.book
+  offers : (key : OfferKey) → map.get (within Q s).offers key ≡ map.get s.offers key
+      → map.get u.offers key ≡ map.get v.offers key
+
+module _ (s : State) (e : Event) (Q : ℕ → Bool) (mine : Q e.pid ≡ true) (keeps : keeps_within Q e.call ≡ true) where
+  has_within : HasTheSame (within Q s) s e.pid
+  has_within = record {
+    live = refl;
+    quota = refl;
+    given = refl;
+    children = refl;
+    flags = λ page. refl;
+    pages = λ page. refl;
+    same_page = λ page other. refl;
+    made = λ page target. offer_within Q s (offer_of e.pid page target) mine;
+  }
+
+  told_within : answer (within Q s) e ≡ answer s e
+  told_within = process_told (within Q s) s e has_within refl
+      (λ giver page own is. ap is_some (offer_within Q s (offer_of giver page e.pid) (sym (ap (keeps_within Q) is)
+      ∙ keeps)))
+
+  after_within : (c : Call) → keeps_within Q c ≡ true → Follows s (after (within Q s) e.pid c) (after s e.pid c) Q
+  after_within (call.Load addr size) h = record { spaces = refl; book = refl; offers = λ key o. o }
+  after_within (call.Store addr size value) h = record { spaces = refl; book = refl; offers = λ key o. o }
+  after_within (call.Map page write) h = record { spaces = refl; book = refl; offers = λ key o. o }
+  after_within (call.Unmap page) h = record {
+    spaces = refl;
+    book = refl;
+    offers = λ key o. kept_offers (within Q s).offers s.offers
+        (λ (k : OfferKey). not ((k.offerer == e.pid) && (k.page == page))) key o;
+  }
+  after_within (call.Protect page write) h = record { spaces = refl; book = refl; offers = λ key o. o }
+  after_within (call.Info page) h = record { spaces = refl; book = refl; offers = λ key o. o }
+  after_within (call.Offer page target write) h = record {
+    spaces = refl;
+    book = refl;
+    offers = λ key o.
+        get-insert (within Q s).offers (offer_of e.pid page target) write key
+        ∙ (λ i. cond (same offer_order key (offer_of e.pid page target)) (Some write) (o i))
+        ∙ sym (get-insert s.offers (offer_of e.pid page target) write key);
+  }
+  after_within (call.Withdraw page target) h = record {
+    spaces = refl;
+    book = refl;
+    offers = λ key o. kept_offers (within Q s).offers s.offers
+        (λ k. not (same offer_order (offer_of e.pid page target) k)) key o;
+  }
+  after_within (call.Accept giver giver_page page) h = record {
+    spaces = ap (λ (x : Option Bool). joined s.spaces (at_page giver giver_page) (at_page e.pid page)
+        (unwrap_or x false)) (offer_within Q s (offer_of giver giver_page e.pid) h);
+    book = refl;
+    offers = λ key o. kept_offers (within Q s).offers s.offers
+        (λ k. not (same offer_order (offer_of giver giver_page e.pid) k)) key o;
+  }
+  after_within (call.Spawn quota) h = record { spaces = refl; book = refl; offers = λ key o. o }
+  after_within (call.Fork quota) h = record { spaces = refl; book = refl; offers = λ key o. o }
+  after_within call.Exit h = record {
+    spaces = refl;
+    book = refl;
+    offers = λ key o. kept_offers (within Q s).offers s.offers
+        (λ (k : OfferKey). not ((k.offerer == e.pid) || (k.target == e.pid))) key o;
+  }
+  after_within call.Quota h = record { spaces = refl; book = refl; offers = λ key o. o }
+
+  next_within : Follows s (next (within Q s) e) (next s e) Q
+  next_within = by (completes (answer s e)) refl
+    where
+      by : (b : Bool) → completes (answer s e) ≡ b → Follows s (next (within Q s) e) (next s e) Q
+      by true h =
+          subst (λ u. Follows s u (next s e) Q) (sym (next-goes (within Q s) e (ap completes told_within ∙ h)))
+          (subst (λ v. Follows s (after (within Q s) e.pid e.call) v Q) (sym (next-goes s e h))
+          (after_within e.call keeps))
+      by false h =
+          subst (λ u. Follows s u (next s e) Q) (sym (next-stays (within Q s) e (ap completes told_within ∙ h)))
+          (subst (λ v. Follows s (within Q s) v Q) (sym (next-stays s e h))
+          (record { spaces = refl; book = refl; offers = λ key o. o }))
+
+-- ---- So members have the same after a member's event
+
+pub family_told : (s t : State) (e : Event) (Q : ℕ → Bool) → HaveTheSame s t Q → Q e.pid ≡ true
+    → keeps_within Q e.call ≡ true → found s e.call ≡ found t e.call → answer s e ≡ answer t e
+family_told s t e Q l mine keeps finds = process_told s t e (member_has s t Q e.pid mine l) finds
+    (λ giver page own is. ap is_some (l.offers (offer_of giver page e.pid) (sym (ap (keeps_within Q) is) ∙ keeps)))
+
+module _ (s t : State) (e : Event) (Q : ℕ → Bool) (w : IsWellFormed s) (v : IsWellFormed t) (l : HaveTheSame s t Q)
+    (mine : Q e.pid ≡ true) (keeps : keeps_within Q e.call ≡ true) where
+  abbrev D : ℕ → Bool
+  D = members_after s Q e
+
+  one : Follows s (next (within Q s) e) (next s e) Q
+  one = next_within s e Q mine keeps
+
+  two : Follows t (next (within Q t) e) (next t e) Q
+  two = next_within t e Q mine keeps
+
+  sets : members_after (within Q s) Q e ≡ members_after s Q e
+  sets = λ i. λ p. map.contains_key (one.book i) p && (if is_live s p then Q p else Q e.pid)
+
+  -- who is a member then was one, or was live in neither state
+  offerer_of : found s e.call ≡ found t e.call → (p : ℕ) → D p ≡ true
+      → (Q p ≡ true) ⊎ ((is_live s p ≡ false) × (is_live t p ≡ false))
+  offerer_of finds p h = by (is_live s p) refl kept.1
+    where
+      kept : (is_live (next s e) p ≡ true) × ((if is_live s p then Q p else Q e.pid) ≡ true)
+      kept = second (is_live (next s e) p) (if is_live s p then Q p else Q e.pid) h
+
+      by : (b : Bool) → is_live s p ≡ b → (if b then Q p else Q e.pid) ≡ true
+          → (Q p ≡ true) ⊎ ((is_live s p ≡ false) × (is_live t p ≡ false))
+      by true is k = inl k
+      by false is k = elim (place_of s e p) [
+        | inl same_place ↦ absurd (let a = ap is_some same_place in let n = kept.0 in let f = is in cc)
+        | inr differs ↦ elim differs [
+          | inl born ↦ inr (is, child_dead t e p (sym (family_told s t e Q l mine keeps finds) ∙ born))
+          | inr gone ↦ absurd (let a = ap is_some gone.2 in let n = kept.0 in cc)
+        ]
+      ]
+
+  offers_same : (u : State) → IsWellFormed u → Follows u (next (within Q u) e) (next u e) Q → (key : OfferKey)
+      → (Q key.offerer ≡ true) ⊎ (is_live u key.offerer ≡ false)
+      → map.get (next (within Q u) e).offers key ≡ map.get (next u e).offers key
+  offers_same u x f key (inl by_them) = f.offers key (offer_within Q u key by_them)
+  offers_same u x f key (inr dead) = f.offers key (none_within Q u key x dead)
+
+  pub family_sees : found s e.call ≡ found t e.call → HaveTheSame (next s e) (next t e) (members_after s Q e)
+  family_sees finds =
+      let m : LooksSame (next (within Q s) e) (next (within Q t) e) D =
+      subst (λ C. LooksSame (next (within Q s) e) (next (within Q t) e) C) sets
+      (members_see_the_same (within Q s) (within Q t) e Q (well_within Q s w) (well_within Q t v)
+      (looks_within s t Q l) mine finds) in
+      record {
+        live = λ q h. sym (ap (λ (b : Book). map.contains_key b q) one.book) ∙ m.live q h
+            ∙ ap (λ (b : Book). map.contains_key b q) two.book;
+        quota = λ q h. sym (ap (λ (b : Book). quota_of b q) one.book) ∙ m.quota q h
+            ∙ ap (λ (b : Book). quota_of b q) two.book;
+        given = λ q h. sym (ap (λ (b : Book). given b q) one.book) ∙ m.given q h
+            ∙ ap (λ (b : Book). given b q) two.book;
+        children = λ q h. sym (ap (λ (b : Book). number_of_children b q) one.book) ∙ m.children q h
+            ∙ ap (λ (b : Book). number_of_children b q) two.book;
+        families = λ p q hp hq d. sym (ap (λ (b : Book). child_in p q (map.get b q)) one.book) ∙ m.families p q hp hq d
+            ∙ ap (λ (b : Book). child_in p q (map.get b q)) two.book;
+        flags = λ slot h. sym (ap (λ S. option_map flags_of (map.get S slot)) one.spaces) ∙ m.flags slot h
+            ∙ ap (λ S. option_map flags_of (map.get S slot)) two.spaces;
+        offers = λ key h. sym (offers_same s w one key (in_one (offerer_of finds key.offerer h)))
+            ∙ m.offers key (inl h) ∙ offers_same t v two key (in_two (offerer_of finds key.offerer h));
+        pages = λ slot h. sym (ap (λ S. option_map shown_of (map.get S slot)) one.spaces) ∙ m.pages slot (own slot h)
+            ∙ ap (λ S. option_map shown_of (map.get S slot)) two.spaces;
+        same_page = λ slot other h k.
+            sym (ap (λ S. unwrap_or (option_map (λ (c : Cell). set.contains c.holders other) (map.get S slot)) false)
+            one.spaces) ∙ m.same_page slot other (own slot h) (own other k)
+            ∙ ap (λ S. unwrap_or (option_map (λ (c : Cell). set.contains c.holders other) (map.get S slot)) false)
+            two.spaces;
+      }
+    where
+      in_one : {A B C : Type 0} → A ⊎ (B × C) → A ⊎ B
+      in_one (inl a) = inl a
+      in_one (inr b) = inr b.0
+
+      in_two : {A B C : Type 0} → A ⊎ (B × C) → A ⊎ C
+      in_two (inl a) = inl a
+      in_two (inr b) = inr b.1
+
+      own : (slot : Slot) → D slot.pid ≡ true → Sees (next (within Q s) e) D slot
+      own slot h = (
+        slot.pid,
+        h,
+        ap (λ b. b || is_offered (next (within Q s) e) slot.pid slot) (eq-eqb slot.pid slot.pid refl),
+      )

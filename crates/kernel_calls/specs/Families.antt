@@ -1,0 +1,28 @@
+-- Families of processes that keep to themselves, whatever all others do.
+use Rattle.std.proofs.Common.{◌≡◌, ℕ, Bool, true, List}
+use Rattle.std.specs.List.{zip}
+use Rattle.process_table.specs.State.{State, is_live}
+use Rattle.process_table.specs.WellFormed.{IsWellFormed}
+use Rattle.kernel_calls.specs.Authority.{is_child_of, HaveTheSame, IsConfined, KeepsWithin, Along, AskAlike, heard}
+use Rattle.kernel_calls.specs.Isolation.{exchanges}
+use Rattle.kernel_calls.specs.Machine.{answers}
+use Rattle.kernel_calls.specs.declared.calls.Event.{Event}
+use Rattle.kernel_calls.specs.declared.calls.Reply.{Reply}
+
+-- a confined set of live processes, with all their children
+pub record IsFamily (s : State) (C : ℕ → Bool) : Type 0 where
+  pub confined : IsConfined s C
+  pub live : (p : ℕ) → C p ≡ true → is_live s p ≡ true
+  pub children : (p q : ℕ) → C p ≡ true → is_child_of s p q ≡ true → C q ≡ true
+
+-- in a run with these replies a family that keeps within itself, with all children that it makes, is told what it is
+-- told in any other, from a state in which it has the same, in which it asks and finds alike, whatever others do
+abbrev pub IsUnreached : State → List Event → List Reply → Type 0
+IsUnreached s events replies = (t : State) (C : ℕ → Bool) (other : List Event) → IsWellFormed t
+    → IsFamily s C → IsFamily t C → HaveTheSame s t C
+    → Along (λ _. KeepsWithin) s C events → Along (λ _. KeepsWithin) t C other
+    → AskAlike (heard s C (zip events replies)) (heard t C (exchanges t other))
+    → heard s C (zip events replies) ≡ heard t C (exchanges t other)
+
+abbrev pub FamiliesHearTheirOwn : Type 0
+FamiliesHearTheirOwn = (s : State) (events : List Event) → IsWellFormed s → IsUnreached s events (answers s events)
