@@ -47,14 +47,13 @@ extern const struct {
     const uint8_t *begin, *end;
 } programs[PROGRAMS];
 
-/* That whatever the processor may keep of a live process is what the walks give. */
+/* That each identifier is a live process's, and whatever the processor may keep under it is what the walks give. */
 static void all_kept_is_given(void) {
     for (uint32_t pid = 0; pid < TOWER_PROCESSES; pid++) {
-        uint32_t directory;
-        if (translations.identifiers[pid] && tower_directory(&tower, pid, &directory)) {
-            need(cache_is_given(translations.identifiers[pid], directory),
-                 "all that may be kept is what the walks give");
-        }
+        uint32_t directory = 0, identifier = translations.identifiers[pid];
+        bool is_live = tower_directory(&tower, pid, &directory);
+        need(!identifier || is_live, "a process that is gone has no identifier");
+        need(!identifier || cache_is_given(identifier, directory), "all that may be kept is what the walks give");
     }
 }
 
