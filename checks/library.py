@@ -47,6 +47,11 @@ class End(ctypes.Structure):
     _fields_ = [(name, ctypes.c_uint32) for name in ("kind", "frame", "code")]
 
 
+class Translations(ctypes.Structure):
+    """Those that an event ends."""
+    _fields_ = [(name, ctypes.c_uint32) for name in ("kind", "pid", "first", "second")]
+
+
 class Block(ctypes.Structure):
     _fields_ = [("begins", ctypes.c_void_p), ("length", ctypes.c_size_t)]
 
@@ -57,7 +62,7 @@ def built(archive, folder):
     subprocess.run(["gcc", "-shared", "-fPIC", "-O2", f"-I{c}/include", "-o", made, ROOT / "checks" / "look.c", c / "heap.c",
                     "-Wl,--whole-archive", archive, "-Wl,--no-whole-archive"], check=True)
     library = ctypes.CDLL(made)
-    for name in ("step", "run", "directory", "container", "role", "walk", "copy_frame", "memory"):
+    for name in ("step", "step_ending", "ends", "run", "directory", "container", "role", "walk", "copy_frame", "memory"):
         getattr(library, "tower_" + name).restype = ctypes.c_bool
     return library
 
@@ -104,6 +109,16 @@ def reply_of(answer):
     if kind == "refused":
         return Reply(kind, (CAUSES.get(numbers[0], numbers[0]),))
     return Reply(kind, tuple(numbers[:TELLS[answer.kind]]))
+
+
+def ended_of(told):
+    """What was ended, as machine.py has it; what its kind does not tell has to be 0."""
+    tells = [(0, 0, 0), (told.pid, told.first, 0), (told.pid, told.first, told.second), (told.pid, 0, 0)]
+    if told.kind > 3 or (told.pid, told.first, told.second) != tells[told.kind]:
+        return machine.Ended("no ending", told.pid, (told.kind, told.first, told.second))
+    if told.kind == 3:
+        return machine.Ended("space", told.pid)
+    return machine.of_pages(told.pid, (told.first, told.second)[:told.kind])
 
 
 def listed(array):
@@ -160,6 +175,18 @@ class Core:
         if not self.library.tower_step(ctypes.byref(self.handle), ctypes.byref(numbers), ctypes.byref(answer)):
             return Reply("none")
         return reply_of(answer)
+
+    def ends(self, numbers):
+        """What an event will end, or None where they are the numbers of none."""
+        told = Translations(99, 99, 99, 99)
+        asked = ctypes.byref(self.handle), ctypes.byref(numbers), ctypes.byref(told)
+        return ended_of(told) if self.library.tower_ends(*asked) else None
+
+    def step_ending(self, numbers):
+        """The reply to an event, and what it ended."""
+        answer, told = Answer(99, 99, 99, 99, True, True, True, True), Translations(99, 99, 99, 99)
+        asked = map(ctypes.byref, (self.handle, numbers, answer, told))
+        return [reply_of(answer), ended_of(told)] if self.library.tower_step_ending(*asked) else [Reply("none")]
 
     def run(self, events):
         count = ctypes.c_size_t(len(events))

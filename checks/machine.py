@@ -317,6 +317,52 @@ def walk(word, frames, directory, address, write):
     return Walk("frame", second >> 12) if second >> 12 < frames else Walk("outside")
 
 
+# Translations
+
+class Ended(NamedTuple):
+    """The translations that an event ended: none, those of some pages of a process, or all of it."""
+    kind: str
+    process: int = 0
+    pages: tuple = ()
+
+
+NOTHING = Ended("nothing")
+
+
+def of_pages(number, pages):
+    return Ended("pages", number, tuple(pages)) if pages else NOTHING
+
+
+def lazy(process, pages):
+    """Those of these pages that are mapped and lazy, each once."""
+    cells = [(page, process.cell(page)) for page in dict.fromkeys(pages)]
+    return [page for page, cell in cells if cell and not cell.group.real]
+
+
+def ends_where_done(state, number, call, operands):
+    """What a call ends where it completes, by the state before it."""
+    if call == "accept" and operands[0] in state.live:
+        return of_pages(operands[0], lazy(state.live[operands[0]], operands[1:2]))
+    if call == "store":
+        address, size = operands[:2]
+        return of_pages(number, lazy(state.live[number], (place // 4096 for place in range(address, address + size))))
+    if call == "unmap":
+        return of_pages(number, operands)
+    if call == "protect":
+        page, write = operands
+        cell = state.live[number].cell(page)
+        return of_pages(number, [page] if cell and cell.write and cell.group.real and not write else [])
+    return Ended("space", number) if call == "exit" else NOTHING
+
+
+def step_ending(state, event):
+    """Carries out a call: its reply, and what it ended."""
+    is_live = event.process in state.live
+    ended = ends_where_done(state, event.process, event.call, event.operands) if is_live else NOTHING
+    reply = step(state, event)
+    return reply, NOTHING if reply.kind in ("refused", "fault") else ended
+
+
 # Scripts
 
 KINDS = {"ADDR": rb"[0-9a-fA-F]{1,8}", "PAGE": rb"[0-9a-fA-F]{1,8}", "VALUE": rb"[0-9a-fA-F]{1,8}",

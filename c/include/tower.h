@@ -221,6 +221,13 @@ bool tower_run(struct tower *tower, const struct tower_event *events, size_t eve
  * the numbers are no event: nothing is written then. */
 bool tower_ends(const struct tower *tower, const struct tower_event *event, struct tower_ended *ended);
 
+/* Carries out one event, as tower_step does, and tells what tower_ends would have told before it: whoever keeps
+ * what walks gave invalidates these, on all processors, before any access or event that comes next. Nothing, where
+ * the event was refused, faulted or was no event. False where the handle has no core: nothing is written then. What
+ * was ended is the kernel's, and not to be passed on to a process. */
+bool tower_step_ending(struct tower *tower, const struct tower_event *event, struct tower_reply *reply,
+                       struct tower_ended *ended);
+
 /* How many frames the core has, and 0 where the handle has none. */
 uint32_t tower_frames(const struct tower *tower);
 

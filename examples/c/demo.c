@@ -108,7 +108,24 @@ static void shares(void) {
     expect(walk_faults(pid, ADDRESS, false, 4), "and which lead to no other page");
 }
 
+/* A page that was loaded and never stored to has no frame yet. Its accept gives it one: what ends is the giver's
+ * translation, and none of the caller's. */
+static void tells_what_ends(void) {
+    enum { LAZY = PAGE + 1 };
+    struct tower_event accept = {.pid = 1, .call = TOWER_ACCEPT, .first = LAZY, .second = 0, .third = OTHER_PAGE + 1};
+    struct tower_reply reply = {0};
+    struct tower_ended before = {0}, ended = {0};
+    expect(is_done((struct tower_event){.call = TOWER_OFFER, .first = LAZY, .second = 1}), "a page with no frame is offered");
+    expect(tower_ends(&tower, &accept, &before) && before.kind == TOWER_ENDS_PAGE && before.pid == 0 && before.first == LAZY,
+           "its accept will end the giver's translation");
+    expect(tower_step_ending(&tower, &accept, &reply, &ended) && reply.kind == TOWER_DONE, "it is accepted");
+    expect(memcmp(&ended, &before, sizeof ended) == 0, "and ends what was told");
+    expect(tower_step_ending(&tower, &accept, &reply, &ended) && reply.kind == TOWER_REFUSED && ended.kind == TOWER_ENDS_NOTHING,
+           "what is refused ends none");
+}
+
 static void asks(void) {
+    struct tower_memory memory = {0};
     struct tower_container container = {0};
     struct tower_role role = {0};
     uint32_t directory = 0;
@@ -119,6 +136,7 @@ static void asks(void) {
     expect(role.kind == TOWER_FRAME_DIRECTORY && role.pid == 0, "and it is process 0's");
     expect(!tower_role(&tower, 64, &role) && !tower_directory(&tower, 64, &directory), "no frame or process 64");
     expect(!tower_copy_frame(&tower, 0, little, sizeof little), "100 bytes are no room for a frame");
+    expect(tower_memory(&tower, &memory) && memory.length == 64 * TOWER_FRAME_BYTES, "its memory is that of 64 frames");
     expect(tower_version() == TOWER_VERSION, "header and library are of one version");
     expect(strcmp(tower_cause_name(TOWER_OVER_QUOTA), "Quota") == 0 && !*tower_cause_name(3), "causes have names");
 }
@@ -137,6 +155,7 @@ int main(void) {
     boots();
     maps_and_loads();
     shares();
+    tells_what_ends();
     asks();
     runs();
     tower_free(&tower);

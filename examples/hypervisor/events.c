@@ -1,20 +1,42 @@
+#include "cache.h"
 #include "machine.h"
 #include "probe.h"
+#include "translations.h"
 #include "trial.h"
 #include "walk.h"
+#include "wrong.h"
 
-enum { PROCESSES = 64, LIVE = 6 };
+/* Processes that make calls: the root and those behind process 1, which has what the root's quota has over ROOM and a
+ * frame, so that the trial is the same on any number of frames. */
+enum { PROCESSES = 64, LIVE = 7, ROOM = 62 };
 
-/* Two cores: the processor makes accesses over the tables of the first, the second is told each as an event. */
-static struct tower *walked, mirror = TOWER_NONE;
-static uint8_t *walked_memory, *mirror_memory;
+/* A core, and what the processors over it keep: none of them is over the last. */
+struct machine {
+    struct tower *core;
+    uint8_t *memory;
+    struct translations *kept;
+};
+
+/* The processor makes accesses over the tables of the first core, processors in software, which forget nothing untold,
+ * over those of the second. The third is told of each as an event. */
+static struct tower second = TOWER_NONE, third = TOWER_NONE;
+static struct translations by_processor = {svm_forget_page, svm_forget_all, .most = 0};
+static struct translations in_software = {cache_forget_page, cache_forget_all, .most = CACHE_IDENTIFIERS};
+static struct machine walked = {.kept = &by_processor}, cached = {.core = &second, .kept = &in_software};
+static struct machine mirror = {.core = &third};
+
 static uint32_t calls, alone, mended, faulted, refused, split, early;
 static bool has_stub[PROCESSES];
 
-static struct tower_reply on(struct tower *core, uint32_t pid, struct tower_event event) {
+/* An event. What it ended is invalidated, by what a wrong version takes it for on the processors in software. */
+static struct tower_reply on(struct machine *it, uint32_t pid, struct tower_event event) {
     struct tower_reply reply = {0};
+    struct tower_ended ended = {0};
     event.pid = (uint8_t)pid;
-    need(tower_step(core, &event, &reply), "a core answers");
+    need(tower_step_ending(it->core, &event, &reply, &ended), "a core answers");
+    if (it->kept) {
+        invalidate(it->kept, it == &cached ? taken_for(&event, ended) : ended);
+    }
     return reply;
 }
 
@@ -23,39 +45,43 @@ static bool same(struct tower_reply a, struct tower_reply b) {
            a.may == b.may && a.accessed == b.accessed && a.dirty == b.dirty;
 }
 
-static struct tower_reply both(uint32_t pid, struct tower_event event) {
-    struct tower_reply reply = on(walked, pid, event);
-    need(same(reply, on(&mirror, pid, event)), "the two cores answer a call alike");
+static struct tower_reply on_each(uint32_t pid, struct tower_event event) {
+    struct tower_reply reply = on(&mirror, pid, event);
+    need(same(reply, on(&walked, pid, event)), "the two cores answer a call alike");
+    need(same(reply, on(&cached, pid, event)), "a core below what is kept answers a call alike");
     return reply;
 }
 
-/* The processor stopped at a byte of an access: that is where the walk ends. The core is asked for the byte. */
-static struct tower_reply mend(uint32_t pid, uint32_t directory) {
-    uint32_t at = svm_fault_address(probe()), code = svm_fault_code(probe());
+/* A processor stopped at a byte of an access: that is where the walk ends. The core is asked for the byte. */
+static struct tower_reply mend(struct machine *it, uint32_t pid, uint32_t at, uint32_t code) {
+    uint32_t directory = 0;
     bool writes = code & 2;
-    struct walk walk = walk_of(walked_memory, FRAMES, directory, at, writes);
-    need(walk.kind == WALK_FAULT && walk.code == code, "the processor faults as the walk does");
+    need(tower_directory(it->core, pid, &directory), "a process has a directory");
+    struct walk walk = walk_of(it->memory, FRAMES, directory, at, writes);
+    need(walk.kind == WALK_FAULT && walk.code == code, "a processor faults as the walk does");
     struct tower_reply reply =
-        on(walked, pid, (struct tower_event){.call = writes ? TOWER_STORE : TOWER_LOAD, .flag = 1, .first = at});
-    if (reply.kind == TOWER_FAULT) {
-        need(reply.first == at && reply.second == code, "the processor faults as the core does");
-        faulted++;
-    }
-    refused += reply.kind == TOWER_REFUSED;
+        on(it, pid, (struct tower_event){.call = writes ? TOWER_STORE : TOWER_LOAD, .flag = 1, .first = at});
+    bool is_same = reply.first == at && reply.second == code;
+    need(reply.kind != TOWER_FAULT || is_same, "a processor faults as the core does");
     return reply;
+}
+
+static bool is_end(struct tower_reply reply) {
+    return reply.kind == TOWER_FAULT || reply.kind == TOWER_REFUSED;
 }
 
 /* An access by the processor, mended by its core. */
-static struct tower_reply by_processor(uint32_t pid, uint32_t entry, uint32_t address, uint32_t value) {
+static struct tower_reply on_processor(uint32_t pid, uint32_t entry, uint32_t address, uint32_t value) {
     uint32_t directory = 0, faults = 0;
-    need(tower_directory(walked, pid, &directory), "a process has a directory");
+    need(tower_directory(walked.core, pid, &directory), "a process has a directory");
     open_probe(directory, entry, address, value);
     uint64_t exit;
-    while ((exit = run_probe()) == EXIT_PAGE_FAULT) {
+    while ((exit = run_probe(identifier_of(walked.kept, pid))) == EXIT_PAGE_FAULT) {
         need(svm_fault_address(probe()) - address < 4 && ++faults <= 2,
              "a fault is the access's own, and no access has more than two");
-        struct tower_reply reply = mend(pid, directory);
-        if (reply.kind == TOWER_FAULT || reply.kind == TOWER_REFUSED) {
+        struct tower_reply reply = mend(&walked, pid, svm_fault_address(probe()), svm_fault_code(probe()));
+        if (is_end(reply)) {
+            *(reply.kind == TOWER_FAULT ? &faulted : &refused) += 1;
             return reply;
         }
     }
@@ -65,25 +91,70 @@ static struct tower_reply by_processor(uint32_t pid, uint32_t entry, uint32_t ad
                            : (struct tower_reply){.kind = TOWER_VALUE, .first = svm_eax(probe())};
 }
 
-/* An access as events: one, or for an addition a load and a store of the sum. */
-static struct tower_reply by_events(uint32_t pid, uint32_t entry, uint32_t address, uint32_t value) {
+/* A load or a store by a processor in software, mended by its core. */
+static struct tower_reply on_cache(uint32_t pid, uint32_t cpu, struct tower_event event) {
+    struct access it = {.cpu = cpu, .is_store = event.call == TOWER_STORE, .size = event.flag, .value = event.second};
+    need(tower_directory(cached.core, pid, &it.directory), "a process has a directory");
+    for (uint32_t faults = 0;; faults++) {
+        it.identifier = identifier_of(cached.kept, pid);
+        it.address = event.first;
+        struct walk end = cache_access(&it);
+        if (end.kind == WALK_FOUND) {
+            return it.is_store ? (struct tower_reply){.kind = TOWER_DONE}
+                               : (struct tower_reply){.kind = TOWER_VALUE, .first = it.value};
+        }
+        need(faults < 2, "no access has more than two faults");
+        struct tower_reply reply = mend(&cached, pid, it.address, end.code);
+        if (is_end(reply)) {
+            return reply;
+        }
+    }
+}
+
+static struct tower_reply told(uint32_t pid, uint32_t cpu, struct tower_event event) {
+    (void)cpu;
+    return on(&mirror, pid, event);
+}
+
+/* An access as events, or by a processor in software: one, or for an addition a load and a store of the sum. */
+static struct tower_reply in_parts(struct tower_reply (*make)(uint32_t pid, uint32_t cpu, struct tower_event event),
+                                   uint32_t pid, uint32_t cpu, uint32_t entry, uint32_t address, uint32_t value) {
     uint8_t size = entry == LOAD1 || entry == STORE1 ? 1 : 4;
     struct tower_event load = {.call = TOWER_LOAD, .flag = size, .first = address};
     struct tower_event store = {.call = TOWER_STORE, .flag = size, .first = address, .second = value};
     if (entry == ADD4) {
-        struct tower_reply loaded = on(&mirror, pid, load);
+        struct tower_reply loaded = make(pid, cpu, load);
         if (loaded.kind != TOWER_VALUE) {
             return loaded;
         }
         store.second += loaded.first;
     }
-    return on(&mirror, pid, entry >= STORE4 ? store : load);
+    return make(pid, cpu, entry >= STORE4 ? store : load);
 }
 
 /* A page that a load, or a store, of this process completes in, whatever its quota. */
 static bool is_open(uint32_t pid, uint32_t address, bool is_store) {
-    struct tower_reply info = both(pid, (struct tower_event){.call = TOWER_INFO, .first = address >> 12});
+    struct tower_reply info = on_each(pid, (struct tower_event){.call = TOWER_INFO, .first = address >> 12});
     return info.kind == TOWER_FLAGS && (!is_store || info.write);
+}
+
+static void access_by_all(uint32_t pid, uint32_t entry, uint32_t address, uint32_t value) {
+    struct tower_event fetch = {.call = TOWER_LOAD, .flag = 1, .first = STUB_AT};
+    uint32_t cpu = random(CACHES);
+    /* The processor fetches the instruction, too. */
+    struct tower_reply fetched = on(&mirror, pid, fetch);
+    need(fetched.kind == TOWER_VALUE, "a process has the code");
+    need(same(on_cache(pid, cpu, fetch), fetched), "a load by what is kept gives what the event does");
+    struct tower_reply expected = in_parts(told, pid, cpu, entry, address, value);
+    need(same(on_processor(pid, entry, address, value), expected),
+         "the processor's access comes to what the event does");
+    need(same(in_parts(on_cache, pid, cpu, entry, address, value), expected),
+         "an access by what is kept comes to what the event does");
+}
+
+/* A place in a page: one of so many times at its end, else half of the time among the first, where others access too. */
+static uint32_t random_offset(uint32_t times) {
+    return random(times) == 0 ? 4093 + random(3) : random(2) ? random(16) : random(4096);
 }
 
 /* An access at any place of a page. One that lies in two pages and does not come through is left out: what the
@@ -92,7 +163,7 @@ static void access(uint32_t pid, uint32_t page) {
     static const uint32_t entries[] = {LOAD4, LOAD1, STORE4, STORE1, ADD4};
     uint32_t entry = entries[random(5)], value = random(0xffffffff);
     bool is_store = entry >= STORE4, is_byte = entry == LOAD1 || entry == STORE1;
-    uint32_t offset = random(4) ? random(4096) : 4093 + random(3);
+    uint32_t offset = random_offset(4);
     if (!is_byte && (entry == ADD4 || (offset < 4093 && random(2)))) {
         offset &= ~3u;
     }
@@ -102,108 +173,213 @@ static void access(uint32_t pid, uint32_t page) {
         return;
     }
     split += is_split;
-    /* The mirror is told of the instruction's fetch, too. */
-    need(on(&mirror, pid, (struct tower_event){.call = TOWER_LOAD, .flag = 1, .first = STUB_AT}).kind == TOWER_VALUE,
-         "a process has the code");
-    struct tower_reply expected = by_events(pid, entry, address, value);
-    need(same(by_processor(pid, entry, address, value), expected), "the processor's access comes to what the event does");
+    access_by_all(pid, entry, address, value);
 }
 
-/* The words of a frame agree, but for accessed in a directory, which the processor sets as it walks. */
+/* The words of a frame agree, but for accessed in a directory, which a processor sets as it walks. */
 static void compare_words(uint32_t frame, bool is_directory) {
-    uint32_t *mine = (uint32_t *)(walked_memory + (size_t)frame * FRAME);
-    uint32_t *its = (uint32_t *)(mirror_memory + (size_t)frame * FRAME);
+    uint32_t *mine = (uint32_t *)(walked.memory + (size_t)frame * FRAME);
+    uint32_t *kept = (uint32_t *)(cached.memory + (size_t)frame * FRAME);
+    uint32_t *its = (uint32_t *)(mirror.memory + (size_t)frame * FRAME);
     for (uint32_t i = 0; i < FRAME / 4; i++) {
-        if (mine[i] == its[i]) {
+        if (mine[i] == its[i] && kept[i] == its[i]) {
             continue;
         }
-        need(is_directory && (mine[i] | ACCESSED) == (its[i] | ACCESSED), "all of memory agrees");
-        early++;
+        need(is_directory || mine[i] == its[i], "all of memory agrees");
+        need(is_directory || kept[i] == its[i], "all of memory below what is kept agrees");
+        need((mine[i] | ACCESSED) == (its[i] | ACCESSED), "a directory agrees, but for accessed");
+        need((kept[i] | ACCESSED) == (its[i] | ACCESSED), "a directory below what is kept agrees, but for accessed");
+        early += mine[i] != its[i];
         its[i] = mine[i];
     }
+}
+
+/* Whether a frame is the same in all three memories. */
+static bool same_frames(uint32_t frame) {
+    const uint64_t *mine = (const uint64_t *)(walked.memory + (size_t)frame * FRAME);
+    const uint64_t *kept = (const uint64_t *)(cached.memory + (size_t)frame * FRAME);
+    const uint64_t *its = (const uint64_t *)(mirror.memory + (size_t)frame * FRAME);
+    uint64_t differ = 0;
+    for (uint32_t i = 0; i < FRAME / 8; i++) {
+        differ |= (mine[i] ^ its[i]) | (kept[i] ^ its[i]);
+    }
+    return differ == 0;
+}
+
+static bool same_roles(struct tower_role a, struct tower_role b) {
+    return a.kind == b.kind && a.pid == b.pid && a.slot == b.slot && a.count == b.count;
+}
+
+static bool same_containers(struct tower_container a, struct tower_container b) {
+    return a.parent == b.parent && a.quota == b.quota && a.used == b.used && a.given == b.given &&
+           a.children == b.children;
 }
 
 /* Directories and tables, or all frames, roles and containers. */
 static void compare(bool all) {
     for (uint32_t frame = 0; frame < FRAMES; frame++) {
-        struct tower_role role, other;
-        need(tower_role(walked, frame, &role) && tower_role(&mirror, frame, &other), "a frame has a role");
-        need(role.kind == other.kind && role.pid == other.pid && role.slot == other.slot && role.count == other.count,
-             "a frame's roles agree");
+        struct tower_role role, kept, its;
+        need(tower_role(walked.core, frame, &role) && tower_role(cached.core, frame, &kept) &&
+                 tower_role(mirror.core, frame, &its), "a frame has a role");
+        need(same_roles(role, its) && same_roles(kept, its), "a frame's roles agree");
         bool is_directory = role.kind == TOWER_FRAME_DIRECTORY;
-        if (all || is_directory || role.kind == TOWER_FRAME_TABLE) {
+        if ((all || is_directory || role.kind == TOWER_FRAME_TABLE) && !same_frames(frame)) {
             compare_words(frame, is_directory);
         }
     }
     for (uint32_t pid = 0; all && pid < PROCESSES; pid++) {
-        struct tower_container a = {0}, b = {0};
-        need(tower_container(walked, pid, &a) == tower_container(&mirror, pid, &b) && a.parent == b.parent &&
-                 a.quota == b.quota && a.used == b.used && a.given == b.given, "a process's containers agree");
+        struct tower_container a = {0}, b = {0}, c = {0};
+        bool is_live = tower_container(mirror.core, pid, &a);
+        need(tower_container(walked.core, pid, &b) == is_live && tower_container(cached.core, pid, &c) == is_live &&
+                 same_containers(a, b) && same_containers(a, c), "a process's containers agree");
     }
+}
+
+static uint32_t random_process(void) {
+    uint32_t pid = random(LIVE - 1);
+    return pid ? pid + 1 : 0;
 }
 
 static uint32_t random_page(void) {
     static const uint32_t pages[] = {0x40001, 0x40002, 0x50000, 0x50001, 0x50400, 0x60000, 0xefffe, 0xeffff,
                                      0x3ffff, 0xf0000, 0x00000, 0xfffff};
-    return pages[random(random(8) ? 8 : 12)];
+    return pages[random(random(4) ? 4 : random(8) ? 8 : 12)];
 }
 
 /* A child with the page of code: one that was spawned accepts it, a copy has one of its own. */
 static void make_child(uint32_t pid) {
     bool copies = random(2);
     struct tower_event event = {.call = copies ? TOWER_FORK : TOWER_SPAWN, .first = random(8) ? 4 + random(14) : random(3)};
-    struct tower_reply child = both(pid, event);
+    struct tower_reply child = on_each(pid, event);
     if (child.kind != TOWER_CHILD) {
         return;
     }
     if (child.first >= LIVE) {
-        both(child.first, (struct tower_event){.call = TOWER_EXIT});
+        on_each(child.first, (struct tower_event){.call = TOWER_EXIT});
     } else if (copies) {
         has_stub[child.first] = has_stub[pid];
     } else {
-        both(0, (struct tower_event){.call = TOWER_OFFER, .first = STUB_PAGE, .second = child.first});
+        on_each(0, (struct tower_event){.call = TOWER_OFFER, .first = STUB_PAGE, .second = child.first});
         struct tower_event accept = {.call = TOWER_ACCEPT, .first = STUB_PAGE, .third = STUB_PAGE};
-        has_stub[child.first] = both(child.first, accept).kind == TOWER_DONE;
+        has_stub[child.first] = on_each(child.first, accept).kind == TOWER_DONE;
+    }
+}
+
+/* A page anew, loaded and not stored to: processors may keep frame 0 for it. */
+static void load_anew(uint32_t pid, uint32_t page) {
+    if (has_stub[pid] && page != STUB_PAGE) {
+        on_each(pid, (struct tower_event){.call = TOWER_UNMAP, .first = page});
+        access_by_all(pid, LOAD4, page << 12, 0);
+    }
+}
+
+/* An access that the kernel makes for a process, as a loader does: an event of each core, half of them in two pages. */
+static void kernels_access(uint32_t pid) {
+    uint32_t page = random_page(), offset = random_offset(2);
+    if (random(2)) {
+        load_anew(pid, page);
+        load_anew(pid, page + 1);
+    }
+    on_each(pid, (struct tower_event){.call = random(3) ? TOWER_STORE : TOWER_LOAD, .flag = 4,
+                                      .first = page << 12 | offset, .second = random(0xffffffff)});
+}
+
+/* The last offer, which is accepted more often than others; its page may have been loaded alone. */
+static struct {
+    uint32_t giver, page, target;
+} offered;
+
+static void accept_offered(void) {
+    uint32_t own = random_page();
+    on_each(offered.target, (struct tower_event){.call = TOWER_UNMAP, .first = own});
+    on_each(offered.target, (struct tower_event){.call = TOWER_ACCEPT, .first = offered.page, .second = offered.giver,
+                                                 .third = own});
+}
+
+static void plain_call(uint32_t pid, uint8_t call) {
+    struct tower_event event = {.call = call, .flag = (uint8_t)random(2), .first = random_page(),
+                                .second = random_process()};
+    event.third = random_page();
+    if (call == TOWER_OFFER && random(2)) {
+        load_anew(pid, event.first);
+    }
+    if (on_each(pid, event).kind != TOWER_DONE) {
+        return;
+    }
+    has_stub[pid] = has_stub[pid] && call != TOWER_EXIT;
+    if (call == TOWER_OFFER) {
+        offered.giver = pid;
+        offered.page = event.first;
+        offered.target = event.second;
+        if (random(2)) {
+            accept_offered();
+        }
     }
 }
 
 static void other_call(uint32_t pid) {
-    static const uint8_t asked[] = {TOWER_MAP, TOWER_UNMAP, TOWER_UNMAP, TOWER_PROTECT, TOWER_INFO, TOWER_OFFER,
-                                    TOWER_OFFER, TOWER_WITHDRAW, TOWER_ACCEPT, TOWER_ACCEPT, TOWER_QUOTA};
-    struct tower_event event = {.flag = (uint8_t)random(2), .first = random_page(), .second = random(LIVE)};
-    uint32_t nth = random(sizeof asked + 1);
-    event.third = random_page();
+    enum { PLAIN = 13 };
+    static const uint8_t asked[PLAIN] = {TOWER_MAP, TOWER_UNMAP, TOWER_UNMAP, TOWER_PROTECT, TOWER_PROTECT, TOWER_INFO,
+                                         TOWER_OFFER, TOWER_OFFER, TOWER_WITHDRAW, TOWER_ACCEPT, TOWER_ACCEPT,
+                                         TOWER_QUOTA, TOWER_EXIT};
+    uint32_t nth = random(PLAIN + 5);
     calls++;
-    if (nth == sizeof asked) {
-        make_child(pid);
-        return;
+    if (nth < PLAIN) {
+        plain_call(pid, asked[nth]);
+    } else if (nth == PLAIN) {
+        accept_offered();
+    } else if (nth < PLAIN + 3) {
+        kernels_access(pid);
+    } else {
+        make_child(random(2) ? 0 : pid);
     }
-    event.call = asked[nth] == TOWER_QUOTA && random(16) == 0 ? TOWER_EXIT : asked[nth];
-    if (both(pid, event).kind == TOWER_DONE && event.call == TOWER_EXIT) {
-        has_stub[pid] = false;
-    }
+}
+
+static void begin_machine(struct machine *it) {
+    boot(it->core);
+    it->memory = memory_of(it->core);
 }
 
 static void begin_cores(struct tower *tower) {
-    walked = tower;
-    boot(walked);
-    walked_memory = memory_of(walked);
-    boot(&mirror);
-    mirror_memory = memory_of(&mirror);
-    need(walked_memory != mirror_memory, "they have their own memories");
-    svm_memory(walked_memory, FRAMES, false);
+    walked.core = tower;
+    begin_machine(&walked);
+    begin_machine(&cached);
+    begin_machine(&mirror);
+    need(walked.memory != mirror.memory && cached.memory != mirror.memory && walked.memory != cached.memory,
+         "they have their own memories");
+    svm_memory(walked.memory, FRAMES, false);
+    by_processor.most = svm_most_identifiers();
+    cache_open(cached.memory);
+    need(on_each(0, (struct tower_event){.call = TOWER_SPAWN, .first = FRAMES - 1 - ROOM}).kind == TOWER_CHILD,
+         "process 1 has the rest");
     for (uint32_t i = 0; i < (uint32_t)(stub_end - stub); i++) {
-        both(0, (struct tower_event){.call = TOWER_STORE, .flag = 1, .first = STUB_AT + i, .second = stub[i]});
+        on_each(0, (struct tower_event){.call = TOWER_STORE, .flag = 1, .first = STUB_AT + i, .second = stub[i]});
     }
-    both(0, (struct tower_event){.call = TOWER_PROTECT, .first = STUB_PAGE});
+    on_each(0, (struct tower_event){.call = TOWER_PROTECT, .first = STUB_PAGE});
     has_stub[0] = true;
 }
 
+static void tell(uint32_t runs) {
+    uint32_t kept, walks, again;
+    cache_counts(&kept, &walks, &again);
+    say("events: %u calls; accesses: %u by the processor alone, %u mended by the core, %u faults, %u refused; %u of them "
+        "in two pages; %u directory words marked early\n", calls, alone, mended, faulted, refused, split, early);
+    say("translations: %u pages invalidated, %u identifiers given up, %u flushes of all; at each run it would be %u\n",
+        by_processor.pages, by_processor.spaces, by_processor.all, runs);
+    say("processors in software: %u pages by what they kept, %u by a walk, %u of these behind a refusal; %u pages "
+        "invalidated, %u identifiers given up, %u flushes of all\n", kept, walks, again, in_software.pages,
+        in_software.spaces, in_software.all);
+}
+
 void try_events(uint32_t rounds, struct tower *tower) {
+    uint32_t before = (uint32_t)svm_runs();
     begin_cores(tower);
     for (uint32_t round = 0; round < rounds; round++) {
-        uint32_t pid = random(LIVE);
-        if (has_stub[pid] && random(8)) {
+        uint32_t pid = random_process();
+        if (!has_stub[pid] && random(4)) {
+            pid = 0;
+        }
+        if (has_stub[pid] && random(4)) {
             access(pid, random(32) ? random_page() : STUB_PAGE);
         } else {
             other_call(pid);
@@ -211,6 +387,5 @@ void try_events(uint32_t rounds, struct tower *tower) {
         compare(round % 16 == 0);
     }
     compare(true);
-    say("events: %u calls; accesses: %u by the processor alone, %u mended by the core, %u faults, %u refused; %u of them "
-        "in two pages; %u directory words marked early\n", calls, alone, mended, faulted, refused, split, early);
+    tell((uint32_t)svm_runs() - before);
 }

@@ -1,17 +1,33 @@
 /* A small hypervisor over the proved core: guests run on the processor's own paging, over the directories and
  * tables that the core wrote, and every other thing that they do is an event of it. */
+#include "cache.h"
 #include "calls.h"
 #include "image.h"
 #include "machine.h"
 #include "svm.h"
+#include "translations.h"
 #include "trial.h"
 #include "walk.h"
+#include "wrong.h"
 
 enum { RUNNING_MAX = 16, NOBODY = 255, NO_CALL = 255 };
-enum { SLICES = 5, EXITS = 1000, WALKS = 10000, EVENTS = 10000 };
+enum { SLICES = 5, EXITS = 1000, WALKS = 10000, EVENTS = 20000 };
 
 static struct tower tower = TOWER_NONE;
 static uint8_t *memory;
+
+/* The processor forgets, and with it what stands for all that it may keep. */
+static void forget_page(uint32_t identifier, uint32_t page) {
+    svm_forget_page(identifier, page);
+    cache_forget_page(identifier, page);
+}
+
+static void forget_all(void) {
+    svm_forget_all();
+    cache_forget_all();
+}
+
+static struct translations translations = {forget_page, forget_all, .most = 0};
 
 struct stop {
     uint32_t address, code, eip;
@@ -31,10 +47,24 @@ extern const struct {
     const uint8_t *begin, *end;
 } programs[PROGRAMS];
 
+/* That each identifier is a live process's, and whatever the processor may keep under it is what the walks give. */
+static void all_kept_is_given(void) {
+    for (uint32_t pid = 0; pid < TOWER_PROCESSES; pid++) {
+        uint32_t directory = 0, identifier = translations.identifiers[pid];
+        bool is_live = tower_directory(&tower, pid, &directory);
+        need(!identifier || is_live, "a process that is gone has no identifier");
+        need(!identifier || cache_is_given(identifier, directory), "all that may be kept is what the walks give");
+    }
+}
+
+/* An event. What it ended is invalidated before anything else is done. */
 static struct tower_reply step(uint32_t pid, struct tower_event event) {
     struct tower_reply reply = {0};
+    struct tower_ended ended = {0};
     event.pid = (uint8_t)pid;
-    need(tower_step(&tower, &event, &reply), "a core answers");
+    need(tower_step_ending(&tower, &event, &reply, &ended), "a core answers");
+    invalidate(&translations, ended);
+    all_kept_is_given();
     return reply;
 }
 
@@ -236,13 +266,22 @@ static void slice_ended(uint32_t pid, struct guest *guest) {
     }
 }
 
+/* The processor may have kept a translation of each page that the guest accessed. */
+static void keep_what_ran(uint32_t pid) {
+    uint32_t directory = 0;
+    need(tower_directory(&tower, pid, &directory), "a guest has a directory");
+    all_kept_is_given();
+    cache_keep_accessed(translations.identifiers[pid], directory);
+}
+
 /* One turn of a guest: until it yields or ends, a slice of time, or too many exits. */
 static void turn(uint32_t pid) {
     struct guest *guest = &guests[pid];
     uint32_t exits = 0;
     for (bool over = false; guest->runs && !over;) {
         start_slice();
-        uint64_t exit = svm_run(&guest->cpu);
+        uint64_t exit = svm_run(&guest->cpu, identifier_of(&translations, pid));
+        keep_what_ran(pid);
         guest->exits++;
         over = ++exits == EXITS;
         switch (exit) {
@@ -270,6 +309,8 @@ static void run_guests(void) {
     boot(&tower);
     memory = memory_of(&tower);
     svm_memory(memory, FRAMES, false);
+    cache_open(memory);
+    translations.most = svm_most_identifiers();
     say("core: %u frames\n", tower_frames(&tower));
     need(load(PROGRAM_INIT, 0), "the first program is stored");
     same_memory();
@@ -281,17 +322,24 @@ static void run_guests(void) {
     same_memory();
     say("all guests ended: %u runs of the processor, %u page faults, %u guests stopped\n", (uint32_t)svm_runs(),
         page_faults, stopped);
+    say("translations: %u pages invalidated, %u identifiers given up, %u flushes of all; at each run it would be %u\n",
+        translations.pages, translations.spaces, translations.all, (uint32_t)svm_runs());
     tower_free(&tower);
 }
 
-void begin(void) {
-    say("guests in 32-bit paging, over the core's page tables\n");
+/* All; or, where there is a word, the trial of events alone, in the version that it chooses. */
+void begin(const char *word) {
+    bool is_all = *word == 0;
+    choose_wrong(is_all ? "right" : word);
     svm_start();
-    run_guests();
-    try_instructions();
-    try_walks(WALKS);
+    if (is_all) {
+        say("guests in 32-bit paging, over the core's page tables\n");
+        run_guests();
+        try_instructions();
+        try_walks(WALKS);
+    }
     try_events(EVENTS, &tower);
     write_image(&tower);
-    say("all is well\n");
-    leave(0);
+    say(wrong == RIGHT ? "all is well\n" : "NOT FOUND\n");
+    leave(wrong == RIGHT ? 0 : 2);
 }

@@ -79,7 +79,7 @@ void try_instructions(void) {
         put_instruction(i);
         open_probe(RAW_DIRECTORY, 0, STUB_AT + FRAME + 8, 0);
         start_slice();
-        uint64_t exit = svm_run(probe());
+        uint64_t exit = svm_run(probe(), RAW_IDENTIFIER);
         bool in_place = svm_eip(probe()) == STUB_AT || exit == EXIT_BREAKPOINT;
         if (exit == EXIT_INTERRUPT || exit == EXIT_CALL || !in_place) {
             say("instruction %u: exit %x at %x\n", i, (uint32_t)exit, svm_eip(probe()));

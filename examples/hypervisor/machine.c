@@ -113,9 +113,9 @@ struct tried {
     void *block;
 };
 
-/* Of two cores' memory and tables. A core asks for 16 bytes a frame beside the frame, and for its own words, some
+/* Of three cores' memory and tables. A core asks for 16 bytes a frame beside the frame, and for its own words, some
  * pages. */
-static _Alignas(FRAME) uint8_t pool[2 * (FRAMES * (FRAME + 16) + 16 * FRAME)];
+static _Alignas(FRAME) uint8_t pool[3 * (FRAMES * (FRAME + 16) + 16 * FRAME)];
 static size_t used, blocks;
 
 /* Blocks lie one behind another, and those of a page or more begin at a page, so that a core's memory does.

@@ -16,9 +16,9 @@ void open_probe(uint32_t directory, uint32_t entry, uint32_t address, uint32_t v
     svm_set_eax(&cpu, value);
 }
 
-uint64_t run_probe(void) {
+uint64_t run_probe(uint32_t identifier) {
     uint64_t exit;
-    while ((exit = svm_run(&cpu)) == EXIT_INTERRUPT) {
+    while ((exit = svm_run(&cpu, identifier)) == EXIT_INTERRUPT) {
         take_interrupt();
     }
     return exit;

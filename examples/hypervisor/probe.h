@@ -14,8 +14,8 @@ uint32_t random(uint32_t limit);
 
 /* A probe over a directory, at an entry of the code. */
 void open_probe(uint32_t directory, uint32_t entry, uint32_t address, uint32_t value);
-/* Runs it until an exit that is no interrupt, and answers its code. */
-uint64_t run_probe(void);
+/* Runs it under an identifier until an exit that is no interrupt, and answers its code. */
+uint64_t run_probe(uint32_t identifier);
 struct guest_cpu *probe(void);
 
 #endif

@@ -4,7 +4,7 @@
 
 #include "machine.h"
 
-enum { RAW = 16, RAW_DIRECTORY = 1, RAW_STUB_TABLE = 14, RAW_STUB = 15 };
+enum { RAW = 16, RAW_DIRECTORY = 1, RAW_STUB_TABLE = 14, RAW_STUB = 15, RAW_IDENTIFIER = 1 };
 extern uint8_t raw[RAW * FRAME], model[RAW * FRAME];
 
 /* Bytes of which no word is present, a directory that maps the code to be read and the page behind it to be

@@ -45,6 +45,8 @@ void enter_guest(void *vmcb, void *more, void *host);
 static _Alignas(FRAME) uint8_t host_save[FRAME], host_vmcb[FRAME], all_ones[3 * FRAME];
 static _Alignas(FRAME) uint64_t nested4[512], nested3[512], nested2[512], nested1[8][512];
 static uint64_t runs;
+static uint32_t identifiers;
+static bool forgets_all;
 
 static void set8(struct guest_cpu *cpu, int at, uint8_t value) {
     cpu->vmcb[at] = value;
@@ -85,6 +87,8 @@ void svm_start(void) {
     need(!(read_msr(MSR_VM_CR) & 16), "SVM is not switched off");
     cpuid(0x8000000a, out);
     need(out[3] & 1, "the processor has nested paging");
+    need(out[1] > 1, "the processor has an identifier for a guest");
+    identifiers = out[1];
     write_msr(MSR_EFER, read_msr(MSR_EFER) | EFER_SVME);
     write_msr(MSR_HOST_SAVE, (uint64_t)host_save);
     memset(all_ones, 0xff, sizeof all_ones);
@@ -104,6 +108,19 @@ void svm_memory(uint8_t *block, uint32_t frames, bool writes_first) {
         nested1[frame / 512][frame % 512] =
             (uint64_t)(block + (size_t)frame * FRAME) | PRESENT | USER | (frame || writes_first ? WRITE : 0);
     }
+    svm_forget_all();
+}
+
+uint32_t svm_most_identifiers(void) {
+    return identifiers - 1; /* 0 is the host's */
+}
+
+void svm_forget_page(uint32_t identifier, uint32_t page) {
+    __asm__ volatile("invlpga %0, %1" : : "a"((uint64_t)page << 12), "c"(identifier) : "memory");
+}
+
+void svm_forget_all(void) {
+    forgets_all = true;
 }
 
 static void segment(struct guest_cpu *cpu, int at, uint16_t selector, uint16_t kind) {
@@ -123,7 +140,6 @@ void svm_open(struct guest_cpu *cpu, uint32_t directory, uint32_t eip, uint32_t 
     set32(cpu, INTERCEPT_SECOND, 0x3fff);
     set64(cpu, IO_MAP, (uint64_t)all_ones);
     set64(cpu, MSR_MAP, (uint64_t)all_ones);
-    set32(cpu, ASID, 1);
     set32(cpu, VIRTUAL_INTERRUPTS + 0, 1u << 24); /* the guest's IF masks no interrupt of ours */
     set64(cpu, NESTED_ON, 1);
     set64(cpu, NESTED_CR3, (uint64_t)nested4);
@@ -146,8 +162,10 @@ void svm_open(struct guest_cpu *cpu, uint32_t directory, uint32_t eip, uint32_t 
     set64(cpu, SAVE_PAT, 0x0007040600070406);
 }
 
-uint64_t svm_run(struct guest_cpu *cpu) {
-    set8(cpu, TLB_CONTROL, 1); /* forget all translations: the core may have changed any word */
+uint64_t svm_run(struct guest_cpu *cpu, uint32_t identifier) {
+    set32(cpu, ASID, identifier);
+    set8(cpu, TLB_CONTROL, forgets_all);
+    forgets_all = false;
     runs++;
     enter_guest(cpu->vmcb, &cpu->more, host_vmcb);
     __asm__ volatile("" : : : "memory");

@@ -13,10 +13,9 @@ static struct walk outside(struct walk it, uint32_t word, uint32_t place) {
     return it;
 }
 
-struct walk walk_of(uint8_t *memory, uint32_t frames, uint32_t directory, uint32_t address, bool write) {
+struct walk walk_by(uint8_t *memory, uint32_t frames, uint32_t word, uint32_t address, bool write) {
     struct walk it = {.kind = WALK_FOUND};
-    it.directory_word = (uint32_t *)(memory + (size_t)directory * FRAME) + (address >> 22);
-    uint32_t word = *it.directory_word, index = address >> 12 & 1023;
+    uint32_t index = address >> 12 & 1023;
     if (!(word & PRESENT)) {
         return fault(it, write, false);
     }
@@ -33,4 +32,11 @@ struct walk walk_of(uint8_t *memory, uint32_t frames, uint32_t directory, uint32
     }
     it.frame = last >> 12;
     return it.frame < frames ? it : outside(it, last, address & 4095);
+}
+
+struct walk walk_of(uint8_t *memory, uint32_t frames, uint32_t directory, uint32_t address, bool write) {
+    uint32_t *word = (uint32_t *)(memory + (size_t)directory * FRAME) + (address >> 22);
+    struct walk it = walk_by(memory, frames, *word, address, write);
+    it.directory_word = word;
+    return it;
 }

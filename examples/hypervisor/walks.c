@@ -72,7 +72,8 @@ static bool was_marked(uint32_t *word, uint32_t marks) {
 }
 
 static void compare_end(const struct attempt *it, struct walk *walk, uint32_t loaded) {
-    uint64_t exit = run_probe();
+    svm_forget_all(); /* no event wrote these words, and none says what it ended */
+    uint64_t exit = run_probe(RAW_IDENTIFIER);
     switch (walk->kind) {
     case WALK_FOUND:
         need(exit == EXIT_CALL, "a walk that finds a frame ends in it");

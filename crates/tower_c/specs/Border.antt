@@ -243,6 +243,11 @@ ended_in (Some core) (Some event) = Some (ended_numbers (ended_by core event))
 ended_in (Some core) None = None
 ended_in None event = None
 
+-- what these numbers end on a core: none, where they are no event
+abbrev pub ends_in : View → Option Event → Ended
+ends_in core (Some event) = ended_by core event
+ends_in core None = end.Nothing
+
 -- ---- The version
 
 -- 10,000 for each major version, 100 for each minor one, 1 for each patch

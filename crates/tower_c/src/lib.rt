@@ -9,8 +9,9 @@ ghost use Rattle.std.specs.Prelude.{◌≡◌, ◌≢◌, ◌↔◌, ◌≤◌, 
 ghost use Rattle.process_table.specs.State.{open_with};
 ghost use Rattle.process_table.specs.Image.{StandsFor, image_of};
 ghost use Rattle.phys_memory.specs.Bytes.{frame_bytes};
-ghost use Rattle.tower_c.specs.Border.{event_in, reply_in, state_after, is_carried_out, none_is_carried_out, replies_in, end_after, given, frames_in, directory_in, container_in, role_in, copy_in, walk_in, ended_in, version};
+ghost use Rattle.tower_c.specs.Border.{event_in, reply_in, state_after, is_carried_out, none_is_carried_out, replies_in, end_after, given, frames_in, directory_in, container_in, role_in, copy_in, walk_in, ended_in, ends_in, ended_numbers, version};
 ghost use Rattle.tower_c.specs.Handle.{IsTower};
+ghost use Rattle.kernel_calls.specs.Translations.{Ends};
 
 mod handle;
 mod hold;
@@ -20,7 +21,7 @@ mod numbers;
 
 pub use handle::{Passes, Tower};
 use handle::{put, take};
-use kernel_calls::{BootFault, Core};
+use kernel_calls::{BootFault, Core, Ended};
 pub use memory::{TowerMemory, tower_memory};
 use numbers::{
     access_from, container_from, ended_from, event_from, no_event, pid_from, role_from, told_from,
@@ -154,6 +155,63 @@ pub extern "C" fn tower_ends(
                 }
                 None => false,
             }
+        }
+        None => false,
+    }
+}
+
+/// What an event comes to on a core, and which translations it ended: none, where the numbers are no event.
+#[tactic(auto, unfolding(crate::specs::Border::is_carried_out))]
+fn step_ending(core: &mut Core, event: &TowerEvent) -> (TowerReply, TowerEnded)
+    ensures reply { result.0 ≡ reply_in core.old.state (event_in event.now) }
+    ensures ended { result.1 ≡ ended_numbers (ends_in core.old (event_in event.now)) }
+    ensures state { core.new.state ≡ state_after core.old.state (event_in event.now) }
+    ensures stands { StandsFor (image_of core.new) core.new.state }
+    ensures ends { Ends (ends_in core.old (event_in event.now)) core.old core.new }
+    ensures refused { is_carried_out core.old.state (event_in event.now) ≡ false → core.new ≡ core.old }
+{
+    match event_from(event) {
+        Some(event) => {
+            let (reply, ended) = core.step_ending(&event);
+            (told_from(&reply), ended_from(ended))
+        }
+        None => {
+            core.stands();
+            (no_event(), ended_from(Ended::Nothing))
+        }
+    }
+}
+
+/// Carries out one event, as `tower_step` does, and tells which cached translations it ended: whoever keeps what the
+/// walks gave invalidates these on all processors before anything else is done. False where the handle has no core.
+/// Numbers that are no event, a refusal and a fault end none. What was ended is the kernel's to know, and not the
+/// process's.
+#[unsafe(no_mangle)]
+pub extern "C" fn tower_step_ending(
+    alloc: Global,
+    tower: &mut Tower,
+    event: &TowerEvent,
+    reply: &mut TowerReply,
+    ended: &mut TowerEnded,
+) -> bool
+    requires { IsTower tower.old }
+    ensures kept { IsTower tower.new }
+    ensures live { (result ≡ tower.old.live) × (tower.new.live ≡ tower.old.live) }
+    ensures reply { IfSome tower.old.hold.core (λ core. reply.new ≡ reply_in core.state (event_in event.now)) }
+    ensures ended { IfSome tower.old.hold.core (λ core. ended.new ≡ ended_numbers (ends_in core (event_in event.now))) }
+    ensures state { IfSome tower.old.hold.core (λ core. IfSome tower.new.hold.core (λ next. next.state ≡ state_after core.state (event_in event.now))) }
+    ensures stands { IfSome tower.new.hold.core (λ core. StandsFor (image_of core) core.state) }
+    ensures ends { IfSome tower.old.hold.core (λ core. IfSome tower.new.hold.core (λ next. Ends (ends_in core (event_in event.now)) core next)) }
+    ensures refused { IfSome tower.old.hold.core (λ core. is_carried_out core.state (event_in event.now) ≡ false → tower.new.hold.core ≡ Some core) }
+    ensures none { result ≡ false → (reply.new ≡ reply.old) × (ended.new ≡ ended.old) }
+{
+    match take(alloc, tower) {
+        Some(mut core) => {
+            let told = step_ending(&mut core, event);
+            *reply = told.0;
+            *ended = told.1;
+            put(tower, core); // and what it ended is told
+            true
         }
         None => false,
     }

@@ -2,7 +2,7 @@
 
 use crate::raw;
 use crate::words::{
-    Access, Container, Event, FRAME_BYTES, Frame, Page, Pid, Reply, Role, Vaddr, WalkEnd,
+    Access, Container, Ended, Event, FRAME_BYTES, Frame, Page, Pid, Reply, Role, Vaddr, WalkEnd,
 };
 use ::core::cell::UnsafeCell;
 use ::core::error::Error;
@@ -74,6 +74,28 @@ impl Core {
         // SAFETY: the handle was booted and is borrowed alone; all three lie apart.
         unsafe { raw::tower_step(self.handle.get_mut(), &event.into(), &mut reply) };
         (&reply).into()
+    }
+
+    /// Which cached translations an event will end. Whoever keeps what walks gave invalidates these once it is
+    /// carried out; where other events may come in between, `step_ending` tells them with the event.
+    pub fn ends(&self, event: &Event) -> Ended {
+        let mut ended = raw::Ended::default();
+        // SAFETY: as for `frames`, and the event and `ended` lie apart.
+        unsafe { raw::tower_ends(self.handle.get(), &event.into(), &mut ended) };
+        ended.into()
+    }
+
+    /// Carries out one event, and tells which cached translations it ended: whoever keeps what walks gave invalidates
+    /// these, on all processors, before any access or event that comes next. The reply alone is for the process.
+    #[must_use = "what was ended is to be invalidated"]
+    pub fn step_ending(&mut self, event: &Event) -> (Reply, Ended) {
+        let mut reply = raw::Reply::default();
+        let mut ended = raw::Ended::default();
+        // SAFETY: as for `step`, and `ended` lies apart from the others.
+        unsafe {
+            raw::tower_step_ending(self.handle.get_mut(), &event.into(), &mut reply, &mut ended)
+        };
+        ((&reply).into(), ended.into())
     }
 
     /// Carries out events in order, and writes the reply to each in its place.

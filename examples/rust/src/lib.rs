@@ -28,8 +28,8 @@ mod words;
 
 pub use core::{BootFault, Core, UnequalLengths, version};
 pub use words::{
-    Access, Call, Cause, Container, Event, FRAME_BYTES, Frame, Page, Pid, Reply, Role, Size, Vaddr,
-    WalkEnd,
+    Access, Call, Cause, Container, Ended, Event, FRAME_BYTES, Frame, Page, Pid, Reply, Role, Size,
+    Vaddr, WalkEnd,
 };
 
 /// The version of the header that this crate was written to; [`version`] is the library's.

@@ -61,10 +61,20 @@ pub struct Walk {
     pub code: u32,
 }
 
+#[repr(C)]
+#[derive(Clone, Copy, Default)]
+pub struct Ended {
+    pub kind: u32,
+    pub pid: u32,
+    pub first: u32,
+    pub second: u32,
+}
+
 // The sizes that c/layout holds the header to.
 const _: () = {
     assert!(size_of::<Tower>() == 16 && size_of::<Event>() == 16 && size_of::<Reply>() == 20);
     assert!(size_of::<Role>() == 16 && size_of::<Container>() == 20 && size_of::<Walk>() == 12);
+    assert!(size_of::<Ended>() == 16);
 };
 
 unsafe extern "C" {
@@ -77,6 +87,13 @@ unsafe extern "C" {
         event_count: usize,
         replies: *mut Reply,
         reply_count: usize,
+    ) -> bool;
+    pub fn tower_ends(tower: *const Tower, event: *const Event, ended: *mut Ended) -> bool;
+    pub fn tower_step_ending(
+        tower: *mut Tower,
+        event: *const Event,
+        reply: *mut Reply,
+        ended: *mut Ended,
     ) -> bool;
     pub fn tower_frames(tower: *const Tower) -> u32;
     pub fn tower_directory(tower: *const Tower, pid: u32, frame: *mut u32) -> bool;

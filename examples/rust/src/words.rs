@@ -219,6 +219,19 @@ pub enum WalkEnd {
     Outside,
 }
 
+/// Which cached translations an event ends.
+#[derive(Clone, Copy, Debug, PartialEq, Eq)]
+pub enum Ended {
+    /// None.
+    Nothing,
+    /// That of one page of a process.
+    Page { pid: Pid, page: Page },
+    /// Those of two pages of a process.
+    Pages { pid: Pid, first: Page, second: Page },
+    /// All of a process, which is gone.
+    Space { pid: Pid },
+}
+
 /// What the library tells, where its contracts leave no other number.
 fn told<T>(number: Option<T>) -> T {
     number.expect("the library's numbers are those of tower.h")
@@ -342,6 +355,26 @@ impl From<raw::Walk> for Result<Frame, WalkEnd> {
                 code: code_of(raw.code),
             }),
             2 => Err(WalkEnd::Outside),
+            _ => told(None),
+        }
+    }
+}
+
+impl From<raw::Ended> for Ended {
+    fn from(raw: raw::Ended) -> Ended {
+        let pid = pid_of(raw.pid);
+        match raw.kind {
+            0 => Ended::Nothing,
+            1 => Ended::Page {
+                pid,
+                page: Page(raw.first),
+            },
+            2 => Ended::Pages {
+                pid,
+                first: Page(raw.first),
+                second: Page(raw.second),
+            },
+            3 => Ended::Space { pid },
             _ => told(None),
         }
     }

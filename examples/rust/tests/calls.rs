@@ -1,8 +1,8 @@
 //! Each call and query, and what crosses between types and numbers.
 
 use tower::{
-    Access, BootFault, Call, Cause, Container, Core, Event, FRAME_BYTES, Frame, Page, Pid, Reply,
-    Role, Size, UnequalLengths, Vaddr, WalkEnd,
+    Access, BootFault, Call, Cause, Container, Core, Ended, Event, FRAME_BYTES, Frame, Page, Pid,
+    Reply, Role, Size, UnequalLengths, Vaddr, WalkEnd,
 };
 
 const PAGE: Page = Page(0x40000);
@@ -221,5 +221,89 @@ fn crosses_threads() {
             used: 3,
             given: 0
         }
+    );
+}
+
+/// Carries out an event, which ends what was told before it.
+fn ending(core: &mut Core, pid: Pid, call: Call) -> (Reply, Ended) {
+    let event = Event { cpu: 0, pid, call };
+    let told = core.ends(&event);
+    let (reply, ended) = core.step_ending(&event);
+    assert_eq!(ended, told);
+    (reply, ended)
+}
+
+#[test]
+fn tells_what_an_event_ends() {
+    let (mut core, child) = shared();
+    let (page, lazy) = (PAGE, Page(0x40001));
+    let own = Ended::Page {
+        pid: Pid::ROOT,
+        page,
+    };
+    let lazy_page = Ended::Page {
+        pid: Pid::ROOT,
+        page: lazy,
+    };
+    let accept = Call::Accept {
+        giver: Pid::ROOT,
+        giver_page: lazy,
+        page: lazy,
+    };
+    let offer = Call::Offer {
+        page: lazy,
+        target: child,
+        write: false,
+    };
+    let map = Call::Map {
+        page: lazy,
+        write: true,
+    };
+    // (the page that the child accepts has no frame yet: it is the giver's translation that ends)
+    let calls = [
+        (Pid::ROOT, map, Ended::Nothing),
+        (Pid::ROOT, offer, Ended::Nothing),
+        (child, accept, lazy_page),
+        (Pid::ROOT, Call::Protect { page, write: false }, own),
+        (
+            Pid::ROOT,
+            Call::Protect { page, write: true },
+            Ended::Nothing,
+        ),
+        (Pid::ROOT, Call::Unmap { page }, own),
+        (child, Call::Exit, Ended::Space { pid: child }),
+    ];
+    for (pid, call, ended) in calls {
+        assert_eq!(
+            ending(&mut core, pid, call),
+            (Reply::Done, ended),
+            "{call:?}"
+        );
+    }
+    let refused = (Reply::Refused(Cause::NotMapped), Ended::Nothing);
+    assert_eq!(ending(&mut core, Pid::ROOT, Call::Unmap { page }), refused);
+}
+
+#[test]
+fn tells_both_pages_that_a_store_fills() {
+    let mut core = Core::boot(64).unwrap();
+    for page in [PAGE, Page(0x40001)] {
+        let map = Call::Map { page, write: true };
+        assert_eq!(step(&mut core, Pid::ROOT, map), Reply::Done);
+    }
+    let store = Call::Store {
+        addr: Vaddr(0x4000_0ffe),
+        size: Size::Four,
+        value: 1,
+    };
+    let both = Ended::Pages {
+        pid: Pid::ROOT,
+        first: PAGE,
+        second: Page(0x40001),
+    };
+    assert_eq!(ending(&mut core, Pid::ROOT, store), (Reply::Done, both));
+    assert_eq!(
+        ending(&mut core, Pid::ROOT, store),
+        (Reply::Done, Ended::Nothing)
     );
 }

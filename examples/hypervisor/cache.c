@@ -1,0 +1,221 @@
+#include "cache.h"
+#include "machine.h"
+#include "wrong.h"
+
+enum { MOST_KEPT = 4096 };
+
+/* What one processor keeps: a translation, by the page's number, or a directory's word, by its place there. */
+struct kept {
+    uint32_t cpu, identifier, number;
+    uint32_t leads_to; /* a translation to a frame; else the word itself */
+    bool write, dirty; /* of a translation: whether it lets writes through, and dirty is set */
+    uint32_t *table_word;
+};
+
+struct list {
+    struct kept kept[MOST_KEPT];
+    uint32_t count;
+};
+
+static struct list translations, directory_words;
+static uint8_t *memory;
+static uint32_t found_kept, found_walked, walked_again;
+
+void cache_open(uint8_t *of) {
+    memory = of;
+    cache_forget_all();
+}
+
+static struct kept *find(struct list *in, const struct access *it, uint32_t number) {
+    for (struct kept *one = in->kept; one < in->kept + in->count; one++) {
+        if (one->cpu == it->cpu && one->identifier == it->identifier && one->number == number) {
+            return one;
+        }
+    }
+    return 0;
+}
+
+static struct kept *keep(struct list *in, struct kept one) {
+    need(in->count < MOST_KEPT, "a processor has room for all that it keeps");
+    in->kept[in->count] = one;
+    return &in->kept[in->count++];
+}
+
+static void drop(struct list *in, struct kept *one) {
+    *one = in->kept[--in->count];
+}
+
+static void forget(struct list *in, uint32_t identifier, uint32_t number) {
+    uint32_t of = wrong == WRONG_CPU ? 1 : CACHES;
+    for (struct access it = {.identifier = identifier}; it.cpu < of; it.cpu++) {
+        struct kept *one = find(in, &it, number);
+        if (one) {
+            drop(in, one);
+        }
+    }
+}
+
+/* As INVLPGA does: the page's translation, and the words that lead to it. */
+void cache_forget_page(uint32_t identifier, uint32_t page) {
+    forget(&translations, identifier, page);
+    if (wrong != WRONG_TABLE) {
+        forget(&directory_words, identifier, page >> 10);
+    }
+}
+
+void cache_forget_all(void) {
+    translations.count = directory_words.count = 0;
+}
+
+static uint32_t *word_at(uint32_t frame, uint32_t index) {
+    return (uint32_t *)(memory + (size_t)frame * FRAME) + index;
+}
+
+/* The directory's word for an address, as it is kept or, where it is present, from now on is. */
+static uint32_t directory_word(const struct access *it, uint32_t address) {
+    struct kept *one = find(&directory_words, it, address >> 22);
+    if (one) {
+        return one->leads_to;
+    }
+    uint32_t *word = word_at(it->directory, address >> 22);
+    if (*word & PRESENT) {
+        *word |= ACCESSED;
+        keep(&directory_words, (struct kept){it->cpu, it->identifier, address >> 22, .leads_to = *word});
+    }
+    return *word;
+}
+
+/* What two words that lead to a page give of it. */
+static struct kept translation_of(const struct access *it, uint32_t page, uint32_t first, uint32_t *table_word) {
+    uint32_t last = *table_word;
+    return (struct kept){it->cpu, it->identifier, page, last >> 12, first & last & WRITE, last & DIRTY, table_word};
+}
+
+/* A walk, marks and all. What it finds is kept. */
+static struct walk walk_and_keep(const struct access *it, uint32_t address, struct kept **kept) {
+    uint32_t word = directory_word(it, address);
+    struct walk walk = walk_by(memory, FRAMES, word, address, it->is_store);
+    if (walk.kind == WALK_FOUND) {
+        *walk.table_word |= ACCESSED | (it->is_store ? DIRTY : 0);
+        *kept = keep(&translations, translation_of(it, address >> 12, word, walk.table_word));
+        found_walked++;
+    }
+    return walk;
+}
+
+/* The frame of an address: by what is kept, or else by a walk. A refusal by what is kept says nothing, since the right
+ * may have been given since: the walk is made again. A store through what is kept without dirty marks it first. */
+static struct walk translate(const struct access *it, uint32_t address) {
+    struct kept *kept = find(&translations, it, address >> 12);
+    if (kept && it->is_store && !kept->write) {
+        if (wrong == WRONG_REFUSAL) {
+            return (struct walk){.kind = WALK_FAULT, .code = 7};
+        }
+        drop(&translations, kept);
+        kept = 0;
+        walked_again++;
+    }
+    if (!kept) {
+        struct walk walk = walk_and_keep(it, address, &kept);
+        if (walk.kind != WALK_FOUND) {
+            return walk;
+        }
+    } else {
+        found_kept++;
+    }
+    if (it->is_store && !kept->dirty) {
+        kept->dirty = true;
+        *kept->table_word |= wrong == WRONG_DIRTY ? 0 : DIRTY;
+    }
+    return (struct walk){.kind = WALK_FOUND, .frame = kept->leads_to};
+}
+
+/* The bytes of an access, one after the other, where its pages' frames are. */
+static void move_bytes(struct access *it, uint32_t first, uint32_t second) {
+    uint32_t loaded = 0;
+    for (uint32_t i = 0; i < it->size; i++) {
+        uint32_t address = it->address + i;
+        bool is_second = address >> 12 != it->address >> 12;
+        uint8_t *byte = memory + (size_t)(is_second ? second : first) * FRAME + (address & 4095);
+        if (it->is_store) {
+            *byte = (uint8_t)(it->value >> 8 * i);
+        }
+        loaded |= (uint32_t)*byte << 8 * i;
+    }
+    it->value = loaded;
+}
+
+struct walk cache_access(struct access *it) {
+    uint32_t last = it->address + it->size - 1;
+    struct walk first = translate(it, it->address), second = first;
+    if (first.kind != WALK_FOUND) {
+        return first;
+    }
+    if (last >> 12 != it->address >> 12) {
+        second = translate(it, last & ~4095u);
+        if (second.kind != WALK_FOUND) {
+            it->address = last & ~4095u;
+            return second;
+        }
+    }
+    move_bytes(it, first.frame, second.frame);
+    return first;
+}
+
+/* In place of what was kept of it. */
+static void keep_anew(struct list *in, const struct access *it, struct kept one) {
+    struct kept *old = find(in, it, one.number);
+    if (old) {
+        drop(in, old);
+    }
+    keep(in, one);
+}
+
+static void keep_accessed_in(const struct access *it, uint32_t slot, uint32_t word) {
+    for (uint32_t index = 0; index < FRAME / 4; index++) {
+        uint32_t *last = word_at(word >> 12, index);
+        if ((*last & PRESENT) && (*last & ACCESSED)) {
+            keep_anew(&translations, it, translation_of(it, slot << 10 | index, word, last));
+        }
+    }
+}
+
+void cache_keep_accessed(uint32_t identifier, uint32_t directory) {
+    struct access it = {.identifier = identifier, .directory = directory};
+    for (uint32_t slot = 0; slot < FRAME / 4; slot++) {
+        uint32_t word = *word_at(directory, slot);
+        if ((word & PRESENT) && (word & ACCESSED)) {
+            keep_anew(&directory_words, &it, (struct kept){.identifier = identifier, .number = slot, .leads_to = word});
+            keep_accessed_in(&it, slot, word);
+        }
+    }
+}
+
+static bool is_translation_given(const struct kept *one, uint32_t directory) {
+    struct walk walk = walk_of(memory, FRAMES, directory, one->number << 12, one->write);
+    return walk.kind == WALK_FOUND && walk.frame == one->leads_to && walk.table_word == one->table_word &&
+           (*walk.table_word & ACCESSED) && (!one->dirty || (*walk.table_word & DIRTY));
+}
+
+bool cache_is_given(uint32_t identifier, uint32_t directory) {
+    for (uint32_t i = 0; i < translations.count; i++) {
+        const struct kept *one = &translations.kept[i];
+        if (one->identifier == identifier && !is_translation_given(one, directory)) {
+            return false;
+        }
+    }
+    for (uint32_t i = 0; i < directory_words.count; i++) {
+        const struct kept *one = &directory_words.kept[i];
+        uint32_t word = *word_at(directory, one->number);
+        if (one->identifier == identifier && (one->leads_to | ACCESSED) != (word | ACCESSED)) {
+            return false;
+        }
+    }
+    return true;
+}
+
+void cache_counts(uint32_t *kept, uint32_t *walked, uint32_t *again) {
+    *kept = found_kept;
+    *walked = found_walked;
+    *again = walked_again;
+}

@@ -1,0 +1,42 @@
+#include "translations.h"
+#include "machine.h"
+
+/* None is left. What is kept under those that were given up goes with all else. */
+static void begin_anew(struct translations *it) {
+    memset(it->identifiers, 0, sizeof it->identifiers);
+    it->last = 0;
+    it->forget_all();
+    it->all++;
+}
+
+uint32_t identifier_of(struct translations *it, uint32_t pid) {
+    if (it->identifiers[pid] == 0) {
+        if (it->last == it->most) {
+            begin_anew(it);
+        }
+        it->identifiers[pid] = ++it->last;
+    }
+    return it->identifiers[pid];
+}
+
+/* A process that has no identifier ran on no processor: nothing of it is kept. */
+static void invalidate_page(struct translations *it, uint32_t pid, uint32_t page) {
+    if (it->identifiers[pid]) {
+        it->forget_page(it->identifiers[pid], page);
+        it->pages++;
+    }
+}
+
+void invalidate(struct translations *it, struct tower_ended ended) {
+    switch (ended.kind) {
+    case TOWER_ENDS_PAGES:
+        invalidate_page(it, ended.pid, ended.second);
+        /* fall through */
+    case TOWER_ENDS_PAGE:
+        invalidate_page(it, ended.pid, ended.first);
+        break;
+    case TOWER_ENDS_SPACE:
+        it->spaces += it->identifiers[ended.pid] != 0;
+        it->identifiers[ended.pid] = 0;
+    }
+}

@@ -1,0 +1,61 @@
+#include "wrong.h"
+#include "machine.h"
+
+enum wrong wrong = RIGHT;
+
+/* In the order of `enum wrong`. ./wrong reads the words here. */
+static const struct {
+    const char *word, *what;
+} versions[] = {
+    {"right", ""},
+    {"unmap", "nothing is invalidated after an unmap"},
+    {"protect", "nothing is invalidated after a protect that takes the right to write"},
+    {"fill", "nothing is invalidated after a store that fills a lazy page"},
+    {"second", "of two pages that a store fills the first alone is invalidated"},
+    {"accept", "after an accept of a lazy page the caller's page is invalidated, and not the giver's"},
+    {"exit", "an exit keeps its process's identifier"},
+    {"cpu", "one processor alone is told what to invalidate"},
+    {"table", "the word that leads to an invalidated page's table is kept"},
+    {"refusal", "a refusal by what is kept is believed"},
+    {"dirty", "a store through what is kept without dirty doesn't mark it"},
+};
+
+static bool is_same(const char *a, const char *b) {
+    while (*a && *a == *b) {
+        a++;
+        b++;
+    }
+    return *a == *b;
+}
+
+void choose_wrong(const char *word) {
+    for (uint32_t i = RIGHT; i < sizeof versions / sizeof *versions; i++) {
+        if (is_same(word, versions[i].word)) {
+            wrong = (enum wrong)i;
+            return;
+        }
+    }
+    say("there is no wrong version %s\n", word);
+    leave(2);
+}
+
+struct tower_ended taken_for(const struct tower_event *event, struct tower_ended ended) {
+    static const struct tower_ended nothing = {.kind = TOWER_ENDS_NOTHING};
+    static const enum wrong forgets[] = {[TOWER_STORE] = WRONG_FILL, [TOWER_UNMAP] = WRONG_UNMAP,
+                                         [TOWER_PROTECT] = WRONG_PROTECT, [TOWER_EXIT] = WRONG_EXIT,
+                                         [TOWER_FORK] = RIGHT};
+    if (wrong == RIGHT || ended.kind == TOWER_ENDS_NOTHING) {
+        return ended;
+    }
+    if (wrong == forgets[event->call]) {
+        return nothing;
+    }
+    if (wrong == WRONG_SECOND && ended.kind == TOWER_ENDS_PAGES) {
+        ended.kind = TOWER_ENDS_PAGE;
+    }
+    if (wrong == WRONG_ACCEPT && event->call == TOWER_ACCEPT) {
+        ended.pid = event->pid;
+        ended.first = event->third;
+    }
+    return ended;
+}
