@@ -19,7 +19,7 @@ uint32_t identifier_of(struct translations *it, uint32_t pid) {
     return it->identifiers[pid];
 }
 
-/* A process that has no identifier ran on no processor: nothing of it is kept. */
+/* A process that has no identifier ran on no processor since all was flushed: nothing of it is kept. */
 static void invalidate_page(struct translations *it, uint32_t pid, uint32_t page) {
     if (it->identifiers[pid]) {
         it->forget_page(it->identifiers[pid], page);

@@ -79,6 +79,7 @@ fn step(core: &mut Core, event: &TowerEvent) -> TowerReply
     ensures reply { result ≡ reply_in core.old.state (event_in event.now) }
     ensures state { core.new.state ≡ state_after core.old.state (event_in event.now) }
     ensures stands { StandsFor (image_of core.new) core.new.state }
+    ensures ends { Ends (ends_in core.old (event_in event.now)) core.old core.new }
     ensures refused { is_carried_out core.old.state (event_in event.now) ≡ false → core.new ≡ core.old }
 {
     match event_from(event) {
@@ -160,8 +161,18 @@ pub extern "C" fn tower_ends(
     }
 }
 
-/// What an event comes to on a core, and which translations it ended: none, where the numbers are no event.
-#[tactic(auto, unfolding(crate::specs::Border::is_carried_out))]
+/// What an event ends on a core: none, where the numbers are no event.
+fn ended_on(core: &Core, event: &TowerEvent) -> Ended
+    ensures { result ≡ ends_in core.now (event_in event.now) }
+{
+    match event_from(event) {
+        Some(event) => core.ends(&event),
+        None => Ended::Nothing,
+    }
+}
+
+/// What an event comes to on a core, and which translations it ended: what `Core::step_ending` tells of both. It goes
+/// by `step`, so that whoever doesn't ask what was ended pays nothing for it.
 fn step_ending(core: &mut Core, event: &TowerEvent) -> (TowerReply, TowerEnded)
     ensures reply { result.0 ≡ reply_in core.old.state (event_in event.now) }
     ensures ended { result.1 ≡ ended_numbers (ends_in core.old (event_in event.now)) }
@@ -170,16 +181,9 @@ fn step_ending(core: &mut Core, event: &TowerEvent) -> (TowerReply, TowerEnded)
     ensures ends { Ends (ends_in core.old (event_in event.now)) core.old core.new }
     ensures refused { is_carried_out core.old.state (event_in event.now) ≡ false → core.new ≡ core.old }
 {
-    match event_from(event) {
-        Some(event) => {
-            let (reply, ended) = core.step_ending(&event);
-            (told_from(&reply), ended_from(ended))
-        }
-        None => {
-            core.stands();
-            (no_event(), ended_from(Ended::Nothing))
-        }
-    }
+    let ended = ended_on(core, event);
+    let told = step(core, event);
+    (told, ended_from(ended))
 }
 
 /// Carries out one event, as `tower_step` does, and tells which cached translations it ended: whoever keeps what the
