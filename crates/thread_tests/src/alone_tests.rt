@@ -2,7 +2,7 @@
 
 ghost use Rattle.std.specs.Prelude.{◌≡◌};
 
-use crate::kernels::{booted, closed, ended, opened, process, put, run_on, taken};
+use crate::kernels::{booted, closed, ended, opened, process, put, run_on, same, taken};
 use guest_cpu::{End, Guest, Instruction};
 use guest_race::{opening, program_of};
 use kernel_calls::{Core, Reply};
@@ -29,12 +29,12 @@ fn open_core<R: Abort>(rt: &R, core: &mut Core) {
         Reply::Done,
     ];
     for (event, reply) in opening().iter().zip(replies) {
-        assert_eq!(rt; core.step(event), reply);
+        same(rt, &core.step(event), &reply);
     }
 }
 
 fn check_end<R: Abort>(rt: &R, end: End, number: u8) {
-    assert_eq!(rt; end, End::OutOfTurns, "process {number}");
+    same(rt, &(number, end), &(number, End::OutOfTurns));
 }
 
 /// A guest of a process that runs alone on the core runs out of turns.

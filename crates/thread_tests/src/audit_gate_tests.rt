@@ -3,7 +3,9 @@
 ghost use Rattle.std.specs.Prelude.{◌≡◌, All};
 ghost use Rattle.integrity_checker.specs.Steps.{IsOf};
 
-use crate::kernels::{answered, booted, check_length, closed, image_of, opened, process, store};
+use crate::kernels::{
+    answered, booted, check_length, closed, image_of, opened, process, same, store,
+};
 use crate::two_helpers::{begun, check_sound, put, stepped};
 use crate::{kernels, two_helpers};
 use integrity_checker::{Audit, Helper};
@@ -145,9 +147,9 @@ fn judge_beside<N: Name + Send + Sync, R: Threads + Wait + Abort + Sync>(
 
 /// Both helpers saw the held call, checked all 64 numbers together, and the call went on because they had ended.
 fn check_judged<R: Abort>(rt: &R, held: (bool, bool), checked: (u64, u64), flags: &Flags) {
-    assert_eq!(rt; held, (true, true));
-    assert_eq!(rt; checked.0.wrapping_add(checked.1), 64);
-    assert_eq!(rt; flags.let_go.load(Ordering::SeqCst), 1);
+    let let_go = flags.let_go.load(Ordering::SeqCst);
+    let found = (held, checked.0.wrapping_add(checked.1), let_go);
+    same(rt, &found, &((true, true), 64, 1));
 }
 
 /// The helpers of an audit, one after the other, after they judged in two threads beside a held call.

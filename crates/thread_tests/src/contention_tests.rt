@@ -3,7 +3,7 @@
 ghost use Rattle.std.specs.Prelude.{◌≡◌};
 
 use crate::kernels::{
-    answered, booted, check_length, closed, ended, load, opened, process, put, store, taken,
+    answered, booted, check_length, closed, ended, load, opened, process, put, same, store, taken,
 };
 use guest_cpu::{End, Instruction, Reg};
 use kernel_calls::{Call, Reply};
@@ -92,7 +92,7 @@ fn counts_up<R: Abort>(rt: &R, number: u32) -> [Instruction; 11] {
 }
 
 fn check_halted<R: Abort>(rt: &R, end: End) {
-    assert_eq!(rt; end, End::Halted);
+    same(rt, &end, &End::Halted);
 }
 
 /// Runs the guest of the process that has the CPU's number, until it halts.
@@ -151,8 +151,12 @@ fn entries_by_cpu(history: &History) -> [u64; 8] {
 
 /// A history has so many entries of each CPU, and the processes use 12 frames behind it.
 fn check_history<R: Abort>(rt: &R, history: &History) {
-    assert_eq!(rt; entries_by_cpu(history), [111, 100, 100, 100, 0, 0, 0, 0]);
-    assert_eq!(rt; report_of(history.core()).total(), 12);
+    same(
+        rt,
+        &entries_by_cpu(history),
+        &[111, 100, 100, 100, 0, 0, 0, 0],
+    );
+    same(rt, &report_of(history.core()).total(), &12);
 }
 
 /// Four guests count at once, and the word has all that they counted.

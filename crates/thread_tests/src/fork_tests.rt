@@ -3,8 +3,8 @@
 ghost use Rattle.std.specs.Prelude.{◌≡◌};
 
 use crate::kernels::{
-    answered, booted, check_report, closed, load, opened, process, put, reported, store, taken,
-    tell, watcher,
+    answered, booted, check_report, closed, load, opened, process, put, reported, same, store,
+    taken, tell, watcher,
 };
 use kernel_calls::{Call, Cause, Reply};
 use locked_core::{Blank, Boot, Cpu, Kernel, Name, OpenGate, Seen};
@@ -60,8 +60,8 @@ fn call_copy<N: Name, R: Wait + Abort>(rt: &R, kernel: &Kernel<N, OpenGate>, cpu
 fn check_seen<R: Abort>(rt: &R, seen: &Seen) {
     let given = seen.report.row(process(rt, 0)).map(|row| row.given);
     let used = seen.report.row(process(rt, 1)).map(|row| row.used);
-    assert_eq!(rt; (seen.front, seen.report.total()), (9, 8));
-    assert_eq!(rt; (given, used), (Some(10), Some(4)));
+    same(rt, &(seen.front, seen.report.total()), &(9, 8));
+    same(rt, &(given, used), &(Some(10), Some(4)));
 }
 
 /// The monitor's report in the end is that of the core.

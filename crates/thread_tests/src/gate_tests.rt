@@ -4,7 +4,7 @@ ghost use Rattle.std.specs.Prelude.{◌≡◌};
 
 use crate::kernels;
 use crate::kernels::{
-    booted, check_front, check_length, closed, opened, process, put, taken, tell, watcher,
+    booted, check_front, check_length, closed, opened, process, put, same, taken, tell, watcher,
 };
 use kernel_calls::Call;
 use locked_core::{Blank, Boot, Cpu, Ended, Gate, Invalidate, Kernel, Monitor, Name, Point};
@@ -132,7 +132,11 @@ fn report_beside<N: Name>(
 
 /// A call that was held was answered, and went on because it might.
 fn check_let_go<R: Abort>(rt: &R, answered: bool, flags: &Flags) {
-    assert_eq!(rt; (answered, flags.let_go.load(Ordering::SeqCst)), (true, 1));
+    same(
+        rt,
+        &(answered, flags.let_go.load(Ordering::SeqCst)),
+        &(true, 1),
+    );
 }
 
 /// A call is held until a monitor in another thread has reported so many entries.
@@ -150,7 +154,7 @@ fn called_beside<N: Name + Send + Sync, R: Threads + Wait + Abort + Sync>(
         move || call(rt, kernel, cpu, root),
         move || report_beside(monitor, flags),
     );
-    assert_eq!(rt; (held, front), (true, Some(reported)));
+    same(rt, &(held, front), &(true, Some(reported)));
     check_let_go(rt, answered, flags);
     (cpu, monitor)
 }
@@ -253,8 +257,7 @@ fn called_second<N: Name + Send + Sync, R: Threads + Wait + Abort + Sync>(
         move || call_second(rt, kernel, cpu, root, flags),
         move || look_for_the_second(flags),
     );
-    assert_eq!(rt; (held, looked), (true, (true, false)));
-    assert!(rt; answered);
+    same(rt, &(held, looked, answered), &(true, (true, false), true));
     cpu
 }
 

@@ -3,7 +3,7 @@
 ghost use Rattle.std.specs.Prelude.{◌≡◌, true, if◌then◌else◌, Ok, Err};
 ghost use Rattle.kernel_calls.specs.declared.calls.Reply.TheVariants.{Value};
 
-use crate::kernels::run_on;
+use crate::kernels::{run_on, same};
 use guest_cpu::{End, Guest, Instruction, Port, PortFault, Reg, run};
 use kernel_calls::{Call, Cause, Core, Event, Reply};
 use page_words::{Pid, Size, Vaddr};
@@ -105,15 +105,16 @@ fn check_run<R: AllocGlobal + Abort>(
     looked_at: [Reg; 2],
     want: Outcome,
 ) {
-    assert_eq!(rt; ran(rt, program, turns, looked_at), want);
+    same(rt, &ran(rt, program, turns, looked_at), &want);
 }
 
 #[test]
 fn names_eight_registers(rt: HostRuntime) {
     let numbers = [0, 1, 2, 3, 4, 5, 6, 7, 8, 255].map(|number| Reg::new(number).map(Reg::number));
-    assert_eq!(rt;
-        numbers,
-        [
+    same(
+        &rt,
+        &numbers,
+        &[
             Some(0),
             Some(1),
             Some(2),
@@ -123,15 +124,15 @@ fn names_eight_registers(rt: HostRuntime) {
             Some(6),
             Some(7),
             None,
-            None
-        ]
+            None,
+        ],
     );
 }
 
 /// A guest that has not begun has zeros.
 fn check_zeros<R: Abort>(rt: &R, guest: &Guest, registers: [Reg; 8]) {
     let values = registers.map(|register| guest.register(register));
-    assert_eq!(rt; (values, guest.counter()), ([0; 8], 0));
+    same(rt, &(values, guest.counter()), &([0; 8], 0));
 }
 
 #[test]
@@ -218,7 +219,7 @@ fn check_once<R: Abort>(
     looked_at: [Reg; 2],
     want: Outcome,
 ) {
-    assert_eq!(rt; ran_once(rt, program, turns, looked_at), want);
+    same(rt, &ran_once(rt, program, turns, looked_at), &want);
 }
 
 #[test]
@@ -256,8 +257,8 @@ fn check_single_turns<R: AllocGlobal + Abort>(
     let mut guest = root_guest(rt);
     let mut ends = [End::OutOfTurns; 6];
     ends[5] = End::Halted;
-    assert_eq!(rt; in_single_turns(rt, &mut guest, program), ends);
-    assert_eq!(rt; came_to(&guest, End::Halted, looked_at), want);
+    same(rt, &in_single_turns(rt, &mut guest, program), &ends);
+    same(rt, &came_to(&guest, End::Halted, looked_at), &want);
 }
 
 #[test]

@@ -4,7 +4,7 @@ ghost use Rattle.std.specs.Prelude.{◌≡◌};
 
 use crate::kernels::{
     answered, booted, check_front, check_length, check_not_closed, check_report, check_two_entries,
-    closed, load, opened, process, put, reported, store, taken, tell, watcher,
+    closed, load, opened, process, put, reported, same, store, taken, tell, watcher,
 };
 use guest_cpu::{Port, PortFault};
 use kernel_calls::{Call, Event, Reply};
@@ -29,7 +29,7 @@ fn check_refused<R: AllocGlobal + Wait + Abort>(
             empty::<Brand, R>(rt, blank);
             panic!(rt; "{frames} frames, {cpus} CPUs and {monitors} monitors were taken");
         }
-        Err(refused) => assert_eq!(rt; refused, fault),
+        Err(refused) => same(rt, &refused, &fault),
     }
 }
 
@@ -44,17 +44,17 @@ fn refuses_sizes_and_counts(rt: HostRuntime) {
 
 /// A report is on so many entries, and its rows use so much.
 fn check_seen<R: Abort>(rt: &R, seen: &Seen, front: usize, total: u64) {
-    assert_eq!(rt; (seen.front, seen.report.total()), (front, total));
+    same(rt, &(seen.front, seen.report.total()), &(front, total));
 }
 
 /// A process uses so much by a report.
 fn check_used<R: Abort>(rt: &R, seen: &Seen, pid: Pid, used: u32) {
-    assert_eq!(rt; seen.report.row(pid).map(|row| row.used), Some(used));
+    same(rt, &seen.report.row(pid).map(|row| row.used), &Some(used));
 }
 
 /// A CPU made so many calls, and has seen so many entries.
 fn check_calls<N: Name, R: Abort>(rt: &R, cpu: &Cpu<N>, calls: usize) {
-    assert_eq!(rt; (cpu.tell().front(), cpu.calls()), (calls, calls));
+    same(rt, &(cpu.tell().front(), cpu.calls()), &(calls, calls));
 }
 
 /// One CPU stores and loads, and one monitor reports before and after.
@@ -127,8 +127,8 @@ fn calls_of_two<N: Name, R: Wait + Abort>(
 /// A port takes the events of its own CPU, and makes no call for those of another.
 fn check_port<N: Name, R: Wait + Abort>(rt: &R, cpu: &mut Cpu<N>, kernel: &Kernel<N, OpenGate>) {
     let answers = calls_of_two(rt, cpu, kernel);
-    assert_eq!(rt; answers, (Err(PortFault(6)), Ok(Reply::Done)));
-    assert_eq!(rt; cpu.calls(), 1);
+    same(rt, &answers, &(Err(PortFault(6)), Ok(Reply::Done)));
+    same(rt, &cpu.calls(), &1);
 }
 
 /// A port of a kernel's one CPU, whose one call is in the history.
@@ -212,12 +212,12 @@ fn watch<N: Name>(mut monitor: Monitor<N>) -> (Monitor<N>, u64, u64) {
 
 /// A CPU was answered a thousand times.
 fn check_worked<R: Abort>(rt: &R, done: u64) {
-    assert_eq!(rt; done, 1000);
+    same(rt, &done, &1000);
 }
 
 /// A monitor reported a thousand times, and no front was lower than the one before.
 fn check_watched<R: Abort>(rt: &R, seen: u64, fell: u64) {
-    assert_eq!(rt; (seen, fell), (1000, 0));
+    same(rt, &(seen, fell), &(1000, 0));
 }
 
 /// Two CPUs call in two threads, a thousand times each.
@@ -313,7 +313,7 @@ fn check_in_turn<N: Name, R: Wait + Abort>(
     for made in 1..1001usize {
         wrong = wrong.wrapping_add(wrong_in_turn(rt, kernel, cpu, monitor, pid, made));
     }
-    assert_eq!(rt; wrong, 0);
+    same(rt, &wrong, &0);
 }
 
 /// A kernel with a thousand calls of one CPU, each of which the monitor reports at once.

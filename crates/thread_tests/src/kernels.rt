@@ -10,9 +10,15 @@ use locked_core::{
 };
 use memory_image::Image;
 use page_words::{Pid, Size, Vaddr};
+use std::fmt::Debug;
 use std::marker::Brand;
 use std::process::Abort;
 use std::sync::Wait;
+
+/// What was found is what was expected.
+pub fn same<T: PartialEq + Debug>(rt: &impl Abort, found: &T, expected: &T) {
+    assert_eq!(rt; found, expected);
+}
 
 pub fn process<R: Abort>(rt: &R, number: u8) -> Pid {
     Pid::new(number).expect(rt, "a process")
@@ -77,7 +83,7 @@ pub fn answered<N: Name, G: Gate + Drop, R: Wait + Abort>(
     call: Call,
     reply: Reply,
 ) {
-    assert_eq!(rt; cpu.call(rt, kernel, pid, call), Ok(reply));
+    same(rt, &cpu.call(rt, kernel, pid, call), &Ok(reply));
 }
 
 /// How a guest of a process ends that runs a program by a CPU's calls, up to so many turns.
@@ -114,12 +120,12 @@ pub fn reported<N: Name, R: Abort>(rt: &R, monitor: &mut Monitor<N>) -> Seen {
 
 /// A report is on so many entries.
 pub fn check_front<R: Abort>(rt: &R, seen: &Seen, front: usize) {
-    assert_eq!(rt; seen.front, front);
+    same(rt, &seen.front, &front);
 }
 
 /// A report is that of the core that the kernel was closed with.
 pub fn check_report<R: Abort>(rt: &R, seen: &Seen, history: &History) {
-    assert_eq!(rt; seen.report, memory_report::report_of(history.core()));
+    same(rt, &seen.report, &memory_report::report_of(history.core()));
 }
 
 /// The image of a kernel's memory between two calls.
@@ -146,19 +152,19 @@ pub fn check_not_closed<N: Name, G: Gate + Drop, R: Wait + Abort>(
     kernel: Kernel<N, G>,
     cpus: Vec<Cpu<N>>,
 ) {
-    assert_eq!(rt; kernel.close(rt, cpus).err(), Some(Fault::Disagree));
+    same(rt, &kernel.close(rt, cpus).err(), &Some(Fault::Disagree));
 }
 
 /// A history has so many entries.
 pub fn check_length<R: Abort>(rt: &R, history: &History, length: usize) {
-    assert_eq!(rt; history.entries().len(), length);
+    same(rt, &history.entries().len(), &length);
 }
 
 /// A history has two entries, both of CPU 0, after each of which 3 frames were used.
 pub fn check_two_entries<R: Abort>(rt: &R, history: &History) {
     let mut nth = 0;
     for entry in history.entries() {
-        assert_eq!(rt; (entry.cpu, entry.nth, entry.used_after), (0, nth, 3));
+        same(rt, &(entry.cpu, entry.nth, entry.used_after), &(0, nth, 3));
         nth = 1;
     }
     check_length(rt, history, 2);

@@ -7,7 +7,7 @@
 ghost use Rattle.std.specs.Prelude.{◌≡◌};
 
 use crate::kernels::{
-    check_length, check_two_entries, closed, load, process, put, store, taken, watcher,
+    check_length, check_two_entries, closed, load, process, put, same, store, taken, watcher,
 };
 use guest_cpu::{Port, PortFault};
 use kernel_calls::{Call, Event, Reply};
@@ -26,7 +26,7 @@ fn new_blank<R: AllocGlobal + Wait + Abort>(rt: &R) -> Option<Blank<OpenGate>> {
     match Kernel::<Brand, OpenGate>::boot(rt, rt.alloc(), 16, 1, 1, OpenGate) {
         Ok(blank) => Some(blank),
         Err(fault) => {
-            assert_eq!(rt; fault, BootFault::NoMemory);
+            same(rt, &fault, &BootFault::NoMemory);
             None
         }
     }
@@ -53,7 +53,7 @@ fn opened<N: Name, R: Wait + Abort + Print>(
     match blank.open::<N, R>(rt) {
         Ok(boot) => Some(boot),
         Err(fault) => {
-            assert_eq!(rt; fault, BootFault::NoMemory);
+            same(rt, &fault, &BootFault::NoMemory);
             say(rt, "NoMemory, and then a kernel of a new blank");
             None
         }
@@ -83,7 +83,7 @@ fn kept_now<N: Name>(cpu: &Cpu<N>, monitor: &mut Monitor<N>) -> Kept {
 }
 
 fn check_kept<N: Name, R: Abort>(rt: &R, cpu: &Cpu<N>, monitor: &mut Monitor<N>, before: &Kept) {
-    assert_eq!(rt; &kept_now(cpu, monitor), before);
+    same(rt, &kept_now(cpu, monitor), before);
 }
 
 /// Makes a call of process 0, which must be answered so; whether there was memory for it.
@@ -96,11 +96,11 @@ fn is_made<N: Name, R: Wait + Abort>(
 ) -> bool {
     match cpu.call(rt, kernel, process(rt, 0), *call) {
         Ok(given) => {
-            assert_eq!(rt; &given, reply);
+            same(rt, &given, reply);
             true
         }
         Err(fault) => {
-            assert_eq!(rt; fault, Fault::NoMemory);
+            same(rt, &fault, &Fault::NoMemory);
             false
         }
     }
@@ -201,11 +201,11 @@ fn is_ported<N: Name, R: Wait + Abort>(
 ) -> bool {
     match port_call(rt, cpu, kernel) {
         Ok(reply) => {
-            assert_eq!(rt; reply, Reply::Done);
+            same(rt, &reply, &Reply::Done);
             true
         }
         Err(fault) => {
-            assert_eq!(rt; fault, PortFault(1));
+            same(rt, &fault, &PortFault(1));
             false
         }
     }
@@ -218,7 +218,7 @@ fn check_ported<N: Name, R: Wait + Abort>(
     cpu: &mut Cpu<N>,
     calls: usize,
 ) {
-    assert_eq!(rt; cpu.calls(), calls);
+    same(rt, &cpu.calls(), &calls);
     assert!(rt; is_ported(rt, kernel, cpu));
 }
 
@@ -243,11 +243,11 @@ fn is_taken<N: Name, R: Wait + Abort>(
 ) -> bool {
     match kernel.snapshot(rt, cpu) {
         Ok(image) => {
-            assert_eq!(rt; image.frames(), 16);
+            same(rt, &image.frames(), &16);
             true
         }
         Err(fault) => {
-            assert_eq!(rt; fault, Fault::NoMemory);
+            same(rt, &fault, &Fault::NoMemory);
             false
         }
     }
@@ -260,7 +260,7 @@ fn check_taken<N: Name, R: Wait + Abort>(
     cpu: &mut Cpu<N>,
     calls: usize,
 ) {
-    assert_eq!(rt; cpu.calls(), calls);
+    same(rt, &cpu.calls(), &calls);
     assert!(rt; is_taken(rt, kernel, cpu));
 }
 

@@ -1,5 +1,6 @@
 //! Rounds on the smallest and the largest memory, sizes that no kernel has, and who is asked in a round.
 
+use crate::kernels::same;
 use guest_race::{Referee, RoundFault, round, round_by};
 use integrity_checker::{Audit, AuditFault, Helper, Verdict};
 use locked_core::{Monitor, Name, Seen};
@@ -10,7 +11,7 @@ use std::thread::Threads;
 /// A round on so many frames ends, and its processes use 6 of them.
 fn check_round<R: AllocGlobal + Threads + Wait + Abort + Sync>(rt: &R, frames: u32) {
     let report = round(rt, rt.alloc(), frames).expect(rt, "a round");
-    assert_eq!(rt; report.total(), 6, "{frames} frames");
+    same(rt, &(frames, report.total()), &(frames, 6));
 }
 
 #[test]
@@ -22,7 +23,7 @@ fn a_round_ends_with_two_processes(rt: HostRuntime) {
 /// No round on so many frames.
 fn check_failed<R: AllocGlobal + Threads + Wait + Abort + Sync>(rt: &R, frames: u32) {
     let ended = round(rt, rt.alloc(), frames).err();
-    assert_eq!(rt; ended, Some(RoundFault::Failed), "{frames} frames");
+    same(rt, &(frames, ended), &(frames, Some(RoundFault::Failed)));
 }
 
 #[test]
@@ -65,8 +66,8 @@ fn check_asked<R: AllocGlobal + Threads + Wait + Abort + Sync>(
     rounds: u32,
 ) {
     let ended = round_by(rt, rt.alloc(), 16, referee);
-    assert!(rt; ended.is_ok(), "round {rounds}");
-    assert_eq!(rt; (referee.reports, referee.verdicts), (rounds, rounds));
+    let found = (ended.is_ok(), referee.reports, referee.verdicts);
+    same(rt, &found, &(true, rounds, rounds));
 }
 
 #[test]

@@ -3,7 +3,7 @@
 ghost use Rattle.std.specs.Prelude.{◌≡◌};
 
 use crate::kernels::{
-    answered, booted, check_length, closed, image_of, opened, process, put, store, taken,
+    answered, booted, check_length, closed, image_of, opened, process, put, same, store, taken,
 };
 use kernel_calls::{Core, Reply};
 use locked_core::{Blank, Boot, Cpu, History, Kernel, Monitor, Name, OpenGate};
@@ -23,35 +23,36 @@ fn stored<N: Name, R: Wait + Abort>(
     answered(rt, kernel, cpu, process(rt, 0), store(value), Reply::Done);
     let calls = cpu.calls();
     let image = image_of(rt, kernel, cpu);
-    assert_eq!(rt; cpu.calls(), calls);
+    same(rt, &cpu.calls(), &calls);
     image
 }
 
 /// Whether the image has the core's bytes and roles.
-fn shows<R: Abort>(rt: &R, image: &Image, core: &Core) -> bool {
-    let mut same = image.bytes() == core.memory().bytes();
+fn shows(image: &Image, core: &Core) -> bool {
+    let mut is_shown = image.bytes() == core.memory().bytes();
     for frame in 0..core.frames() {
         if image.role(Frame(frame)) != Some(core.role(Frame(frame))) {
-            same = false;
+            is_shown = false;
         }
     }
-    assert_eq!(rt; image.frames(), core.frames());
-    same
+    is_shown
 }
 
-/// Whether the image is of the memory that the kernel was closed with.
+/// The image has as many frames as the memory that the kernel was closed with, and is of it or not.
 fn check_shows<R: Abort>(rt: &R, image: &Image, history: &History, is_shown: bool) {
-    assert_eq!(rt; shows(rt, image, history.core()), is_shown);
+    let core = history.core();
+    let found = (image.frames(), shows(image, core));
+    same(rt, &found, &(core.frames(), is_shown));
 }
 
 /// By the image process 0 uses 3 frames.
 fn check_used<R: Abort>(rt: &R, image: &Image) {
     let used = image.process(process(rt, 0)).map(|process| process.used);
-    assert_eq!(rt; used, Some(3));
+    same(rt, &used, &Some(3));
 }
 
 fn check_no_monitors<N: Name, R: Abort>(rt: &R, monitors: &Vec<Monitor<N>>) {
-    assert_eq!(rt; monitors.len(), 0);
+    same(rt, &monitors.len(), &0);
 }
 
 /// An image before a store, and one after it: the second one is of the memory that the kernel is closed with.
