@@ -197,21 +197,23 @@ static bool is_translation_given(const struct kept *one, uint32_t directory) {
            (*walk.table_word & ACCESSED) && (!one->dirty || (*walk.table_word & DIRTY));
 }
 
-bool cache_is_given(uint32_t identifier, uint32_t directory) {
-    for (uint32_t i = 0; i < translations.count; i++) {
-        const struct kept *one = &translations.kept[i];
-        if (one->identifier == identifier && !is_translation_given(one, directory)) {
-            return false;
-        }
-    }
-    for (uint32_t i = 0; i < directory_words.count; i++) {
-        const struct kept *one = &directory_words.kept[i];
-        uint32_t word = *word_at(directory, one->number);
-        if (one->identifier == identifier && (one->leads_to | ACCESSED) != (word | ACCESSED)) {
+static bool is_word_given(const struct kept *one, uint32_t directory) {
+    return (one->leads_to | ACCESSED) == (*word_at(directory, one->number) | ACCESSED);
+}
+
+static bool all_given(const struct list *in, uint32_t identifier, uint32_t directory,
+                      bool (*is_given)(const struct kept *one, uint32_t directory)) {
+    for (const struct kept *one = in->kept; one < in->kept + in->count; one++) {
+        if (one->identifier == identifier && !is_given(one, directory)) {
             return false;
         }
     }
     return true;
+}
+
+bool cache_is_given(uint32_t identifier, uint32_t directory) {
+    return all_given(&translations, identifier, directory, is_translation_given) &&
+           all_given(&directory_words, identifier, directory, is_word_given);
 }
 
 void cache_counts(uint32_t *kept, uint32_t *walked, uint32_t *again) {

@@ -215,6 +215,15 @@ static bool same_containers(struct tower_container a, struct tower_container b) 
            a.children == b.children;
 }
 
+static void compare_containers(void) {
+    for (uint32_t pid = 0; pid < PROCESSES; pid++) {
+        struct tower_container a = {0}, b = {0}, c = {0};
+        bool is_live = tower_container(mirror.core, pid, &a);
+        need(tower_container(walked.core, pid, &b) == is_live && tower_container(cached.core, pid, &c) == is_live &&
+                 same_containers(a, b) && same_containers(a, c), "a process's containers agree");
+    }
+}
+
 /* Directories and tables, or all frames, roles and containers. */
 static void compare(bool all) {
     for (uint32_t frame = 0; frame < FRAMES; frame++) {
@@ -227,11 +236,8 @@ static void compare(bool all) {
             compare_words(frame, is_directory);
         }
     }
-    for (uint32_t pid = 0; all && pid < PROCESSES; pid++) {
-        struct tower_container a = {0}, b = {0}, c = {0};
-        bool is_live = tower_container(mirror.core, pid, &a);
-        need(tower_container(walked.core, pid, &b) == is_live && tower_container(cached.core, pid, &c) == is_live &&
-                 same_containers(a, b) && same_containers(a, c), "a process's containers agree");
+    if (all) {
+        compare_containers();
     }
 }
 
