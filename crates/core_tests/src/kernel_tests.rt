@@ -1,4 +1,5 @@
 //! A core by its calls.
+use crate::common::same;
 use kernel_calls::{BootFault, Call, Core, Ended, Event, Frame, Pid, Reply, Role};
 use page_words::{Page, Size, Vaddr};
 use process_table::Cause;
@@ -26,15 +27,16 @@ fn booted<R: AllocGlobal + Abort>(rt: &R, frames: u32) -> Result<u32, BootFault>
 
 #[test]
 fn boots_16_to_4096_frames(rt: HostRuntime) {
-    assert_eq!(rt;
-        [0, 15, 16, 4096, 4097].map(|frames| booted(&rt, frames)),
-        [
+    same(
+        &rt,
+        &[0, 15, 16, 4096, 4097].map(|frames| booted(&rt, frames)),
+        &[
             Err(BootFault::BadSize),
             Err(BootFault::BadSize),
             Ok(15),
             Ok(4095),
-            Err(BootFault::BadSize)
-        ]
+            Err(BootFault::BadSize),
+        ],
     );
 }
 
@@ -54,15 +56,16 @@ fn maps_stores_loads_and_unmaps(rt: HostRuntime) -> Result<(), Fail> {
     let mut replies = [Reply::Done; 5];
     core.run(&events, &mut replies);
     let value = Reply::Value(0xdead_beef);
-    assert_eq!(rt;
-        replies,
-        [
+    same(
+        &rt,
+        &replies,
+        &[
             Reply::Done,
             Reply::Done,
             value,
             Reply::Done,
-            Reply::Value(0)
-        ]
+            Reply::Value(0),
+        ],
     );
     Ok(())
 }
@@ -78,24 +81,28 @@ fn role_of_directory(rt: &impl Abort, core: &Core) -> Role {
 fn boots_with_a_directory_in_memory(rt: HostRuntime) -> Result<(), Fail> {
     let core = Core::boot(rt.alloc(), 16)?;
     let pid = root(&rt);
-    assert_eq!(rt; role_of_directory(&rt, &core), Role::Directory { pid });
-    assert_eq!(rt; core.role(Frame(0)), Role::Reserved);
-    assert_eq!(rt; core.memory().bytes().len(), 65536);
+    same(
+        &rt,
+        &role_of_directory(&rt, &core),
+        &Role::Directory { pid },
+    );
+    same(&rt, &core.role(Frame(0)), &Role::Reserved);
+    same(&rt, &core.memory().bytes().len(), &65536);
     Ok(())
 }
 
 /// A call of the root is decided with this charge, and committed with this reply.
 fn decide(rt: &impl Abort, core: &mut Core, call: Call, used: u32, reply: Reply) {
     let decision = core.decide(&event(root(rt), call));
-    assert_eq!(rt; decision.used_after, used);
-    assert_eq!(rt; core.commit(decision), reply);
+    same(rt, &decision.used_after, &used);
+    same(rt, &core.commit(decision), &reply);
 }
 
 /// A call of the root is carried out with this charge and this reply.
 fn carry_out(rt: &impl Abort, core: &mut Core, call: Call, used: u32, reply: Reply) {
     let decision = core.carry_out(&event(root(rt), call));
-    assert_eq!(rt; decision.used_after, used);
-    assert_eq!(rt; decision.reply, reply);
+    same(rt, &decision.used_after, &used);
+    same(rt, &decision.reply, &reply);
 }
 
 fn store(addr: Vaddr, value: u32) -> Call {
@@ -144,8 +151,8 @@ fn page_ended(ended: &Ended) -> Option<Page> {
 /// A call of the root is done, and ends the translations of that page, or none of one page.
 fn ends(rt: &impl Abort, core: &mut Core, call: Call, page: Option<Page>) {
     let told = core.step_ending(&event(root(rt), call));
-    assert_eq!(rt; told.0, Reply::Done);
-    assert_eq!(rt; page_ended(&told.1), page);
+    same(rt, &told.0, &Reply::Done);
+    same(rt, &page_ended(&told.1), &page);
 }
 
 #[test]
@@ -173,9 +180,9 @@ fn tells_which_translations_end(rt: HostRuntime) -> Result<(), Fail> {
 fn boots_after_want_of_memory(rt: HostRuntime) -> Result<(), Fail> {
     let first = Core::boot(rt.alloc(), 16).map(|core| core.frames());
     if first.is_err() {
-        assert_eq!(rt; first, Err(BootFault::NoMemory));
+        same(&rt, &first, &Err(BootFault::NoMemory));
         let again = Core::boot(rt.alloc(), 16).map(|core| core.frames());
-        assert_eq!(rt; again, Ok(16));
+        same(&rt, &again, &Ok(16));
         println!(rt; "NoMemory, and then a core")?;
     }
     Ok(())

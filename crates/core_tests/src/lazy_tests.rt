@@ -1,5 +1,6 @@
 //! A lazy page: what memory's words say of it, until it is stored to.
 
+use crate::common::same;
 use kernel_calls::{Call, Core, Event, Frame, Pid, Reply};
 use page_words::{DirWord, Page, Size, Vaddr, index_of, slot_of};
 use std::process::Abort;
@@ -41,9 +42,10 @@ fn check(rt: &impl Abort, core: &mut Core, call: Call, reply: Reply, flags: u32,
     let pid = root(rt);
     let told = core.step(&Event { cpu: 0, pid, call });
     let word = table_word(core, pid);
-    assert_eq!(rt;
-        (told, word % 4096, word / 4096 != 0),
-        (reply, flags, has_frame)
+    same(
+        rt,
+        &(told, word % 4096, word / 4096 != 0),
+        &(reply, flags, has_frame),
     );
 }
 

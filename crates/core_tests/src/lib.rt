@@ -4,6 +4,8 @@
 #![tactic(auto)]
 
 #[cfg(test)]
+mod common;
+#[cfg(test)]
 mod kernel_tests;
 #[cfg(test)]
 mod lazy_tests;

@@ -1,4 +1,5 @@
 //! Accesses, planned and settled.
+use crate::common::same;
 use fault_handler::{PageStep, Plan, plan, settle, try_load, try_store};
 use page_words::{Page, Pid, Size, Vaddr};
 use process_table::{Cause, Processes};
@@ -27,7 +28,7 @@ fn check_plan(
     let pid = root(rt);
     assert!(rt; processes.live(pid));
     let found = plan(processes, pid, address, Size::Four, access);
-    assert_eq!(rt; found, expected);
+    same(rt, &found, &expected);
 }
 
 fn map_page(rt: &impl Abort, processes: &mut Processes, page: Page, write: bool) {
@@ -101,7 +102,7 @@ fn check_settled(
         Plan::Ready { .. } => settle(processes, plan, pid, ADDRESS, Size::Four, access, value),
         _ => 0xffff_ffff,
     };
-    assert_eq!(rt; read, expected);
+    same(rt, &read, &expected);
 }
 
 #[test]
@@ -115,7 +116,7 @@ fn settles_with_the_value_read(rt: HostRuntime) -> Result<(), Fail> {
 
 fn load_at_once(rt: &impl Abort, processes: &mut Processes, address: Vaddr, value: Option<u32>) {
     let read = try_load(processes, root(rt), address, Size::Four);
-    assert_eq!(rt; read, value);
+    same(rt, &read, &value);
 }
 
 fn store_at_once(
@@ -126,7 +127,7 @@ fn store_at_once(
     done: bool,
 ) {
     let stored = try_store(processes, root(rt), address, Size::Four, value);
-    assert_eq!(rt; stored, done);
+    same(rt, &stored, &done);
 }
 
 #[test]

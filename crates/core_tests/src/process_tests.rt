@@ -1,4 +1,5 @@
 //! Processes by their calls: an example of each test and of each call.
+use crate::common::same;
 use address_space::Cell;
 use page_words::{Page, Pid, Size, Vaddr, in_user_range, page_of, second_page};
 use process_table::{
@@ -91,7 +92,7 @@ fn load(rt: &impl Abort, processes: &mut Processes, pid: Pid, address: Vaddr, va
     assert!(rt; second_page(address, Size::Four).is_none());
     assert!(rt; processes.spaces().cell(pid, page).is_some());
     let read = processes.access(pid, address, Size::Four, Access::Read, 0);
-    assert_eq!(rt; read, value);
+    same(rt, &read, &value);
 }
 
 /// Stores four bytes to one page that is mapped with the right to write.
@@ -121,7 +122,7 @@ fn check_container(
         Some(container) => [container.quota, container.used, container.given],
         None => [0, 0, 0],
     };
-    assert_eq!(rt; found, [quota, used, given]);
+    same(rt, &found, &[quota, used, given]);
 }
 
 /// A cell of a page that the process has not accessed.
@@ -141,12 +142,12 @@ fn check_untouched(
         holders,
     };
     assert!(rt; in_user_range(page));
-    assert_eq!(rt; processes.spaces().cell(pid, page), Some(cell));
+    same(rt, &processes.spaces().cell(pid, page), &Some(cell));
 }
 
 fn check_lazy(rt: &impl Abort, processes: &Processes, pid: Pid, page: Page, lazy: bool) {
     assert!(rt; in_user_range(page));
-    assert_eq!(rt; processes.is_lazy(pid, page), lazy);
+    same(rt, &processes.is_lazy(pid, page), &lazy);
 }
 
 #[test]
@@ -154,13 +155,14 @@ fn takes_16_to_4096_frames(rt: HostRuntime) {
     let sizes = [15, 4096, 4097].map(|frames| Processes::new(rt.alloc(), frames).map(
         |processes| processes.spaces().frames(),
     ));
-    assert_eq!(rt;
-        sizes,
-        [
+    same(
+        &rt,
+        &sizes,
+        &[
             Err(ProcessesFault::BadSize),
             Ok(4096),
-            Err(ProcessesFault::BadSize)
-        ]
+            Err(ProcessesFault::BadSize),
+        ],
     );
     images_stand_for_one();
     calls_keep_states_well_formed();
@@ -205,7 +207,7 @@ fn check_offer(
     target: Pid,
     right: Option<bool>,
 ) {
-    assert_eq!(rt; processes.offers().get(giver, LOW, target), right);
+    same(rt, &processes.offers().get(giver, LOW, target), &right);
 }
 
 #[test]
@@ -229,7 +231,7 @@ fn offers_withdraws_and_protects(rt: HostRuntime) -> Result<(), Fail> {
 fn spawns_and_takes_a_quota_back(rt: HostRuntime) -> Result<(), Fail> {
     let mut processes = Processes::new(rt.alloc(), 32)?;
     let (root, child) = (process(&rt, 0), process(&rt, 1));
-    assert_eq!(rt; spawn(&rt, &mut processes, root, 20), child);
+    same(&rt, &spawn(&rt, &mut processes, root, 20), &child);
     map(&rt, &mut processes, child, LOW, true);
     check_container(&rt, &processes, child, 20, 3, 0);
     check_container(&rt, &processes, root, 31, 1, 20);
@@ -245,7 +247,7 @@ fn forks_a_stored_page_and_a_lazy_one(rt: HostRuntime) -> Result<(), Fail> {
     map(&rt, &mut processes, root, LOW, true);
     map(&rt, &mut processes, root, HIGH, true);
     store(&rt, &mut processes, root, THERE, 7);
-    assert_eq!(rt; fork(&rt, &mut processes, root, 10), child);
+    same(&rt, &fork(&rt, &mut processes, root, 10), &child);
     check_container(&rt, &processes, child, 10, 4, 0);
     check_untouched(&rt, &processes, child, LOW, true, 1);
     check_lazy(&rt, &processes, child, LOW, false);
@@ -303,10 +305,11 @@ fn tests_answer_the_first_cause(rt: HostRuntime) -> Result<(), Fail> {
     let mut processes = Processes::new(rt.alloc(), 16)?;
     let (root, nobody) = (process(&rt, 0), process(&rt, 9));
     map(&rt, &mut processes, root, LOW, true);
-    assert_eq!(rt; answers_to(&processes, nobody), [1; 9]);
-    assert_eq!(rt;
-        answers_to_root(&processes, root, nobody),
-        [2, 5, 4, 4, 8, 9, 12, 12, 14, 6, 14, 17, 6, 16]
+    same(&rt, &answers_to(&processes, nobody), &[1; 9]);
+    same(
+        &rt,
+        &answers_to_root(&processes, root, nobody),
+        &[2, 5, 4, 4, 8, 9, 12, 12, 14, 6, 14, 17, 6, 16],
     );
     Ok(())
 }
@@ -322,7 +325,7 @@ fn check_charge(rt: &impl Abort, processes: &Processes, address: Vaddr, size: Si
             None => true,
         }
     );
-    assert_eq!(rt; processes.access_charge(root, address, size), charge);
+    same(rt, &processes.access_charge(root, address, size), &charge);
     assert!(rt; !processes.lacks_room(root, address, size));
 }
 
@@ -345,9 +348,9 @@ fn charges_an_access_for_its_pages(rt: HostRuntime) -> Result<(), Fail> {
 fn goes_on_after_want_of_memory(rt: HostRuntime) -> Result<(), Fail> {
     let first = Processes::new(rt.alloc(), 16).map(|processes| processes.spaces().frames());
     if first.is_err() {
-        assert_eq!(rt; first, Err(ProcessesFault::NoMemory));
+        same(&rt, &first, &Err(ProcessesFault::NoMemory));
         let again = Processes::new(rt.alloc(), 16).map(|processes| processes.spaces().frames());
-        assert_eq!(rt; again, Ok(16));
+        same(&rt, &again, &Ok(16));
         println!(rt; "NoMemory, and then processes")?;
     }
     Ok(())

@@ -1,5 +1,6 @@
 //! A log that is absorbed entry by entry, and the text of a report.
 
+use crate::common::same;
 use base_tests::streams::{BrokenWriter, Pieces};
 use kernel_calls::{Call, Core, Event, Reply};
 use memory_report::{LogEntry, Report, Row, WriteFailed, report_of};
@@ -19,8 +20,8 @@ fn process(rt: &impl Abort, number: u8) -> Pid {
 
 /// The report is that of the core, with this total.
 fn check_total(rt: &impl Abort, core: &Core, report: &Report, total: u64) {
-    assert_eq!(rt; *report, report_of(core));
-    assert_eq!(rt; report.total(), total);
+    same(rt, report, &report_of(core));
+    same(rt, &report.total(), &total);
 }
 
 /// What is logged of an event, with that number of entries before it.
@@ -71,12 +72,12 @@ fn share_a_page(core: &mut Core, report: &mut Report, root: Pid, child: Pid) {
 }
 
 fn check_row(rt: &impl Abort, report: &Report, pid: Pid, row: Option<Row>) {
-    assert_eq!(rt; report.row(pid), row);
+    same(rt, &report.row(pid), &row);
 }
 
 fn check_text(rt: &impl Abort, alloc: Global, report: &Report, text: &[u8]) {
     let mut written = Vec::new(alloc);
-    assert_eq!(rt; report.write_text(&mut written), Ok(()));
+    same(rt, &report.write_text(&mut written), &Ok(()));
     assert_eq!(rt; written.as_slice(), text);
 }
 
@@ -106,7 +107,7 @@ fn absorbs_a_history(rt: HostRuntime) -> Result<(), Fail> {
 fn stops_where_a_write_fails(rt: HostRuntime) {
     let report = Report::boot(16);
     let mut writer = BrokenWriter::new(20, Pieces::Whole);
-    assert_eq!(rt; report.write_text(&mut writer), Err(WriteFailed));
+    same(&rt, &report.write_text(&mut writer), &Err(WriteFailed));
     assert_eq!(rt;
         writer.written.as_slice(),
         b"process 0 parent 0 q".as_slice()
@@ -131,5 +132,5 @@ fn takes_in_any_entry(rt: HostRuntime) {
         report.row(root).map(|row| row.given),
         report.row(child).map(|row| row.quota),
     );
-    assert_eq!(rt; told, (Some(u32::MAX), Some(u32::MAX)));
+    same(&rt, &told, &(Some(u32::MAX), Some(u32::MAX)));
 }

@@ -1,5 +1,6 @@
 //! A whole script, and want of memory.
 
+use crate::common::same;
 use base_tests::streams::{BrokenWriter, Pieces};
 use script_run::{ScriptFault, run_script};
 use std::test::Fail;
@@ -14,7 +15,7 @@ fn replies_to_a_script(rt: HostRuntime) {
     let mut reader = SCRIPT;
     let mut written = Vec::new(rt.alloc());
     let ended = run_script(rt.alloc(), &mut reader, &mut written, 16);
-    assert_eq!(rt; ended.map(|core| core.frames()), Ok(16));
+    same(&rt, &ended.map(|core| core.frames()), &Ok(16));
     assert_eq!(rt; written.as_slice(), REPLIES);
 }
 
@@ -27,11 +28,11 @@ fn goes_on_after_want_of_memory(rt: HostRuntime) -> Result<(), Fail> {
     let mut writer = BrokenWriter::new(256, Pieces::Whole);
     let first = run_script(rt.alloc(), &mut reader, &mut writer, 16).err();
     if first.is_some() {
-        assert_eq!(rt; first, Some(ScriptFault::NoMemory));
+        same(&rt, &first, &Some(ScriptFault::NoMemory));
         assert_eq!(rt; reader, SCRIPT);
         assert!(rt; writer.written.is_empty());
         let again = run_script(rt.alloc(), &mut reader, &mut writer, 16).err();
-        assert_eq!(rt; again, None);
+        same(&rt, &again, &None);
         println!(rt; "NoMemory, and then all replies")?;
     }
     assert_eq!(rt; writer.written.as_slice(), REPLIES);

@@ -3,6 +3,7 @@ ghost use Rattle.std.specs.Prelude.{◌≡◌, ◌+◌, ◌≤◌, length};
 ghost use Rattle.page_words.specs.Addresses.{IsUserPage};
 ghost use Rattle.address_space.specs.View.{total_cost};
 
+use crate::common::same;
 use address_space::{Cell, Spaces, SpacesFault};
 use alloc_table::Role;
 use page_words::{Frame, Page, Pid, Size, Vaddr, in_user_range, page_of, second_page};
@@ -49,7 +50,7 @@ fn map_page(rt: &impl Abort, spaces: &mut Spaces, pid: Pid, page: Page, need: u3
     assert!(rt; pid.number() < 64);
     assert!(rt; spaces.directory(pid).is_some());
     assert!(rt; spaces.cell(pid, page).is_none());
-    assert_eq!(rt; spaces.need(pid, page), need);
+    same(rt, &spaces.need(pid, page), &need);
     spaces.map_zero(pid, page, true);
 }
 
@@ -70,7 +71,7 @@ fn unmap_page(rt: &impl Abort, spaces: &mut Spaces, pid: Pid, page: Page, relief
     requires user { IsUserPage page }
 {
     assert!(rt; spaces.cell(pid, page).is_some());
-    assert_eq!(rt; spaces.relief(pid, page), relief);
+    same(rt, &spaces.relief(pid, page), &relief);
     spaces.unmap(pid, page);
     assert!(rt; spaces.cell(pid, page).is_none());
 }
@@ -101,7 +102,7 @@ fn load_word(rt: &impl Abort, spaces: &mut Spaces, pid: Pid, address: Vaddr, val
     assert!(rt; in_user_range(page));
     assert!(rt; second_page(address, Size::Four).is_none());
     assert!(rt; spaces.cell(pid, page).is_some());
-    assert_eq!(rt; spaces.read(pid, address, Size::Four), value);
+    same(rt, &spaces.read(pid, address, Size::Four), &value);
 }
 
 /// Looks at four bytes, none of whose pages has to be mapped.
@@ -113,18 +114,18 @@ fn peek_word(rt: &impl Abort, spaces: &Spaces, pid: Pid, address: Vaddr, value: 
             None => true,
         }
     );
-    assert_eq!(rt; spaces.peek(pid, address, Size::Four), value);
+    same(rt, &spaces.peek(pid, address, Size::Four), &value);
 }
 
 fn check_cell(rt: &impl Abort, spaces: &Spaces, pid: Pid, page: Page, cell: Option<Cell>) {
     assert!(rt; in_user_range(page));
-    assert_eq!(rt; spaces.cell(pid, page), cell);
+    same(rt, &spaces.cell(pid, page), &cell);
 }
 
 /// What a process that has a space is charged for.
 fn check_cost(rt: &impl Abort, spaces: &Spaces, pid: Pid, cost: u32) {
     assert!(rt; spaces.directory(pid).is_some());
-    assert_eq!(rt; spaces.cost(pid), cost);
+    same(rt, &spaces.cost(pid), &cost);
 }
 
 /// All frames are free but frame 0, and so many more.
@@ -133,7 +134,11 @@ fn check_frames(rt: &impl Abort, spaces: &Spaces, used: u32) {
     for frame in 0..spaces.frames() {
         free = free.wrapping_add((spaces.role(Frame(frame)) == Role::Free) as u32);
     }
-    assert_eq!(rt; free.wrapping_add(used).wrapping_add(1), spaces.frames());
+    same(
+        rt,
+        &free.wrapping_add(used).wrapping_add(1),
+        &spaces.frames(),
+    );
 }
 
 #[test]
@@ -141,13 +146,14 @@ fn takes_16_to_4096_frames(rt: HostRuntime) {
     let sizes = [15, 4096, 4097].map(|frames| Spaces::new(rt.alloc(), frames).map(
         |spaces| spaces.frames(),
     ));
-    assert_eq!(rt;
-        sizes,
-        [
+    same(
+        &rt,
+        &sizes,
+        &[
             Err(SpacesFault::BadSize),
             Ok(4096),
-            Err(SpacesFault::BadSize)
-        ]
+            Err(SpacesFault::BadSize),
+        ],
     );
 }
 
@@ -258,14 +264,18 @@ fn load_at_once(
 ) {
     assert!(rt; in_user_range(page_of(address)));
     assert!(rt; second_page(address, Size::Two).is_none());
-    assert_eq!(rt; spaces.try_read(pid, address, Size::Two), value);
+    same(rt, &spaces.try_read(pid, address, Size::Two), &value);
 }
 
 /// Stores beef at once, to one page of the user range, and says whether it is done.
 fn store_at_once(rt: &impl Abort, spaces: &mut Spaces, pid: Pid, address: Vaddr, done: bool) {
     assert!(rt; in_user_range(page_of(address)));
     assert!(rt; second_page(address, Size::Two).is_none());
-    assert_eq!(rt; spaces.try_write(pid, address, Size::Two, 0xbeef), done);
+    same(
+        rt,
+        &spaces.try_write(pid, address, Size::Two, 0xbeef),
+        &done,
+    );
 }
 
 #[test]
@@ -304,7 +314,7 @@ fn check_need(rt: &impl Abort, spaces: &Spaces, pid: Pid, address: Vaddr, need: 
             None => true,
         }
     );
-    assert_eq!(rt; spaces.access_need(pid, address, Size::Two), need);
+    same(rt, &spaces.access_need(pid, address, Size::Two), &need);
 }
 
 #[test]
@@ -329,9 +339,9 @@ fn an_access_of_two_pages_needs_both(rt: HostRuntime) -> Result<(), Fail> {
 fn goes_on_after_want_of_memory(rt: HostRuntime) -> Result<(), Fail> {
     let first = Spaces::new(rt.alloc(), 16).map(|spaces| spaces.memory().frames());
     if first.is_err() {
-        assert_eq!(rt; first, Err(SpacesFault::NoMemory));
+        same(&rt, &first, &Err(SpacesFault::NoMemory));
         let again = Spaces::new(rt.alloc(), 16).map(|spaces| spaces.memory().frames());
-        assert_eq!(rt; again, Ok(16));
+        same(&rt, &again, &Ok(16));
         println!(rt; "NoMemory, and then spaces")?;
     }
     Ok(())

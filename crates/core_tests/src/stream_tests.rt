@@ -1,5 +1,6 @@
 //! Scripts from readers and to writers that give and take odd pieces, or fail in mid-stream.
 
+use crate::common::same;
 use base_tests::streams::{BrokenReader, BrokenWriter, FullWriter, Pieces};
 use script_run::worked::sharing::SHARE_BOTH_WAYS;
 use script_run::{ScriptFault, run_script};
@@ -97,7 +98,7 @@ fn a_failed_write_leaves_the_first_bytes(rt: HostRuntime) {
 fn fails_where_a_writer_takes_no_byte(rt: HostRuntime) {
     let mut reader = script();
     let ended = run_script(rt.alloc(), &mut reader, &mut FullWriter::new(0), 16);
-    assert_eq!(rt; ended.err(), Some(ScriptFault::WriteFailed));
+    same(&rt, &ended.err(), &Some(ScriptFault::WriteFailed));
 }
 
 /// What is read and written in such pieces is what is read and written whole.

@@ -1,5 +1,6 @@
 //! Accesses as a processor makes them by itself, by the walk over memory's own words.
 
+use crate::common::same;
 use kernel_calls::{Call, Core, Event, Page, Pid, Reply, Size, Vaddr};
 use page_words::{DirWord, in_user_range, slot_of};
 use std::process::Abort;
@@ -43,7 +44,7 @@ fn walk_by(core: &mut Core, pid: Pid, page: Page, walked: bool) {
 
 /// An event has this reply, by the processor alone or not.
 fn check(rt: &impl Abort, core: &mut Core, event: &Event, reply: Reply, alone: bool) {
-    assert_eq!(rt; together(core, event), (reply, alone));
+    same(rt, &together(core, event), &(reply, alone));
 }
 
 /// A processor makes a store by translations that it kept, where it has no word to mark for it: whether it did.
