@@ -77,7 +77,7 @@ pub record IsStoreInto (s t : State) (e : Event) (slot : Slot) (place : ℕ) : T
   pub shared : IsTrue (set.contains own.holders slot)
   pub stored : byte_in t slot place ≡ slice_index (bytes_of (byte_count size) value) (byte - address)
 
--- of a slot that is mapped before and after an event, whosever it is, the event leaves what it may have; the right to
+-- of a slot that is mapped before and after an event, whosever it is, the event leaves `may`; the right to
 -- write, but for a Protect by its process; what was accessed and dirty; and each byte, but for a store into it
 pub record IsKept (s t : State) (e : Event) (slot : Slot) (before after : Cell) : Type 0 where
   pub may : after.may ≡ before.may
@@ -136,7 +136,7 @@ pub record IsLeave (e : Event) (slot : Slot) : Type 0 where
   pub own : slot.pid ≡ e.pid
   pub how : (e.call ≡ call.Unmap slot.page) ⊎ (e.call ≡ call.Exit)
 
--- two slots that share a page before an event do so after it, or one of them is given up: so it is with one slot, too
+-- two slots that share a page before an event do so after it, or one of them is given up: one slot, too, stays mapped so
 abbrev pub SharingStays : Type 0
 SharingStays = (s : State) (e : Event) (slot other : Slot) → IsWellFormed s → shares s slot other ≡ true
     → (shares (next s e) slot other ≡ true) ⊎ (IsLeave e slot ⊎ IsLeave e other)
@@ -254,13 +254,13 @@ found s (call.Fork _) = next_number s.book
 found s _ = None
 
 -- a member is told the same where members have the same and it finds the same, and where an accept finds the offer that
--- it takes in both states or in neither, whatever the page
+-- it takes in both states or in neither, whatever stands in the page that is offered
 abbrev pub MembersToldTheSame : Type 0
 MembersToldTheSame = (s t : State) (e : Event) (Q : ℕ → Bool) → HaveTheSame s t Q → Q e.pid ≡ true
     → found s e.call ≡ found t e.call → ((giver page own : ℕ) → e.call ≡ call.Accept giver page own
     → is_offered s e.pid (at_page giver page) ≡ is_offered t e.pid (at_page giver page)) → answer s e ≡ answer t e
 
--- after any call but an accept its process, taken alone, has the same
+-- a process, taken alone, that has and finds the same in two states has the same after any call but an accept
 abbrev pub OwnIsEnough : Type 0
 OwnIsEnough = (s t : State) (e : Event) → HaveTheSame s t (λ q. q == e.pid) → found s e.call ≡ found t e.call
     → ((giver page own : ℕ) → e.call ≢ call.Accept giver page own)
@@ -270,7 +270,7 @@ OwnIsEnough = (s t : State) (e : Event) → HaveTheSame s t (λ q. q == e.pid) �
 abbrev pub members_after : State → (ℕ → Bool) → Event → ℕ → Bool
 members_after s Q e p = is_live (next s e) p && (if is_live s p then Q p else Q e.pid)
 
--- after the event of a member all members see the same, a child that it makes among them
+-- members that see the same in two states, one of which finds the same, see the same after its event, with its child
 abbrev pub MembersSeeTheSame : Type 0
 MembersSeeTheSame = (s t : State) (e : Event) (Q : ℕ → Bool) → IsWellFormed s → IsWellFormed t → LooksSame s t Q
     → Q e.pid ≡ true → found s e.call ≡ found t e.call → LooksSame (next s e) (next t e) (members_after s Q e)
@@ -314,7 +314,7 @@ abbrev pub Along : (State → (ℕ → Bool) → Event → Type 0) → State →
 Along P s Q [] = Unit {0}
 Along P s Q (e ∷ events) = P s Q e × Along P (next s e) (members_after s Q e) events
 
--- what the members are told in a run, each with what its call finds
+-- what members ask and are told in a run (an exchange is an event with its reply), each with what its call finds
 abbrev pub heard : State → (ℕ → Bool) → List Exchange → List (Exchange × Option ℕ)
 heard s Q [] = []
 heard s Q (x ∷ run) =
@@ -369,7 +369,7 @@ pub record IsAsBefore (s t : State) (p : ℕ) : Type 0 where
 
 -- what a run from s to t leaves of each confined set: where its members' events keep within it, it stays confined as a
 -- set of numbers, whoever has these, and with all children that its members make, and their children; and events of
--- outsiders change nothing that a live member has
+-- outsiders leave a live member its place in the book, its pages and the offers that it made
 pub record KeepsBorders (s : State) (events : List Event) (t : State) : Type 0 where
   pub numbers : (C : ℕ → Bool) → IsConfined s C → All (KeepsWithin C) events → IsConfined t C
   pub families : (C : ℕ → Bool) → IsConfined s C → Along (λ _. KeepsWithin) s C events
@@ -390,7 +390,7 @@ IsDiscreet s C e = C e.pid ≡ true
     → (keeps_within C e.call ≡ true) × (e.call ≡ call.Exit → IsStranger s (outside s C) e.pid)
 
 -- where two states have the same outsiders of a confined set and look the same to them, those who ask and find alike
--- are told the same in any two runs, whatever the members have, and whatever they do in that way
+-- are told the same in any two runs, whatever the members have and do, as long as it is discreet
 abbrev pub OutsidersHearNothing : Type 0
 OutsidersHearNothing = (s t : State) (C : ℕ → Bool) (events others : List Event) → IsWellFormed s → IsWellFormed t
     → IsConfined s C → IsConfined t C → ((p : ℕ) → outside s C p ≡ outside t C p) → LooksSame s t (outside s C)

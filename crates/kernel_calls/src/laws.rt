@@ -31,9 +31,10 @@ pub fn kept_translations_are_given()
     ensures runs { KeptThroughRuns }
 {}
 
-/// An access by kept translations, which the walks give still, is the event: the walks find a frame for each of its
-/// pages, so that a processor makes it by itself; a load finds what stands where the walks lead, and changes nothing;
-/// of a store accessed and dirty of each page are set already, as `Core::store_kept` asks. It computes nothing.
+/// What kept translations that the walks give still serve for: the walks find a frame for each page of such an access, so
+/// that a processor makes it by itself; a load finds what stands where the walks lead, which `Core::accessed` answers, and
+/// the event changes nothing; of a store accessed and dirty of each page are set already, as `Core::store_kept` asks, which
+/// says that it is the event. It computes nothing.
 pub fn kept_translations_serve_accesses()
     ensures find { KeptFind }
     ensures reply { KeptReply }
@@ -64,8 +65,8 @@ pub fn authority_spreads_by_consent()
     ensures offers { OffersByOfferer }
 {}
 
-/// What a process gives up goes: an exit leaves nothing of the process, an unmap nothing of the slot, and an offer that
-/// is withdrawn or accepted is gone; nothing else ends one. It computes nothing.
+/// What a process gives up goes, once that is answered with Done: an exit leaves nothing of the process, an unmap nothing
+/// of the slot, and an offer that is withdrawn or accepted is gone; nothing else ends one. It computes nothing.
 pub fn what_is_given_up_goes()
     ensures exits { ExitsEnd }
     ensures unmaps { UnmapsEnd }
@@ -81,9 +82,9 @@ pub fn children_are_their_makers()
     ensures places { PlacesStay }
 {}
 
-/// What a process is told, and what it has afterwards, depends on what it has alone, and for an offer, a spawn and a
-/// fork on what these find of who is live; what an accept is told depends also on whether the offer that it takes is
-/// pending, whatever the page. It computes nothing.
+/// What a process is told, and what it has after any call but an accept, depends on what it has alone, and for an offer,
+/// a spawn and a fork on what these find of who is live; what an accept is told depends also on whether the offer that it
+/// takes is pending, whatever stands in the page. It computes nothing.
 pub fn what_a_process_has_is_enough()
     ensures told { MembersToldTheSame }
     ensures own { OwnIsEnough }
