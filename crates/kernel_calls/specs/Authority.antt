@@ -136,7 +136,7 @@ pub record IsLeave (e : Event) (slot : Slot) : Type 0 where
   pub own : slot.pid ≡ e.pid
   pub how : (e.call ≡ call.Unmap slot.page) ⊎ (e.call ≡ call.Exit)
 
--- two slots that share a page before an event do so after it, or one of them is given up: one slot, too, stays mapped so
+-- two slots that share a page before an event do so after it, or one of them is given up: one slot too stays mapped so
 abbrev pub SharingStays : Type 0
 SharingStays = (s : State) (e : Event) (slot other : Slot) → IsWellFormed s → shares s slot other ≡ true
     → (shares (next s e) slot other ≡ true) ⊎ (IsLeave e slot ⊎ IsLeave e other)
