@@ -45,11 +45,11 @@ fn check_ends<N: Name, R: Wait + Abort>(
     cpu: &mut Cpu<N>,
     listener: &Listener,
     call: Call,
-    ended: Ended,
+    ended: &Ended,
 ) {
     let told = cpu.call_ending(rt, kernel, process(rt, 0), call, listener);
-    assert_eq!(rt; told.map(|told| told.1), Ok(ended));
-    assert_eq!(rt; listener.last.load(Ordering::SeqCst), number_of(&ended));
+    assert_eq!(rt; told.map(|told| told.1), Ok(*ended));
+    assert_eq!(rt; listener.last.load(Ordering::SeqCst), number_of(ended));
 }
 
 /// A page that is mapped is filled by a store, and unmapped: the store and the unmap end its translation.
@@ -63,25 +63,13 @@ fn told<N: Name, R: Wait + Abort>(rt: &R, blank: Blank<OpenGate>, listener: &Lis
     } = opened::<N, OpenGate, R>(rt, blank);
     let mut cpu = taken(rt, &mut cpus);
     let (pid, page) = (process(rt, 0), Page(0x40000));
-    let filled = Ended::Page { pid, page };
-    check_ends(
-        rt,
-        &kernel,
-        &mut cpu,
-        listener,
-        Call::Map { page, write: true },
-        Ended::Nothing,
-    );
-    check_ends(rt, &kernel, &mut cpu, listener, store(7), filled);
-    check_ends(rt, &kernel, &mut cpu, listener, store(8), Ended::Nothing);
-    check_ends(
-        rt,
-        &kernel,
-        &mut cpu,
-        listener,
-        Call::Unmap { page },
-        filled,
-    );
+    let (none, own) = (Ended::Nothing, Ended::Page { pid, page });
+    let map = Call::Map { page, write: true };
+    check_ends(rt, &kernel, &mut cpu, listener, map, &none);
+    check_ends(rt, &kernel, &mut cpu, listener, store(7), &own);
+    check_ends(rt, &kernel, &mut cpu, listener, store(8), &none);
+    let unmap = Call::Unmap { page };
+    check_ends(rt, &kernel, &mut cpu, listener, unmap, &own);
     assert_eq!(rt; listener.count.load(Ordering::SeqCst), 4);
     check_length(rt, &closed(rt, kernel, put(rt, cpus, cpu)), 4);
 }
