@@ -85,10 +85,10 @@ places_by gone D m D' m' entries tables = record {
   tables = λ slot f t stays names is. tables slot.pid (slot_number slot.page) t is;
 }
 
-pub places_then : (gone : Gone) (D : Directories) (m : Frames) (D1 : Directories) (m1 : Frames) (D2 : Directories)
-    (m2 : Frames) → PlacesStay gone D m D1 m1 → PlacesStay gone D1 m1 D2 m2 → PlacesStay gone D m D2 m2
-places_then gone D m D1 m1 D2 m2 first second = record {
-  entries = stay_then gone (entries_in D m) (entries_in D1 m1) (entries_in D2 m2) first.entries second.entries;
+pub places_then : (gone : Gone) (D : Directories) (m : Frames) (D' : Directories) (m' : Frames) (D'' : Directories)
+    (m'' : Frames) → PlacesStay gone D m D' m' → PlacesStay gone D' m' D'' m'' → PlacesStay gone D m D'' m''
+places_then gone D m D' m' D'' m'' first second = record {
+  entries = stay_then gone (entries_in D m) (entries_in D' m') (entries_in D'' m'') first.entries second.entries;
   tables = λ slot f t stays names is.
       second.tables slot f t stays (first.entries slot f stays names) (first.tables slot f t stays names is);
 }
