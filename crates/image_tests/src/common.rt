@@ -15,22 +15,22 @@ const PAGE: Page = Page(0x40000);
 const OTHER_PAGE: Page = Page(0x50000);
 
 /// The process of a number.
-pub fn process(rt: &impl Abort, number: u8) -> Pid {
+pub(crate) fn process(rt: &impl Abort, number: u8) -> Pid {
     Pid::new(number).expect(rt, "a number below 64")
 }
 
 /// A freshly booted core of so many frames.
-pub fn booted<R: AllocGlobal + Abort>(rt: &R, frames: u32) -> Core {
+pub(crate) fn booted<R: AllocGlobal + Abort>(rt: &R, frames: u32) -> Core {
     Core::boot(rt.alloc(), frames).ok().expect(rt, "a core")
 }
 
 /// A process's call, on CPU 0.
-pub fn call(core: &mut Core, pid: Pid, call: Call) {
+pub(crate) fn call(core: &mut Core, pid: Pid, call: Call) {
     core.step(&Event { cpu: 0, pid, call });
 }
 
 /// A process stores four bytes.
-pub fn store(core: &mut Core, pid: Pid, addr: Vaddr, value: u32) {
+pub(crate) fn store(core: &mut Core, pid: Pid, addr: Vaddr, value: u32) {
     let size = Size::Four;
     call(core, pid, Call::Store { addr, size, value });
 }
@@ -57,20 +57,20 @@ fn share_both_ways(core: &mut Core, root: Pid, child: Pid) {
 }
 
 /// A core of 16 frames on which two processes share a page.
-pub fn shared_both_ways<R: AllocGlobal + Abort>(rt: &R) -> Core {
+pub(crate) fn shared_both_ways<R: AllocGlobal + Abort>(rt: &R) -> Core {
     let mut core = booted(rt, 16);
     share_both_ways(&mut core, process(rt, 0), process(rt, 1));
     core
 }
 
 /// The image of a core.
-pub fn image_of<R: AllocGlobal + Abort>(rt: &R, core: &Core) -> Image {
+pub(crate) fn image_of<R: AllocGlobal + Abort>(rt: &R, core: &Core) -> Image {
     let image = Image::of(rt.alloc(), core);
     image.ok().expect(rt, "an image of a core")
 }
 
 /// The bytes of the image of the state that a script ends in, on so many frames.
-pub fn image_after<R: AllocGlobal + Abort>(rt: &R, script: &str, frames: u32) -> Vec<u8> {
+pub(crate) fn image_after<R: AllocGlobal + Abort>(rt: &R, script: &str, frames: u32) -> Vec<u8> {
     let mut bytes = Vec::new(rt.alloc());
     let made = write_script_image(rt.alloc(), &mut script.as_bytes(), &mut bytes, frames);
     made.ok().expect(rt, "an image after a script");
@@ -78,7 +78,7 @@ pub fn image_after<R: AllocGlobal + Abort>(rt: &R, script: &str, frames: u32) ->
 }
 
 /// The bytes that spell an image of 16 frames, in one allocation.
-pub fn spelled<R: AllocGlobal + Abort>(rt: &R, image: &Image) -> Vec<u8> {
+pub(crate) fn spelled<R: AllocGlobal + Abort>(rt: &R, image: &Image) -> Vec<u8> {
     let mut bytes = Vec::with_capacity(rt.alloc(), 67_340)
         .ok()
         .expect(rt, "memory for an image");
@@ -87,7 +87,7 @@ pub fn spelled<R: AllocGlobal + Abort>(rt: &R, image: &Image) -> Vec<u8> {
 }
 
 /// The bytes of the other kernel's image of a version, with this word for its page, and with these words put to it.
-pub fn other_bytes<R: AllocGlobal + Abort>(
+pub(crate) fn other_bytes<R: AllocGlobal + Abort>(
     rt: &R,
     version: u32,
     page: u32,
@@ -101,58 +101,62 @@ pub fn other_bytes<R: AllocGlobal + Abort>(
 }
 
 /// The image that bytes spell.
-pub fn image_in<R: AllocGlobal + Abort>(rt: &R, bytes: &[u8]) -> Image {
+pub(crate) fn image_in<R: AllocGlobal + Abort>(rt: &R, bytes: &[u8]) -> Image {
     let image = read_image(rt.alloc(), bytes);
     image.ok().expect(rt, "an image of bytes")
 }
 
 /// The verdict on an image.
-pub fn verdict_on<R: AllocGlobal + Abort>(rt: &R, image: &Image) -> Verdict {
+pub(crate) fn verdict_on<R: AllocGlobal + Abort>(rt: &R, image: &Image) -> Verdict {
     check(rt.alloc(), image).ok().expect(rt, "a verdict")
 }
 
 /// A verdict's text.
-pub fn text_on<R: AllocGlobal + Abort>(rt: &R, told: &Verdict) -> Vec<u8> {
+pub(crate) fn text_on<R: AllocGlobal + Abort>(rt: &R, told: &Verdict) -> Vec<u8> {
     let mut text = Vec::new(rt.alloc());
     told.write_text(&mut text).ok().expect(rt, "a text");
     text
 }
 
 /// A verdict that nothing fails, or that something does.
-pub fn check_sound(rt: &impl Abort, told: &Verdict, expected: bool) {
+pub(crate) fn check_sound(rt: &impl Abort, told: &Verdict, expected: bool) {
     same(rt, &told.sound(), &expected);
 }
 
 /// What was found is what was expected.
-pub fn same<T: PartialEq + Debug>(rt: &impl Abort, found: &T, expected: &T) {
+pub(crate) fn same<T: PartialEq + Debug>(rt: &impl Abort, found: &T, expected: &T) {
     assert_eq!(rt; found, expected);
 }
 
 /// These bytes are the expected ones.
-pub fn same_bytes(rt: &impl Abort, bytes: &[u8], expected: &[u8]) {
+pub(crate) fn same_bytes(rt: &impl Abort, bytes: &[u8], expected: &[u8]) {
     assert_eq!(rt; bytes, expected);
 }
 
 /// Bytes are refused so as an image, or are one.
-pub fn check_fault<R: AllocGlobal + Abort>(rt: &R, bytes: &[u8], expected: Option<ImageFault>) {
+pub(crate) fn check_fault<R: AllocGlobal + Abort>(
+    rt: &R,
+    bytes: &[u8],
+    expected: Option<ImageFault>,
+) {
     let fault = read_image(rt.alloc(), bytes).err();
     same(rt, &(bytes.len(), fault), &(bytes.len(), expected));
 }
 
 /// An image that lacks its last byte is refused.
-pub fn check_cut<R: AllocGlobal + Abort>(rt: &R, bytes: &[u8]) {
+pub(crate) fn check_cut<R: AllocGlobal + Abort>(rt: &R, bytes: &[u8]) {
     let (_, front) = bytes.split_last().expect(rt, "a byte");
     check_fault(rt, front, Some(ImageFault::BadLength));
 }
 
 /// Adds bytes to a text.
-pub fn add(rt: &impl Abort, text: &mut Vec<u8>, part: &[u8]) {
+pub(crate) fn add(rt: &impl Abort, text: &mut Vec<u8>, part: &[u8]) {
     text.extend_from_slice(part)
         .ok()
         .expect(rt, "memory for a text");
 }
 
 /// Prints a line.
-pub fn say<R: Abort + Print>(rt: &R, line: &str) {
+pub(crate) fn say<R: Abort + Print>(rt: &R, line: &str) {
     println!(rt; "{line}").ok().expect(rt, "standard output");
 }
