@@ -1,7 +1,6 @@
 -- Accesses that a processor makes by translations that it kept.
 use Rattle.std.specs.Prelude.{◌≡◌, ℕ, true, List, Some}
 use Rattle.page_words.specs.Addresses.{byte_count, EachTouched}
-use Rattle.page_words.specs.declared.addresses.Size.{Size}
 use Rattle.table_walk.specs.declared.Access.{Access}
 use Rattle.table_walk.specs.declared.Access.TheVariants.{Read, Write}
 use Rattle.address_space.specs.Image.{directory_at}

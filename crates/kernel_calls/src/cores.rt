@@ -387,7 +387,9 @@ impl Core {
     pub fn finds_marked(&self, event: &Event) -> bool
         ensures find { result ≡ true → finds_event self.now event.now ≡ true }
         ensures marked { result ≡ true → StoresMarked self.now.state event.now.pid event.now.call }
+        ensures all { finds_event self.now event.now ≡ true → StoresMarked self.now.state event.now.pid event.now.call → result ≡ true }
     {
+        self.stands();
         walked::finds_marked(&self.processes, event)
     }
 

@@ -7,6 +7,7 @@ ghost use Rattle.address_space.specs.Spaces.{at_page};
 ghost use Rattle.address_space.specs.Stays.{FramesStay, none_goes};
 ghost use Rattle.process_table.specs.Image.{memory_of};
 ghost use Rattle.process_table.specs.State.{container_of};
+ghost use Rattle.process_table.specs.WellFormed.{IsWellFormed};
 ghost use Rattle.fault_handler.specs.Plans.{takes_no_frame};
 ghost use Rattle.kernel_calls.specs.Machine.{answer, next};
 ghost use Rattle.kernel_calls.specs.Decisions.{plan_of_event};
@@ -60,7 +61,8 @@ pub fn access_by_walk(processes: &mut Processes, event: &Event) -> Reply
 
 /// Whether accessed and dirty of a process's page are set.
 fn is_marked(processes: &Processes, pid: Pid, page: Page) -> bool
-    ensures { result ≡ true → is_marked processes.now.state.spaces (at_page pid page) ≡ true }
+    requires well_formed { IsWellFormed processes.now.state }
+    ensures { result ≡ is_marked processes.now.state.spaces (at_page pid page) }
 {
     if !in_user_range(page) {
         return false;
@@ -73,8 +75,10 @@ fn is_marked(processes: &Processes, pid: Pid, page: Page) -> bool
 
 /// Whether a processor carries out a store by itself, and has no word to mark for it.
 pub fn finds_marked(processes: &Processes, event: &Event) -> bool
+    requires well_formed { IsWellFormed processes.now.state }
     ensures find { result ≡ true → finds_event processes.now event.now ≡ true }
     ensures marked { result ≡ true → StoresMarked processes.now.state event.now.pid event.now.call }
+    ensures all { finds_event processes.now event.now ≡ true → StoresMarked processes.now.state event.now.pid event.now.call → result ≡ true }
 {
     let pid = event.pid;
     match event.call {

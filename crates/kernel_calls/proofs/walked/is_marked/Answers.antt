@@ -1,0 +1,17 @@
+use Rattle.std.proofs.Common.{◌≡◌, true, false, ◌&&◌, Option, Some, None, refl, unwrap_or}
+use Rattle.page_words.specs.FiniteMap as map
+use Rattle.address_space.specs.Spaces.{Slot, Cell, fresh, at_page}
+use Rattle.kernel_calls.proofs.walked.is_marked.Goals as goal
+
+-- a slot where nothing can be is not marked
+unmapped : (slot : Slot) (found : Option Cell) → ((cell : Cell) → found ≡ Some cell → ⊥)
+    → false ≡ ((unwrap_or found (fresh slot true)).accessed && (unwrap_or found (fresh slot true)).dirty)
+unmapped slot None never = refl
+unmapped slot (Some cell) never = absurd (never cell refl)
+
+-- a page that is mapped lies in the user range
+pub returns-then-not-in_user_range : goal.returns-then-not-in_user_range
+returns-then-not-in_user_range c =
+    let slot = at_page c.args.pid c.args.page in
+    unmapped slot (map.get c.args.processes.now.state.spaces slot)
+    (λ cell is. let inside = c.if-not-in_user_range.ensures.1 (c.requires.well_formed.cells slot cell is).user in cc)
