@@ -16,16 +16,16 @@ use std::process::Abort;
 use std::sync::Wait;
 
 /// What was found is what was expected.
-pub fn same<T: PartialEq + Debug>(rt: &impl Abort, found: &T, expected: &T) {
+pub(crate) fn same<T: PartialEq + Debug>(rt: &impl Abort, found: &T, expected: &T) {
     assert_eq!(rt; found, expected);
 }
 
-pub fn process<R: Abort>(rt: &R, number: u8) -> Pid {
+pub(crate) fn process<R: Abort>(rt: &R, number: u8) -> Pid {
     Pid::new(number).expect(rt, "a process")
 }
 
 /// Stores a number in the first word of the user range.
-pub fn store(value: u32) -> Call {
+pub(crate) fn store(value: u32) -> Call {
     Call::Store {
         addr: Vaddr(0x4000_0000),
         size: Size::Four,
@@ -34,7 +34,7 @@ pub fn store(value: u32) -> Call {
 }
 
 /// Loads the first word of the user range.
-pub fn load() -> Call {
+pub(crate) fn load() -> Call {
     Call::Load {
         addr: Vaddr(0x4000_0000),
         size: Size::Four,
@@ -42,7 +42,7 @@ pub fn load() -> Call {
 }
 
 /// Boots a kernel of so many frames, CPUs and monitors.
-pub fn booted<G: Gate + Drop, R: AllocGlobal + Wait + Abort>(
+pub(crate) fn booted<G: Gate + Drop, R: AllocGlobal + Wait + Abort>(
     rt: &R,
     frames: u32,
     cpus: u8,
@@ -52,30 +52,33 @@ pub fn booted<G: Gate + Drop, R: AllocGlobal + Wait + Abort>(
     Kernel::<Brand, G>::boot(rt, rt.alloc(), frames, cpus, monitors, gate).expect(rt, "not booted")
 }
 
-pub fn opened<N: Name, G: Gate + Drop, R: Wait + Abort>(rt: &R, blank: Blank<G>) -> Boot<N, G>
+pub(crate) fn opened<N: Name, G: Gate + Drop, R: Wait + Abort>(
+    rt: &R,
+    blank: Blank<G>,
+) -> Boot<N, G>
     requires { (blank.frames ≡ N.frames) × (blank.book ≡ N.book) }
 {
     blank.open::<N, R>(rt).expect(rt, "no memory")
 }
 
 /// Takes the last of the CPUs.
-pub fn taken<N: Name, R: Abort>(rt: &R, cpus: &mut Vec<Cpu<N>>) -> Cpu<N> {
+pub(crate) fn taken<N: Name, R: Abort>(rt: &R, cpus: &mut Vec<Cpu<N>>) -> Cpu<N> {
     cpus.pop().expect(rt, "a CPU")
 }
 
 /// Takes the last of the monitors.
-pub fn watcher<N: Name, R: Abort>(rt: &R, monitors: &mut Vec<Monitor<N>>) -> Monitor<N> {
+pub(crate) fn watcher<N: Name, R: Abort>(rt: &R, monitors: &mut Vec<Monitor<N>>) -> Monitor<N> {
     monitors.pop().expect(rt, "a monitor")
 }
 
 /// Puts a CPU back behind the others.
-pub fn put<N: Name, R: Abort>(rt: &R, mut cpus: Vec<Cpu<N>>, cpu: Cpu<N>) -> Vec<Cpu<N>> {
+pub(crate) fn put<N: Name, R: Abort>(rt: &R, mut cpus: Vec<Cpu<N>>, cpu: Cpu<N>) -> Vec<Cpu<N>> {
     cpus.push(cpu).expect(rt, "a place");
     cpus
 }
 
 /// Makes a call of a process, which must be answered so.
-pub fn answered<N: Name, G: Gate + Drop, R: Wait + Abort>(
+pub(crate) fn answered<N: Name, G: Gate + Drop, R: Wait + Abort>(
     rt: &R,
     kernel: &Kernel<N, G>,
     cpu: &mut Cpu<N>,
@@ -87,7 +90,7 @@ pub fn answered<N: Name, G: Gate + Drop, R: Wait + Abort>(
 }
 
 /// How a guest of a process ends that runs a program by a CPU's calls, up to so many turns.
-pub fn ended<N: Name, R: Wait + Abort>(
+pub(crate) fn ended<N: Name, R: Wait + Abort>(
     rt: &R,
     kernel: &Kernel<N, OpenGate>,
     cpu: &mut Cpu<N>,
@@ -105,31 +108,36 @@ pub fn ended<N: Name, R: Wait + Abort>(
 }
 
 /// Runs a guest on a core for so many turns.
-pub fn run_on(core: &mut Core, guest: &mut Guest, program: &[Instruction], turns: u32) -> End {
+pub(crate) fn run_on(
+    core: &mut Core,
+    guest: &mut Guest,
+    program: &[Instruction],
+    turns: u32,
+) -> End {
     run(guest, program, turns, core)
 }
 
 /// Tells a monitor what a CPU has seen.
-pub fn tell<N: Name>(cpu: &Cpu<N>, monitor: &mut Monitor<N>) {
+pub(crate) fn tell<N: Name>(cpu: &Cpu<N>, monitor: &mut Monitor<N>) {
     monitor.learn(cpu.tell());
 }
 
-pub fn reported<N: Name, R: Abort>(rt: &R, monitor: &mut Monitor<N>) -> Seen {
+pub(crate) fn reported<N: Name, R: Abort>(rt: &R, monitor: &mut Monitor<N>) -> Seen {
     monitor.report().expect(rt, "a report")
 }
 
 /// A report is on so many entries.
-pub fn check_front<R: Abort>(rt: &R, seen: &Seen, front: usize) {
+pub(crate) fn check_front<R: Abort>(rt: &R, seen: &Seen, front: usize) {
     same(rt, &seen.front, &front);
 }
 
 /// A report is that of the core that the kernel was closed with.
-pub fn check_report<R: Abort>(rt: &R, seen: &Seen, history: &History) {
+pub(crate) fn check_report<R: Abort>(rt: &R, seen: &Seen, history: &History) {
     same(rt, &seen.report, &memory_report::report_of(history.core()));
 }
 
 /// The image of a kernel's memory between two calls.
-pub fn image_of<N: Name, G: Gate + Drop, R: Wait + Abort>(
+pub(crate) fn image_of<N: Name, G: Gate + Drop, R: Wait + Abort>(
     rt: &R,
     kernel: &Kernel<N, G>,
     cpu: &mut Cpu<N>,
@@ -138,7 +146,7 @@ pub fn image_of<N: Name, G: Gate + Drop, R: Wait + Abort>(
 }
 
 /// Closes a kernel with these CPUs.
-pub fn closed<N: Name, G: Gate + Drop, R: Wait + Abort>(
+pub(crate) fn closed<N: Name, G: Gate + Drop, R: Wait + Abort>(
     rt: &R,
     kernel: Kernel<N, G>,
     cpus: Vec<Cpu<N>>,
@@ -147,7 +155,7 @@ pub fn closed<N: Name, G: Gate + Drop, R: Wait + Abort>(
 }
 
 /// The kernel is not closed with these CPUs.
-pub fn check_not_closed<N: Name, G: Gate + Drop, R: Wait + Abort>(
+pub(crate) fn check_not_closed<N: Name, G: Gate + Drop, R: Wait + Abort>(
     rt: &R,
     kernel: Kernel<N, G>,
     cpus: Vec<Cpu<N>>,
@@ -156,12 +164,12 @@ pub fn check_not_closed<N: Name, G: Gate + Drop, R: Wait + Abort>(
 }
 
 /// A history has so many entries.
-pub fn check_length<R: Abort>(rt: &R, history: &History, length: usize) {
+pub(crate) fn check_length<R: Abort>(rt: &R, history: &History, length: usize) {
     same(rt, &history.entries().len(), &length);
 }
 
 /// A history has two entries, both of CPU 0, after each of which 3 frames were used.
-pub fn check_two_entries<R: Abort>(rt: &R, history: &History) {
+pub(crate) fn check_two_entries<R: Abort>(rt: &R, history: &History) {
     let mut nth = 0;
     for entry in history.entries() {
         same(rt, &(entry.cpu, entry.nth, entry.used_after), &(0, nth, 3));
