@@ -1,4 +1,3 @@
-pub mod Drawings
 pub mod Laws
 pub mod Runs
 pub mod Text

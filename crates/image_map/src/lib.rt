@@ -1,11 +1,8 @@
 //! The map of an image of a machine: which frame serves whom, and what each process holds. As text it is a
-//! function of the image (specs/Text.antt); as a picture it is SVG. `memory_map` is the program.
+//! function of the image (specs/Text.antt); as a picture it is SVG.
 #![tactic(auto)]
 
-mod commands;
-mod drawing;
 mod frames;
-mod jobs;
 mod laws;
 mod layout;
 mod lines;
@@ -17,12 +14,8 @@ mod runs;
 mod squares;
 mod text;
 
-pub use commands::draw;
-pub use drawing::{Form, draw_bytes};
 pub use image_check::{Image, Verdict, WriteFailed, check, read_image};
-pub use jobs::{Request, request_of};
 pub use laws::maps_list_each_slot;
 pub use picture::write_picture;
 pub use runs::Run;
 pub use text::write_map;
-pub use tower_jobs::{Answer, ToolFault};

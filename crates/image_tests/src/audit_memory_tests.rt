@@ -1,6 +1,7 @@
 //! What an audit answers where memory is refused.
 
-use crate::common::{booted, image_of, same, say};
+use crate::common::{booted, image_of, say};
+use crate::comparing::same;
 use integrity_checker::{Audit, AuditFault};
 use kernel_calls::Core;
 use std::process::Abort;

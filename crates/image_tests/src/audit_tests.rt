@@ -4,9 +4,9 @@ ghost use Rattle.std.specs.Prelude.{All, IfOk};
 ghost use Rattle.integrity_checker.specs.Steps.{IsOf};
 
 use crate::common::{
-    booted, check_sound, image_in, image_of, other_bytes, same, same_bytes, shared_both_ways,
-    text_on, verdict_on,
+    booted, check_sound, image_in, image_of, other_bytes, shared_both_ways, text_on, verdict_on,
 };
+use crate::comparing::{same, same_bytes};
 use crate::images::PAGE_WORDS;
 use image_check::Verdict;
 use integrity_checker::{Audit, AuditFault, Helper, Step};

@@ -1,9 +1,10 @@
 //! Verdicts on the images of cores, on images that were changed, and on those of another kernel.
 
 use crate::common::{
-    booted, check_cut, check_sound, image_in, image_of, other_bytes, process, same, same_bytes,
-    say, spelled, text_on, verdict_on,
+    booted, check_cut, check_sound, image_in, image_of, other_bytes, process, say, spelled,
+    text_on, verdict_on,
 };
+use crate::comparing::{same, same_bytes};
 use crate::damaged_tests::{
     Frames, a_page_turned_to_a_table, damaged, frames_of, image_bytes, lines_of,
 };

@@ -1,11 +1,12 @@
 //! Command lines, and words that are not text.
 
 use crate::command_lines::TwoWords;
-use crate::common::same;
+use crate::comparing::same;
 use clap::error::ErrorKind;
 use std::alloc::Global;
 use std::process::Abort;
-use tower_jobs::{Job, WordsFault, answer_of_words, job_of, status_of, words};
+use tool_answers::{WordsFault, answer_of_words, status_of, words};
+use tower_line::{Job, job_of};
 
 /// What these words ask for, or why they are refused.
 fn asked<'a>(alloc: Global, words: &'a [&'a str]) -> Result<Job<'a>, ErrorKind> {

@@ -1,13 +1,13 @@
 //! Cores, images and bytes that tests make, and comparisons that assert. So a test is a list of calls.
 
+use crate::comparing::same;
 use crate::images::{other_image, put_all};
 use image_check::{Verdict, check};
 use kernel_calls::{Call, Core, Event};
 use memory_image::{Image, ImageFault, read_image, write_image};
 use page_words::{Page, Pid, Size, Vaddr};
-use std::fmt::Debug;
 use std::process::Abort;
-use tower_jobs::write_script_image;
+use tower_line::write_script_image;
 
 const PAGE: Page = Page(0x40000);
 
@@ -121,16 +121,6 @@ pub(crate) fn text_on<R: AllocGlobal + Abort>(rt: &R, told: &Verdict) -> Vec<u8>
 /// A verdict that nothing fails, or that something does.
 pub(crate) fn check_sound(rt: &impl Abort, told: &Verdict, expected: bool) {
     same(rt, &told.sound(), &expected);
-}
-
-/// What was found is what was expected.
-pub(crate) fn same<T: PartialEq + Debug>(rt: &impl Abort, found: &T, expected: &T) {
-    assert_eq!(rt; found, expected);
-}
-
-/// These bytes are the expected ones.
-pub(crate) fn same_bytes(rt: &impl Abort, bytes: &[u8], expected: &[u8]) {
-    assert_eq!(rt; bytes, expected);
 }
 
 /// Bytes are refused so as an image, or are one.

@@ -1,14 +1,14 @@
 //! Images that were damaged in one word, and images that were cut off: what the check and the command that
 //! checks a file find.
 
-use crate::common::{
-    add, check_fault, image_after, image_in, same, same_bytes, text_on, verdict_on,
-};
+use crate::common::{add, check_fault, image_after, image_in, text_on, verdict_on};
+use crate::comparing::{same, same_bytes};
 use crate::images::{place_of, put, record_of, word};
 use image_check::ImageFault;
 use script_run::worked::sharing::SHARE_BOTH_WAYS;
 use std::process::Abort;
-use tower_jobs::{ToolFault, check_bytes};
+use tool_answers::ToolFault;
+use tower_line::check_bytes;
 
 /// No frame, and no clause.
 const NONE: (u32, u32) = (u32::MAX, 0);

@@ -1,5 +1,5 @@
-//! Tests of images, their check, maps, audits and the program's commands, by their public calls. They stand here
-//! and not beside what they test, so that each of those crates is proved once.
+//! Tests of images, their check, maps, audits and the words of the programs' command lines, by their public calls.
+//! They stand here and not beside what they test, so that each of those crates is proved once.
 #![tactic(auto)]
 
 #[cfg(test)]
@@ -17,20 +17,16 @@ mod command_tests;
 #[cfg(test)]
 mod common;
 #[cfg(test)]
+mod comparing;
+#[cfg(test)]
 mod damaged_tests;
 #[cfg(test)]
 mod images;
 #[cfg(test)]
-mod map_status_tests;
-#[cfg(test)]
 mod map_tests;
-#[cfg(test)]
-mod race_tests;
 #[cfg(test)]
 mod spelling_tests;
 #[cfg(test)]
 mod state_tests;
-#[cfg(test)]
-mod status_tests;
 #[cfg(test)]
 mod worked_tests;

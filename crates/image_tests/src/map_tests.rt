@@ -1,14 +1,15 @@
 //! Maps of images, as text and as pictures: of small ones, of damaged ones, and of 4,096 frames.
 
-use crate::common::{add, image_after, same, same_bytes};
+use crate::common::{add, image_after};
+use crate::comparing::{same, same_bytes};
 use crate::damaged_tests::{Damage, damaged, damages, frames_of, image_bytes, lines_of};
 use crate::images::{place_of, put, record_of, word};
 use crate::worked_tests::groups;
-use image_map::{Form, draw_bytes};
+use map_jobs::{Form, draw_bytes};
 use script_run::worked::Worked;
 use std::alloc::Global;
 use std::process::Abort;
-use tower_jobs::ToolFault;
+use tool_answers::ToolFault;
 
 /// A page that was stored to, lazy ones behind it, a child that holds the page too, and a child of that.
 const FAMILY: &str =

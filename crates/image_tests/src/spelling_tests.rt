@@ -1,9 +1,9 @@
 //! The image of a core, its bytes, and what is refused of bytes that were changed.
 
 use crate::common::{
-    booted, check_cut, check_fault, image_in, image_of, process, same, same_bytes, say, spelled,
-    store,
+    booted, check_cut, check_fault, image_in, image_of, process, say, spelled, store,
 };
+use crate::comparing::{same, same_bytes};
 use crate::images::{put, put_all, word};
 use base_tests::streams::{BrokenWriter, Pieces};
 use kernel_calls::{Core, Role};

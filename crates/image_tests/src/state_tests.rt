@@ -1,7 +1,8 @@
 //! What an image stands for: one pair of spaces and book at most. So what is compared is the processes with what
 //! they have, and the mapped pages with their flags, bytes and groups.
 
-use crate::common::{image_in, image_of, other_bytes, process, same, shared_both_ways};
+use crate::common::{image_in, image_of, other_bytes, process, shared_both_ways};
+use crate::comparing::same;
 use crate::images::PAGE_WORDS;
 use image_check::Image;
 use page_words::{DirWord, Frame, Pid, TableWord};

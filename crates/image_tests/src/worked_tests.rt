@@ -1,10 +1,11 @@
 //! Images of the states that worked scripts end in.
 
-use crate::common::{same, same_bytes};
+use crate::comparing::{same, same_bytes};
 use script_run::worked::{Worked, alone, forks, processes, sharing};
 use std::alloc::Global;
 use std::process::Abort;
-use tower_jobs::{ToolFault, check_bytes, write_script_image};
+use tool_answers::ToolFault;
+use tower_line::{check_bytes, write_script_image};
 
 /// The image of the state that a script ends in, written, read again and checked: its verdict's text.
 fn verdict_after(alloc: Global, script: &str, frames: u32) -> Result<Vec<u8>, ToolFault> {

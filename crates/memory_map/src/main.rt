@@ -3,10 +3,10 @@
 //! command line or file, and 1 for want of memory or a device's fault.
 #![tactic(auto)]
 
-use image_map::draw;
+use map_jobs::draw;
 use std::io;
 use std::process::ExitCode;
-use tower_jobs::{answer_of_words, status_of, tell, words};
+use tool_answers::{answer_of_words, status_of, tell, words};
 
 fn main(rt: HostRuntime) -> ExitCode {
     let answer = match words(&rt) {

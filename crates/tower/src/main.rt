@@ -7,7 +7,8 @@
 
 use std::io;
 use std::process::ExitCode;
-use tower_jobs::{answer, answer_of_words, status_of, tell, words};
+use tool_answers::{answer_of_words, status_of, tell, words};
+use tower_jobs::answer;
 
 fn main(rt: HostRuntime) -> ExitCode {
     let answer = match words(&rt) {

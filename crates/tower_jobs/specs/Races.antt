@@ -7,11 +7,13 @@ use Rattle.std.specs.Prelude.{◌≡◌, ℕ, ◌+◌, List, [], ◌∷◌, ◌+
 use Rattle.std.specs.Io.KnownBytes.{Appends, Keeps}
 use Rattle.guest_race.specs.Asked.{Times}
 use Rattle.guest_race.specs.Rounds.{IsReported}
+use Rattle.guest_race.specs.declared.faults.RoundFault.{RoundFault}
+use Rattle.guest_race.specs.declared.faults.RoundFault.TheVariants as round
 use Rattle.memory_report.specs.declared.rows.Row.{Row}
 use Rattle.memory_report.specs.Text.{report_text}
 use Rattle.text_output.specs.Output.{AppendsFront}
-use Rattle.tower_jobs.specs.declared.faults.ToolFault.{ToolFault}
-use Rattle.tower_jobs.specs.declared.faults.ToolFault.TheVariants as tool
+use Rattle.tool_answers.specs.declared.faults.ToolFault.{ToolFault}
+use Rattle.tool_answers.specs.declared.faults.ToolFault.TheVariants as tool
 
 -- So many rounds were played, each on a kernel of its own, and the report is that of the last one.
 pub record Raced (frames rounds : ℕ) (rows : List (Option Row)) : Type 0 where
@@ -40,6 +42,12 @@ Writes frames rounds held holds = (rows : List (Option Row)) × Raced frames rou
 -- so many rounds left a referee so, and then the text of the rows that came of the last of them was written
 abbrev pub WritesAnswers : {S : Type 0} → (S → List (Option Row) → S → Type 0) → ℕ → S → S → Option (List ℕ) → Option (List ℕ) → Type 0
 WritesAnswers asks rounds before after held holds = (rows : List (Option Row)) × Times asks rounds before rows after × Appends held holds (race_text rounds rows)
+
+-- what ends a round early ends the race
+abbrev pub fault_of_round : RoundFault → ToolFault
+fault_of_round round.NoMemory = tool.NoMemory
+fault_of_round round.Turns = tool.RaceTurns
+fault_of_round round.Failed = tool.RaceFailed
 
 -- What a race that ended by this fault wrote: nothing, but for a write that failed, before which all rounds were played.
 abbrev pub EndsRace : ℕ → ℕ → ToolFault → Option (List ℕ) → Option (List ℕ) → Type 0

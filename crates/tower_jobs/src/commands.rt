@@ -1,25 +1,20 @@
 //! The four jobs, each with the answer that comes of it.
 
-ghost use Rattle.std.specs.Prelude.{◌≡◌, ◌≤◌, ◌⊎◌, None, map, IfOk, IfErr};
-ghost use Rattle.tower_jobs.specs.Answers.{AnswersWords, ChecksFile, DoesJob, ImagesScript, IsRead, PlaysRace, RunsScript};
-ghost use Rattle.tower_jobs.specs.Jobs.{HasRounds, as_asked};
+ghost use Rattle.std.specs.Prelude.{◌≤◌, None, map};
+ghost use Rattle.tower_jobs.specs.Answers.{AnswersWords, ChecksFile, DoesJob, ImagesScript, PlaysRace, RunsScript};
+ghost use Rattle.tower_line.specs.Jobs.{HasRounds, as_asked};
 
-use crate::answers::{Answer, refuse};
-use crate::faults::ToolFault;
-use crate::images::{check_bytes, write_script_image};
-use crate::jobs::{Job, job_of};
 use crate::races::race;
 use script_run::run_script;
 use std::alloc::Global;
 use std::convert::AsStr;
+use std::fs;
 use std::fs::Files;
 use std::io::{Read, Write};
 use std::sync::Wait;
 use std::thread::Threads;
-use std::{fs, io};
-
-/// One byte more than an image of 4,096 frames has.
-const FILE_BYTES: u64 = 16_844_301;
+use tool_answers::{Answer, ToolFault, bytes_of, refuse};
+use tower_line::{Job, check_bytes, job_of, write_script_image};
 
 /// Runs a script on a machine of so many frames, and writes its replies.
 fn run_replies<I: Read, O: Write>(
@@ -48,21 +43,6 @@ fn write_image_of<I: Read, O: Write>(
     match write_script_image(alloc, input, output, frames) {
         Ok(()) => Answer::Done,
         Err(fault) => Answer::Failed(ToolFault::from(fault)),
-    }
-}
-
-/// The bytes of a file, of which no more are read than one more than the largest image has.
-///
-/// NoMemory where there is no memory for them; ReadFailed where a read answers another error.
-pub fn bytes_of<F: Read + Drop>(alloc: Global, file: F) -> Result<Vec<u8>, ToolFault>
-    ensures read { IfOk result (λ bytes. IsRead (F.remaining file) bytes.items) }
-    ensures fault { IfErr result (λ fault. (fault ≡ ToolFault.NoMemory) ⊎ (fault ≡ ToolFault.ReadFailed)) }
-{
-    let mut bytes = Vec::new(alloc);
-    match file.take(FILE_BYTES).read_to_end(&mut bytes) {
-        Ok(_) => Ok(bytes),
-        Err(error) if error.kind() == io::ErrorKind::OutOfMemory => Err(ToolFault::NoMemory),
-        Err(_) => Err(ToolFault::ReadFailed),
     }
 }
 

@@ -3,10 +3,9 @@
 ghost use Rattle.std.specs.Prelude.{◌≡◌, ◌≤◌, ◌↔◌, IfOk, IfErr, IsErrOf, OnOk, OnErr};
 ghost use Rattle.std.specs.Io.KnownBytes.{Appends};
 ghost use Rattle.guest_race.specs.Asked.{IsAsked, Times};
-ghost use Rattle.tower_jobs.specs.Races.{Raced, Writes, WritesAnswers, EndsRace, race_heading, race_text};
+ghost use Rattle.tower_jobs.specs.Races.{Raced, Writes, WritesAnswers, EndsRace, fault_of_round, race_heading, race_text};
 ghost use Rattle.text_output.specs.Output.{AppendsFront};
 
-use crate::faults::ToolFault;
 use arrayvec::ArrayVec;
 use guest_race::{Asks, Referee, RoundFault, round_by};
 use memory_report::Report;
@@ -16,9 +15,21 @@ use std::io::Write;
 use std::sync::Wait;
 use std::thread::Threads;
 use text_output::{WriteFailed, push_number, push_word, write_whole};
+use tool_answers::ToolFault;
 
 /// Room for the lines before the report.
 const ROOM: usize = 64;
+
+/// What ends a round early ends the race.
+fn fault_of_round(fault: RoundFault) -> ToolFault
+    ensures { result ≡ fault_of_round fault }
+{
+    match fault {
+        RoundFault::NoMemory => ToolFault::NoMemory,
+        RoundFault::Turns => ToolFault::RaceTurns,
+        RoundFault::Failed => ToolFault::RaceFailed,
+    }
+}
 
 /// Plays so many rounds, each on a kernel of its own, and each by the referee. The report of the last one.
 fn play<R: Threads + Wait + Sync, F: Referee>(
@@ -87,7 +98,10 @@ pub fn race_by<R: Threads + Wait + Sync, W: Write, F: Referee>(
     if !(MIN_FRAMES..=MAX_FRAMES).contains(&frames) {
         return Err(ToolFault::BadSize);
     }
-    let report = play(rt, alloc, frames, rounds, referee)?;
+    let report = match play(rt, alloc, frames, rounds, referee) {
+        Ok(report) => report,
+        Err(fault) => return Err(fault_of_round(fault)),
+    };
     write_race(writer, rounds, &report)?;
     Ok(())
 }

@@ -1,6 +1,6 @@
 use Rattle.std.proofs.Common.{ℕ, Bool, List, inl, inr, subst}
-use Rattle.tower_jobs.proofs.ImageLemmas.{keeps_itself}
-use Rattle.tower_jobs.specs.Images.{Checks, EndsCheck}
+use Rattle.tool_answers.proofs.Writers.{keeps_itself}
+use Rattle.tower_line.specs.Images.{Checks, EndsCheck}
 use Rattle.tower_jobs.proofs.commands.check_file.Goals as goal
 
 pub returns-in-Err : goal.returns-in-Err

@@ -1,0 +1,61 @@
+//! What comes of a command line of `memory_map`.
+
+ghost use Rattle.std.specs.Prelude.{◌≡◌, None, map};
+ghost use Rattle.map_jobs.specs.Drawings.{AnswersWords, DrawsFile};
+
+use crate::drawing::{Form, draw_bytes};
+use crate::jobs::request_of;
+use std::alloc::Global;
+use std::convert::AsStr;
+use std::fs;
+use std::fs::Files;
+use std::io::{Read, Write};
+use tool_answers::{Answer, ToolFault, bytes_of, refuse};
+
+/// Draws the image that a file has.
+fn draw_file<F: Read + Drop, O: Write>(alloc: Global, form: Form, file: F, output: &mut O) -> Answer
+    ensures { DrawsFile form result (F.remaining file) (O.contents output.old) (O.contents output.new) }
+{
+    let bytes = match bytes_of(alloc, file) {
+        Ok(bytes) => bytes,
+        Err(fault) => return Answer::Failed(fault),
+    };
+    match draw_bytes(alloc, form, bytes.as_slice(), output) {
+        Ok(true) => Answer::Done,
+        Ok(false) => Answer::NotSound,
+        Err(fault) => Answer::Failed(fault),
+    }
+}
+
+/// Draws the image in the file of that name; ReadFailed where it can't be opened.
+fn draw_named<R: AllocGlobal + Files, O: Write>(
+    rt: &R,
+    form: Form,
+    name: &str,
+    output: &mut O,
+) -> Answer
+    ensures { DrawsFile form result None (O.contents output.old) (O.contents output.new) }
+{
+    match fs::open(rt, name) {
+        Ok(file) => draw_file(rt.alloc(), form, file, output),
+        Err(_) => Answer::Failed(ToolFault::ReadFailed),
+    }
+}
+
+/// Draws the image in the file that the words name, of which the first is the program's name, as text or
+/// with `--svg` as a picture.
+///
+/// Done where the image is sound, NotSound where it isn't; ReadFailed where the file can't be opened or
+/// read; the other faults are those of `draw_bytes`.
+pub fn draw<R: AllocGlobal + Files, S: AsStr, O: Write>(
+    rt: &R,
+    words: &[S],
+    output: &mut O,
+) -> Answer
+    ensures { AnswersWords (map S.text words.now) result (O.contents output.old) (O.contents output.new) }
+{
+    match request_of(rt.alloc(), words) {
+        Ok(request) => draw_named(rt, request.form, request.file, output),
+        Err(error) => refuse(error),
+    }
+}

@@ -1,0 +1,80 @@
+//! The command line of `memory_map`.
+
+ghost use Rattle.std.specs.Prelude.{◌≡◌, false, map, codes, IfOk, IfErr, Some};
+ghost use Rattle.std.specs.Str.{bytes_eq};
+ghost use Rattle.clap.specs.Words.{app_of, fault_of, found_of, kind_of, rows_of, rule_of, FailsBy};
+ghost use Rattle.clap.specs.declared.builder.command.Command.TheViews.{out-Command as fields_of};
+ghost use Rattle.map_jobs.specs.Drawings.{svg_flag, map_app, form_of, form_in, request_asked, as_asked};
+
+use crate::drawing::Form;
+use clap::{Arg, ArgAction, ArgMatches, Command, Error};
+use std::alloc::{AllocError, Global};
+use std::convert::AsStr;
+use tool_answers::{file_argument, file_in};
+
+/// What the command line asks for.
+#[derive(Clone, Copy, Debug, PartialEq, Eq)]
+pub struct Request<'a> {
+    /// What the image is drawn as.
+    pub form: Form,
+    /// The name of its file.
+    pub file: &'a str,
+}
+
+/// `--svg`.
+fn svg_flag<'a>(alloc: Global) -> Arg<'a>
+    ensures rule { rule_of result ≡ svg_flag }
+    ensures local { result.global ≡ false }
+{
+    Arg::new(alloc, "svg")
+        .long("svg")
+        .action(ArgAction::SetTrue)
+        .help("Draws a picture, as SVG; text where it is absent")
+}
+
+/// `memory_map [--svg] FILE`.
+fn map_command<'a>(alloc: Global) -> Result<Command<'a>, AllocError>
+    ensures app { IfOk result (λ command. app_of command ≡ map_app) }
+    ensures globals { IfOk result (λ command. (fields_of command).has_globals ≡ false) }
+{
+    Command::new(alloc, "memory_map")
+        .about("Draws an image of memory: its frames, and what each process holds")
+        .arg(svg_flag(alloc))?
+        .arg(file_argument(alloc))
+}
+
+/// A picture where the text is `true`, and else text.
+fn form_named(text: &str) -> Form
+    ensures { result ≡ form_of (bytes_eq text.now (codes "true")) }
+{
+    if text == "true" {
+        Form::Picture
+    } else {
+        Form::Text
+    }
+}
+
+/// The form that was asked for.
+fn form_in(matches: &ArgMatches<'_>) -> Form
+    ensures { result ≡ form_in (rows_of (found_of matches.now)) }
+{
+    match matches.get_str("svg") {
+        Some(text) => form_named(text),
+        None => Form::Text,
+    }
+}
+
+/// What the words ask for, of which the first is the program's name. What they do not spell is refused by
+/// `clap`, with its own text; a call for help is refused so too.
+pub fn request_of<'a, S: AsStr>(alloc: Global, words: &'a [S]) -> Result<Request<'a>, Error>
+    // An Ok comes only where `clap` finds no fault in the words, and an error is want of memory or of
+    // a kind that `clap` finds.
+    ensures fails { FailsBy (fault_of map_app (map S.text words.now)) result }
+    ensures request { IfOk result (λ request. as_asked request ≡ request_asked (map S.text words.now)) }
+{
+    let matches = map_command(alloc)?.try_get_matches_from(words)?;
+    Ok(Request {
+        form: form_in(&matches),
+        file: file_in(&matches),
+    })
+}

@@ -1,0 +1,2 @@
+pub mod FirstValue
+pub mod Writers

@@ -1,0 +1,42 @@
+-- What comes of a command line: the answer, its exit status, and what is told on standard error.
+--     status_of answer      0 done; 1 want of memory, a device's fault or a failed race; 2 a refused command line, size, script or image; 3 an image that isn't sound
+--     Tells answer held holds      what standard error holds afterwards
+use Rattle.std.specs.Prelude.{◌≡◌, ◌⊎◌, ℕ, List, [], ◌∷◌, ◌++◌, Option}
+use Rattle.std.specs.Io.KnownBytes.{Appends, Keeps}
+use Rattle.clap.specs.Words.{kind_of}
+use Rattle.clap.specs.declared.error.Error.{Error}
+use Rattle.clap.specs.declared.error.kind.ErrorKind.TheVariants as kind
+use Rattle.tool_answers.specs.Faults.{status_of_tool, tool_text, words_text}
+use Rattle.tool_answers.specs.declared.answers.Answer.{Answer}
+use Rattle.tool_answers.specs.declared.answers.Answer.TheVariants.{Done, NotSound, Failed, NotText, Refused}
+use Rattle.tool_answers.specs.declared.faults.ToolFault.TheVariants as tool
+use Rattle.tool_answers.specs.declared.given_words.WordsFault.{WordsFault}
+use Rattle.tool_answers.specs.declared.given_words.WordsFault.TheVariants as words
+
+-- ---- Statuses and texts
+
+abbrev pub status_of : Answer → ℕ
+status_of Done = 0
+status_of NotSound = 3
+status_of (Failed fault) = status_of_tool fault
+status_of NotText = 2
+status_of (Refused error) = 2
+
+-- nothing, or a line with the fault's text; what `clap` says of words that it refuses is its own
+abbrev pub Tells : Answer → Option (List ℕ) → Option (List ℕ) → Type 0
+Tells Done held holds = Keeps held holds
+Tells NotSound held holds = Keeps held holds
+Tells (Failed fault) held holds = Appends held holds (tool_text fault ++ 10 ∷ [])
+Tells NotText held holds = Appends held holds (words_text words.NotText ++ 10 ∷ [])
+Tells (Refused error) held holds = Unit {0}
+
+-- what words that were not read come to
+abbrev pub answer_of_words : WordsFault → Answer
+answer_of_words words.NoMemory = Failed tool.NoMemory
+answer_of_words words.NotText = NotText
+
+-- ---- Words that are refused
+
+-- want of memory is a fault, and any other error is `clap`'s own to tell
+abbrev pub Refuses : Error → Answer → Type 0
+Refuses error answer = ((kind_of error ≡ kind.OutOfMemory) × (answer ≡ Failed tool.NoMemory)) ⊎ (((kind_of error ≡ kind.OutOfMemory) → ⊥) × (answer ≡ Refused error))

@@ -1,0 +1,98 @@
+//! What comes of a command line: the exit status, and what is told on standard error.
+
+ghost use Rattle.std.specs.Prelude.{◌≡◌, OnOk};
+ghost use Rattle.tool_answers.specs.Answers.{Refuses, Tells, answer_of_words, status_of};
+ghost use Rattle.tool_answers.specs.Faults.{status_of_tool};
+
+use crate::faults::ToolFault;
+use crate::given_words::WordsFault;
+use clap::error::ErrorKind;
+use std::io;
+use std::io::Write;
+
+/// What comes of a command line.
+#[derive(Drop)]
+pub enum Answer {
+    /// Its job was done; where that was to check an image, it is sound.
+    Done,
+    /// An image was checked, and its verdict written: it is not sound.
+    NotSound,
+    /// Its job ended early, or there was no memory to read the command line.
+    Failed(ToolFault),
+    /// A word of it is not text.
+    NotText,
+    /// `clap` refused it; a call for help is refused too.
+    Refused(clap::Error),
+}
+
+/// The exit status of a fault: 2 for a refused size, script or image, and 1 for any other.
+fn status_of_tool(fault: ToolFault) -> u8
+    ensures { result ≡ status_of_tool fault }
+{
+    match fault {
+        ToolFault::BadSize => 2,
+        ToolFault::Malformed { .. } => 2,
+        ToolFault::TooLong => 2,
+        ToolFault::NotImage => 2,
+        ToolFault::BadVersion => 2,
+        ToolFault::BadLength => 2,
+        ToolFault::BadField { .. } => 2,
+        ToolFault::NoMemory => 1,
+        ToolFault::ReadFailed => 1,
+        ToolFault::WriteFailed => 1,
+        ToolFault::RaceTurns => 1,
+        ToolFault::RaceFailed => 1,
+    }
+}
+
+/// The exit status: 0 where the job was done; 1 for want of memory, a device's fault and a failed race; 2
+/// for a refused command line, size, script or image; 3 for an image that is not sound.
+pub fn status_of(answer: &Answer) -> u8
+    ensures { result ≡ status_of answer.now }
+{
+    match answer {
+        Answer::Done => 0,
+        Answer::NotSound => 3,
+        Answer::Failed(fault) => status_of_tool(*fault),
+        Answer::NotText => 2,
+        Answer::Refused(_) => 2,
+    }
+}
+
+/// Tells on standard error what ended a command line early: a line with the text of its fault, or what
+/// `clap` says of words that it refuses. Of a job that was done it tells nothing, whether an image is sound
+/// or not.
+///
+/// An error is that of a write.
+pub fn tell<E: Write>(answer: &Answer, errors: &mut E) -> io::Result<()>
+    ensures { OnOk result (Tells answer.now (E.contents errors.old) (E.contents errors.new)) }
+{
+    match answer {
+        Answer::Done => Ok(()),
+        Answer::NotSound => Ok(()),
+        Answer::Failed(fault) => errors.writeln(*fault),
+        Answer::NotText => errors.writeln(WordsFault::NotText),
+        Answer::Refused(error) => errors.write_fmt(error),
+    }
+}
+
+/// The answer where the words of a command line were not read.
+pub fn answer_of_words(fault: WordsFault) -> Answer
+    ensures { result ≡ answer_of_words fault }
+{
+    match fault {
+        WordsFault::NoMemory => Answer::Failed(ToolFault::NoMemory),
+        WordsFault::NotText => Answer::NotText,
+    }
+}
+
+/// The answer where words were refused: want of memory is a fault of the program, and `clap` tells all else.
+pub fn refuse(error: clap::Error) -> Answer
+    ensures { Refuses error result }
+{
+    if error.kind() == ErrorKind::OutOfMemory {
+        Answer::Failed(ToolFault::NoMemory)
+    } else {
+        Answer::Refused(error)
+    }
+}

@@ -1,0 +1,15 @@
+//! What the programs share of their command lines: the words, the word that names a file and that file's bytes,
+//! and what comes of a command, which decides the exit status and what is told on standard error.
+#![tactic(auto)]
+
+mod answers;
+mod faults;
+mod file_words;
+mod files;
+mod given_words;
+
+pub use answers::{Answer, answer_of_words, refuse, status_of, tell};
+pub use faults::ToolFault;
+pub use file_words::{file_argument, file_in};
+pub use files::bytes_of;
+pub use given_words::{WordsFault, words};

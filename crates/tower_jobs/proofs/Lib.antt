@@ -1,4 +1,0 @@
-pub mod JobLemmas
-pub mod ValueLemmas
-pub mod CommandLemmas
-pub mod ImageLemmas

@@ -1,0 +1,3 @@
+pub mod JobLemmas
+pub mod ValueLemmas
+pub mod CommandLemmas

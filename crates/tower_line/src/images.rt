@@ -1,0 +1,71 @@
+//! The commands on images: the image of the state that a script ends in, and the check of one.
+
+ghost use Rattle.std.specs.Prelude.{◌≡◌, ◌≤◌, ◌↔◌, IfOk, IfErr, IsErrOf, OnOk};
+ghost use Rattle.tower_line.specs.Images.{Checks, EndsCheck, EndsImage, EndsScript, ShowsEnd, WritesImage};
+
+use image_check::check;
+use memory_image::{Image, read_image, write_image};
+use script_run::{ScriptFault, run_script};
+use std::alloc::Global;
+use std::io;
+use std::io::{Read, Write};
+use tool_answers::ToolFault;
+
+/// Runs a script for its last state, of which it gives the image. Replies are dropped.
+///
+/// The faults are those of `run_script`; NoMemory comes too where there is no memory for the image.
+fn script_image<R: Read>(alloc: Global, reader: &mut R, frames: u32) -> Result<Image, ScriptFault>
+    ensures size { IsErrOf result ScriptFault.BadSize ↔ (16 ≤ frames → frames ≤ 4096 → ⊥) }
+    ensures shows { IfOk result (ShowsEnd frames (R.remaining reader.old)) }
+    ensures fault { IfErr result (λ fault. EndsScript frames fault (R.remaining reader.old) (R.remaining reader.new)) }
+{
+    let core = run_script(alloc, reader, &mut io::sink(), frames)?;
+    match Image::of(alloc, &core) {
+        Ok(image) => Ok(image),
+        Err(_) => Err(ScriptFault::NoMemory),
+    }
+}
+
+/// Runs a script on a freshly booted machine of so many frames, and writes the image of the state that it
+/// ends in, in place of replies.
+///
+/// The faults are those of `run_script`, by which nothing is written; but NoMemory comes also behind the
+/// script, where there is no memory for the image, and WriteFailed where the image can't be written: what
+/// was written is then a front of it.
+pub fn write_script_image<R: Read, W: Write>(
+    alloc: Global,
+    reader: &mut R,
+    writer: &mut W,
+    frames: u32,
+) -> Result<(), ScriptFault>
+    ensures size { IsErrOf result ScriptFault.BadSize ↔ (16 ≤ frames → frames ≤ 4096 → ⊥) }
+    ensures image { OnOk result (WritesImage frames (R.remaining reader.old) (W.contents writer.old) (W.contents writer.new)) }
+    ensures fault { IfErr result (λ fault. EndsImage frames fault (R.remaining reader.old) (R.remaining reader.new) (W.contents writer.old) (W.contents writer.new)) }
+{
+    let image = script_image(alloc, reader, frames)?;
+    image.within();
+    write_image(&image, writer)?;
+    Ok(())
+}
+
+/// Reads an image, writes the verdict on it, and says whether it is sound.
+///
+/// NotImage, BadVersion, BadLength and BadField where the bytes are no image, by the first reason against
+/// them; NoMemory where there is none for the image or its check: nothing is written then. WriteFailed
+/// comes last, and what was written is then a front of the verdict's text.
+pub fn check_bytes<W: Write>(alloc: Global, bytes: &[u8], writer: &mut W) -> Result<bool, ToolFault>
+    ensures told { IfOk result (λ sound. Checks bytes.now sound (W.contents writer.old) (W.contents writer.new)) }
+    ensures fault { IfErr result (λ fault. EndsCheck bytes.now fault (W.contents writer.old) (W.contents writer.new)) }
+{
+    let image = match read_image(alloc, bytes) {
+        Ok(image) => image,
+        Err(fault) => return Err(ToolFault::from(fault)),
+    };
+    let Ok(verdict) = check(alloc, &image) else {
+        return Err(ToolFault::NoMemory);
+    };
+    match verdict.write_text(writer) {
+        Ok(()) => Ok(verdict.sound()),
+        Err(_) => Err(ToolFault::WriteFailed),
+    }
+}

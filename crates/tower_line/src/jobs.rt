@@ -1,0 +1,198 @@
+//! The program's command line.
+
+ghost use Rattle.std.specs.Prelude.{◌≡◌, ◌≤◌, true, false, map, option_map, codes, Some, IfOk, IfErr, IfSome};
+ghost use Rattle.clap.specs.Words.{app_of, fault_of, found_of, kind_of, rows_of, rule_of, subcommand_of, takes, with_subcommand, FailsBy};
+ghost use Rattle.clap.specs.declared.builder.command.Command.TheViews.{out-Command as fields_of};
+ghost use Rattle.tower_line.specs.Jobs.{tower_app, run_app, race_app, image_app, check_app, frames_option, rounds_option, number_in, playable, rounds_in, race_in, job_named, job_asked, as_asked, HasRounds};
+
+use clap::error::ErrorKind;
+use clap::{Arg, ArgMatches, Command, Error};
+use std::alloc::{AllocError, Global};
+use std::convert::AsStr;
+use tool_answers::{file_argument, file_in};
+
+/// How many frames a machine has where the command line does not say.
+const FRAMES: u32 = 16;
+
+/// How many rounds a race has where the command line does not say.
+const ROUNDS: u32 = 100;
+
+/// What the command line asks for.
+#[derive(Clone, Copy, Debug, PartialEq, Eq)]
+pub enum Job<'a> {
+    /// To run a script on a machine of so many frames.
+    Run { frames: u32 },
+    /// To write the image of the state that a script ends in, on a machine of so many frames.
+    Image { frames: u32 },
+    /// To check the image in a file of that name.
+    Check { file: &'a str },
+    /// To play so many rounds of a race, 1 to 1000, each on a machine of so many frames.
+    Race { frames: u32, rounds: u32 },
+}
+
+/// `--frames N`.
+fn frames_option<'a>(alloc: Global) -> Arg<'a>
+    ensures rule { rule_of result ≡ frames_option }
+    ensures local { result.global ≡ false }
+{
+    Arg::new(alloc, "frames")
+        .long("frames")
+        .value_name("N")
+        .value_parser(clap::value_parser!(u32))
+        .help("The frames of a machine's memory, 16 to 4096; 16 where it is absent")
+}
+
+/// `--rounds N`.
+fn rounds_option<'a>(alloc: Global) -> Arg<'a>
+    ensures rule { rule_of result ≡ rounds_option }
+    ensures local { result.global ≡ false }
+{
+    Arg::new(alloc, "rounds")
+        .long("rounds")
+        .value_name("N")
+        .value_parser(clap::value_parser!(u32).range(1..=1000))
+        .help("The rounds of a race, 1 to 1000; 100 where it is absent")
+}
+
+/// `run [--frames N]`.
+fn run_command<'a>(alloc: Global) -> Result<Command<'a>, AllocError>
+    ensures app { IfOk result (λ command. app_of command ≡ run_app) }
+    ensures globals { IfOk result (λ command. (fields_of command).has_globals ≡ false) }
+{
+    Command::new(alloc, "run")
+        .about("Runs a script from standard input, and writes a line for each reply")
+        .arg(frames_option(alloc))
+}
+
+/// `image [--frames N]`.
+fn image_command<'a>(alloc: Global) -> Result<Command<'a>, AllocError>
+    ensures app { IfOk result (λ command. app_of command ≡ image_app) }
+    ensures globals { IfOk result (λ command. (fields_of command).has_globals ≡ false) }
+{
+    Command::new(alloc, "image")
+        .about("Runs a script from standard input, and writes the image of its last state")
+        .arg(frames_option(alloc))
+}
+
+/// `check FILE`.
+fn check_command<'a>(alloc: Global) -> Result<Command<'a>, AllocError>
+    ensures app { IfOk result (λ command. app_of command ≡ check_app) }
+    ensures globals { IfOk result (λ command. (fields_of command).has_globals ≡ false) }
+{
+    Command::new(alloc, "check")
+        .about("Checks an image, and writes what fails of it")
+        .arg(file_argument(alloc))
+}
+
+/// `race [--frames N] [--rounds N]`.
+fn race_command<'a>(alloc: Global) -> Result<Command<'a>, AllocError>
+    ensures app { IfOk result (λ command. app_of command ≡ race_app) }
+    ensures globals { IfOk result (λ command. (fields_of command).has_globals ≡ false) }
+{
+    Command::new(alloc, "race")
+        .about("Plays rounds of two guests in two threads, and writes the last report")
+        .arg(frames_option(alloc))?
+        .arg(rounds_option(alloc))
+}
+
+/// With one command more.
+fn with_command<'a>(program: Command<'a>, command: Command<'a>) -> Result<Command<'a>, AllocError>
+    requires program { (fields_of program).has_globals ≡ false }
+    requires command { (fields_of command).has_globals ≡ false }
+    ensures app { IfOk result (λ with. app_of with ≡ with_subcommand (app_of program.entry) (app_of command.entry).top) }
+    ensures globals { IfOk result (λ with. (fields_of with).has_globals ≡ false) }
+{
+    program.subcommand(command)
+}
+
+/// The four commands.
+fn tower_command<'a>(alloc: Global) -> Result<Command<'a>, AllocError>
+    ensures app { IfOk result (λ command. app_of command ≡ tower_app) }
+    ensures globals { IfOk result (λ command. (fields_of command).has_globals ≡ false) }
+    ensures required { IfOk result (λ command. (fields_of command).subcommand_required ≡ true) }
+{
+    let tower = Command::new(alloc, "tower");
+    let tower = with_command(tower, run_command(alloc)?)?;
+    let tower = with_command(tower, race_command(alloc)?)?;
+    let tower = with_command(tower, image_command(alloc)?)?;
+    let tower = with_command(tower, check_command(alloc)?)?;
+    Ok(tower.subcommand_required(true))
+}
+
+/// The number that was asked for by the option of that name, or the other one where it was not; None
+/// where what stands there is no number.
+fn number_in(matches: &ArgMatches<'_>, name: &str, absent: u32) -> Option<u32>
+    ensures { result ≡ number_in name.now absent (rows_of (found_of matches.now)) }
+{
+    match matches.try_get_one::<u32>(name) {
+        Ok(Some(number)) => Some(number),
+        Ok(None) => Some(absent),
+        Err(_) => None,
+    }
+}
+
+/// A number of rounds that may be played; None for any other.
+fn playable(rounds: u32) -> Option<u32>
+    ensures value { result ≡ playable rounds }
+    ensures bounds { IfSome result (λ n. (1 ≤ n) × (n ≤ 1000)) }
+{
+    if 1 <= rounds && rounds <= 1000 {
+        Some(rounds)
+    } else {
+        None
+    }
+}
+
+/// The race that was asked for.
+fn race_in<'a>(matches: &ArgMatches<'a>) -> Option<Job<'a>>
+    ensures job { option_map as_asked result ≡ race_in (rows_of (found_of matches.now)) }
+    ensures rounds { IfSome result HasRounds }
+{
+    let frames = number_in(matches, "frames", FRAMES)?;
+    let rounds = playable(number_in(matches, "rounds", ROUNDS)?)?;
+    Some(Job::Race { frames, rounds })
+}
+
+/// The job of the subcommand of that name, by what was found behind it.
+fn job_named<'a>(name: &str, matches: &ArgMatches<'a>) -> Option<Job<'a>>
+    ensures job { option_map as_asked result ≡ job_named name.now (rows_of (found_of matches.now)) }
+    ensures rounds { IfSome result HasRounds }
+{
+    match name {
+        "run" => {
+            let frames = number_in(matches, "frames", FRAMES)?;
+            Some(Job::Run { frames })
+        }
+        "race" => race_in(matches),
+        "image" => {
+            let frames = number_in(matches, "frames", FRAMES)?;
+            Some(Job::Image { frames })
+        }
+        "check" => {
+            let file = file_in(matches);
+            Some(Job::Check { file })
+        }
+        _ => None,
+    }
+}
+
+/// The job that the words ask for, of which the first is the program's name. What they do not spell
+/// is refused by `clap`, with its own text; a call for help is refused so too.
+pub fn job_of<'a, S: AsStr>(alloc: Global, words: &'a [S]) -> Result<Job<'a>, Error>
+    // An Ok comes only where `clap` finds no fault in the words, and an error is want of memory or of
+    // a kind that `clap` finds.
+    ensures fails { FailsBy (fault_of tower_app (map S.text words.now)) result }
+    ensures job { IfOk result (λ job. job_asked (subcommand_of tower_app (map S.text words.now)) ≡ Some (as_asked job)) }
+    ensures rounds { IfOk result HasRounds }
+    // Where `clap` takes the words, want of memory alone refuses them.
+    ensures taken { IfErr result (λ error. takes tower_app (map S.text words.now) ≡ true → kind_of error ≡ ErrorKind.OutOfMemory) }
+{
+    let matches = tower_command(alloc)?.try_get_matches_from(words)?;
+    let Some((name, found)) = matches.subcommand() else {
+        unreachable!();
+    };
+    let Some(job) = job_named(name, found) else {
+        unreachable!();
+    };
+    Ok(job)
+}

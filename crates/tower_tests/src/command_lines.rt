@@ -1,0 +1,51 @@
+//! What came of a command line.
+
+use crate::comparing::{same, same_bytes};
+use std::process::Abort;
+use tool_answers::{Answer, status_of, tell};
+
+/// What came of a command line: its status, and the bytes of standard output and standard error.
+#[derive(Drop)]
+pub(crate) struct Ended {
+    pub(crate) status: u8,
+    pub(crate) output: Vec<u8>,
+    pub(crate) errors: Vec<u8>,
+}
+
+/// What is told of an answer on standard error.
+fn told<R: AllocGlobal + Abort>(rt: &R, answer: &Answer) -> Vec<u8> {
+    let mut errors = Vec::new(rt.alloc());
+    tell(answer, &mut errors).ok().expect(rt, "what is told");
+    errors
+}
+
+/// What an answer comes to, with what was written before.
+pub(crate) fn end_of<R: AllocGlobal + Abort>(rt: &R, answer: &Answer, output: Vec<u8>) -> Ended {
+    Ended {
+        status: status_of(answer),
+        output,
+        errors: told(rt, answer),
+    }
+}
+
+/// An answer has this status, and this text on standard error.
+pub(crate) fn check_answer<R: AllocGlobal + Abort>(
+    rt: &R,
+    answer: &Answer,
+    status: u8,
+    errors: &str,
+) {
+    same(rt, &status_of(answer), &status);
+    same_bytes(rt, &told(rt, answer), errors.as_bytes());
+}
+
+/// Words came to this status, with nothing on standard output and something on standard error.
+pub(crate) fn check_nothing_done(rt: &impl Abort, ended: &Ended, status: u8, words: &[&str]) {
+    let found = (
+        words,
+        ended.status,
+        ended.output.len(),
+        ended.errors.is_empty(),
+    );
+    same(rt, &found, &(words, status, 0, false));
+}

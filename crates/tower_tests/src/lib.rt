@@ -1,0 +1,16 @@
+//! Tests of the programs' whole commands: their statuses, what they write and what they tell on standard error, and
+//! races of few rounds.
+#![tactic(auto)]
+
+#[cfg(test)]
+mod command_lines;
+#[cfg(test)]
+mod comparing;
+#[cfg(test)]
+mod images;
+#[cfg(test)]
+mod map_status_tests;
+#[cfg(test)]
+mod race_tests;
+#[cfg(test)]
+mod status_tests;
