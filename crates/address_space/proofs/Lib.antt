@@ -1,3 +1,4 @@
+pub mod Insides
 pub mod costs
 pub mod entries
 pub mod frames

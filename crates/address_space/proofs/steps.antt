@@ -12,7 +12,9 @@ pub mod LazyFilling
 pub mod Leaves
 pub mod Looks
 pub mod NewPages
+pub mod NextPages
 pub mod Openings
+pub mod Placing
 pub mod Steps
 pub mod Stores
 pub mod Touches

@@ -10,9 +10,9 @@ use Rattle.page_map.specs.declared.PageEntry.{PageEntry}
 use Rattle.page_map.specs.Entries.{dir_word, with_entry, is_lazy_entry}
 use Rattle.page_words.specs.FiniteMap as map
 use Rattle.page_words.specs.FiniteSet as set
-use Rattle.address_space.specs.Spaces.{cell_or_fresh, Slot, Spaces, need, fresh, joined, without, is_slot, is_of, at_page, copy_of, copied}
+use Rattle.address_space.specs.Spaces.{cell_or_fresh, Slot, Spaces, need, fresh, joined, without, is_slot, at_page, copy_of, copied}
 use Rattle.address_space.specs.Cells.{holders_of}
-use Rattle.address_space.specs.Stays.{PlacesStay, none_goes, of_page, of_process, of_lazy}
+use Rattle.address_space.specs.Stays.{PlacesStay, none_goes, of_page, of_lazy}
 use Rattle.address_space.specs.View.{table_in, total_cost, spaces_in, entries_in, entry_in, directory_of}
 use Rattle.address_space.specs.Sound.{InUse, IsSound, InUseAt, weight_in, IsSpaces}
 
@@ -126,24 +126,6 @@ pub record IsDirectory (directories : List (Option ℕ)) (directory : ℕ) : Typ
 abbrev pub IsEmptySpace : Spaces → ℕ → Type 0
 IsEmptySpace spaces p = (page : ℕ) → map.get spaces (at_page p page) ≡ None
 
--- the pages of a process below one have left their groups
-pub record DroppedBelow (directories : List (Option ℕ)) (p from : ℕ) (bytes : List ℕ) (roles : List Role) (bytes' : List ℕ) (roles' : List Role) : Type 0 where
-  pub after : IsSpaces directories bytes' roles'
-  pub spaces : without (spaces_in directories bytes') (is_of p) ≡ without (spaces_in directories bytes) (is_of p)
-  pub stay : PlacesStay (of_process p) (directory_of directories) (frame_bytes bytes) (directory_of directories) (frame_bytes bytes')
-  pub below : (page : ℕ) → page < from → map.get (spaces_in directories bytes') (at_page p page) ≡ None
-  pub length : length roles' ≡ length roles
-  pub low : 0x40000 ≤ from
-  pub high : from ≤ 0xf0000
-
--- all pages of a process have left their groups
-pub record PagesDropped (directories : List (Option ℕ)) (p : ℕ) (bytes : List ℕ) (roles : List Role) (bytes' : List ℕ) (roles' : List Role) : Type 0 where
-  pub after : IsSpaces directories bytes' roles'
-  pub spaces : spaces_in directories bytes' ≡ without (spaces_in directories bytes) (is_of p)
-  pub stay : PlacesStay (of_process p) (directory_of directories) (frame_bytes bytes) (directory_of directories) (frame_bytes bytes')
-  pub empty : IsEmptySpace (spaces_in directories bytes') p
-  pub length : length roles' ≡ length roles
-
 -- a process's directory, without any page, went
 pub record DirectoryDropped (directories : List (Option ℕ)) (p : ℕ) (bytes : List ℕ) (roles : List Role) (directories' : List (Option ℕ)) (roles' : List Role) : Type 0 where
   pub after : IsSpaces directories' bytes roles'
@@ -151,15 +133,6 @@ pub record DirectoryDropped (directories : List (Option ℕ)) (p : ℕ) (bytes :
   pub none : directory_of directories' p ≡ None
   pub others : (q : ℕ) → q ≢ p → directory_of directories' q ≡ directory_of directories q
   pub stay : PlacesStay none_goes (directory_of directories) (frame_bytes bytes) (directory_of directories') (frame_bytes bytes)
-  pub length : length roles' ≡ length roles
-
--- a process's space went
-pub record SpaceDropped (directories : List (Option ℕ)) (p : ℕ) (bytes : List ℕ) (roles : List Role) (directories' : List (Option ℕ)) (bytes' : List ℕ) (roles' : List Role) : Type 0 where
-  pub after : IsSpaces directories' bytes' roles'
-  pub spaces : spaces_in directories' bytes' ≡ without (spaces_in directories bytes) (is_of p)
-  pub none : directory_of directories' p ≡ None
-  pub others : (q : ℕ) → q ≢ p → directory_of directories' q ≡ directory_of directories q
-  pub stay : PlacesStay (of_process p) (directory_of directories) (frame_bytes bytes) (directory_of directories') (frame_bytes bytes')
   pub length : length roles' ≡ length roles
 
 -- a page of a process has a copy at the same page of another, which is lazy where the page is

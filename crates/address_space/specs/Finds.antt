@@ -1,5 +1,5 @@
 -- Where a page is, as directories and memory say, and what is written there.
-use Rattle.std.specs.Prelude.{◌≡◌, ◌⊎◌, ℕ, ◌+◌, ◌*◌, ◌≤◌, true, false, List, length, replicate, Option, Some, None, slice_get, slice_set}
+use Rattle.std.specs.Prelude.{◌≡◌, ◌⊎◌, ℕ, ◌+◌, ◌*◌, ◌≤◌, Bool, true, false, List, length, replicate, Option, Some, None, slice_get, slice_set}
 use Rattle.std.specs.Option.{option_and_then, option_map}
 use Rattle.page_words.specs.Addresses.{slot_number, index_number}
 use Rattle.phys_memory.specs.Bytes.{frame_bytes, word_in, with_frame, with_frame_bytes}
@@ -9,36 +9,15 @@ use Rattle.alloc_table.specs.Roles.{IsTaken}
 use Rattle.page_map.specs.Entries.{Frames, table_of, word_entry, with_entry, with_table}
 use Rattle.page_map.specs.declared.PageEntry.{PageEntry}
 use Rattle.address_space.specs.declared.lookup.Found.{Found}
-use Rattle.address_space.specs.declared.paged.Paged.{Paged}
-use Rattle.address_space.specs.Spaces.{Spaces, write_at}
-use Rattle.address_space.specs.View.{Directories, directory_of, table_in, spaces_in}
+use Rattle.address_space.specs.Spaces.{write_at}
+use Rattle.address_space.specs.View.{View, Directories, directory_of, table_in}
 use Rattle.address_space.specs.Sound.{Inside}
-use Rattle.address_space.specs.Image.{Image}
-use Rattle.address_space.specs.Counts.{IsKept}
-
--- the invariant of what is kept
-abbrev pub IsKeptPaged : Paged → Type 0
-IsKeptPaged paged = IsKept paged.directories paged.memory paged.frames paged.counts.items
-
--- the spaces that they stand for
-abbrev pub spaces_at : Paged → Spaces
-spaces_at paged = spaces_in paged.directories paged.memory
-
--- memory's own words, with directories and roles
-abbrev pub image_at : Paged → Image
-image_at paged = record { directories = paged.directories; bytes = paged.memory; roles = paged.frames }
-
--- nothing but memory changed
-pub record MemoryAlone (old new : Paged) : Type 0 where
-  pub directories : new.directories ≡ old.directories
-  pub roles : new.frames ≡ old.frames
-  pub counts : new.counts ≡ old.counts
 
 -- ---- Where a page is
 
 -- the table of a page's region
-abbrev pub table_at : Paged → ℕ → ℕ → Option ℕ
-table_at paged p page = table_in (directory_of paged.directories) (frame_bytes paged.memory) p (slot_number page)
+abbrev pub table_at : View → ℕ → ℕ → Option ℕ
+table_at v p page = table_in (directory_of v.directories) (frame_bytes v.bytes) p (slot_number page)
 
 -- what a table has at a page
 abbrev pub found_by : Frames → ℕ → ℕ → Option Found
@@ -48,8 +27,14 @@ found_by m page t = option_map (λ e. record { page = page; table = t; entry = e
 abbrev pub found_in : Directories → Frames → ℕ → ℕ → Option Found
 found_in D m p page = option_and_then (found_by m page) (table_in D m p (slot_number page))
 
-abbrev pub found_at : Paged → ℕ → ℕ → Option Found
-found_at paged p page = found_in (directory_of paged.directories) (frame_bytes paged.memory) p page
+-- its entry
+abbrev pub entry_found : Option Found → Option PageEntry
+entry_found x = option_map (λ (f : Found). f.entry) x
+
+-- whether it is lazy
+abbrev pub lazy_found : Option Found → Bool
+lazy_found None = false
+lazy_found (Some f) = f.entry.lazy
 
 -- the table and the frame of what was found lie in memory
 pub record LiesIn (bytes : List ℕ) (found : Found) : Type 0 where

@@ -6,6 +6,7 @@ pub mod Counts
 pub mod Finds
 pub mod Image
 pub mod Kept
+pub mod Places
 pub mod Seen
 pub mod Shown
 pub mod Slots

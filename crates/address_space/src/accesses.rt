@@ -44,7 +44,7 @@ pub fn byte_of(memory: &Memory, frame: Frame, at: u32) -> u8
 }
 
 /// Sets three flags of a page's entry. A word that stays as it is isn't written.
-fn set_flags(memory: &mut Memory, found: &Found, write: bool, accessed: bool, dirty: bool)
+pub fn set_flags(memory: &mut Memory, found: &Found, write: bool, accessed: bool, dirty: bool)
     requires lies { LiesIn memory.old found.now }
     ensures entry { EntryIs memory.old found.now (record found.now.entry { write = write; accessed = accessed; dirty = dirty }) memory.new }
     ensures length { length memory.new ≡ length memory.old }

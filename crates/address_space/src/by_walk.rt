@@ -1,19 +1,20 @@
 //! The calls of address spaces for accesses that a processor makes by its walk.
 
-ghost use Rattle.std.specs.Prelude.{◌≡◌, ℕ, Some, is_some, true};
+ghost use Rattle.std.specs.Prelude.{◌≡◌, ◌+◌, ◌/◌, ◌%◌, ◌^◌, ◌<◌, ℕ, [], ◌∷◌, Some, is_some, true, slice_set};
 ghost use Rattle.std.specs.Option.{option_map, unwrap_or};
-ghost use Rattle.page_words.specs.Addresses.{byte_count, covered, second_page, start_number, touched, EachTouched, IsUserPage};
+ghost use Rattle.page_words.specs.Addresses.{offset_number, byte_count, covered, second_page, start_number, touched, EachTouched, IsUserPage};
 ghost use Rattle.page_words.specs.FiniteMap as map;
-ghost use Rattle.address_space.specs.ByWalk.{finds, finds_at, number_found, after_walked_load, after_walked_store, with_walked};
+ghost use Rattle.table_walk.specs.Marks.{marked};
+ghost use Rattle.address_space.specs.ByWalk.{finds, finds_at, byte_place, number_found, after_walked_load, after_walked_store, with_walked};
 ghost use Rattle.address_space.specs.Image.{image_of, takes_stores};
-ghost use Rattle.address_space.specs.Spaces.{at_page, accessed, all_accessed, all_stored, bytes_of, number_of};
+ghost use Rattle.address_space.specs.Spaces.{at_page, slot_at, all_accessed, stored, all_stored, bytes_of, number_of};
 ghost use Rattle.address_space.specs.Stays.{FramesStay, none_goes};
-ghost use Rattle.address_space.specs.Kept.{is_marked, written_at, LeadTo};
 ghost use Rattle.address_space.specs.View.{directory_of};
 
-use crate::{Spaces, space_of};
+use crate::walked::{found_number, put_byte_found, set_word_walked};
+use crate::{Spaces, home, space_of};
 use page_words::{Page, Pid, Size, Vaddr, second_page, start_of};
-use table_walk::{Access, walk};
+use table_walk::{Access, mark, walk};
 
 /// How many pages the 32-bit addresses have.
 const PAGES: u32 = 0x10_0000;
@@ -23,8 +24,8 @@ impl Spaces {
     fn finds_at(&self, pid: Pid, address: Vaddr, access: Access) -> bool
         ensures { result ≡ finds_at (image_of self.now) pid access address }
     {
-        match space_of(&self.paged.directories, pid) {
-            Some(directory) => walk(&self.paged.memory, directory, address, access).is_ok(),
+        match space_of(&self.directories, pid) {
+            Some(directory) => walk(&self.memory, directory, address, access).is_ok(),
             None => false,
         }
     }
@@ -60,7 +61,60 @@ impl Spaces {
         ensures roles { self.new.roles ≡ self.old.roles }
         ensures bytes { (directory : ℕ) → directory_of self.old.directories pid ≡ Some directory → self.new.bytes ≡ after_walked_load self.old.bytes directory address (second_page address size) }
     {
-        self.paged.load_by_walk(pid, address, size)
+        let directory = home(&self.directories, pid);
+        let value = found_number(&self.memory, directory, address, size);
+        mark(&mut self.memory, directory, address, Access::Read);
+        let Some(second) = second_page(address, size) else {
+            return value;
+        };
+        mark(&mut self.memory, directory, start_of(second), Access::Read);
+        value
+    }
+
+    /// Stores the lowest byte of a number where the walk leads. It gives the address behind it and the number
+    /// without it. Each walk of the process finds a frame as before.
+    fn store_byte_by_walk(&mut self, pid: Pid, address: Vaddr, value: u32) -> (Vaddr, u32)
+        requires finds { finds_at (image_of self.old) pid Access.Write address ≡ true }
+        requires fits { address + 1 < 2 ^ 32 }
+        ensures address { result.0 ≡ address + 1 }
+        ensures value { result.1 ≡ value / 256 }
+        ensures spaces { self.new.spaces ≡ stored self.old.spaces (slot_at pid address) (offset_number address) (value % 256 ∷ []) }
+        ensures stay { FramesStay none_goes (image_of self.old) (image_of self.new) }
+        ensures bytes { (directory : ℕ) → directory_of self.old.directories pid ≡ Some directory → self.new.bytes ≡ slice_set (marked self.old.bytes directory address Access.Write) (byte_place self.old.bytes directory address) (value % 256) }
+        ensures finds { (kind : Access) (at : ℕ) → finds_at (image_of self.new) pid kind at ≡ finds_at (image_of self.old) pid kind at }
+        ensures directories { self.new.directories ≡ self.old.directories }
+        ensures roles { self.new.roles ≡ self.old.roles }
+    {
+        let directory = home(&self.directories, pid);
+        put_byte_found(&mut self.memory, directory, address, value);
+        (Vaddr(address.0 + 1), value / 256)
+    }
+
+    /// Stores where the walk of each byte leads, byte by byte.
+    fn store_through(&mut self, pid: Pid, address: Vaddr, size: Size, value: u32)
+        requires finds { (i : ℕ) → i < byte_count size → finds_at (image_of self.old) pid Access.Write (address + i) ≡ true }
+        requires fits { address + byte_count size < 2 ^ 32 }
+        ensures spaces { self.new.spaces ≡ all_stored self.old.spaces pid address (bytes_of (byte_count size) value) }
+        ensures stay { FramesStay none_goes (image_of self.old) (image_of self.new) }
+        ensures bytes { (directory : ℕ) → directory_of self.old.directories pid ≡ Some directory → self.new.bytes ≡ after_walked_store self.old.bytes directory address (bytes_of (byte_count size) value) }
+        ensures directories { self.new.directories ≡ self.old.directories }
+        ensures roles { self.new.roles ≡ self.old.roles }
+    {
+        match size {
+            Size::One => {
+                self.store_byte_by_walk(pid, address, value);
+            }
+            Size::Two => {
+                let (second, rest) = self.store_byte_by_walk(pid, address, value);
+                self.store_byte_by_walk(pid, second, rest);
+            }
+            Size::Four => {
+                let (second, rest) = self.store_byte_by_walk(pid, address, value);
+                let (third, rest) = self.store_byte_by_walk(pid, second, rest);
+                let (fourth, rest) = self.store_byte_by_walk(pid, third, rest);
+                self.store_byte_by_walk(pid, fourth, rest);
+            }
+        }
     }
 
     /// A store as a processor makes it, where the walks find a frame for each page that it touches: the words that
@@ -74,22 +128,8 @@ impl Spaces {
         ensures roles { self.new.roles ≡ self.old.roles }
         ensures bytes { (directory : ℕ) → directory_of self.old.directories pid ≡ Some directory → self.new.bytes ≡ after_walked_store self.old.bytes directory address (bytes_of (byte_count size) value) }
     {
-        self.paged.store_by_walk(pid, address, size, value);
-    }
-
-    /// A store as a processor makes it by translations that it kept: each byte is written where the walks lead, and no
-    /// word is read or marked. Accessed and dirty of each page are set already; it is the store that `write` makes.
-    pub fn store_kept(&mut self, pid: Pid, address: Vaddr, size: Size, value: u32)
-        requires finds { finds (image_of self.old) pid address size Access.Write ≡ true }
-        requires marked { EachTouched address size (λ page. is_marked self.old.spaces (at_page pid page) ≡ true) }
-        ensures takes { EachTouched address size (λ page. takes_stores self.old.spaces (image_of self.old) (at_page pid page) ≡ true) }
-        ensures spaces { self.new.spaces ≡ all_stored self.old.spaces pid address (bytes_of (byte_count size) value) }
-        ensures stay { FramesStay none_goes (image_of self.old) (image_of self.new) }
-        ensures directories { self.new.directories ≡ self.old.directories }
-        ensures roles { self.new.roles ≡ self.old.roles }
-        ensures bytes { (directory : ℕ) (frames : ℕ → ℕ) → directory_of self.old.directories pid ≡ Some directory → LeadTo self.old.bytes directory Access.Write frames address size → self.new.bytes ≡ written_at frames self.old.bytes address (bytes_of (byte_count size) value) }
-    {
-        self.paged.store_kept(pid, address, size, value);
+        let _ = &self.memory;
+        self.store_through(pid, address, size, value);
     }
 
     /// Sets or clears accessed in the directory word that leads to a page, where it is present. Nothing that a space
@@ -103,6 +143,7 @@ impl Spaces {
         ensures roles { self.new.roles ≡ self.old.roles }
         ensures bytes { (directory : ℕ) → directory_of self.old.directories pid ≡ Some directory → self.new.bytes ≡ with_walked self.old.bytes directory page walked }
     {
-        self.paged.set_walked(pid, page, walked);
+        let directory = home(&self.directories, pid);
+        set_word_walked(&mut self.memory, directory, page, walked);
     }
 }

@@ -9,18 +9,17 @@ ghost use Rattle.page_map.specs.Entries.{entry_at};
 ghost use Rattle.address_space.specs.Spaces.{need, cost, at_page, copied};
 ghost use Rattle.address_space.specs.View.{directory_of, total_cost};
 ghost use Rattle.address_space.specs.Sound.{Inside};
-ghost use Rattle.address_space.specs.Changes.{IsDirectory, IsEmptySpace, PageCopied};
-ghost use Rattle.address_space.specs.Image.{is_lazy_at};
+ghost use Rattle.address_space.specs.Changes.{IsDirectory, PageCopied};
+ghost use Rattle.address_space.specs.Image.{image_of, is_lazy_at};
 ghost use Rattle.address_space.specs.Stays.{FramesStay, none_goes};
-ghost use Rattle.address_space.specs.Finds.{IsKeptPaged, spaces_at, image_at, EntryCopied};
+ghost use Rattle.address_space.specs.Finds.{EntryCopied};
 
 use crate::new_pages::give_table;
-use crate::paged::Paged;
 use crate::region_counts::count_page;
-use crate::{home, take};
+use crate::{Spaces, home, take};
 use alloc_table::{FrameTable, Role};
 use page_map::{FIRST_SLOT, PageEntry};
-use page_words::{Frame, Page, Pid};
+use page_words::{Frame, Page, Pid, slot_of};
 use phys_memory::Memory;
 
 /// The entry of a copy on this frame: the same rights, untouched.
@@ -53,40 +52,44 @@ fn copy_of(memory: &mut Memory, frames: &mut FrameTable, entry: PageEntry) -> Pa
     copied_entry(entry, frame)
 }
 
-impl Paged {
+impl Spaces {
     /// Copies a page that a directory maps to the same page of another process, which has none there.
     fn copy_page(&mut self, source: Frame, to: Pid, target: Frame, page: Page)
-        requires kept { IsKeptPaged self.old }
         requires source { IsDirectory self.old.directories source }
-        requires mapped { is_some (entry_at (frame_bytes self.old.memory) source page) ≡ true }
+        requires mapped { is_some (entry_at (frame_bytes self.old.bytes) source page) ≡ true }
         requires target { directory_of self.old.directories to ≡ Some target }
         requires user { IsUserPage page }
-        requires unmapped { map.get (spaces_at self.old) (at_page to page) ≡ None }
-        requires room { 1 + total_cost self.old.directories (spaces_at self.old) + need (spaces_at self.old) to page ≤ length self.old.frames }
-        ensures copied { (from : ℕ) → directory_of self.old.directories from ≡ Some source → PageCopied self.old.directories from to page self.old.memory self.old.frames self.new.memory self.new.frames }
-        ensures kept { IsKeptPaged self.new }
+        requires unmapped { map.get self.old.spaces (at_page to page) ≡ None }
+        requires room { 1 + total_cost self.old.directories self.old.spaces + need self.old.spaces to page ≤ length self.old.roles }
+        ensures copied { (from : ℕ) → directory_of self.old.directories from ≡ Some source → PageCopied self.old.directories from to page self.old.bytes self.old.roles self.new.bytes self.new.roles }
         ensures directories { self.new.directories ≡ self.old.directories }
     {
         let entry = page_map::entry(&self.memory, source, page).unwrap();
-        let table = give_table(&mut self.memory, &mut self.frames, target, to, page);
+        let table = give_table(
+            page_map::table(&self.memory, target, slot_of(page)),
+            &mut self.memory,
+            &mut self.frames,
+            target,
+            to,
+            page,
+        );
         count_page(&mut self.counts, table);
         let copy = copy_of(&mut self.memory, &mut self.frames, entry);
         page_map::put_entry(&mut self.memory, table, page, copy);
     }
 
-    /// Copies each page of a process to another process, which has none.
+    /// Copies each page of a process to the same page of another, whose space is as `fresh` leaves it: equal bytes and
+    /// rights, untouched, in groups of their own. The copy of a lazy page is lazy.
     pub fn copy_space(&mut self, from: Pid, to: Pid)
-        requires kept { IsKeptPaged self.old }
         requires from { is_some (directory_of self.old.directories from) ≡ true }
         requires live { is_some (directory_of self.old.directories to) ≡ true }
-        requires empty { IsEmptySpace (spaces_at self.old) to }
-        requires room { cost (spaces_at self.old) from + total_cost self.old.directories (spaces_at self.old) ≤ length self.old.frames }
-        ensures spaces { spaces_at self.new ≡ copied (spaces_at self.old) from to }
-        ensures stay { FramesStay none_goes (image_at self.old) (image_at self.new) }
-        ensures lazy { (page : ℕ) → is_lazy_at (image_at self.new) (at_page to page) ≡ is_lazy_at (image_at self.old) (at_page from page) }
-        ensures kept { IsKeptPaged self.new }
+        requires empty { (page : ℕ) → map.get self.old.spaces (at_page to page) ≡ None }
+        requires room { cost self.old.spaces from + total_cost self.old.directories self.old.spaces ≤ length self.old.roles }
+        ensures spaces { self.new.spaces ≡ copied self.old.spaces from to }
+        ensures stay { FramesStay none_goes (image_of self.old) (image_of self.new) }
+        ensures lazy { (page : ℕ) → is_lazy_at (image_of self.new) (at_page to page) ≡ is_lazy_at (image_of self.old) (at_page from page) }
         ensures directories { self.new.directories ≡ self.old.directories }
-        ensures frames { length self.new.frames ≡ length self.old.frames }
+        ensures frames { length self.new.roles ≡ length self.old.roles }
     {
         let source = home(&self.directories, from);
         let target = home(&self.directories, to);

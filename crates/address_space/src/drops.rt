@@ -1,13 +1,13 @@
 //! A process's space goes: its pages leave their groups, and its directory comes free.
 
-ghost use Rattle.std.specs.Prelude.{◌≡◌, true, Some, None, is_some, slice_set};
+ghost use Rattle.std.specs.Prelude.{◌≡◌, ◌≢◌, ℕ, true, Some, None, is_some, length, slice_set};
+ghost use Rattle.address_space.specs.Spaces.{without, is_of};
 ghost use Rattle.address_space.specs.View.{directory_of};
-ghost use Rattle.address_space.specs.Changes.{IsEmptySpace, PagesDropped, DirectoryDropped, SpaceDropped};
+ghost use Rattle.address_space.specs.Image.{image_of};
+ghost use Rattle.address_space.specs.Changes.{IsEmptySpace};
 ghost use Rattle.address_space.specs.Stays.{FramesStay, of_process};
-ghost use Rattle.address_space.specs.Finds.{IsKeptPaged, spaces_at, image_at};
 
-use crate::paged::Paged;
-use crate::{Directories, home};
+use crate::{Directories, Spaces, home};
 use page_map::FIRST_SLOT;
 use page_words::{Frame, Page, Pid};
 
@@ -18,15 +18,17 @@ fn forget(directories: &mut Directories, pid: Pid)
     directories[pid.number() as usize] = None;
 }
 
-impl Paged {
+impl Spaces {
     /// Takes each page of a process out of its group.
     fn drop_pages(&mut self, pid: Pid, directory: Frame)
-        requires kept { IsKeptPaged self.old }
-        requires live { directory_of self.old.directories pid ≡ Some directory }
-        ensures dropped { PagesDropped self.old.directories pid self.old.memory self.old.frames self.new.memory self.new.frames }
-        ensures kept { IsKeptPaged self.new }
+        requires { directory_of self.old.directories pid ≡ Some directory }
+        ensures spaces { self.new.spaces ≡ without self.old.spaces (is_of pid) }
+        ensures stay { FramesStay (of_process pid) (image_of self.old) (image_of self.new) }
+        ensures empty { IsEmptySpace self.new.spaces pid }
         ensures directories { self.new.directories ≡ self.old.directories }
+        ensures frames { length self.new.roles ≡ length self.old.roles }
     {
+        let _ = &self.memory;
         let mut from = FIRST_SLOT * 1024;
         while let Some(page) = page_map::next_page(&self.memory, directory, Page(from)) {
             self.unmap(pid, page);
@@ -36,24 +38,27 @@ impl Paged {
 
     /// Takes away a directory that maps no page.
     fn drop_directory(&mut self, pid: Pid, directory: Frame)
-        requires kept { IsKeptPaged self.old }
         requires live { directory_of self.old.directories pid ≡ Some directory }
-        requires empty { IsEmptySpace (spaces_at self.old) pid }
-        ensures dropped { DirectoryDropped self.old.directories pid self.old.memory self.old.frames self.new.directories self.new.frames }
-        ensures kept { IsKeptPaged self.new }
-        ensures memory { self.new.memory ≡ self.old.memory }
+        requires empty { IsEmptySpace self.old.spaces pid }
+        ensures spaces { self.new.spaces ≡ self.old.spaces }
+        ensures stay { FramesStay (of_process pid) (image_of self.old) (image_of self.new) }
+        ensures none { directory_of self.new.directories pid ≡ None }
+        ensures others { (other : ℕ) → other ≢ pid → directory_of self.new.directories other ≡ directory_of self.old.directories other }
+        ensures frames { length self.new.roles ≡ length self.old.roles }
     {
         self.frames.release(directory);
         forget(&mut self.directories, pid);
     }
 
-    /// Takes away a process's space.
+    /// Takes away a process's space: its pages leave their groups, and the frames of its pages that
+    /// nobody else holds, its tables and its directory come free.
     pub fn drop_space(&mut self, pid: Pid)
-        requires kept { IsKeptPaged self.old }
         requires live { is_some (directory_of self.old.directories pid) ≡ true }
-        ensures dropped { SpaceDropped self.old.directories pid self.old.memory self.old.frames self.new.directories self.new.memory self.new.frames }
-        ensures stay { FramesStay (of_process pid) (image_at self.old) (image_at self.new) }
-        ensures kept { IsKeptPaged self.new }
+        ensures spaces { self.new.spaces ≡ without self.old.spaces (is_of pid) }
+        ensures stay { FramesStay (of_process pid) (image_of self.old) (image_of self.new) }
+        ensures none { directory_of self.new.directories pid ≡ None }
+        ensures others { (other : ℕ) → other ≢ pid → directory_of self.new.directories other ≡ directory_of self.old.directories other }
+        ensures frames { length self.new.roles ≡ length self.old.roles }
     {
         let directory = home(&self.directories, pid);
         self.drop_pages(pid, directory);

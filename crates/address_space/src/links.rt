@@ -6,13 +6,14 @@ ghost use Rattle.alloc_table.specs.Roles.{IsInUse};
 ghost use Rattle.page_words.specs.FiniteMap as map;
 ghost use Rattle.address_space.specs.Spaces.{without, is_slot, at_page};
 ghost use Rattle.address_space.specs.View.{directory_of, total_cost};
-ghost use Rattle.address_space.specs.Changes.{TableFreed, EntryLeft, SlotRemoved, SpaceAdded};
+ghost use Rattle.address_space.specs.Changes.{TableFreed, EntryLeft};
 ghost use Rattle.address_space.specs.Stays.{FramesStay, none_goes, of_page};
-ghost use Rattle.address_space.specs.Finds.{IsKeptPaged, spaces_at, image_at};
+ghost use Rattle.address_space.specs.Image.{image_of};
+ghost use Rattle.address_space.specs.Places.{place_in};
 
-use crate::paged::Paged;
+use crate::lookup::Place;
 use crate::region_counts::uncount_page;
-use crate::{home, take};
+use crate::{Spaces, home, take};
 use alloc_table::{FrameTable, Role};
 use page_map::PageEntry;
 use page_words::{Frame, Page, Pid};
@@ -37,20 +38,19 @@ pub fn leave(frames: &mut FrameTable, entry: PageEntry)
     }
 }
 
-impl Paged {
-    /// Takes a slot out of its group.
-    pub fn unmap(&mut self, pid: Pid, page: Page)
-        requires kept { IsKeptPaged self.old }
-        requires mapped { is_some (map.get (spaces_at self.old) (at_page pid page)) ≡ true }
+impl Spaces {
+    /// Takes a slot out of its group, whose place this is.
+    pub fn unmap_at(&mut self, pid: Pid, page: Page, place: &Place)
+        requires mapped { is_some (map.get self.old.spaces (at_page pid page)) ≡ true }
         requires user { IsUserPage page }
-        ensures removed { SlotRemoved self.old.directories pid page self.old.memory self.old.frames self.new.memory self.new.frames }
-        ensures spaces { spaces_at self.new ≡ without (spaces_at self.old) (is_slot pid page) }
-        ensures stay { FramesStay (of_page pid page) (image_at self.old) (image_at self.new) }
-        ensures kept { IsKeptPaged self.new }
+        requires place { place.now ≡ place_in self.old.directories self.old.bytes pid page }
+        ensures spaces { self.new.spaces ≡ without self.old.spaces (is_slot pid page) }
+        ensures stay { FramesStay (of_page pid page) (image_of self.old) (image_of self.new) }
         ensures directories { self.new.directories ≡ self.old.directories }
-        ensures frames { length self.new.frames ≡ length self.old.frames }
+        ensures frames { length self.new.roles ≡ length self.old.roles }
     {
-        let found = self.place(pid, page);
+        let _ = &self.memory;
+        let found = place.found().unwrap();
         let directory = home(&self.directories, pid);
         let mapped = uncount_page(&mut self.counts, found.table);
         let freed = page_map::clear_found_entry(
@@ -64,14 +64,29 @@ impl Paged {
         free_table(&mut self.frames, freed);
     }
 
-    /// Gives a process a blank directory.
-    pub fn add_directory(&mut self, pid: Pid)
-        requires kept { IsKeptPaged self.old }
+    /// Takes a slot out of its group.
+    pub fn unmap(&mut self, pid: Pid, page: Page)
+        requires mapped { is_some (map.get self.old.spaces (at_page pid page)) ≡ true }
+        requires user { IsUserPage page }
+        ensures spaces { self.new.spaces ≡ without self.old.spaces (is_slot pid page) }
+        ensures stay { FramesStay (of_page pid page) (image_of self.old) (image_of self.new) }
+        ensures directories { self.new.directories ≡ self.old.directories }
+        ensures frames { length self.new.roles ≡ length self.old.roles }
+    {
+        let place = self.place(pid, page);
+        self.unmap_at(pid, page, &place);
+    }
+
+    /// Gives a process an empty space: a blank directory.
+    pub fn fresh(&mut self, pid: Pid)
         requires none { directory_of self.old.directories pid ≡ None }
-        requires room { 2 + total_cost self.old.directories (spaces_at self.old) ≤ length self.old.frames }
-        ensures added { SpaceAdded self.old.directories pid self.old.memory self.old.frames self.new.directories self.new.memory self.new.frames }
-        ensures stay { FramesStay none_goes (image_at self.old) (image_at self.new) }
-        ensures kept { IsKeptPaged self.new }
+        requires room { 2 + total_cost self.old.directories self.old.spaces ≤ length self.old.roles }
+        ensures spaces { self.new.spaces ≡ self.old.spaces }
+        ensures stay { FramesStay none_goes (image_of self.old) (image_of self.new) }
+        ensures costs { total_cost self.new.directories self.new.spaces ≡ total_cost self.old.directories self.old.spaces + 1 }
+        ensures live { is_some (directory_of self.new.directories pid) ≡ true }
+        ensures others { (other : ℕ) → other ≢ pid → directory_of self.new.directories other ≡ directory_of self.old.directories other }
+        ensures frames { length self.new.roles ≡ length self.old.roles }
     {
         let directory = take(&mut self.frames, Role::Directory { pid });
         self.memory.zero_frame(directory);

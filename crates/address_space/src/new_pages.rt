@@ -1,6 +1,6 @@
 //! What a page that gets an entry needs: its table, and the entry.
 
-ghost use Rattle.std.specs.Prelude.{◌≡◌, ◌*◌, ◌≤◌, Some, true, false, length, slice_get};
+ghost use Rattle.std.specs.Prelude.{◌≡◌, ◌*◌, ◌≤◌, Option, Some, true, false, length, slice_get};
 ghost use Rattle.page_words.specs.Addresses.{slot_number, IsUserPage};
 ghost use Rattle.phys_memory.specs.Bytes.{frame_bytes};
 ghost use Rattle.alloc_table.specs.Roles.{free_frames};
@@ -14,8 +14,9 @@ use page_map::PageEntry;
 use page_words::{Frame, Page, Pid, slot_of};
 use phys_memory::Memory;
 
-/// The table of a page's region: a blank one is linked, where there is none.
+/// The table of a page's region, where it has one; else a blank one is linked.
 pub fn give_table(
+    linked: Option<Frame>,
     memory: &mut Memory,
     frames: &mut FrameTable,
     directory: Frame,
@@ -23,16 +24,17 @@ pub fn give_table(
     page: Page,
 ) -> Frame
     requires user { IsUserPage page }
+    requires linked { linked ≡ table_of (frame_bytes memory.old) directory (slot_number page) }
     requires map { IsPageMap memory.old directory }
     requires role { slice_get frames.old directory ≡ Some (Role.Directory pid) }
     requires size { length memory.old ≡ 4096 * length frames.old }
     requires room { table_need (table_of (frame_bytes memory.old) directory (slot_number page)) ≤ free_frames frames.old }
     ensures { TableReady memory.old frames.old pid directory (slot_number page) result memory.new frames.new }
 {
-    let slot = slot_of(page);
-    if let Some(table) = page_map::table(memory, directory, slot) {
+    if let Some(table) = linked {
         return table;
     }
+    let slot = slot_of(page);
     let table = take(frames, Role::Table { pid, slot });
     page_map::link_table(memory, directory, slot, table);
     table

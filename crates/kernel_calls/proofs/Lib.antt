@@ -22,6 +22,8 @@ pub mod Seen
 pub mod SeenTogether
 pub mod Stays
 pub mod TogetherSpaces
+pub mod TransferLemmas
+pub mod TransferSteps
 pub mod Translated
 pub mod Untouched
 pub mod UntouchedSlots

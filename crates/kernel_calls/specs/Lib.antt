@@ -6,6 +6,8 @@ pub mod Isolation
 pub mod Kept
 pub mod Laws
 pub mod Machine
+pub mod Pages
+pub mod Transfers
 pub mod Translations
 pub mod Walked
 pub mod WorkedAccesses

@@ -1,24 +1,27 @@
 //! The kernel's core: one machine's memory and its processes.
 
-ghost use Rattle.std.specs.Prelude.{◌≡◌, ◌↔◌, ℕ, ◌*◌, ◌<◌, ◌≤◌, true, false, Some, IfOk, IfSome, IsSome, IsNone, IsErrOf, length, slice_get};
+ghost use Rattle.std.specs.Prelude.{◌≡◌, ◌↔◌, ℕ, ◌+◌, ◌*◌, ◌<◌, ◌≤◌, true, false, Some, IfOk, IfSome, IfNone, IsSome, IsNone, IsErrOf, length, map, slice_get};
+ghost use Rattle.std.specs.List.{range_with_len};
 ghost use Rattle.address_space.specs.View.{directory_of};
-ghost use Rattle.page_words.specs.Addresses.{IsUserPage};
+ghost use Rattle.page_words.specs.Addresses.{page_number, offset_number, IsUserPage};
 ghost use Rattle.address_space.specs.Stays.{FramesStay, WaysAgree, none_goes};
 ghost use Rattle.address_space.specs.Walks.{WalksAgree};
 ghost use Rattle.address_space.specs.ByWalk.{with_walked};
-ghost use Rattle.process_table.specs.State.{open_with, container_of, is_live};
+ghost use Rattle.process_table.specs.State.{open_with, container_of, is_live, is_mapped};
+ghost use Rattle.process_table.specs.Parts.{after_loads, after_stores};
 ghost use Rattle.process_table.specs.Calls.{loaded, after_load, after_store};
 ghost use Rattle.table_walk.specs.declared.Access.TheVariants as access;
 ghost use Rattle.fault_handler.specs.declared.plans.Plan.TheVariants as plan;
 ghost use Rattle.process_table.specs.Image.{StandsFor, image_of, memory_of};
 ghost use Rattle.process_table.specs.WellFormed.{IsWellFormed, total};
-ghost use Rattle.address_space.specs.Image.{LeavesRoom};
-ghost use Rattle.address_space.specs.Spaces.{zeros};
+ghost use Rattle.address_space.specs.Image.{LeavesRoom, takes_stores};
+ghost use Rattle.address_space.specs.Spaces.{zeros, at_page, slot_at, byte_at};
 ghost use Rattle.phys_memory.specs.Bytes.{frame_bytes};
 ghost use Rattle.fault_handler.specs.Plans.{at_once, goes_on, plan_of, takes_no_frame};
 ghost use Rattle.kernel_calls.specs.Authority.{HearTheirOwn, KeepsBorders};
 ghost use Rattle.kernel_calls.specs.Families.{IsUnreached};
 ghost use Rattle.kernel_calls.specs.Isolation.{IsIsolated};
+ghost use Rattle.kernel_calls.specs.Pages.{page_in};
 ghost use Rattle.kernel_calls.specs.Machine.{answer, after, next, answers, end_of, completes, none_completes};
 ghost use Rattle.kernel_calls.specs.Decisions.{decision_of, charge_in, charge_after, plan_of_event};
 ghost use Rattle.kernel_calls.specs.declared.translations.Ended.TheVariants as end;
@@ -30,11 +33,12 @@ ghost use Rattle.kernel_calls.specs.declared.calls.Reply.TheVariants as reply;
 
 use crate::calls::{Call, Decision, Event, Reply};
 use crate::decisions::{answered, decide_on};
+use crate::pages::{self, PageState};
 use crate::translations::{self, Ended};
 use crate::walked;
 use alloc_table::Role;
 use fault_handler::{Plan, settle, try_load, try_store};
-use page_words::{Frame, Page, Pid};
+use page_words::{Frame, Page, Pid, Vaddr, in_user_range, page_of};
 use phys_memory::Memory;
 use process_table::{Processes, ProcessesFault};
 use quota_tree::Container;
@@ -237,9 +241,10 @@ impl Core {
     /// The reply to an event that is decided first. It stands apart from `step`, which keeps no decision where none is
     /// made, and it hands none out, so that what is decided need not be put together.
     #[inline(never)]
-    fn reply_planned(&mut self, event: &Event) -> Reply
+    pub(crate) fn reply_planned(&mut self, event: &Event) -> Reply
         ensures reply { result ≡ answer self.old.state event.now }
         ensures state { self.new.state ≡ next self.old.state event.now }
+        ensures stay { FramesStay (gone_by self.old.state event.now) (memory_of self.old) (memory_of self.new) }
         ensures stands { StandsFor (image_of self.new) self.new.state }
         ensures ends { Ends (ended_by self.old event.now) self.old self.new }
         ensures kept { completes result ≡ false → self.new ≡ self.old }
@@ -349,6 +354,36 @@ impl Core {
             ended[i] = told.1;
         }
         self.stands();
+    }
+
+    /// Loads the bytes from an address on, which lie in one page, where it is of the user range and mapped. Whether it
+    /// is so; where it isn't, nothing changes.
+    pub(crate) fn load_mapped(&mut self, pid: Pid, address: Vaddr, out: &mut [u8]) -> bool
+        requires within { offset_number address + length out.old ≤ 4096 }
+        ensures user { result ≡ true → IsUserPage (page_number address) }
+        ensures mapped { IsUserPage (page_number address) → result ≡ is_mapped self.old.state (slot_at pid address) }
+        ensures live { result ≡ true → is_live self.old.state pid ≡ true }
+        ensures bytes { result ≡ true → out.new ≡ map (byte_at self.old.state.spaces pid) (range_with_len address (length out.old)) }
+        ensures state { result ≡ true → self.new.state ≡ after_loads self.old.state pid address }
+        ensures stay { FramesStay none_goes (memory_of self.old) (memory_of self.new) }
+        ensures none { result ≡ false → (self.new ≡ self.old) × (out.new ≡ out.old) }
+    {
+        in_user_range(page_of(address)) && self.processes.try_load_part(pid, address, out)
+    }
+
+    /// Stores bytes from an address on, which lie in one page, where it is of the user range and takes a store as
+    /// memory stands. Whether it is so; where it isn't, nothing changes.
+    pub(crate) fn store_taken(&mut self, pid: Pid, address: Vaddr, part: &[u8]) -> bool
+        requires within { offset_number address + length part.now ≤ 4096 }
+        ensures user { result ≡ true → IsUserPage (page_number address) }
+        ensures done { IsUserPage (page_number address) → result ≡ takes_stores self.old.state.spaces (memory_of self.old) (slot_at pid address) }
+        ensures takes { result ≡ true → takes_stores self.old.state.spaces (memory_of self.old) (slot_at pid address) ≡ true }
+        ensures live { result ≡ true → is_live self.old.state pid ≡ true }
+        ensures state { result ≡ true → self.new.state ≡ after_stores self.old.state pid address part.now }
+        ensures stay { FramesStay none_goes (memory_of self.old) (memory_of self.new) }
+        ensures none { result ≡ false → self.new ≡ self.old }
+    {
+        in_user_range(page_of(address)) && self.processes.try_store_part(pid, address, part)
     }
 
     /// Whether a processor carries out an event by itself: it is a load or a store, and the walk of its process's
@@ -477,6 +512,25 @@ impl Core {
         ensures { slice_get self.now.roles frame ≡ Some result }
     {
         self.processes.spaces().role(frame)
+    }
+
+    /// The least page from there on that a process has mapped; None where it has none. `from` may be any page.
+    pub fn next_page(&self, pid: Pid, from: Page) -> Option<Page>
+        ensures mapped { IfSome result (λ page. is_mapped self.now.state (at_page pid page) ≡ true) }
+        ensures user { IfSome result IsUserPage }
+        ensures from { IfSome result (λ page. from ≤ page) }
+        ensures least { IfSome result (λ page. (other : ℕ) → from ≤ other → other < page → is_mapped self.now.state (at_page pid other) ≡ false) }
+        ensures none { IfNone result ((other : ℕ) → from ≤ other → is_mapped self.now.state (at_page pid other) ≡ false) }
+    {
+        self.processes.spaces().next_page(pid, from)
+    }
+
+    /// What stands at a page of the user range of a process; None where it is not mapped.
+    pub fn page(&self, pid: Pid, page: Page) -> Option<PageState>
+        requires user { IsUserPage page }
+        ensures { result ≡ page_in self.now pid page }
+    {
+        pages::state_of(&self.processes, pid, page)
     }
 
     /// What a process may use, uses and gives; None where it is not live.

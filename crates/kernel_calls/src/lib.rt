@@ -9,6 +9,8 @@ mod calls;
 mod cores;
 mod decisions;
 mod laws;
+mod pages;
+mod transfers;
 mod translations;
 mod walked;
 mod worked;
@@ -24,9 +26,11 @@ pub use laws::{
     what_a_process_has_is_enough, what_is_given_up_goes,
 };
 pub use page_words::{Frame, Page, Pid, Size, Vaddr};
+pub use pages::PageState;
 pub use phys_memory::Memory;
 pub use process_table::Cause;
 pub use quota_tree::Container;
+pub use transfers::Transfer;
 pub use translations::Ended;
 pub use worked::{
     worked_runs, worked_runs_of_accesses, worked_runs_of_authority, worked_runs_of_forks,

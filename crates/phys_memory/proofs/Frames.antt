@@ -111,6 +111,28 @@ frames-with_word_at xs f o w i l =
     (ap (λ k. frame_bytes (splice xs (4096 * f + o) k (little_bytes 4 w)) f) e ∙ splice_own xs (little_bytes 4 w) f o (o + 4) (omega arith) (omega arith) l (omega arith))
     (λ g n. ap (λ k. frame_bytes (splice xs (4096 * f + o) k (little_bytes 4 w)) g) e ∙ splice_other xs (little_bytes 4 w) f g o (o + 4) (omega arith) (omega arith) l (omega arith) n)
 
+-- bytes written inside a frame
+pub frames-with_part : (xs ys : List ℕ) (f o : ℕ) → o + length ys ≤ 4096 → IsInside xs f
+    → frame_bytes (splice xs (4096 * f + o) (4096 * f + o + length ys) ys) ≡ with_frame (frame_bytes xs) f (splice (frame_bytes xs f) o (o + length ys) ys)
+frames-with_part xs ys f o i l =
+    let e : 4096 * f + o + length ys ≡ 4096 * f + (o + length ys) = omega arith in
+    by_frame (frame_bytes xs) (frame_bytes (splice xs (4096 * f + o) (4096 * f + o + length ys) ys)) f (splice (frame_bytes xs f) o (o + length ys) ys)
+    (ap (λ k. frame_bytes (splice xs (4096 * f + o) k ys) f) e ∙ splice_own xs ys f o (o + length ys) (omega arith) (omega (arith, i)) l (omega arith))
+    (λ g n. ap (λ k. frame_bytes (splice xs (4096 * f + o) k ys) g) e ∙ splice_other xs ys f g o (o + length ys) (omega arith) (omega (arith, i)) l (omega arith) n)
+
+-- bytes read inside a frame are the frame's
+pub part-frame : (xs : List ℕ) (f o n : ℕ) → o + n ≤ 4096 → IsInside xs f → take n (drop (4096 * f + o) xs) ≡ take n (drop o (frame_bytes xs f))
+part-frame xs f o n i l =
+    let long : length (frame_bytes xs f) ≡ 4096 = length-frame xs f l in
+    let here : length (take n (drop (4096 * f + o) xs)) ≡ n = length-take-le n (drop (4096 * f + o) xs) (omega (arith, length-drop (4096 * f + o) xs, i, l)) in
+    let there : length (take n (drop o (frame_bytes xs f))) ≡ n = length-take-le n (drop o (frame_bytes xs f)) (omega (arith, length-drop o (frame_bytes xs f), i, long)) in
+    ext_get_or 0 _ _ (here ∙ sym there)
+    (λ k b. let small : k < n = omega (arith, b, here) in
+    let e : 4096 * f + o + k ≡ 4096 * f + (o + k) = omega arith in
+    get_or-take n (drop (4096 * f + o) xs) k 0 small ∙ get_or-drop (4096 * f + o) xs k 0
+    ∙ ap (slice_index xs) e ∙ sym (byte-frame xs f (o + k) (omega (arith, small, i)))
+    ∙ sym (get_or-take n (drop o (frame_bytes xs f)) k 0 small ∙ get_or-drop o (frame_bytes xs f) k 0))
+
 -- the word of an index written
 pub frames-with_word : (xs : List ℕ) (f index w : ℕ) → index < 1024 → IsInside xs f
     → frame_bytes (with_word xs (4096 * f + 4 * index) w) ≡ with_frame (frame_bytes xs) f (with_word_in (frame_bytes xs f) index w)

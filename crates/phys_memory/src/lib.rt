@@ -7,6 +7,7 @@
 #![tactic(auto, unfolding(crate::specs::Bytes::blank_bytes, crate::specs::Bytes::word_at, crate::specs::Bytes::with_word, crate::specs::Bytes::frame_bytes, crate::specs::Bytes::with_frame_bytes))]
 
 ghost use Rattle.std.specs.Prelude.{◌≡◌, ◌+◌, ◌*◌, ◌<◌, ◌≤◌, ◌↔◌, ◌⊎◌, IfOk, length, replicate, slice_index, slice_set};
+ghost use Rattle.std.specs.List.{splice};
 ghost use Rattle.phys_memory.specs.Bytes.{blank_bytes, word_at, with_word, frame_bytes, with_frame_bytes};
 ghost use Rattle.phys_memory.specs.Bytes.{WordsReadBack, WordsStandApart, BytesStandApart, WordsFit};
 ghost use Rattle.phys_memory.specs.Bytes.{WordsChangeFrames, BytesChangeFrames, FramesChangeAlone};
@@ -120,6 +121,15 @@ impl Memory {
         ensures length { length self.new ≡ length self.old }
     {
         LittleEndian::write_u32(&mut self.bytes[place..place + 4], value);
+    }
+
+    /// Writes bytes from a place on, one behind another.
+    pub fn write_bytes(&mut self, place: usize, part: &[u8])
+        requires { place + length part.now ≤ length self.old }
+        ensures bytes { self.new ≡ splice self.old place (place + length part.now) part.now }
+        ensures length { length self.new ≡ length self.old }
+    {
+        self.bytes[place..place + part.len()].copy_from_slice(part);
     }
 
     /// Makes all 4,096 bytes of a frame zero.

@@ -21,7 +21,7 @@ use Rattle.address_space.proofs.costs.Costs.{same_pages, cost-insert}
 use Rattle.address_space.proofs.costs.AccessCosts.{kept}
 use Rattle.address_space.proofs.costs.AccessNeeds.{need-in_one, need-in_two, cost-with_page}
 use Rattle.address_space.proofs.costs.MapFirst.{IsThere, AreThere, touched-there, first_there, rest_there, bytes_there}
-use Rattle.address_space.proofs.steps.Stores.{written_long}
+use Rattle.address_space.proofs.steps.Stores.{length-write_at, written_long}
 use Rattle.quota_tree.specs.Book.{given, quota_of}
 use Rattle.page_sharing.specs.Offers.{OfferKey}
 use Rattle.process_table.specs.State.{State, is_live, is_mapped, has_no_room, lacks_room, room}
@@ -295,6 +295,24 @@ well_formed-byte s p address value w there =
     let small = small_written c.0.bytes (offset_number address) 1 value was.small in
     subst (λ (x : Cell). IsWellFormed (record s { spaces = store_in s.spaces slot x (write_at x.bytes (offset_number address) (bytes_of 1 value)) })) (sym (ap (λ (x : Option Cell). unwrap_or x (fresh slot true)) c.1))
     (well_formed-written s slot c.0 c.1 w (write_at c.0.bytes (offset_number address) (bytes_of 1 value)) long small)
+
+small_part : (bytes : List ℕ) (at : ℕ) (new : List ℕ) → All (λ b. b < 256) bytes → All (λ b. b < 256) new → All (λ b. b < 256) (write_at bytes at new)
+small_part bytes at new h small =
+    All-append (λ b. b < 256) (take at bytes ++ new) (drop (at + length new) bytes)
+    (All-append (λ b. b < 256) (take at bytes) new (All-take (λ b. b < 256) at bytes h) small)
+    (All-drop (λ b. b < 256) (at + length new) bytes h)
+
+-- bytes stored in one mapped page
+pub well_formed-part : (s : State) (p address : ℕ) (new : List ℕ) → IsWellFormed s → map.contains_key s.spaces (slot_at p address) ≡ true → offset_number address + length new ≤ 4096
+    → All (λ b. b < 256) new → IsWellFormed (record s { spaces = stored s.spaces (slot_at p address) (offset_number address) new })
+well_formed-part s p address new w there fits small =
+    let slot = slot_at p address in
+    let c = some_value (map.get s.spaces slot) there in
+    let was = w.cells slot c.0 c.1 in
+    let size = was.long in
+    let long = length-write_at c.0.bytes (offset_number address) new (omega (arith, size, fits)) ∙ size in
+    subst (λ (x : Cell). IsWellFormed (record s { spaces = store_in s.spaces slot x (write_at x.bytes (offset_number address) new) })) (sym (ap (λ (x : Option Cell). unwrap_or x (fresh slot true)) c.1))
+    (well_formed-written s slot c.0 c.1 w (write_at c.0.bytes (offset_number address) new) long (small_part c.0.bytes (offset_number address) new was.small small))
 
 -- bytes stored in mapped pages
 pub well_formed-bytes : (s : State) (p address k value : ℕ) → IsWellFormed s → AreThere s.spaces p address k → IsWellFormed (record s { spaces = all_stored s.spaces p address (bytes_of k value) })

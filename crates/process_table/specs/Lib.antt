@@ -3,6 +3,7 @@ pub mod ApartLaws
 pub mod Calls
 pub mod Image
 pub mod Laws
+pub mod Parts
 pub mod State
 pub mod View
 pub mod WellFormed

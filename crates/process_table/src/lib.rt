@@ -5,6 +5,7 @@ mod causes;
 mod charges;
 mod checks;
 mod laws;
+mod parts;
 mod processes;
 mod walked;
 

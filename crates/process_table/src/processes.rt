@@ -21,6 +21,7 @@ ghost use Rattle.address_space.specs.Seen.{cell_seen, lazy_seen, need_seen};
 ghost use Rattle.address_space.specs.Shown.{shown};
 ghost use Rattle.process_table.specs.WellFormed.{IsWellFormed, total};
 ghost use Rattle.address_space.specs.Stays.{FramesStay, WaysAgree, none_goes, of_page, of_process, of_lazy};
+ghost use Rattle.address_space.specs.Places.{place_in};
 ghost use Rattle.address_space.specs.Walks.{WalksAgree};
 ghost use Rattle.address_space.specs.ByWalk.{finds, value_found, after_walked, with_walked};
 ghost use Rattle.quota_tree.specs.Book.{number_of_children};
@@ -31,7 +32,7 @@ use crate::charges::{charge_at, charge_of, charge_without, is_short};
 use crate::checks::{
     accept_test, exit_check, map_test, offer_check, protect_check, unmap_check, withdraw_check,
 };
-use address_space::{Seen, Spaces, SpacesFault};
+use address_space::{Place, Seen, Spaces, SpacesFault};
 use page_sharing::Offers;
 use page_words::{Page, Pid, Size, Vaddr, page_of};
 use quota_tree::{Container, QuotaFault, Quotas};
@@ -91,6 +92,17 @@ fn take_room(quotas: &mut Quotas, pid: Pid, frames: u32)
     quotas.within();
 }
 
+/// What one more page costs a process, by the page's place.
+fn need_at(spaces: &Spaces, pid: Pid, page: Page, place: &Place) -> u32
+    requires user { IsUserPage page }
+    requires place { place.now ≡ place_in spaces.now.directories spaces.now.bytes pid page }
+    ensures value { result ≡ need spaces.now.spaces pid page }
+    ensures most { result ≤ 2 }
+{
+    spaces.stands();
+    place.need()
+}
+
 /// Maps a page of zeros.
 fn add_page(spaces: &mut Spaces, quotas: &mut Quotas, pid: Pid, page: Page, write: bool)
     requires kept { IsProcesses spaces.old quotas.old }
@@ -103,9 +115,10 @@ fn add_page(spaces: &mut Spaces, quotas: &mut Quotas, pid: Pid, page: Page, writ
     ensures spaces { spaces.new.spaces ≡ map.insert spaces.old.spaces (at_page pid page) (fresh (at_page pid page) write) }
     ensures book { quotas.new.book ≡ quotas.old.book }
 {
-    let need = spaces.need(pid, page);
+    let place = spaces.place(pid, page);
+    let need = need_at(spaces, pid, page, &place);
     take_room(quotas, pid, need);
-    spaces.map_zero(pid, page, write);
+    spaces.map_at(pid, page, write, &place);
 }
 
 /// Maps a page of zeros that may be written, and stores bytes that lie in it.
@@ -128,9 +141,11 @@ fn add_stored(
     ensures spaces { spaces.new.spaces ≡ all_stored (with_pages (map.insert spaces.old.spaces (slot_at pid address) (fresh (slot_at pid address) true)) pid (touched address size)) pid address (bytes_of (byte_count size) value) }
     ensures book { quotas.new.book ≡ quotas.old.book }
 {
-    let need = spaces.need(pid, page_of(address));
+    let page = page_of(address);
+    let place = spaces.place(pid, page);
+    let need = need_at(spaces, pid, page, &place);
     take_room(quotas, pid, need);
-    spaces.map_stored(pid, address, size, value);
+    spaces.map_stored_at(pid, address, size, value, &place);
 }
 
 /// Takes a mapped page away.
@@ -144,8 +159,9 @@ fn remove_page(spaces: &mut Spaces, quotas: &mut Quotas, pid: Pid, page: Page)
     ensures spaces { spaces.new.spaces ≡ without spaces.old.spaces (is_slot pid page) }
     ensures book { quotas.new.book ≡ quotas.old.book }
 {
-    let relief = spaces.relief(pid, page);
-    spaces.unmap(pid, page);
+    let place = spaces.place(pid, page);
+    let relief = spaces.relief_at(pid, page, &place);
+    spaces.unmap_at(pid, page, &place);
     quotas.refund(pid, relief);
 }
 
@@ -172,13 +188,13 @@ fn take_offer(offers: &mut Offers, giver: Pid, page: Page, target: Pid) -> bool
 
 /// A page of a process.
 #[derive(Clone, Copy, Debug, PartialEq, Eq)]
-struct Place {
+struct PageOf {
     pid: Pid,
     page: Page,
 }
 
 /// Adds a page of a process to the group of another's, with this right.
-fn join_page(spaces: &mut Spaces, quotas: &mut Quotas, giver: &Place, own: &Place, right: bool)
+fn join_page(spaces: &mut Spaces, quotas: &mut Quotas, giver: &PageOf, own: &PageOf, right: bool)
     requires kept { IsProcesses spaces.old quotas.old }
     requires live { IsLive quotas.old own.now.pid }
     requires given { is_some (map.get spaces.old.spaces (at_page giver.now.pid giver.now.page)) ≡ true }
@@ -527,11 +543,11 @@ impl Processes {
         ensures stay { FramesStay (of_lazy giver giver_page) (memory_of self.old) (memory_of self.new) }
     {
         let right = take_offer(&mut self.offers, giver, giver_page, pid);
-        let giver = Place {
+        let giver = PageOf {
             pid: giver,
             page: giver_page,
         };
-        let own = Place { pid, page };
+        let own = PageOf { pid, page };
         join_page(&mut self.spaces, &mut self.quotas, &giver, &own, right);
     }
 

@@ -252,4 +252,4 @@ ends_in core None = end.Nothing
 
 -- 10,000 for each major version, 100 for each minor one, 1 for each patch
 abbrev pub version : ℕ
-version = 100
+version = 200

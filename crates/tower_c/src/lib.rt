@@ -18,6 +18,9 @@ mod hold;
 mod loose;
 mod memory;
 mod numbers;
+mod pages;
+mod runs;
+mod transfers;
 
 pub use handle::{Passes, Tower};
 use handle::{put, take};
@@ -29,11 +32,14 @@ use numbers::{
 };
 pub use numbers::{TowerContainer, TowerEnded, TowerEvent, TowerReply, TowerRole, TowerWalk};
 use page_words::{Frame, Vaddr};
+pub use pages::{TowerPage, tower_next_page};
+pub use runs::tower_run_until;
 use std::alloc::Global;
 use table_walk::walk;
+pub use transfers::{tower_read, tower_write};
 
-/// The library's version, 0.1.0.
-const VERSION: u32 = 100;
+/// The library's version, 0.2.0.
+const VERSION: u32 = 200;
 
 /// The library's version: 10,000 for each major version, 100 for each minor one, 1 for each patch.
 #[unsafe(no_mangle)]
@@ -75,7 +81,7 @@ pub extern "C" fn tower_boot(alloc: Global, frames: u32, tower: &mut Tower) -> u
 
 /// What an event comes to on a core.
 #[tactic(auto, unfolding(crate::specs::Border::is_carried_out))]
-fn step(core: &mut Core, event: &TowerEvent) -> TowerReply
+pub(crate) fn step(core: &mut Core, event: &TowerEvent) -> TowerReply
     ensures reply { result ≡ reply_in core.old.state (event_in event.now) }
     ensures state { core.new.state ≡ state_after core.old.state (event_in event.now) }
     ensures stands { StandsFor (image_of core.new) core.new.state }

@@ -179,6 +179,13 @@ fn numbers_from(kind: u32, first: u32, second: u32, third: u32) -> TowerReply
     }
 }
 
+/// What is told where all is done.
+pub fn done() -> TowerReply
+    ensures { result ≡ numbers 0 0 0 0 }
+{
+    numbers_from(0, 0, 0, 0)
+}
+
 /// What numbers that are no event are told.
 pub fn no_event() -> TowerReply
     ensures { result ≡ no_event }

@@ -93,6 +93,13 @@ places_then gone D m D' m' D'' m'' first second = record {
       second.tables slot f t stays (first.entries slot f stays names) (first.tables slot f t stays names is);
 }
 
+-- after a table was made ready, which changes no entry
+pub places_ready : (gone : Gone) (D : Directories) (m m' m'' : Frames) → entries_in D m' ≡ entries_in D m
+    → ((q r t : ℕ) → table_in D m q r ≡ Some t → table_in D m' q r ≡ Some t) → PlacesStay gone D m' D m''
+    → PlacesStay gone D m D m''
+places_ready gone D m m' m'' entries tables = places_then gone D m D m' D m''
+    (places_by gone D m D m' (stay_same gone (entries_in D m) (entries_in D m') entries) tables)
+
 -- where fewer go
 pub places_more : (gone gone' : Gone) (D : Directories) (m : Frames) (D' : Directories) (m' : Frames)
     → ((slot : Slot) (frame : ℕ) → gone slot frame ≡ false → gone' slot frame ≡ false)

@@ -10,8 +10,8 @@ use Rattle.phys_memory.specs.Bytes.{frame_bytes}
 use Rattle.alloc_table.specs.declared.Role.{Role}
 use Rattle.page_map.specs.declared.PageEntry.{PageEntry}
 use Rattle.page_map.specs.Entries.{entry_from}
-use Rattle.address_space.specs.Spaces.{Slot, slot_order, at_page, is_slot}
-use Rattle.address_space.specs.Image.{Image, directory_at, page_word}
+use Rattle.address_space.specs.Spaces.{Slot, slot_order, Cell, Spaces, at_page, is_slot}
+use Rattle.address_space.specs.Image.{Image, StandsFor, SlotStands, directory_at, page_word}
 use Rattle.address_space.specs.View.{directory_of, entries_in, spaces_in}
 use Rattle.address_space.specs.Sound.{IsSound}
 use Rattle.address_space.specs.Stays.{way_of, Gone, FramesStay, none_goes, of_lazy, entry_frame, PlacesStay}
@@ -97,6 +97,14 @@ frames_stay gone directories bytes bytes' roles roles' sound sound' stay =
     frames_stay_by gone directories directories bytes bytes' roles roles' sound sound' (λ slot d f stays live. live)
     stay
 
+-- nothing changed
+pub stays_same : {gone : Gone} {a : Image} → FramesStay gone a a
+stays_same = record {
+  directories = λ q d f stays live. live;
+  tables = λ q d f t stays way is. is;
+  ways = λ q d f stays way. way;
+}
+
 -- one change after another
 pub stays_then : {gone : Gone} {a b c : Image} → FramesStay gone a b → FramesStay gone b c → FramesStay gone a c
 stays_then first second = record {
@@ -157,3 +165,13 @@ no_way directories bytes roles slot sound none =
     by None y h = refl
     by (Some d) None h = refl
     by (Some d) (Some w) h = cc
+
+-- the same, by what the image stands for
+pub no_way_stands : (image : Image) (spaces : Spaces) (slot : Slot) → StandsFor image spaces → map.get spaces slot ≡ None → way_of image slot ≡ None
+no_way_stands image spaces slot stands none = by (directory_at image slot.pid) (page_word image slot) (map.get spaces slot) (stands.cells slot) none
+  where
+    by : (x y : Option ℕ) (z : Option Cell) → SlotStands image slot y z → z ≡ None → option_and_then {U = ℕ × ℕ} (λ d. option_map (λ word. (d, frame_number word)) y) x ≡ None
+    by None y z h e = refl
+    by (Some d) None z h e = refl
+    by (Some d) (Some w) None h e = absurd h
+    by (Some d) (Some w) (Some c) h e = cc

@@ -1,25 +1,6 @@
 -- Each walk that finds a frame goes the way of its slot.
-use Rattle.std.proofs.Common.{
-  ◌≡◌,
-  ◌<◌,
-  ◌≤◌,
-  ◌^◌,
-  ◌==◌,
-  ℕ,
-  Bool,
-  true,
-  false,
-  List,
-  refl,
-  ap,
-  sym,
-  ◌∙◌,
-  arith,
-  Option,
-  Some,
-  None,
-}
-use Rattle.std.specs.Prelude.{IsOk, Ok, Result}
+use Rattle.std.proofs.Common.{◌≡◌, ◌≤◌, ◌==◌, ℕ, Bool, true, false, List, refl, ap, sym, ◌∙◌, arith, Option, Some, None}
+use Rattle.std.specs.Prelude.{Ok, Result}
 use Rattle.std.specs.Option.{option_map, unwrap_or}
 use Rattle.std.specs.Result.{is_ok}
 use Rattle.std.proofs.lemmas.Bool.{ne_eqb}
@@ -28,14 +9,12 @@ use Rattle.page_words.specs.Addresses.{page_number}
 use Rattle.phys_memory.specs.Bytes.{frame_bytes}
 use Rattle.alloc_table.specs.declared.Role.{Role}
 use Rattle.page_map.specs.declared.PageEntry.{PageEntry}
-use Rattle.table_walk.specs.declared.Access.{Access}
 use Rattle.table_walk.specs.declared.WalkEnd.{WalkEnd}
-use Rattle.table_walk.specs.Walk.{walk_of}
 use Rattle.address_space.specs.Spaces.{Slot, slot_at}
 use Rattle.address_space.specs.Image.{page_word, is_lazy_at}
 use Rattle.address_space.specs.View.{directory_of}
 use Rattle.address_space.specs.Sound.{IsSound}
-use Rattle.address_space.specs.Stays.{way_of, WaysAgree}
+use Rattle.address_space.specs.Stays.{WaysAgree}
 use Rattle.address_space.proofs.standing.Standing.{image_of, word_names}
 use Rattle.address_space.proofs.standing.FramesStand.{frame_read, way_parts, way_whole}
 use Rattle.address_space.proofs.steps.Steps.{live_small}

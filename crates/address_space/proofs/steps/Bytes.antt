@@ -1,5 +1,5 @@
 -- Accesses byte by byte, and as one where their bytes lie in one page.
-use Rattle.std.proofs.Common.{◌≡◌, ℕ, zero, suc, ◌+◌, ◌*◌, ◌/◌, ◌%◌, ◌<◌, ◌≤◌, Bool, true, false, cond, List, [], ◌∷◌, ◌++◌, map as each, length, take, drop, refl, ap, sym, ◌∙◌, subst, arith, inl, inr, Option, Some, None, unwrap_or, get_or-drop, drop-drop}
+use Rattle.std.proofs.Common.{◌≡◌, ℕ, zero, suc, ◌+◌, ◌*◌, ◌/◌, ◌%◌, ◌<◌, ◌≤◌, Bool, true, false, cond, List, [], ◌∷◌, ◌++◌, map as each, length, take, drop, refl, ap, sym, ◌∙◌, subst, arith, inl, inr, Option, Some, None, unwrap_or, get_or-drop, drop-drop, length-drop, ◌-◌}
 use Rattle.std.specs.Prelude.{slice_index, if◌then◌else◌, ◌⊎◌, IfSome}
 use Rattle.std.specs.List.{range_with_len}
 use Rattle.std.specs.Option.{option_map}
@@ -62,6 +62,25 @@ value_by_places xs at (suc n) =
         let v : value_of (take n (drop (at + 1) xs)) ≡ value_of (take n ys) = ap (λ ys. value_of (take n ys)) (rest ∙ ap (drop 1) is) in
         omega (arith, z, v)
 
+-- the bytes at some places in a row are those of a part
+pub bytes_by_places : (xs : List ℕ) (at n : ℕ) → at + n ≤ length xs → each (slice_index xs) (range_with_len at n) ≡ take n (drop at xs)
+bytes_by_places xs at zero fits = refl
+bytes_by_places xs at (suc n) fits = by (drop at xs) refl (length-drop at xs) (first ∙ sym (get_or-drop at xs 0 0)) (bytes_by_places xs (at + 1) n (omega (arith, fits)))
+  where
+    first : slice_index xs at ≡ slice_index xs (at + 0)
+    first = let e : at ≡ at + 0 = omega arith in ap (slice_index xs) e
+
+    rest : drop (at + 1) xs ≡ drop 1 (drop at xs)
+    rest = sym (drop-drop 1 at xs)
+
+    by : (ys : List ℕ) → drop at xs ≡ ys → length (drop at xs) ≡ length xs - at → slice_index xs at ≡ slice_index (drop at xs) 0
+        → each (slice_index xs) (range_with_len (at + 1) n) ≡ take n (drop (at + 1) xs) → slice_index xs at ∷ each (slice_index xs) (range_with_len (at + 1) n) ≡ take (suc n) ys
+    by [] is long e others = let none : length (drop at xs) ≡ 0 = ap length is in absurd (omega (arith, none, long, fits))
+    by (y ∷ ys) is long e others =
+        let z : slice_index xs at ≡ y = e ∙ ap (λ ys. slice_index ys 0) is in
+        let v : each (slice_index xs) (range_with_len (at + 1) n) ≡ take n ys = others ∙ ap (take n) (rest ∙ ap (drop 1) is) in
+        λ i. z i ∷ v i
+
 bytes_in : (S : Spaces) (p page a o n : ℕ) → ((i : ℕ) → i < n → page_number (a + i) ≡ page) → ((i : ℕ) → i < n → offset_number (a + i) ≡ o + i)
     → each (byte_at S p) (range_with_len a n) ≡ each (slice_index (cell_or_fresh S (at_page p page)).bytes) (range_with_len o n)
 bytes_in S p page a o zero pages places = refl
@@ -73,6 +92,14 @@ bytes_in S p page a o (suc n) pages places =
     ∷ bytes_in S p page (a + 1) (o + 1) n
     (λ i l. let e : a + 1 + i ≡ a + suc i = omega arith in ap page_number e ∙ pages (suc i) (omega (arith, l)))
     (λ i l. let e : a + 1 + i ≡ a + suc i = omega arith in let f : o + suc i ≡ o + 1 + i = omega arith in ap offset_number e ∙ places (suc i) (omega (arith, l)) ∙ f) i)
+
+-- the bytes from an address on, which lie in one page
+pub part_in_page : (S : Spaces) (p address n : ℕ) → offset_number address + n ≤ 4096
+    → each (byte_at S p) (range_with_len address n) ≡ each (slice_index (cell_or_fresh S (slot_at p address)).bytes) (range_with_len (offset_number address) n)
+part_in_page S p address n fits =
+    bytes_in S p (page_number address) address (offset_number address) n
+    (λ i l. page_stays address i (omega (arith, fits, l)))
+    (λ i l. let s : offset_number address + i < 4096 = omega (arith, fits, l) in omega (arith, s))
 
 -- the number of bytes that lie in one page
 pub number_in_page : (S : Spaces) (p address : ℕ) (size : Size) → second_page address size ≡ None
@@ -181,6 +208,10 @@ module _ (S : Spaces) (slot : Slot) where
   -- a store leaves both flags set
   pub stored-flags : (at : ℕ) (ys : List ℕ) → ((cell_or_fresh (stored S slot at ys) slot).accessed ≡ true) × ((cell_or_fresh (stored S slot at ys) slot).dirty ≡ true)
   stored-flags at ys = let same = same_cell (write_at cell.bytes at ys) in (ap (λ (c : Cell). c.accessed) same, ap (λ (c : Cell). c.dirty) same)
+
+  -- and the right as it was
+  pub stored-write : (at : ℕ) (ys : List ℕ) → (cell_or_fresh (stored S slot at ys) slot).write ≡ cell.write
+  stored-write at ys = ap (λ (c : Cell). c.write) (same_cell (write_at cell.bytes at ys))
 
 one_stored : (S : Spaces) (p page a o b : ℕ) (bs : List ℕ) → page_number a ≡ page → offset_number a ≡ o → all_stored S p a (b ∷ bs) ≡ all_stored (stored S (at_page p page) o (b ∷ [])) p (a + 1) bs
 one_stored S p page a o b bs first place i = all_stored (stored S (at_page p (first i)) (place i) (b ∷ [])) p (a + 1) bs

@@ -22,9 +22,9 @@ use Rattle.page_map.proofs.PageLemmas.{get-entries_user}
 use Rattle.address_space.specs.Spaces.{Slot, slot_order, Cell, Spaces, cost, need, pages_of, regions_of, without, with_holders, is_slot, is_of, at_page}
 use Rattle.address_space.specs.Slots.{user_slots}
 use Rattle.address_space.specs.Cells.{Entries, lazy_count, cell_of, spaces_of}
-use Rattle.address_space.specs.View.{Directories, Roles, directory_of, table_in, entry_in, entries_in, spaces_in, live_cost, total_cost}
+use Rattle.address_space.specs.View.{View, Directories, Roles, directory_of, table_in, entry_in, entries_in, spaces_in, live_cost, total_cost}
 use Rattle.address_space.specs.Sound.{Tables, Pages, IsSound, IsSpaces}
-use Rattle.address_space.specs.Changes.{SlotRemoved, IsEmptySpace, DroppedBelow, PagesDropped, DirectoryDropped}
+use Rattle.address_space.specs.Changes.{IsEmptySpace, DirectoryDropped}
 use Rattle.address_space.proofs.costs.Costs.{contains-pages_of}
 use Rattle.address_space.proofs.costs.CostSteps.{sum_one}
 use Rattle.address_space.proofs.entries.EntrySteps.{get-entries_in, entry_by_table}
@@ -36,8 +36,12 @@ use Rattle.address_space.proofs.standing.Standing.{past_end}
 use Rattle.address_space.proofs.steps.Steps.{live_small, none_before, role_own, role_other}
 use borrow.Author.Tests.{eqb-true, eq-eqb}
 use Rattle.page_words.proofs.OptionLemmas.{no_value}
-use Rattle.address_space.specs.Stays.{none_goes, of_page, of_process, PlacesStay}
-use Rattle.address_space.proofs.entries.Staying.{stay_same, places_by, places_then, places_more}
+use Rattle.address_space.specs.Stays.{FramesStay, none_goes, of_page, of_process}
+use Rattle.address_space.specs.Image.{image_of}
+use Rattle.address_space.specs.declared.Spaces.TheInside.{Inside as Inner}
+use Rattle.address_space.proofs.Insides.{IsKeptInside, spaces_at, image_at, view_of}
+use Rattle.address_space.proofs.standing.FramesStand.{stays_same, stays_then, stays_more}
+use Rattle.address_space.proofs.entries.Staying.{stay_same, places_by}
 
 -- ---- Slots that leave
 
@@ -165,78 +169,69 @@ entry_mapped m d page user mapped = ap is_some (sym (get-entries_user m d page u
 
 -- ---- The pages of a process leave, from the lowest on
 
-pub dropped_at_first : (directories : List (Option ℕ)) (bytes : List ℕ) (roles : List Role) (p : ℕ) → IsSpaces directories bytes roles → DroppedBelow directories p 0x40000 bytes roles bytes roles
-dropped_at_first directories bytes roles p s = record {
-  after = s;
+-- the pages of a process below one have left their groups
+pub record DroppedBelow (v : View) (p from : ℕ) (v' : View) : Type 0 where
+  pub directories : v'.directories ≡ v.directories
+  pub spaces : without v'.spaces (is_of p) ≡ without v.spaces (is_of p)
+  pub stay : FramesStay (of_process p) (image_of v) (image_of v')
+  pub below : (page : ℕ) → page < from → map.get v'.spaces (at_page p page) ≡ None
+  pub length : length v'.roles ≡ length v.roles
+  pub low : 0x40000 ≤ from
+  pub high : from ≤ 0xf0000
+
+pub dropped_at_first : (inner : Inner) (p : ℕ) → IsKeptInside inner → DroppedBelow (view_of inner) p 0x40000 (view_of inner)
+dropped_at_first inner p before = record {
+  directories = refl;
   spaces = refl;
-  stay = places_by (of_process p) (directory_of directories) (frame_bytes bytes) (directory_of directories)
-      (frame_bytes bytes) (stay_same (of_process p) (entries_in (directory_of directories) (frame_bytes bytes))
-      (entries_in (directory_of directories) (frame_bytes bytes)) refl) (λ q r t found. found);
-  below = λ page l. no_cell_outside directories bytes roles p page s.sound (inl l);
+  stay = stays_same;
+  below = λ page l. no_cell_outside inner.directories inner.memory inner.frames p page before.spaces.sound (inl l);
   length = refl;
   low = omega arith;
   high = omega arith;
 }
 
-pub dropped_next : (directories : List (Option ℕ)) (bytes one two : List ℕ) (roles roles1 roles2 : List Role) (p d from page : ℕ) → DroppedBelow directories p from bytes roles one roles1 → directory_of directories p ≡ Some d
-    → from ≤ page → page < 0xf0000 → ((other : ℕ) → from ≤ other → other < page → is_mapped (frame_bytes one) d other ≡ false) → SlotRemoved directories p page one roles1 two roles2
-    → DroppedBelow directories p (page + 1) bytes roles two roles2
-dropped_next directories bytes one two roles roles1 roles2 p d from page so_far live up high least gone =
-    let S : Spaces = spaces_in directories one in
+pub dropped_next : (v : View) (inner : Inner) (two : View) (p d from page : ℕ) → DroppedBelow v p from (view_of inner) → directory_of inner.directories p ≡ Some d
+    → from ≤ page → page < 0xf0000 → ((other : ℕ) → from ≤ other → other < page → is_mapped (frame_bytes inner.memory) d other ≡ false)
+    → two.spaces ≡ without (spaces_at inner) (is_slot p page) → FramesStay (of_page p page) (image_at inner) (image_of two) → two.directories ≡ inner.directories → length two.roles ≡ length inner.frames
+    → DroppedBelow v p (page + 1) two
+dropped_next v inner two p d from page so_far live up high least spaces stay directories long =
+    let S : Spaces = spaces_at inner in
     let low = so_far.low in
     record {
-      after = gone.after;
-      spaces = ap (λ x. without x (is_of p)) gone.spaces ∙ without-without S (is_slot p page) (is_of p) (slot_of_process p page) ∙ so_far.spaces;
-      stay = places_then (of_process p) (directory_of directories) (frame_bytes bytes) (directory_of directories)
-          (frame_bytes one) (directory_of directories) (frame_bytes two) so_far.stay
-          (places_more (of_process p) (of_page p page) (directory_of directories) (frame_bytes one)
-          (directory_of directories) (frame_bytes two) (λ q f stays. slot_of_process p page q stays) gone.stay);
-      below = λ other l. ap (λ x. map.get x (at_page p other)) gone.spaces ∙ get-without S (is_slot p page) (at_page p other) ∙ elim (cases_eq other page) [
+      directories = directories ∙ so_far.directories;
+      spaces = ap (λ x. without x (is_of p)) spaces ∙ without-without S (is_slot p page) (is_of p) (slot_of_process p page) ∙ so_far.spaces;
+      stay = stays_then so_far.stay (stays_more (λ q f stays. slot_of_process p page q stays) stay);
+      below = λ other l. ap (λ x. map.get x (at_page p other)) spaces ∙ get-without S (is_slot p page) (at_page p other) ∙ elim (cases_eq other page) [
         | inl same_page ↦ ap (λ b. cond (not b) (option_map (left (is_slot p page)) (map.get S (at_page p other))) None) (ap (λ n. same slot_order (at_page p page) (at_page p n)) same_page ∙ same_itself slot_order (at_page p page))
         | inr differ ↦ nothing_if (not (is_slot p page (at_page p other))) (left (is_slot p page)) (map.get S (at_page p other)) (elim (cases_lt other from) [
           | inl below ↦ so_far.below other below
-          | inr above ↦ no_cell_unmapped directories one p d other live (omega arith) (omega arith) (least other above (omega arith))
+          | inr above ↦ no_cell_unmapped inner.directories inner.memory p d other live (omega arith) (omega arith) (least other above (omega arith))
         ])
       ];
-      length = gone.length ∙ so_far.length;
+      length = long ∙ so_far.length;
       low = omega arith;
       high = omega arith;
     }
 
-pub dropped_at_last : (directories : List (Option ℕ)) (bytes one : List ℕ) (roles roles1 : List Role) (p d from : ℕ) → DroppedBelow directories p from bytes roles one roles1 → directory_of directories p ≡ Some d
-    → ((other : ℕ) → from ≤ other → is_mapped (frame_bytes one) d other ≡ false) → PagesDropped directories p bytes roles one roles1
-dropped_at_last directories bytes one roles roles1 p d from so_far live none =
+-- all of them have left their groups
+pub record PagesDropped (v : View) (p : ℕ) (v' : View) : Type 0 where
+  pub spaces : v'.spaces ≡ without v.spaces (is_of p)
+  pub empty : IsEmptySpace v'.spaces p
+
+pub dropped_at_last : (v : View) (inner : Inner) (p d from : ℕ) → IsKeptInside inner → DroppedBelow v p from (view_of inner) → directory_of inner.directories p ≡ Some d
+    → ((other : ℕ) → from ≤ other → is_mapped (frame_bytes inner.memory) d other ≡ false) → PagesDropped v p (view_of inner)
+dropped_at_last v inner p d from before so_far live none =
     let low = so_far.low in
-    let empty : IsEmptySpace (spaces_in directories one) p = λ page. elim (cases_lt page from) [
+    let empty : IsEmptySpace (spaces_at inner) p = λ page. elim (cases_lt page from) [
       | inl below ↦ so_far.below page below
       | inr above ↦ elim (cases_lt page 0xf0000) [
-        | inl inside ↦ no_cell_unmapped directories one p d page live (omega arith) inside (none page above)
-        | inr past ↦ no_cell_outside directories one roles1 p page so_far.after.sound (inr past)
+        | inl inside ↦ no_cell_unmapped inner.directories inner.memory p d page live (omega arith) inside (none page above)
+        | inr past ↦ no_cell_outside inner.directories inner.memory inner.frames p page before.spaces.sound (inr past)
       ]
     ] in
-    record {
-      after = so_far.after;
-      spaces = sym (nothing_leaves directories one p empty) ∙ so_far.spaces;
-      stay = so_far.stay;
-      empty = empty;
-      length = so_far.length;
-    }
+    record { spaces = sym (nothing_leaves inner.directories inner.memory p empty) ∙ so_far.spaces; empty = empty }
 
 -- ---- A directory goes
-
--- the pages of a process went, and then its directory
-pub places_dropped : (directories last directories' : List (Option ℕ)) (bytes middle bytes' : List ℕ) (p : ℕ)
-    → last ≡ directories → bytes' ≡ middle
-    → PlacesStay (of_process p) (directory_of directories) (frame_bytes bytes) (directory_of directories) (frame_bytes middle)
-    → PlacesStay none_goes (directory_of last) (frame_bytes middle) (directory_of directories') (frame_bytes middle)
-    → PlacesStay (of_process p) (directory_of directories) (frame_bytes bytes) (directory_of directories') (frame_bytes bytes')
-places_dropped directories last directories' bytes middle bytes' p same left pages directory =
-    subst (λ b. PlacesStay (of_process p) (directory_of directories) (frame_bytes bytes) (directory_of directories') (frame_bytes b)) (sym left)
-    (places_then (of_process p) (directory_of directories) (frame_bytes bytes) (directory_of directories) (frame_bytes middle)
-    (directory_of directories') (frame_bytes middle) pages
-    (places_more (of_process p) none_goes (directory_of directories) (frame_bytes middle) (directory_of directories') (frame_bytes middle)
-    (λ q f stays. refl)
-    (subst (λ l. PlacesStay none_goes (directory_of l) (frame_bytes middle) (directory_of directories') (frame_bytes middle)) same directory)))
 
 forgotten : (directories : List (Option ℕ)) (p : ℕ) → p < length directories → directory_of (slice_set directories p None) p ≡ None
 forgotten directories p l = ap (λ x. unwrap_or x None) (get-set_same directories p None l)

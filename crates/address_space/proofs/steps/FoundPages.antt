@@ -7,13 +7,13 @@ use Rattle.page_words.specs.declared.addresses.Size.{Size}
 use Rattle.page_words.specs.FiniteMap as map
 use Rattle.std.proofs.lemmas.Bool.{and_parts}
 use Rattle.phys_memory.specs.Bytes.{frame_bytes, word_in, with_word_in}
-use Rattle.phys_memory.proofs.Frames.{with_frame-same, word_in_same}
+use Rattle.phys_memory.proofs.Frames.{with_frame-same, word_in_same, length-frame}
 use Rattle.page_map.specs.declared.PageEntry.{PageEntry}
 use Rattle.page_map.specs.Entries.{Frames, dir_word, table_of, word_entry, entry_at, with_entry, entry_word, is_lazy_entry, IsKernelEntry}
 use Rattle.page_map.proofs.WordLaws.{entry_word-lt, word_entry-entry_word}
 use Rattle.address_space.proofs.entries.EntrySteps.{tables_kept}
 use Rattle.address_space.specs.declared.lookup.Found.{Found}
-use Rattle.address_space.specs.declared.paged.Paged.{Paged}
+use Rattle.address_space.specs.declared.Spaces.TheInside.{Inside as Inner}
 use Rattle.address_space.specs.Spaces.{need, Slot, Spaces, Cell, cell_or_fresh, bytes_of, stored, accessed, protected, at_page}
 use Rattle.address_space.specs.Stays.{FramesStay, none_goes, of_lazy}
 use Rattle.address_space.proofs.standing.FramesStand.{frames_stay}
@@ -26,7 +26,8 @@ use Rattle.address_space.specs.Sound.{IsSound, Names}
 use Rattle.address_space.proofs.costs.AccessCosts.{kept, key-stored}
 use Rattle.address_space.proofs.standing.Standing.{stores_read, lazy_read, same_lazy, lazy_kept, real_kept}
 use Rattle.address_space.proofs.steps.Touches.{kept_touched}
-use Rattle.address_space.specs.Finds.{IsKeptPaged, spaces_at, image_at, table_at, found_at, found_by, found_in, LiesIn, EntryIs, BytesStored, FrameGiven}
+use Rattle.address_space.specs.Finds.{lazy_found, found_by, found_in, LiesIn, EntryIs, BytesStored, FrameGiven}
+use Rattle.address_space.proofs.Insides.{IsKeptInside, spaces_at, image_at, table_at, found_at}
 use Rattle.address_space.proofs.entries.Readings.{mapped_read, get-spaces_in, group_counted}
 use Rattle.address_space.proofs.frames.FewHolders.{count_few}
 use Rattle.address_space.proofs.costs.CostSteps.{need-one, need-two}
@@ -42,7 +43,7 @@ use Rattle.address_space.proofs.steps.LazyFilling.{page_filled, room_to_fill}
 use Rattle.address_space.proofs.steps.CountSteps.{counts_kept, alike_taken}
 use Rattle.alloc_table.specs.declared.Role.{Role}
 use Rattle.std.proofs.lemmas.List.{length-replicate}
-use Rattle.address_space.proofs.steps.Stores.{frame_written, named_entry, page_of_name, named_inside, entry_rules, cell_read, flags_set, flagged_load, flagged_right, stored_place, page_stored, written_long}
+use Rattle.address_space.proofs.steps.Stores.{frame_written, length-write_at, named_entry, page_of_name, named_inside, entry_rules, cell_read, flags_set, flagged_load, flagged_right, stored_place, page_stored, written_long}
 
 -- what was found is the entry of the page's slot
 pub found_entry : (D : Directories) (m : Frames) (p page : ℕ) → option_map (λ (f : Found). f.entry) (found_in D m p page) ≡ entry_in D m (at_page p page)
@@ -102,19 +103,19 @@ is_some-option_map None = refl
 is_some-option_map (Some f) = refl
 
 -- a page is found just where it is mapped
-pub found_mapped : (paged : Paged) (p page : ℕ) → IsKeptPaged paged → IsUserPage page
-    → is_some (found_at paged p page) ≡ is_some (map.get (spaces_at paged) (at_page p page))
-found_mapped paged p page before user =
-    sym (is_some-option_map (found_at paged p page)) ∙ ap is_some (found_entry (directory_of paged.directories) (frame_bytes paged.memory) p page) ∙ by (directory_of paged.directories p) refl
+pub found_mapped : (inner : Inner) (p page : ℕ) → IsKeptInside inner → IsUserPage page
+    → is_some (found_at inner p page) ≡ is_some (map.get (spaces_at inner) (at_page p page))
+found_mapped inner p page before user =
+    sym (is_some-option_map (found_at inner p page)) ∙ ap is_some (found_entry (directory_of inner.directories) (frame_bytes inner.memory) p page) ∙ by (directory_of inner.directories p) refl
   where
-    by : (x : Option ℕ) → directory_of paged.directories p ≡ x → is_some (entry_in (directory_of paged.directories) (frame_bytes paged.memory) (at_page p page)) ≡ is_some (map.get (spaces_at paged) (at_page p page))
-    by None is = ap (λ x. is_some (option_and_then (λ d. entry_at (frame_bytes paged.memory) d page) x)) is ∙ sym (ap is_some (no_cell paged.directories paged.memory p page is))
-    by (Some d) is = ap (λ x. is_some (option_and_then (λ d. entry_at (frame_bytes paged.memory) d page) x)) is ∙ sym (mapped_read paged.directories paged.memory p d page is (live_small paged.directories p d before.spaces.sound.pids is) user.0 user.1)
+    by : (x : Option ℕ) → directory_of inner.directories p ≡ x → is_some (entry_in (directory_of inner.directories) (frame_bytes inner.memory) (at_page p page)) ≡ is_some (map.get (spaces_at inner) (at_page p page))
+    by None is = ap (λ x. is_some (option_and_then (λ d. entry_at (frame_bytes inner.memory) d page) x)) is ∙ sym (ap is_some (no_cell inner.directories inner.memory p page is))
+    by (Some d) is = ap (λ x. is_some (option_and_then (λ d. entry_at (frame_bytes inner.memory) d page) x)) is ∙ sym (mapped_read inner.directories inner.memory p d page is (live_small inner.directories p d before.spaces.sound.pids is) user.0 user.1)
 
 -- whether what was found takes stores
-pub found_takes : (paged : Paged) (p page : ℕ) → IsKeptPaged paged → IsUserPage page
-    → takes_stores_through (option_map (λ (f : Found). f.entry) (found_at paged p page)) ≡ takes_stores (spaces_at paged) (image_at paged) (at_page p page)
-found_takes paged p page before user = ap takes_stores_through (found_entry (directory_of paged.directories) (frame_bytes paged.memory) p page) ∙ stores_read paged.directories paged.memory paged.frames p page before.spaces.sound user.0 user.1
+pub found_takes : (inner : Inner) (p page : ℕ) → IsKeptInside inner → IsUserPage page
+    → takes_stores_through (option_map (λ (f : Found). f.entry) (found_at inner p page)) ≡ takes_stores (spaces_at inner) (image_at inner) (at_page p page)
+found_takes inner p page before user = ap takes_stores_through (found_entry (directory_of inner.directories) (frame_bytes inner.memory) p page) ∙ stores_read inner.directories inner.memory inner.frames p page before.spaces.sound user.0 user.1
 
 pub takes_real : (e : PageEntry) → takes_stores_through (Some e) ≡ true → e.lazy ≡ false
 takes_real e h = by e.lazy (and_parts e.write (not e.lazy) h).1
@@ -124,50 +125,50 @@ takes_real e h = by e.lazy (and_parts e.write (not e.lazy) h).1
     by true h = cc
 
 -- what an access left
-pub record Left (paged : Paged) (S : Spaces) (bytes' : List ℕ) : Type 0 where
-  pub spaces : spaces_in paged.directories bytes' ≡ S
-  pub kept : IsKept paged.directories bytes' paged.frames paged.counts.items
+pub record Left (inner : Inner) (S : Spaces) (bytes' : List ℕ) : Type 0 where
+  pub spaces : spaces_in inner.directories bytes' ≡ S
+  pub kept : IsKept inner.directories bytes' inner.frames inner.counts.items
   -- the same slots are lazy
-  pub lazy : (q : Slot) → is_lazy_at (record { directories = paged.directories; bytes = bytes'; roles = paged.frames }) q ≡ is_lazy_at (image_at paged) q
+  pub lazy : (q : Slot) → is_lazy_at (record { directories = inner.directories; bytes = bytes'; roles = inner.frames }) q ≡ is_lazy_at (image_at inner) q
   -- and each names its frame
-  pub stay : FramesStay none_goes (image_at paged)
-      (record { directories = paged.directories; bytes = bytes'; roles = paged.frames })
+  pub stay : FramesStay none_goes (image_at inner)
+      (record { directories = inner.directories; bytes = bytes'; roles = inner.frames })
 
 -- ---- What stands at a page
 
 -- nothing is lazy where nothing is found
-pub absent_lazy : (paged : Paged) (p page : ℕ) → IsKeptPaged paged → found_at paged p page ≡ None → is_lazy_at (image_at paged) (at_page p page) ≡ false
-absent_lazy paged p page before is =
-    same_lazy paged.directories paged.memory paged.frames before.spaces.sound (at_page p page)
-    ∙ ap is_lazy_entry (sym (found_entry (directory_of paged.directories) (frame_bytes paged.memory) p page) ∙ ap (option_map (λ (f : Found). f.entry)) is)
+pub absent_lazy : (inner : Inner) (p page : ℕ) → IsKeptInside inner → found_at inner p page ≡ None → is_lazy_at (image_at inner) (at_page p page) ≡ false
+absent_lazy inner p page before is =
+    same_lazy inner.directories inner.memory inner.frames before.spaces.sound (at_page p page)
+    ∙ ap is_lazy_entry (sym (found_entry (directory_of inner.directories) (frame_bytes inner.memory) p page) ∙ ap (option_map (λ (f : Found). f.entry)) is)
 
 -- its cell
-pub found_cells : (paged : Paged) (p page : ℕ) → p < 64 → IsUserPage page
-    → map.get (spaces_at paged) (at_page p page) ≡ option_map (cell_of (entries_in (directory_of paged.directories) (frame_bytes paged.memory)) (frame_bytes paged.memory) (at_page p page)) (option_map (λ (f : Found). f.entry) (found_at paged p page))
-found_cells paged p page few user =
-    get-spaces_in paged.directories paged.memory p page few user.0 user.1
-    ∙ ap (option_map (cell_of (entries_in (directory_of paged.directories) (frame_bytes paged.memory)) (frame_bytes paged.memory) (at_page p page))) (sym (found_entry (directory_of paged.directories) (frame_bytes paged.memory) p page))
+pub found_cells : (inner : Inner) (p page : ℕ) → p < 64 → IsUserPage page
+    → map.get (spaces_at inner) (at_page p page) ≡ option_map (cell_of (entries_in (directory_of inner.directories) (frame_bytes inner.memory)) (frame_bytes inner.memory) (at_page p page)) (option_map (λ (f : Found). f.entry) (found_at inner p page))
+found_cells inner p page few user =
+    get-spaces_in inner.directories inner.memory p page few user.0 user.1
+    ∙ ap (option_map (cell_of (entries_in (directory_of inner.directories) (frame_bytes inner.memory)) (frame_bytes inner.memory) (at_page p page))) (sym (found_entry (directory_of inner.directories) (frame_bytes inner.memory) p page))
 
 none_of : (x : Option Cell) → is_some x ≡ false → x ≡ None
 none_of None h = refl
 none_of (Some c) h = cc
 
 -- nothing is mapped where nothing is found
-pub absent_cell : (paged : Paged) (p page : ℕ) → IsKeptPaged paged → IsUserPage page → found_at paged p page ≡ None → map.get (spaces_at paged) (at_page p page) ≡ None
-absent_cell paged p page before user is = none_of (map.get (spaces_at paged) (at_page p page)) (sym (found_mapped paged p page before user) ∙ ap is_some is)
+pub absent_cell : (inner : Inner) (p page : ℕ) → IsKeptInside inner → IsUserPage page → found_at inner p page ≡ None → map.get (spaces_at inner) (at_page p page) ≡ None
+absent_cell inner p page before user is = none_of (map.get (spaces_at inner) (at_page p page)) (sym (found_mapped inner p page before user) ∙ ap is_some is)
 
 -- what one more page costs without a table of its region, and beside one
-pub need_without : (paged : Paged) (p page : ℕ) → table_at paged p page ≡ None → need (spaces_at paged) p page ≡ 2
+pub need_without : (inner : Inner) (p page : ℕ) → table_at inner p page ≡ None → need (spaces_at inner) p page ≡ 2
 unfolding spaces_in
-need_without paged p page is = need-two (directory_of paged.directories) (frame_bytes paged.memory) p page is
+need_without inner p page is = need-two (directory_of inner.directories) (frame_bytes inner.memory) p page is
 
-pub need_with : (paged : Paged) (p page t : ℕ) → IsKeptPaged paged → IsUserPage page → table_at paged p page ≡ Some t → need (spaces_at paged) p page ≡ 1
+pub need_with : (inner : Inner) (p page t : ℕ) → IsKeptInside inner → IsUserPage page → table_at inner p page ≡ Some t → need (spaces_at inner) p page ≡ 1
 unfolding spaces_in
-need_with paged p page t before user is = need-one (directory_of paged.directories) (frame_bytes paged.memory) p page t (by (directory_of paged.directories p) refl is) user.0 user.1 is (before.spaces.in_use p (slot_number page))
+need_with inner p page t before user is = need-one (directory_of inner.directories) (frame_bytes inner.memory) p page t (by (directory_of inner.directories p) refl is) user.0 user.1 is (before.spaces.in_use p (slot_number page))
   where
-    by : (x : Option ℕ) → directory_of paged.directories p ≡ x → option_and_then (λ d. table_of (frame_bytes paged.memory) d (slot_number page)) x ≡ Some t → p < 64
+    by : (x : Option ℕ) → directory_of inner.directories p ≡ x → option_and_then (λ d. table_of (frame_bytes inner.memory) d (slot_number page)) x ≡ Some t → p < 64
     by None live h = cc
-    by (Some d) live h = live_small paged.directories p d before.spaces.sound.pids live
+    by (Some d) live h = live_small inner.directories p d before.spaces.sound.pids live
 
 -- a page is found at the entry that was written for it
 pub found_written : (directories : List (Option ℕ)) (bytes two : List ℕ) (roles : List Role) (p d page t : ℕ) (e : PageEntry) → IsSound directories bytes roles → directory_of directories p ≡ Some d
@@ -191,53 +192,57 @@ found_written directories bytes two roles p d page t e sound live there small is
 
 -- ---- A page that was found, whose invariant holds
 
-module _ (paged : Paged) (p page : ℕ) (f : Found) (before : IsKeptPaged paged) (user : IsUserPage page) (is : found_at paged p page ≡ Some f) where
-  there : Known paged.directories paged.memory p page f
-  there = known paged.directories paged.memory p page f is
+module _ (inner : Inner) (p page : ℕ) (f : Found) (before : IsKeptInside inner) (user : IsUserPage page) (is : found_at inner p page ≡ Some f) where
+  there : Known inner.directories inner.memory p page f
+  there = known inner.directories inner.memory p page f is
 
   few : p < 64
-  few = live_small paged.directories p there.directory before.spaces.sound.pids there.live
+  few = live_small inner.directories p there.directory before.spaces.sound.pids there.live
 
-  pub found_lies : LiesIn paged.memory f
+  pub found_lies : LiesIn inner.memory f
   found_lies = record {
-    table = (page_map_of paged.directories paged.memory paged.frames p there.directory before.spaces.sound there.live).tables_inside (slot_number page) f.table (let h = user.1 in omega (arith, h)) there.table;
-    frame = named_inside paged.directories paged.memory paged.frames p there.directory page f.entry before.spaces.sound there.live user.0 user.1 there.here;
+    table = (page_map_of inner.directories inner.memory inner.frames p there.directory before.spaces.sound there.live).tables_inside (slot_number page) f.table (let h = user.1 in omega (arith, h)) there.table;
+    frame = named_inside inner.directories inner.memory inner.frames p there.directory page f.entry before.spaces.sound there.live user.0 user.1 there.here;
   }
 
-  pub found_cell : cell_or_fresh (spaces_at paged) (at_page p page) ≡ cell_of (entries_in (directory_of paged.directories) (frame_bytes paged.memory)) (frame_bytes paged.memory) (at_page p page) f.entry
-  found_cell = cell_read paged.directories paged.memory p there.directory page f.entry there.live few user.0 user.1 there.here
+  pub found_cell : cell_or_fresh (spaces_at inner) (at_page p page) ≡ cell_of (entries_in (directory_of inner.directories) (frame_bytes inner.memory)) (frame_bytes inner.memory) (at_page p page) f.entry
+  found_cell = cell_read inner.directories inner.memory p there.directory page f.entry there.live few user.0 user.1 there.here
+
+  -- what stands at its slot
+  pub found_get : map.get (spaces_at inner) (at_page p page) ≡ Some (cell_of (entries_in (directory_of inner.directories) (frame_bytes inner.memory)) (frame_bytes inner.memory) (at_page p page) f.entry)
+  found_get = found_cells inner p page few user ∙ ap (λ x. option_map (cell_of (entries_in (directory_of inner.directories) (frame_bytes inner.memory)) (frame_bytes inner.memory) (at_page p page)) (option_map (λ (f : Found). f.entry) x)) is
 
   -- it is lazy as the image says
-  pub found_real : is_lazy_at (image_at paged) (at_page p page) ≡ f.entry.lazy
-  found_real = sym (lazy_read paged.directories paged.memory paged.frames p there.directory page before.spaces.sound there.live) ∙ ap is_lazy_entry there.here
+  pub found_real : is_lazy_at (image_at inner) (at_page p page) ≡ f.entry.lazy
+  found_real = sym (lazy_read inner.directories inner.memory inner.frames p there.directory page before.spaces.sound there.live) ∙ ap is_lazy_entry there.here
 
   rules : IsKernelEntry f.entry
-  rules = entry_rules paged.directories paged.memory paged.frames p there.directory page f.entry before.spaces.sound there.live there.here
+  rules = entry_rules inner.directories inner.memory inner.frames p there.directory page f.entry before.spaces.sound there.live there.here
 
   -- the frame of a page that isn't lazy has a count
-  pub found_below : f.entry.lazy ≡ false → IsPageBelow paged.frames f.entry.frame 4294967295
+  pub found_below : f.entry.lazy ≡ false → IsPageBelow inner.frames f.entry.frame 4294967295
   found_below real =
-      let n = named_entry paged.directories paged.memory paged.frames p there.directory page f.entry before.spaces.sound there.live user.0 user.1 there.here in
-      let r = page_of_name paged.directories paged.memory paged.frames (at_page p page) f.entry.frame before.spaces.sound n (rules.frame real) in
-      record { count = r.count; page = r.page; below = count_few (directory_of paged.directories) (frame_bytes paged.memory) (slice_get paged.frames) f.entry.frame r.count before.spaces.sound.pages r.page }
+      let n = named_entry inner.directories inner.memory inner.frames p there.directory page f.entry before.spaces.sound there.live user.0 user.1 there.here in
+      let r = page_of_name inner.directories inner.memory inner.frames (at_page p page) f.entry.frame before.spaces.sound n (rules.frame real) in
+      record { count = r.count; page = r.page; below = count_few (directory_of inner.directories) (frame_bytes inner.memory) (slice_get inner.frames) f.entry.frame r.count before.spaces.sound.pages r.page }
 
-  pub found_known : Known paged.directories paged.memory p page f
+  pub found_known : Known inner.directories inner.memory p page f
   found_known = there
 
   -- its slot names its frame, which is not frame 0 unless it is lazy
-  pub found_named : Names (entries_in (directory_of paged.directories) (frame_bytes paged.memory)) (at_page p page) f.entry.frame
-  found_named = named_entry paged.directories paged.memory paged.frames p there.directory page f.entry before.spaces.sound there.live user.0 user.1 there.here
+  pub found_named : Names (entries_in (directory_of inner.directories) (frame_bytes inner.memory)) (at_page p page) f.entry.frame
+  found_named = named_entry inner.directories inner.memory inner.frames p there.directory page f.entry before.spaces.sound there.live user.0 user.1 there.here
 
   pub found_least : f.entry.lazy ≡ false → 1 ≤ f.entry.frame
   found_least = rules.frame
 
   -- its cell, as it is shown
   pub found_shown : (c : Shown) → c ≡ record { write = f.entry.write; may = f.entry.may; accessed = f.entry.accessed; dirty = f.entry.dirty; holders = c.holders }
-      → (f.entry.lazy ≡ true → c.holders ≡ 1) → (f.entry.lazy ≡ false → slice_get paged.frames f.entry.frame ≡ Some (Page c.holders)) → Some c ≡ option_map shown (map.get (spaces_at paged) (at_page p page))
+      → (f.entry.lazy ≡ true → c.holders ≡ 1) → (f.entry.lazy ≡ false → slice_get inner.frames f.entry.frame ≡ Some (Page c.holders)) → Some c ≡ option_map shown (map.get (spaces_at inner) (at_page p page))
   found_shown c flags lazy real =
-      let count = group_counted paged.directories paged.memory paged.frames (at_page p page) f.entry c.holders before.spaces.sound rules lazy real in
+      let count = group_counted inner.directories inner.memory inner.frames (at_page p page) f.entry c.holders before.spaces.sound rules lazy real in
       ap Some (flags ∙ (λ i. record { write = f.entry.write; may = f.entry.may; accessed = f.entry.accessed; dirty = f.entry.dirty; holders = count i }))
-      ∙ sym (ap (option_map shown) (found_cells paged p page few user ∙ ap (λ x. option_map (cell_of (entries_in (directory_of paged.directories) (frame_bytes paged.memory)) (frame_bytes paged.memory) (at_page p page)) (option_map (λ (f : Found). f.entry) x)) is))
+      ∙ sym (ap (option_map shown) (found_cells inner p page few user ∙ ap (λ x. option_map (cell_of (entries_in (directory_of inner.directories) (frame_bytes inner.memory)) (frame_bytes inner.memory) (at_page p page)) (option_map (λ (f : Found). f.entry) x)) is))
 
   entry_put_at : (one two : List ℕ) (e' : PageEntry) → table_of (frame_bytes one) there.directory (slot_number page) ≡ Some f.table → EntryIs one f e' two → EntryPut one there.directory page f.entry e' two
   entry_put_at one two e' table (inl stays) = inl stays
@@ -245,93 +250,119 @@ module _ (paged : Paged) (p page : ℕ) (f : Found) (before : IsKeptPaged paged)
       inr (written ∙ ap (λ g. with_entry (frame_bytes one) f.table g e') there.same_page ∙ sym (ap (λ t. with_entry (frame_bytes one) t page e') (table_by_word (dir_word (frame_bytes one) there.directory (slot_number page)) f.table table)))
 
   -- the slot is mapped
-  pub found_there : is_some (map.get (spaces_at paged) (at_page p page)) ≡ true
-  found_there = sym (found_mapped paged p page before user) ∙ ap is_some is
+  pub found_there : is_some (map.get (spaces_at inner) (at_page p page)) ≡ true
+  found_there = sym (found_mapped inner p page before user) ∙ ap is_some is
 
-  left : (two : List ℕ) (S : Spaces) → Touched paged.directories S paged.memory paged.frames two → ((q : Slot) → map.contains_key S q ≡ map.contains_key (spaces_at paged) q) → Left paged S two
+  left : (two : List ℕ) (S : Spaces) → Touched inner.directories S inner.memory inner.frames two → ((q : Slot) → map.contains_key S q ≡ map.contains_key (spaces_at inner) q) → Left inner S two
   left two S touched keys = record {
     spaces = touched.spaces;
-    kept = kept_touched paged.directories paged.memory two paged.frames paged.counts.items S before touched keys;
-    lazy = lazy_kept paged.directories paged.memory two paged.frames before.spaces.sound touched.sound touched.lazy;
-    stay = frames_stay none_goes paged.directories paged.memory two paged.frames paged.frames before.spaces.sound
+    kept = kept_touched inner.directories inner.memory two inner.frames inner.counts.items S before touched keys;
+    lazy = lazy_kept inner.directories inner.memory two inner.frames before.spaces.sound touched.sound touched.lazy;
+    stay = frames_stay none_goes inner.directories inner.memory two inner.frames inner.frames before.spaces.sound
         touched.sound touched.stay;
   }
 
   -- a load
-  pub found_loaded : (two : List ℕ) → EntryIs paged.memory f (record f.entry { accessed = true }) two → length two ≡ length paged.memory → Left paged (accessed (spaces_at paged) (at_page p page)) two
+  pub found_loaded : (two : List ℕ) → EntryIs inner.memory f (record f.entry { accessed = true }) two → length two ≡ length inner.memory → Left inner (accessed (spaces_at inner) (at_page p page)) two
   found_loaded two put long =
-      left two (accessed (spaces_at paged) (at_page p page))
-      (subst (λ (s : Spaces). Touched paged.directories s paged.memory paged.frames two) (flagged_load paged.directories paged.memory p there.directory page f.entry there.live few user.0 user.1 there.here)
-      (flags_set paged.directories paged.memory two paged.frames p there.directory page f.entry f.entry.write true before.spaces.sound there.live user.0 user.1 there.here
-      (entry_rules paged.directories paged.memory paged.frames p there.directory page f.entry before.spaces.sound there.live there.here).right (λ _. refl) (entry_put_at paged.memory two (record f.entry { accessed = true }) there.table put) long))
-      (kept (spaces_at paged) (at_page p page) _ found_there)
+      left two (accessed (spaces_at inner) (at_page p page))
+      (subst (λ (s : Spaces). Touched inner.directories s inner.memory inner.frames two) (flagged_load inner.directories inner.memory p there.directory page f.entry there.live few user.0 user.1 there.here)
+      (flags_set inner.directories inner.memory two inner.frames p there.directory page f.entry f.entry.write true before.spaces.sound there.live user.0 user.1 there.here
+      (entry_rules inner.directories inner.memory inner.frames p there.directory page f.entry before.spaces.sound there.live there.here).right (λ _. refl) (entry_put_at inner.memory two (record f.entry { accessed = true }) there.table put) long))
+      (kept (spaces_at inner) (at_page p page) _ found_there)
 
   -- a change of the right
-  pub found_protected : (two : List ℕ) (write : Bool) → (write ≡ true → (cell_or_fresh (spaces_at paged) (at_page p page)).may ≡ true) → EntryIs paged.memory f (record f.entry { write = write }) two → length two ≡ length paged.memory
-      → Left paged (protected (spaces_at paged) (at_page p page) write) two
+  pub found_protected : (two : List ℕ) (write : Bool) → (write ≡ true → (cell_or_fresh (spaces_at inner) (at_page p page)).may ≡ true) → EntryIs inner.memory f (record f.entry { write = write }) two → length two ≡ length inner.memory
+      → Left inner (protected (spaces_at inner) (at_page p page) write) two
   found_protected two write may put long =
-      left two (protected (spaces_at paged) (at_page p page) write)
-      (subst (λ (s : Spaces). Touched paged.directories s paged.memory paged.frames two) (flagged_right paged.directories paged.memory p there.directory page f.entry write there.live few user.0 user.1 there.here)
-      (flags_set paged.directories paged.memory two paged.frames p there.directory page f.entry write f.entry.accessed before.spaces.sound there.live user.0 user.1 there.here
-      (λ w. sym (ap (λ (c : Cell). c.may) found_cell) ∙ may w) (entry_rules paged.directories paged.memory paged.frames p there.directory page f.entry before.spaces.sound there.live there.here).touched (entry_put_at paged.memory two (record f.entry { write = write }) there.table put) long))
-      (kept (spaces_at paged) (at_page p page) _ found_there)
+      left two (protected (spaces_at inner) (at_page p page) write)
+      (subst (λ (s : Spaces). Touched inner.directories s inner.memory inner.frames two) (flagged_right inner.directories inner.memory p there.directory page f.entry write there.live few user.0 user.1 there.here)
+      (flags_set inner.directories inner.memory two inner.frames p there.directory page f.entry write f.entry.accessed before.spaces.sound there.live user.0 user.1 there.here
+      (λ w. sym (ap (λ (c : Cell). c.may) found_cell) ∙ may w) (entry_rules inner.directories inner.memory inner.frames p there.directory page f.entry before.spaces.sound there.live there.here).touched (entry_put_at inner.memory two (record f.entry { write = write }) there.table put) long))
+      (kept (spaces_at inner) (at_page p page) _ found_there)
 
   -- a store
-  pub found_stored : (two : List ℕ) (at : ℕ) (size : Size) (value : ℕ) → f.entry.lazy ≡ false → at + byte_count size ≤ 4096 → BytesStored paged.memory f at (bytes_of (byte_count size) value) two
-      → Left paged (stored (spaces_at paged) (at_page p page) at (bytes_of (byte_count size) value)) two
+  pub found_stored : (two : List ℕ) (at : ℕ) (size : Size) (value : ℕ) → f.entry.lazy ≡ false → at + byte_count size ≤ 4096 → BytesStored inner.memory f at (bytes_of (byte_count size) value) two
+      → Left inner (stored (spaces_at inner) (at_page p page) at (bytes_of (byte_count size) value)) two
   found_stored two at size value real inside s =
-      left two (stored (spaces_at paged) (at_page p page) at (bytes_of (byte_count size) value))
+      left two (stored (spaces_at inner) (at_page p page) at (bytes_of (byte_count size) value))
       (let d = there.directory in
-      let place = stored_place paged.directories paged.memory paged.frames p d page f.entry before.spaces.sound there.live user.0 user.1 there.here real in
-      let long = written_long (frame_bytes paged.memory f.entry.frame) at size value place.long inside in
-      let kept = map_kept paged.directories paged.memory s.between paged.frames p d f.entry.frame _ before.spaces.sound there.live place.loose long s.written s.between_long in
-      page_stored paged.directories paged.memory s.between two paged.frames p d page at (bytes_of (byte_count size) value) f.entry before.spaces.sound there.live user.0 user.1 there.here real long s.written s.between_long
+      let place = stored_place inner.directories inner.memory inner.frames p d page f.entry before.spaces.sound there.live user.0 user.1 there.here real in
+      let long = written_long (frame_bytes inner.memory f.entry.frame) at size value place.long inside in
+      let kept = map_kept inner.directories inner.memory s.between inner.frames p d f.entry.frame _ before.spaces.sound there.live place.loose long s.written s.between_long in
+      page_stored inner.directories inner.memory s.between two inner.frames p d page at (bytes_of (byte_count size) value) f.entry before.spaces.sound there.live user.0 user.1 there.here real long s.written s.between_long
       (entry_put_at s.between two (record f.entry { accessed = true; dirty = true }) (kept.tables (slot_number page) ∙ there.table) s.entry) s.long)
-      (λ q. key-stored (spaces_at paged) (at_page p page) at (bytes_of (byte_count size) value) (cell_or_fresh (spaces_at paged) (at_page p page)) q ∙ kept (spaces_at paged) (at_page p page) (cell_or_fresh (spaces_at paged) (at_page p page)) found_there q)
+      (λ q. key-stored (spaces_at inner) (at_page p page) at (bytes_of (byte_count size) value) (cell_or_fresh (spaces_at inner) (at_page p page)) q ∙ kept (spaces_at inner) (at_page p page) (cell_or_fresh (spaces_at inner) (at_page p page)) found_there q)
+
+  -- bytes written as one
+  pub found_part : (two : List ℕ) (at : ℕ) (new : List ℕ) → f.entry.lazy ≡ false → at + length new ≤ 4096 → BytesStored inner.memory f at new two
+      → Left inner (stored (spaces_at inner) (at_page p page) at new) two
+  found_part two at new real inside s =
+      left two (stored (spaces_at inner) (at_page p page) at new)
+      (let d = there.directory in
+      let place = stored_place inner.directories inner.memory inner.frames p d page f.entry before.spaces.sound there.live user.0 user.1 there.here real in
+      let size = place.long in
+      let long = length-write_at (frame_bytes inner.memory f.entry.frame) at new (omega (arith, size, inside)) ∙ size in
+      let kept = map_kept inner.directories inner.memory s.between inner.frames p d f.entry.frame _ before.spaces.sound there.live place.loose long s.written s.between_long in
+      page_stored inner.directories inner.memory s.between two inner.frames p d page at new f.entry before.spaces.sound there.live user.0 user.1 there.here real long s.written s.between_long
+      (entry_put_at s.between two (record f.entry { accessed = true; dirty = true }) (kept.tables (slot_number page) ∙ there.table) s.entry) s.long)
+      (λ q. key-stored (spaces_at inner) (at_page p page) at new (cell_or_fresh (spaces_at inner) (at_page p page)) q ∙ kept (spaces_at inner) (at_page p page) (cell_or_fresh (spaces_at inner) (at_page p page)) found_there q)
+
+  -- the bytes of its cell
+  pub found_bytes : (cell_or_fresh (spaces_at inner) (at_page p page)).bytes ≡ frame_bytes inner.memory f.entry.frame
+  found_bytes = ap (λ (c : Cell). c.bytes) found_cell
+
+  pub found_long : length (cell_or_fresh (spaces_at inner) (at_page p page)).bytes ≡ 4096
+  found_long = ap length found_bytes ∙ length-frame inner.memory f.entry.frame found_lies.frame.fits
 
   -- a frame of its own
-  pub found_filled : (e' : PageEntry) (two : List ℕ) (roles' : List Role) → f.entry.lazy ≡ true → FrameGiven paged.memory paged.frames f e' two roles' → PageFilled paged.directories p page paged.memory paged.frames two roles'
+  pub found_filled : (e' : PageEntry) (two : List ℕ) (roles' : List Role) → f.entry.lazy ≡ true → FrameGiven inner.memory inner.frames f e' two roles' → PageFilled inner.directories p page inner.memory inner.frames two roles'
   found_filled e' two roles' lazy g =
-      let R = slice_get paged.frames in
+      let R = slice_get inner.frames in
       let free = g.taken.was_free in
-      let is = zeroed paged.memory g.between g.frame (inside paged.directories paged.memory paged.frames g.frame Free before.spaces.sound free) g.zeros in
-      let kept = map_kept paged.directories paged.memory g.between paged.frames p there.directory g.frame (replicate 4096 0) before.spaces.sound there.live (free_loose R g.frame free) (length-replicate {A = ℕ} 4096 0) is g.between_long in
+      let is = zeroed inner.memory g.between g.frame (inside inner.directories inner.memory inner.frames g.frame Free before.spaces.sound free) g.zeros in
+      let kept = map_kept inner.directories inner.memory g.between inner.frames p there.directory g.frame (replicate 4096 0) before.spaces.sound there.live (free_loose R g.frame free) (length-replicate {A = ℕ} 4096 0) is g.between_long in
       let table = kept.tables (slot_number page) ∙ there.table in
       let written = g.entry ∙ ap (λ n. with_entry (frame_bytes g.between) f.table n (record f.entry { frame = g.frame; lazy = false })) there.same_page
       ∙ sym (ap (λ t. with_entry (frame_bytes g.between) t page (record f.entry { frame = g.frame; lazy = false })) (table_by_word (dir_word (frame_bytes g.between) there.directory (slot_number page)) f.table table)) in
-      page_filled paged.directories paged.memory g.between two paged.frames roles' p there.directory page g.frame f.entry before.spaces there.live user.0 user.1 there.here lazy g.taken is g.between_long written g.long
+      page_filled inner.directories inner.memory g.between two inner.frames roles' p there.directory page g.frame f.entry before.spaces there.live user.0 user.1 there.here lazy g.taken is g.between_long written g.long
 
-  pub filled_kept : (e' : PageEntry) (two : List ℕ) (roles' : List Role) → FrameGiven paged.memory paged.frames f e' two roles' → PageFilled paged.directories p page paged.memory paged.frames two roles' → IsKept paged.directories two roles' paged.counts.items
+  pub filled_kept : (e' : PageEntry) (two : List ℕ) (roles' : List Role) → FrameGiven inner.memory inner.frames f e' two roles' → PageFilled inner.directories p page inner.memory inner.frames two roles' → IsKept inner.directories two roles' inner.counts.items
   filled_kept e' two roles' g filled = record {
     spaces = filled.after;
-    counted = counts_kept (spaces_at paged) (spaces_in paged.directories two) paged.frames roles' filled.spaces (alike_taken (spaces_at paged) paged.frames roles' g.frame (Page 1) g.taken refl) paged.counts.items before.counted;
+    counted = counts_kept (spaces_at inner) (spaces_in inner.directories two) inner.frames roles' filled.spaces (alike_taken (spaces_at inner) inner.frames roles' g.frame (Page 1) g.taken refl) inner.counts.items before.counted;
   }
 
   -- each slot but that one names its frame
   pub filled_stay : (two : List ℕ) (roles' : List Role)
-      → PageFilled paged.directories p page paged.memory paged.frames two roles'
-      → FramesStay (of_lazy p page) (image_at paged)
-      (record { directories = paged.directories; bytes = two; roles = roles' })
-  filled_stay two roles' filled = frames_stay (of_lazy p page) paged.directories paged.memory two paged.frames roles'
+      → PageFilled inner.directories p page inner.memory inner.frames two roles'
+      → FramesStay (of_lazy p page) (image_at inner)
+      (record { directories = inner.directories; bytes = two; roles = roles' })
+  filled_stay two roles' filled = frames_stay (of_lazy p page) inner.directories inner.memory two inner.frames roles'
       before.spaces.sound filled.after.sound filled.stay
 
   -- and it is found there
-  pub filled_found : (e' : PageEntry) (two : List ℕ) (roles' : List Role) → FrameGiven paged.memory paged.frames f e' two roles'
-      → found_in (directory_of paged.directories) (frame_bytes two) p page ≡ Some (record { page = page; table = f.table; entry = e' })
+  pub filled_found : (e' : PageEntry) (two : List ℕ) (roles' : List Role) → FrameGiven inner.memory inner.frames f e' two roles'
+      → found_in (directory_of inner.directories) (frame_bytes two) p page ≡ Some (record { page = page; table = f.table; entry = e' })
   filled_found e' two roles' g =
       let free = g.taken.was_free in
-      let at = inside paged.directories paged.memory paged.frames g.frame Free before.spaces.sound free in
-      let is = zeroed paged.memory g.between g.frame at g.zeros in
-      let loose = free_loose (slice_get paged.frames) g.frame free in
+      let at = inside inner.directories inner.memory inner.frames g.frame Free before.spaces.sound free in
+      let is = zeroed inner.memory g.between g.frame at g.zeros in
+      let loose = free_loose (slice_get inner.frames) g.frame free in
       let long = length-replicate {A = ℕ} 4096 0 in
-      let kept = map_kept paged.directories paged.memory g.between paged.frames p there.directory g.frame (replicate 4096 0) before.spaces.sound there.live loose long is g.between_long in
-      let w = frame_written paged.directories paged.memory g.between paged.frames g.frame (replicate 4096 0) before.spaces.sound loose long is g.between_long in
-      found_written paged.directories g.between two paged.frames p there.directory page f.table e' w.sound there.live (kept.tables (slot_number page) ∙ there.table)
+      let kept = map_kept inner.directories inner.memory g.between inner.frames p there.directory g.frame (replicate 4096 0) before.spaces.sound there.live loose long is g.between_long in
+      let w = frame_written inner.directories inner.memory g.between inner.frames g.frame (replicate 4096 0) before.spaces.sound loose long is g.between_long in
+      found_written inner.directories g.between two inner.frames p there.directory page f.table e' w.sound there.live (kept.tables (slot_number page) ∙ there.table)
       (subst (λ (e : PageEntry). e.frame < 2 ^ 20) (sym g.same) at.small)
       (g.entry ∙ (λ i. with_entry (frame_bytes g.between) f.table (there.same_page i) (sym g.same i)))
 
-  pub room_found : f.entry.lazy ≡ true → 0 < free_frames paged.frames
-  room_found lazy = room_to_fill paged.directories paged.memory paged.frames p there.directory page f.entry before.spaces there.live user.0 user.1 there.here lazy
+  pub room_found : f.entry.lazy ≡ true → 0 < free_frames inner.frames
+  room_found lazy = room_to_fill inner.directories inner.memory inner.frames p there.directory page f.entry before.spaces there.live user.0 user.1 there.here lazy
+
+-- whether what was found is lazy
+pub found_lazy : (inner : Inner) (p page : ℕ) → IsKeptInside inner → IsUserPage page → (x : Option Found) → x ≡ found_at inner p page → lazy_found x ≡ is_lazy_at (image_at inner) (at_page p page)
+found_lazy inner p page before user None is = sym (absent_lazy inner p page before (sym is))
+found_lazy inner p page before user (Some f) is = sym (found_real inner p page f before user (sym is))
 
 -- a page that was filled isn't lazy
 pub filled_real : (directories : List (Option ℕ)) (bytes bytes' : List ℕ) (roles roles' : List Role) (p page : ℕ) → PageFilled directories p page bytes roles bytes' roles' → is_lazy_at (record { directories = directories; bytes = bytes'; roles = roles' }) (at_page p page) ≡ false

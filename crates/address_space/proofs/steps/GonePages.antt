@@ -10,11 +10,11 @@ use Rattle.alloc_table.proofs.RoleLemmas.{get-set_same}
 use Rattle.page_map.specs.Entries.{table_of, entry_at, IsCleared}
 use Rattle.page_map.specs.Pages.{count_range}
 use Rattle.address_space.specs.declared.lookup.Found.{Found}
-use Rattle.address_space.specs.declared.paged.Paged.{Paged}
+use Rattle.address_space.specs.declared.Spaces.TheInside.{Inside as Inner}
 use Rattle.address_space.specs.View.{directory_of, spaces_in}
 use Rattle.address_space.specs.Counts.{IsCounted, IsKept}
 use Rattle.address_space.specs.Changes.{EntryLeft, TableFreed, SlotRemoved}
-use Rattle.address_space.specs.Finds.{IsKeptPaged, found_at}
+use Rattle.address_space.proofs.Insides.{IsKeptInside, found_at}
 use Rattle.address_space.proofs.steps.CountSteps.{one_less, counted_roles, alike_left, counted_freed, table_freed, count_there, count_positive, count_by_entries, page_uncounted}
 use Rattle.address_space.proofs.steps.FoundPages.{found_known, found_there, found_below}
 use Rattle.address_space.proofs.steps.Leaves.{slot_removed, freed_table}
@@ -24,57 +24,57 @@ record AtHome (bytes : List ℕ) (d page : ℕ) (f : Found) : Type 0 where
   table : table_of (frame_bytes bytes) d (slot_number page) ≡ Some f.table
   here : entry_at (frame_bytes bytes) d page ≡ Some f.entry
 
-module _ (paged : Paged) (p d page : ℕ) (f : Found) (before : IsKeptPaged paged) (user : IsUserPage page) (is : found_at paged p page ≡ Some f) (live : directory_of paged.directories p ≡ Some d) where
-  at_home : AtHome paged.memory d page f
+module _ (inner : Inner) (p d page : ℕ) (f : Found) (before : IsKeptInside inner) (user : IsUserPage page) (is : found_at inner p page ≡ Some f) (live : directory_of inner.directories p ≡ Some d) where
+  at_home : AtHome inner.memory d page f
   at_home =
-      let known = found_known paged p page f before user is in
+      let known = found_known inner p page f before user is in
       let e : Some known.directory ≡ Some d = sym known.live ∙ live in
       let same : known.directory ≡ d = cc in
-      subst (λ x. AtHome paged.memory x page f) same (record { table = known.table; here = known.here })
+      subst (λ x. AtHome inner.memory x page f) same (record { table = known.table; here = known.here })
 
-  pub home_table : table_of (frame_bytes paged.memory) d (slot_number page) ≡ Some f.table
+  pub home_table : table_of (frame_bytes inner.memory) d (slot_number page) ≡ Some f.table
   home_table = at_home.table
 
-  pub home_entry : entry_at (frame_bytes paged.memory) d page ≡ Some f.entry
+  pub home_entry : entry_at (frame_bytes inner.memory) d page ≡ Some f.entry
   home_entry = at_home.here
 
   -- the count of its table
-  pub home_count : f.table < length paged.counts.items
-  home_count = count_there paged.directories paged.memory paged.frames paged.counts.items p d page f.table 0 before.spaces.sound live user home_table before.counted
+  pub home_count : f.table < length inner.counts.items
+  home_count = count_there inner.directories inner.memory inner.frames inner.counts.items p d page f.table 0 before.spaces.sound live user home_table before.counted
 
-  pub home_positive : (n : ℕ) → slice_get paged.counts.items f.table ≡ Some n → 1 ≤ n
-  home_positive n counts = count_positive paged.directories paged.memory paged.frames paged.counts.items p d page f.table n before.spaces.sound live user home_table before.counted counts (ap is_some home_entry)
+  pub home_positive : (n : ℕ) → slice_get inner.counts.items f.table ≡ Some n → 1 ≤ n
+  home_positive n counts = count_positive inner.directories inner.memory inner.frames inner.counts.items p d page f.table n before.spaces.sound live user home_table before.counted counts (ap is_some home_entry)
 
-  pub home_counts : (n : ℕ) → slice_get paged.counts.items f.table ≡ Some n → n ≡ count_range (λ other. is_some (entry_at (frame_bytes paged.memory) d other)) (1024 * slot_number page) 1024
-  home_counts n counts = count_by_entries paged.directories paged.memory paged.frames paged.counts.items p d page f.table n before.spaces.sound live user home_table before.counted counts
+  pub home_counts : (n : ℕ) → slice_get inner.counts.items f.table ≡ Some n → n ≡ count_range (λ other. is_some (entry_at (frame_bytes inner.memory) d other)) (1024 * slot_number page) 1024
+  home_counts n counts = count_by_entries inner.directories inner.memory inner.frames inner.counts.items p d page f.table n before.spaces.sound live user home_table before.counted counts
 
   -- its frame, where it has one of its own
-  pub home_in_use : f.entry.lazy ≡ false → IsInUse paged.frames f.entry.frame
-  home_in_use real = let r = found_below paged p page f before user is real in record { role = Page r.count; is = r.page; in_use = refl }
+  pub home_in_use : f.entry.lazy ≡ false → IsInUse inner.frames f.entry.frame
+  home_in_use real = let r = found_below inner p page f before user is real in record { role = Page r.count; is = r.page; in_use = refl }
 
-  module _ (two : List ℕ) (one : List Role) (freed : Option ℕ) (cleared : IsCleared (frame_bytes paged.memory) d page freed (frame_bytes two)) (left : EntryLeft paged.frames f.entry one) where
+  module _ (two : List ℕ) (one : List Role) (freed : Option ℕ) (cleared : IsCleared (frame_bytes inner.memory) d page freed (frame_bytes two)) (left : EntryLeft inner.frames f.entry one) where
     pub gone_table : (t : ℕ) → freed ≡ Some t → IsInUse one t
-    gone_table = freed_table paged.directories paged.memory two paged.frames one p d page f.entry freed before.spaces.sound live user.0 user.1 home_entry cleared left
+    gone_table = freed_table inner.directories inner.memory two inner.frames one p d page f.entry freed before.spaces.sound live user.0 user.1 home_entry cleared left
 
-    module _ (last : List Role) (long : length two ≡ length paged.memory) (table : TableFreed one freed last) where
-      pub gone_page : SlotRemoved paged.directories p page paged.memory paged.frames two last
-      gone_page = slot_removed paged.directories paged.memory two paged.frames one last p d page f.entry freed before.spaces live user.0 user.1 home_entry cleared long left table
+    module _ (last : List Role) (long : length two ≡ length inner.memory) (table : TableFreed one freed last) where
+      pub gone_page : SlotRemoved inner.directories p page inner.memory inner.frames two last
+      gone_page = slot_removed inner.directories inner.memory two inner.frames one last p d page f.entry freed before.spaces live user.0 user.1 home_entry cleared long left table
 
-      pub gone_kept : (n : ℕ) (counts' : List ℕ) → slice_get paged.counts.items f.table ≡ Some n → counts' ≡ slice_set paged.counts.items f.table (n - 1) → (is_some freed ≡ true → n ≡ 1) → IsKept paged.directories two last counts'
+      pub gone_kept : (n : ℕ) (counts' : List ℕ) → slice_get inner.counts.items f.table ≡ Some n → counts' ≡ slice_set inner.counts.items f.table (n - 1) → (is_some freed ≡ true → n ≡ 1) → IsKept inner.directories two last counts'
       gone_kept n counts' counts now end =
-          let S = spaces_in paged.directories paged.memory in
-          let after = spaces_in paged.directories two in
-          let less = one_less S after p page (found_there paged p page f before user is) gone_page.spaces in
-          let uncounted = subst (IsCounted after paged.frames) (sym now)
-          (page_uncounted paged.directories paged.memory paged.frames paged.counts.items p d page f.table n before.spaces.sound live user home_table before.counted counts after less) in
-          let rest = counted_roles after paged.frames one counts' (alike_left after paged.directories paged.memory paged.frames one p d page f.entry before.spaces.sound live user home_entry left) uncounted in
+          let S = spaces_in inner.directories inner.memory in
+          let after = spaces_in inner.directories two in
+          let less = one_less S after p page (found_there inner p page f before user is) gone_page.spaces in
+          let uncounted = subst (IsCounted after inner.frames) (sym now)
+          (page_uncounted inner.directories inner.memory inner.frames inner.counts.items p d page f.table n before.spaces.sound live user home_table before.counted counts after less) in
+          let rest = counted_roles after inner.frames one counts' (alike_left after inner.directories inner.memory inner.frames one p d page f.entry before.spaces.sound live user home_entry left) uncounted in
           record {
             spaces = gone_page.after;
             counted = counted_freed after one last counts' freed rest
                 (λ t came.
-                let e : Some t ≡ Some f.table = sym (table_freed (frame_bytes paged.memory) (frame_bytes two) d page t f.entry freed home_entry cleared came) ∙ home_table in
+                let e : Some t ≡ Some f.table = sym (table_freed (frame_bytes inner.memory) (frame_bytes two) d page t f.entry freed home_entry cleared came) ∙ home_table in
                 let same : t ≡ f.table = cc in
-                ap (λ l. slice_get l t) now ∙ ap (slice_get (slice_set paged.counts.items f.table (n - 1))) same
-                ∙ get-set_same paged.counts.items f.table (n - 1) home_count ∙ ap (λ k. Some (k - 1)) (end (ap is_some came)))
+                ap (λ l. slice_get l t) now ∙ ap (slice_get (slice_set inner.counts.items f.table (n - 1))) same
+                ∙ get-set_same inner.counts.items f.table (n - 1) home_count ∙ ap (λ k. Some (k - 1)) (end (ap is_some came)))
                 table;
           }

@@ -1,6 +1,7 @@
 -- What goes through a mapped slot leaves: a store, a load and a change of the right.
 use Rattle.std.proofs.Common.{◌≡◌, ℕ, suc, ◌+◌, ◌*◌, ◌/◌, ◌%◌, ◌^◌, ◌<◌, ◌≤◌, Bool, true, false, cond, List, [], ◌∷◌, ◌++◌, length, take, drop, refl, ap, sym, ◌∙◌, subst, arith, inl, inr, Option, Some, None, append_assoc, length-append, length-drop, zero}
 use Rattle.std.specs.Prelude.{is_some, slice_get, slice_set, if◌then◌else◌}
+use Rattle.std.specs.List.{splice}
 use Rattle.std.specs.Option.{option_and_then}
 use Rattle.byteorder.specs.Endian.{little_bytes}
 use Rattle.page_words.specs.Addresses.{slot_number, index_number, byte_count}
@@ -46,6 +47,10 @@ four_bytes w =
 pub word_is_write : (frame : List ℕ) (at w : ℕ) → with_word frame at w ≡ write_at frame at (bytes_of 4 w)
 unfolding with_word
 word_is_write frame at w = ap (λ (b : List ℕ). take at frame ++ (b ++ drop (at + 4) frame)) (four_bytes w) ∙ sym (append_assoc (take at frame) (bytes_of 4 w) (drop (at + 4) frame))
+
+-- bytes spliced in are written there
+pub part_is_write : (frame : List ℕ) (at : ℕ) (new : List ℕ) → splice frame at (at + length new) new ≡ write_at frame at new
+part_is_write frame at new = sym (append_assoc (take at frame) new (drop (at + length new) frame))
 
 -- ---- Entries
 

@@ -30,7 +30,7 @@ use Rattle.address_space.specs.ByWalk.{byte_place}
 use Rattle.address_space.specs.Kept.{is_marked}
 use Rattle.std.proofs.lemmas.Bool.{and_parts}
 use Rattle.address_space.specs.Spaces.{Slot, Spaces, Cell, cell_or_fresh, accessed as accessed_in, stored, write_at, byte_at, at_page, slot_at}
-use Rattle.address_space.specs.View.{Directories, Roles, directory_of, table_in, entries_in, spaces_in}
+use Rattle.address_space.specs.View.{Directories, Roles, directory_of, table_in, spaces_in}
 use Rattle.address_space.specs.Sound.{Tables, IsSound, Inside}
 use Rattle.address_space.specs.Changes.{Touched}
 use Rattle.address_space.proofs.entries.EntrySteps.{entry_by_table}

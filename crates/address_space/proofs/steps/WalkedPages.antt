@@ -11,7 +11,7 @@ use Rattle.table_walk.specs.declared.Access.{Access}
 use Rattle.table_walk.specs.declared.Access.TheVariants.{Read, Write}
 use Rattle.table_walk.specs.Walk.{walk_of}
 use Rattle.table_walk.specs.Marks.{marked}
-use Rattle.address_space.specs.declared.paged.Paged.{Paged}
+use Rattle.address_space.specs.declared.Spaces.TheInside.{Inside as Inner}
 use Rattle.address_space.specs.ByWalk.{finds_at, finds, byte_place}
 use Rattle.address_space.specs.Image.{Image}
 use Rattle.address_space.specs.Spaces.{Slot, slot_order, Cell, Spaces, fresh, with_bytes, set_bytes, write_at, bytes_of, accessed, stored, cell_or_fresh, slot_at}
@@ -21,7 +21,7 @@ use Rattle.page_words.specs.FiniteSet as set
 use Rattle.page_words.proofs.MapLemmas.{get-insert, get-map_values, same_or_not}
 use Rattle.address_space.specs.View.{directory_of}
 use Rattle.address_space.specs.Changes.{Touched}
-use Rattle.address_space.specs.Finds.{IsKeptPaged, spaces_at, image_at}
+use Rattle.address_space.proofs.Insides.{IsKeptInside, spaces_at, image_at}
 use Rattle.address_space.specs.Counts.{IsKept}
 use Rattle.address_space.proofs.costs.AccessCosts.{kept, key-stored}
 use Rattle.address_space.proofs.standing.Standing.{lazy_kept}
@@ -41,31 +41,31 @@ finds_second image p address size access page is h =
     sym (ap (λ (x : Option ℕ). unwrap_or (option_map (λ page. finds_at image p access (start_number page)) x) true) is) ∙ (and_parts (finds_at image p access address) _ h).1
 
 -- the words that lead to a page were marked
-pub marked_left : (paged : Paged) (p d address : ℕ) (two : List ℕ) → IsKeptPaged paged → directory_of paged.directories p ≡ Some d → address < 2 ^ 32 → IsOk (walk_of paged.memory d address Read)
-    → two ≡ marked paged.memory d address Read → Left paged (accessed (spaces_at paged) (slot_at p address)) two
-marked_left paged p d address two before live small ok is =
+pub marked_left : (inner : Inner) (p d address : ℕ) (two : List ℕ) → IsKeptInside inner → directory_of inner.directories p ≡ Some d → address < 2 ^ 32 → IsOk (walk_of inner.memory d address Read)
+    → two ≡ marked inner.memory d address Read → Left inner (accessed (spaces_at inner) (slot_at p address)) two
+marked_left inner p d address two before live small ok is =
     let sound = before.spaces.sound in
-    let touched = subst (λ (bytes : List ℕ). Touched paged.directories (accessed (spaces_at paged) (slot_at p address)) paged.memory paged.frames bytes) (sym is)
-    (load_marked paged.directories paged.memory paged.frames p d address sound live (found_entry paged.directories paged.memory paged.frames p d sound live address Read small ok)) in
+    let touched = subst (λ (bytes : List ℕ). Touched inner.directories (accessed (spaces_at inner) (slot_at p address)) inner.memory inner.frames bytes) (sym is)
+    (load_marked inner.directories inner.memory inner.frames p d address sound live (found_entry inner.directories inner.memory inner.frames p d sound live address Read small ok)) in
     record {
       spaces = touched.spaces;
-      kept = kept_touched paged.directories paged.memory two paged.frames paged.counts.items (accessed (spaces_at paged) (slot_at p address)) before touched
-          (kept (spaces_at paged) (slot_at p address) _ (found_mapped paged.directories paged.memory paged.frames p d address Read sound live small ok));
-      lazy = lazy_kept paged.directories paged.memory two paged.frames sound touched.sound touched.lazy;
-      stay = frames_stay none_goes paged.directories paged.memory two paged.frames paged.frames sound touched.sound
+      kept = kept_touched inner.directories inner.memory two inner.frames inner.counts.items (accessed (spaces_at inner) (slot_at p address)) before touched
+          (kept (spaces_at inner) (slot_at p address) _ (found_mapped inner.directories inner.memory inner.frames p d address Read sound live small ok));
+      lazy = lazy_kept inner.directories inner.memory two inner.frames sound touched.sound touched.lazy;
+      stay = frames_stay none_goes inner.directories inner.memory two inner.frames inner.frames sound touched.sound
           touched.stay;
     }
 
 -- ---- A byte stored
 
 -- what is kept after a byte was stored where the walk leads
-pub record ByteLeft (paged : Paged) (p address v : ℕ) (two : List ℕ) : Type 0 where
-  pub spaces : spaces_at (record paged { memory = two }) ≡ stored (spaces_at paged) (slot_at p address) (offset_number address) (v % 256 ∷ [])
-  pub kept : IsKept paged.directories two paged.frames paged.counts.items
-  pub stay : FramesStay none_goes (image_at paged)
-      (record { directories = paged.directories; bytes = two; roles = paged.frames })
+pub record ByteLeft (inner : Inner) (p address v : ℕ) (two : List ℕ) : Type 0 where
+  pub spaces : spaces_at (record inner { memory = two }) ≡ stored (spaces_at inner) (slot_at p address) (offset_number address) (v % 256 ∷ [])
+  pub kept : IsKept inner.directories two inner.frames inner.counts.items
+  pub stay : FramesStay none_goes (image_at inner)
+      (record { directories = inner.directories; bytes = two; roles = inner.frames })
   -- each walk finds a frame as before
-  pub finds : (kind : Access) (at : ℕ) → finds_at (record { directories = paged.directories; bytes = two; roles = paged.frames }) p kind at ≡ finds_at (image_at paged) p kind at
+  pub finds : (kind : Access) (at : ℕ) → finds_at (record { directories = inner.directories; bytes = two; roles = inner.frames }) p kind at ≡ finds_at (image_at inner) p kind at
 
 both_alike : (a b c : Bool) → (a ≡ true → b ≡ c) → (a && b) ≡ (a && c)
 both_alike true b c h = h refl
@@ -83,31 +83,31 @@ finds_alike image image' p d kind at live same walks =
     ∙ ap is_ok (walks (omega (arith, small)))
     ∙ sym (ap (λ x. unwrap_or (option_map (λ directory. is_ok (walk_of image.bytes directory at kind)) x) false) live))
 
-left_by : (paged : Paged) (p d address v : ℕ) (two : List ℕ) → IsKeptPaged paged → directory_of paged.directories p ≡ Some d
-    → finds_at (image_at paged) p Write address ≡ true
-    → ByteParts paged.directories paged.memory paged.frames p d address v two → ByteLeft paged p address v two
-left_by paged p d address v two before live test parts =
+left_by : (inner : Inner) (p d address v : ℕ) (two : List ℕ) → IsKeptInside inner → directory_of inner.directories p ≡ Some d
+    → finds_at (image_at inner) p Write address ≡ true
+    → ByteParts inner.directories inner.memory inner.frames p d address v two → ByteLeft inner p address v two
+left_by inner p d address v two before live test parts =
     let sound = before.spaces.sound in
-    let found = found_at (image_at paged) p d address Write live test in
+    let found = found_at (image_at inner) p d address Write live test in
     let slot : Slot = slot_at p address in
-    let S = spaces_at paged in
+    let S = spaces_at inner in
     record {
       spaces = parts.touched.spaces;
-      stay = frames_stay none_goes paged.directories paged.memory two paged.frames paged.frames sound
+      stay = frames_stay none_goes inner.directories inner.memory two inner.frames inner.frames sound
           parts.touched.sound parts.touched.stay;
-      kept = kept_touched paged.directories paged.memory two paged.frames paged.counts.items (stored S slot (offset_number address) (v % 256 ∷ [])) before parts.touched
+      kept = kept_touched inner.directories inner.memory two inner.frames inner.counts.items (stored S slot (offset_number address) (v % 256 ∷ [])) before parts.touched
           (λ q. key-stored S slot (offset_number address) (v % 256 ∷ []) (cell_or_fresh S slot) q
-          ∙ kept S slot (cell_or_fresh S slot) (found_mapped paged.directories paged.memory paged.frames p d address Write sound live found.0 found.1) q);
-      finds = λ kind at. finds_alike (image_at paged) (record { directories = paged.directories; bytes = two; roles = paged.frames }) p d kind at live refl (parts.walks at kind);
+          ∙ kept S slot (cell_or_fresh S slot) (found_mapped inner.directories inner.memory inner.frames p d address Write sound live found.0 found.1) q);
+      finds = λ kind at. finds_alike (image_at inner) (record { directories = inner.directories; bytes = two; roles = inner.frames }) p d kind at live refl (parts.walks at kind);
     }
 
-pub byte_left : (paged : Paged) (p d address v : ℕ) (two : List ℕ) → IsKeptPaged paged → directory_of paged.directories p ≡ Some d → finds_at (image_at paged) p Write address ≡ true
-    → ((other at : ℕ) (kind : Access) → walk_of (marked paged.memory d address Write) other at kind ≡ walk_of paged.memory other at kind)
-    → two ≡ slice_set (marked paged.memory d address Write) (byte_place paged.memory d address) (v % 256) → length two ≡ length (marked paged.memory d address Write) → ByteLeft paged p address v two
-byte_left paged p d address v two before live test walks is long =
-    let found = found_at (image_at paged) p d address Write live test in
-    left_by paged p d address v two before live test
-    (byte_written paged.directories paged.memory two paged.frames p d address v before.spaces.sound live found.0 found.1 walks is long)
+pub byte_left : (inner : Inner) (p d address v : ℕ) (two : List ℕ) → IsKeptInside inner → directory_of inner.directories p ≡ Some d → finds_at (image_at inner) p Write address ≡ true
+    → ((other at : ℕ) (kind : Access) → walk_of (marked inner.memory d address Write) other at kind ≡ walk_of inner.memory other at kind)
+    → two ≡ slice_set (marked inner.memory d address Write) (byte_place inner.memory d address) (v % 256) → length two ≡ length (marked inner.memory d address Write) → ByteLeft inner p address v two
+byte_left inner p d address v two before live test walks is long =
+    let found = found_at (image_at inner) p d address Write live test in
+    left_by inner p d address v two before live test
+    (byte_written inner.directories inner.memory two inner.frames p d address v before.spaces.sound live found.0 found.1 walks is long)
 
 -- ---- A byte stored by a translation that was kept
 
@@ -143,18 +143,18 @@ marked_stored S slot at ys q h =
     by (Some c) false h = h
 
 -- and the walks of the process go as before
-pub record BytePut (paged : Paged) (p d address v : ℕ) (two : List ℕ) : Type 0 where
-  pub left : ByteLeft paged p address v two
-  pub walks : (at : ℕ) (kind : Access) → at < 2 ^ 32 → walk_of two d at kind ≡ walk_of paged.memory d at kind
+pub record BytePut (inner : Inner) (p d address v : ℕ) (two : List ℕ) : Type 0 where
+  pub left : ByteLeft inner p address v two
+  pub walks : (at : ℕ) (kind : Access) → at < 2 ^ 32 → walk_of two d at kind ≡ walk_of inner.memory d at kind
 
-pub byte_kept : (paged : Paged) (p d address v : ℕ) (two : List ℕ) → IsKeptPaged paged → directory_of paged.directories p ≡ Some d
-    → finds_at (image_at paged) p Write address ≡ true → is_marked (spaces_at paged) (slot_at p address) ≡ true
-    → two ≡ slice_set paged.memory (byte_place paged.memory d address) (v % 256) → length two ≡ length paged.memory → BytePut paged p d address v two
-byte_kept paged p d address v two before live test flags is long =
-    let found = found_at (image_at paged) p d address Write live test in
-    let parts = byte_put paged.directories paged.memory two paged.frames p d address v before.spaces.sound live found.0 found.1 flags is long in
+pub byte_kept : (inner : Inner) (p d address v : ℕ) (two : List ℕ) → IsKeptInside inner → directory_of inner.directories p ≡ Some d
+    → finds_at (image_at inner) p Write address ≡ true → is_marked (spaces_at inner) (slot_at p address) ≡ true
+    → two ≡ slice_set inner.memory (byte_place inner.memory d address) (v % 256) → length two ≡ length inner.memory → BytePut inner p d address v two
+byte_kept inner p d address v two before live test flags is long =
+    let found = found_at (image_at inner) p d address Write live test in
+    let parts = byte_put inner.directories inner.memory two inner.frames p d address v before.spaces.sound live found.0 found.1 flags is long in
     record {
-      left = left_by paged p d address v two before live test parts;
+      left = left_by inner p d address v two before live test parts;
       walks = parts.walks;
     }
 

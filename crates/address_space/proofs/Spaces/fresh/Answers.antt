@@ -1,23 +1,103 @@
-use Rattle.std.proofs.Common.{subst, ◌+◌, ap, ◌∙◌}
-use Rattle.std.specs.Prelude.{length}
-use Rattle.address_space.specs.View.{View, directory_of, total_cost}
+use Rattle.std.proofs.Common.{◌≡◌, ◌<◌, ◌∙◌, ap, refl, sym, subst, None, Some, arith}
+use Rattle.std.specs.Prelude.{slice_set}
+use Rattle.alloc_table.specs.declared.Role.TheVariants.{Free, Directory}
+use Rattle.address_space.specs.Changes.{SpaceAdded}
+use Rattle.address_space.specs.Stays.{none_goes}
+use Rattle.address_space.specs.View.{directory_of, spaces_in}
+use Rattle.address_space.proofs.standing.FramesStand.{frames_stay_by}
+use Rattle.address_space.proofs.steps.CountSteps.{counts_kept, alike_taken}
+use Rattle.address_space.proofs.steps.Openings.{space_added, room_for_directory}
+use Rattle.address_space.proofs.steps.Steps.{inside, zeroed}
 use Rattle.address_space.proofs.Spaces.fresh.Goals as goal
-use Rattle.address_space.specs.Stays.{FramesStay, none_goes}
-use Rattle.address_space.specs.Finds.{image_at}
 
-pub returns-clause-live : goal.returns-clause-live
-returns-clause-live c = c.add_directory.ensures.added.live
+pub take-directory-requires-clause-free : goal.take-directory-requires-clause-free
+take-directory-requires-clause-free c =
+    room_for_directory c.self.inside.directories c.self.inside.memory c.self.inside.frames c.self.invariant.spaces (rw (← c.self.view_is) at c.requires.room)
 
-pub returns-clause-others : goal.returns-clause-others
-returns-clause-others c = λ other n. c.add_directory.ensures.added.others other n ∙ ap (λ (v : View). directory_of v.directories other) c.self.view_is
+pub zero_frame-requires : goal.zero_frame-requires
+zero_frame-requires c =
+    let f = (inside c.self.inside.directories c.self.inside.memory c.self.inside.frames c.take-directory.result Free c.self.invariant.spaces.sound c.take-directory.ensures.was_free).fits in
+    omega (arith, f)
 
-pub returns-clause-frames : goal.returns-clause-frames
-returns-clause-frames c = c.add_directory.ensures.added.length ∙ ap (λ (v : View). length v.roles) c.self.view_is
+pub returns-clause-spaces : goal.returns-clause-spaces
+returns-clause-spaces c =
+    rw (← c.self.view_is)
+    (let at = inside c.self.inside.directories c.self.inside.memory c.self.inside.frames c.take-directory.result Free c.self.invariant.spaces.sound c.take-directory.ensures.was_free in
+    let added =
+    subst (λ k. SpaceAdded c.self.inside.directories c.args.pid c.self.inside.memory c.self.inside.frames (slice_set c.self.inside.directories k (Some c.take-directory.result)) c.zero_frame.new.self c.take-directory.new.frames) (sym c.number.ensures.value)
+    (space_added c.self.inside.directories c.self.inside.memory c.zero_frame.new.self c.self.inside.frames c.take-directory.new.frames c.args.pid c.take-directory.result
+    c.self.invariant.spaces (subst (λ k. k < 64) c.number.ensures.value c.number.ensures.bound) (rw (← c.self.view_is) at c.requires.none) (rw (← c.self.view_is) at c.requires.room) c.take-directory.ensures
+    (zeroed c.self.inside.memory c.zero_frame.new.self c.take-directory.result at c.zero_frame.ensures.bytes) c.zero_frame.ensures.length) in
+    added.spaces)
 
 pub returns-clause-costs : goal.returns-clause-costs
-returns-clause-costs c = c.add_directory.ensures.added.cost ∙ ap (λ (v : View). total_cost v.directories v.spaces + 1) c.self.view_is
+returns-clause-costs c =
+    rw (← c.self.view_is)
+    (let at = inside c.self.inside.directories c.self.inside.memory c.self.inside.frames c.take-directory.result Free c.self.invariant.spaces.sound c.take-directory.ensures.was_free in
+    let added =
+    subst (λ k. SpaceAdded c.self.inside.directories c.args.pid c.self.inside.memory c.self.inside.frames (slice_set c.self.inside.directories k (Some c.take-directory.result)) c.zero_frame.new.self c.take-directory.new.frames) (sym c.number.ensures.value)
+    (space_added c.self.inside.directories c.self.inside.memory c.zero_frame.new.self c.self.inside.frames c.take-directory.new.frames c.args.pid c.take-directory.result
+    c.self.invariant.spaces (subst (λ k. k < 64) c.number.ensures.value c.number.ensures.bound) (rw (← c.self.view_is) at c.requires.none) (rw (← c.self.view_is) at c.requires.room) c.take-directory.ensures
+    (zeroed c.self.inside.memory c.zero_frame.new.self c.take-directory.result at c.zero_frame.ensures.bytes) c.zero_frame.ensures.length) in
+    added.cost)
+
+pub returns-clause-live : goal.returns-clause-live
+returns-clause-live c =
+    (let at = inside c.self.inside.directories c.self.inside.memory c.self.inside.frames c.take-directory.result Free c.self.invariant.spaces.sound c.take-directory.ensures.was_free in
+    let added =
+    subst (λ k. SpaceAdded c.self.inside.directories c.args.pid c.self.inside.memory c.self.inside.frames (slice_set c.self.inside.directories k (Some c.take-directory.result)) c.zero_frame.new.self c.take-directory.new.frames) (sym c.number.ensures.value)
+    (space_added c.self.inside.directories c.self.inside.memory c.zero_frame.new.self c.self.inside.frames c.take-directory.new.frames c.args.pid c.take-directory.result
+    c.self.invariant.spaces (subst (λ k. k < 64) c.number.ensures.value c.number.ensures.bound) (rw (← c.self.view_is) at c.requires.none) (rw (← c.self.view_is) at c.requires.room) c.take-directory.ensures
+    (zeroed c.self.inside.memory c.zero_frame.new.self c.take-directory.result at c.zero_frame.ensures.bytes) c.zero_frame.ensures.length) in
+    added.live)
+
+pub returns-clause-others : goal.returns-clause-others
+returns-clause-others c =
+    rw (← c.self.view_is)
+    (let at = inside c.self.inside.directories c.self.inside.memory c.self.inside.frames c.take-directory.result Free c.self.invariant.spaces.sound c.take-directory.ensures.was_free in
+    let added =
+    subst (λ k. SpaceAdded c.self.inside.directories c.args.pid c.self.inside.memory c.self.inside.frames (slice_set c.self.inside.directories k (Some c.take-directory.result)) c.zero_frame.new.self c.take-directory.new.frames) (sym c.number.ensures.value)
+    (space_added c.self.inside.directories c.self.inside.memory c.zero_frame.new.self c.self.inside.frames c.take-directory.new.frames c.args.pid c.take-directory.result
+    c.self.invariant.spaces (subst (λ k. k < 64) c.number.ensures.value c.number.ensures.bound) (rw (← c.self.view_is) at c.requires.none) (rw (← c.self.view_is) at c.requires.room) c.take-directory.ensures
+    (zeroed c.self.inside.memory c.zero_frame.new.self c.take-directory.result at c.zero_frame.ensures.bytes) c.zero_frame.ensures.length) in
+    added.others)
+
+pub returns-clause-frames : goal.returns-clause-frames
+returns-clause-frames c =
+    rw (← c.self.view_is)
+    (let at = inside c.self.inside.directories c.self.inside.memory c.self.inside.frames c.take-directory.result Free c.self.invariant.spaces.sound c.take-directory.ensures.was_free in
+    let added =
+    subst (λ k. SpaceAdded c.self.inside.directories c.args.pid c.self.inside.memory c.self.inside.frames (slice_set c.self.inside.directories k (Some c.take-directory.result)) c.zero_frame.new.self c.take-directory.new.frames) (sym c.number.ensures.value)
+    (space_added c.self.inside.directories c.self.inside.memory c.zero_frame.new.self c.self.inside.frames c.take-directory.new.frames c.args.pid c.take-directory.result
+    c.self.invariant.spaces (subst (λ k. k < 64) c.number.ensures.value c.number.ensures.bound) (rw (← c.self.view_is) at c.requires.none) (rw (← c.self.view_is) at c.requires.room) c.take-directory.ensures
+    (zeroed c.self.inside.memory c.zero_frame.new.self c.take-directory.result at c.zero_frame.ensures.bytes) c.zero_frame.ensures.length) in
+    added.length)
+
+pub invariant_of-self : goal.invariant_of-self
+invariant_of-self c =
+    let at = inside c.self.inside.directories c.self.inside.memory c.self.inside.frames c.take-directory.result Free c.self.invariant.spaces.sound c.take-directory.ensures.was_free in
+    let added =
+    subst (λ k. SpaceAdded c.self.inside.directories c.args.pid c.self.inside.memory c.self.inside.frames (slice_set c.self.inside.directories k (Some c.take-directory.result)) c.zero_frame.new.self c.take-directory.new.frames) (sym c.number.ensures.value)
+    (space_added c.self.inside.directories c.self.inside.memory c.zero_frame.new.self c.self.inside.frames c.take-directory.new.frames c.args.pid c.take-directory.result
+    c.self.invariant.spaces (subst (λ k. k < 64) c.number.ensures.value c.number.ensures.bound) (rw (← c.self.view_is) at c.requires.none) (rw (← c.self.view_is) at c.requires.room) c.take-directory.ensures
+    (zeroed c.self.inside.memory c.zero_frame.new.self c.take-directory.result at c.zero_frame.ensures.bytes) c.zero_frame.ensures.length) in
+    let after = slice_set c.self.inside.directories c.number.result (Some c.take-directory.result) in
+    let S = spaces_in c.self.inside.directories c.self.inside.memory in
+    record {
+      spaces = added.after;
+      counted = counts_kept S (spaces_in after c.zero_frame.new.self) c.self.inside.frames c.take-directory.new.frames
+          added.spaces (alike_taken S c.self.inside.frames c.take-directory.new.frames c.take-directory.result (Directory c.args.pid) c.take-directory.ensures refl)
+          c.self.inside.counts.items c.self.invariant.counted;
+    }
 
 pub returns-clause-stay : goal.returns-clause-stay
 returns-clause-stay c =
-    subst (λ (v : View). FramesStay none_goes (record { directories = v.directories; bytes = v.bytes; roles = v.roles })
-    (image_at c.add_directory.new.self)) c.self.view_is c.add_directory.ensures.stay
+    rw (← c.self.view_is)
+    (let at = inside c.self.inside.directories c.self.inside.memory c.self.inside.frames c.take-directory.result Free c.self.invariant.spaces.sound c.take-directory.ensures.was_free in
+    let added =
+    subst (λ k. SpaceAdded c.self.inside.directories c.args.pid c.self.inside.memory c.self.inside.frames (slice_set c.self.inside.directories k (Some c.take-directory.result)) c.zero_frame.new.self c.take-directory.new.frames) (sym c.number.ensures.value)
+    (space_added c.self.inside.directories c.self.inside.memory c.zero_frame.new.self c.self.inside.frames c.take-directory.new.frames c.args.pid c.take-directory.result
+    c.self.invariant.spaces (subst (λ k. k < 64) c.number.ensures.value c.number.ensures.bound) (rw (← c.self.view_is) at c.requires.none) (rw (← c.self.view_is) at c.requires.room) c.take-directory.ensures
+    (zeroed c.self.inside.memory c.zero_frame.new.self c.take-directory.result at c.zero_frame.ensures.bytes) c.zero_frame.ensures.length) in
+    frames_stay_by none_goes c.self.inside.directories (slice_set c.self.inside.directories c.number.result (Some c.take-directory.result)) c.self.inside.memory c.zero_frame.new.self c.self.inside.frames c.take-directory.new.frames c.self.invariant.spaces.sound added.after.sound
+    (λ q d f stays live. added.others q.pid (λ e. let k : None ≡ Some d = sym (ap (directory_of c.self.inside.directories) e ∙ (rw (← c.self.view_is) at c.requires.none)) ∙ live in cc) ∙ live) added.stay)

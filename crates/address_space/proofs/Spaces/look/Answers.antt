@@ -1,26 +1,21 @@
-use Rattle.std.proofs.Common.{◌≡◌, ap, sym, ◌∙◌, ℕ, Option, Some, None}
-use Rattle.std.specs.Prelude.{is_some, IfSome}
-use Rattle.page_words.specs.Addresses.{byte_count, covered, second_page}
+use Rattle.std.proofs.Common.{◌≡◌, ap, sym, ◌∙◌, None}
+use Rattle.std.specs.Prelude.{is_some}
+use Rattle.page_words.specs.Addresses.{page_number, offset_number, byte_count, second_page}
 use Rattle.page_words.proofs.OptionLemmas.{no_value}
-use Rattle.address_space.specs.Spaces.{at_page, cell_or_fresh, bytes_at, value_of, number_of}
-use Rattle.address_space.specs.View.{View, spaces_in}
+use Rattle.address_space.specs.Spaces.{Cell, value_of, bytes_at}
+use Rattle.address_space.proofs.Insides.{spaces_at}
 use Rattle.address_space.proofs.steps.Bytes.{number_in_page}
+use Rattle.address_space.proofs.steps.FoundPages.{found_lies, found_cell}
+use Rattle.address_space.proofs.steps.Placing.{place_found}
 use Rattle.address_space.proofs.Spaces.look.Goals as goal
 
+pub number_at-requires-clause-frame : goal.number_at-requires-clause-frame
+number_at-requires-clause-frame c = (found_lies c.self.inside c.args.pid (page_number c.args.address) c.in_ok-found.found c.self.invariant c.requires (sym (place_found c.self.inside c.args.pid (page_number c.args.address)) ∙ sym (rw (← c.self.view_is, c.page_of.ensures.value) at c.find.ensures) ∙ c.in_ok-found.was)).frame
+
 pub returns : goal.returns
-returns c = by c.look.result c.look.ensures
-  where
-    S : ℕ → ℕ → ℕ
-    S page at = value_of (bytes_at (cell_or_fresh (spaces_in c.self.inside.paged.directories c.self.inside.paged.memory) (at_page c.args.pid page)).bytes at (byte_count c.args.size))
-
-    within : second_page c.args.address c.args.size ≡ None
-    within = no_value _ (ap is_some (sym c.second_page.ensures) ∙ sym c.is_some.ensures ∙ c.if-is_some.false)
-
-    same : S c.page_of.result c.offset_of.result ≡ number_of c.args.self.now.spaces c.args.pid (covered c.args.address c.args.size)
-    same = (λ i. S (c.page_of.ensures.value i) (c.offset_of.ensures.value i))
-        ∙ sym (number_in_page (spaces_in c.self.inside.paged.directories c.self.inside.paged.memory) c.args.pid c.args.address c.args.size within)
-        ∙ ap (λ (v : View). number_of v.spaces c.args.pid (covered c.args.address c.args.size)) c.self.view_is
-
-    by : (x : Option ℕ) → IfSome x (λ value. value ≡ S c.page_of.result c.offset_of.result) → IfSome x (λ value. value ≡ number_of c.args.self.now.spaces c.args.pid (covered c.args.address c.args.size))
-    by None h = h
-    by (Some value) h = h ∙ same
+returns c =
+    let within : second_page c.args.address c.args.size ≡ None = no_value _ (ap is_some (sym c.second_page.ensures) ∙ sym c.is_some.ensures ∙ c.if-is_some.false) in
+    rw (← c.self.view_is)
+    ((rw c.offset_of.ensures.value at c.number_at.ensures)
+    ∙ sym (ap (λ (x : Cell). value_of (bytes_at x.bytes (offset_number c.args.address) (byte_count c.args.size))) (found_cell c.self.inside c.args.pid (page_number c.args.address) c.in_ok-found.found c.self.invariant c.requires (sym (place_found c.self.inside c.args.pid (page_number c.args.address)) ∙ sym (rw (← c.self.view_is, c.page_of.ensures.value) at c.find.ensures) ∙ c.in_ok-found.was)))
+    ∙ sym (number_in_page (spaces_at c.self.inside) c.args.pid c.args.address c.args.size within))

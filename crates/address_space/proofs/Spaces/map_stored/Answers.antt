@@ -1,10 +1,4 @@
-use Rattle.std.proofs.Common.{subst}
-use Rattle.address_space.specs.Stays.{FramesStay, none_goes}
-use Rattle.address_space.specs.View.{View}
-use Rattle.address_space.specs.Finds.{image_at}
 use Rattle.address_space.proofs.Spaces.map_stored.Goals as goal
 
-pub returns-clause-stay : goal.returns-clause-stay
-returns-clause-stay c =
-    subst (λ (v : View). FramesStay none_goes (record { directories = v.directories; bytes = v.bytes; roles = v.roles })
-    (image_at c.map_stored.new.self)) c.self.view_is c.map_stored.ensures.stay
+pub map_stored_at-requires-clause-place : goal.map_stored_at-requires-clause-place
+map_stored_at-requires-clause-place c = rw c.page_of.ensures.value at c.place-place.ensures

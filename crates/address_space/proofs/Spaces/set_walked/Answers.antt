@@ -1,10 +1,38 @@
-use Rattle.std.proofs.Common.{subst}
-use Rattle.address_space.specs.Stays.{FramesStay, none_goes}
-use Rattle.address_space.specs.View.{View}
-use Rattle.address_space.specs.Finds.{image_at}
+use Rattle.std.proofs.Common.{◌≡◌, ap, sym, ◌∙◌, refl, Some}
+use Rattle.alloc_table.specs.declared.Role.TheVariants.{Directory}
+use Rattle.address_space.specs.ByWalk.{with_walked}
+use Rattle.address_space.proofs.Insides.{spaces_at}
+use Rattle.address_space.proofs.steps.Steps.{inside}
+use Rattle.address_space.proofs.steps.Touches.{kept_touched}
+use Rattle.address_space.proofs.steps.DirWords.{dir_word_walked}
 use Rattle.address_space.proofs.Spaces.set_walked.Goals as goal
+use Rattle.address_space.specs.Stays.{none_goes}
+use Rattle.address_space.proofs.standing.FramesStand.{frames_stay}
+
+pub set_word_walked-requires-clause-inside : goal.set_word_walked-requires-clause-inside
+set_word_walked-requires-clause-inside c =
+    (inside c.self.inside.directories c.self.inside.memory c.self.inside.frames c.home-directory.result (Directory c.args.pid) c.self.invariant.spaces.sound (c.self.invariant.spaces.sound.tables.directory c.args.pid c.home-directory.result c.home-directory.ensures)).fits
+
+pub returns-clause-spaces : goal.returns-clause-spaces
+returns-clause-spaces c =
+    rw (← c.self.view_is)
+    ((dir_word_walked c.self.inside.directories c.self.inside.memory c.set_word_walked.new.memory c.self.inside.frames c.args.pid c.home-directory.result c.args.page c.args.walked c.self.invariant.spaces.sound c.home-directory.ensures c.requires.user.1 c.set_word_walked.ensures.bytes c.set_word_walked.ensures.length).spaces)
+
+pub returns-clause-bytes : goal.returns-clause-bytes
+returns-clause-bytes c =
+    rw (← c.self.view_is)
+    (λ d live.
+    let e : Some c.home-directory.result ≡ Some d = sym c.home-directory.ensures ∙ live in
+    let same : c.home-directory.result ≡ d = cc in
+    c.set_word_walked.ensures.bytes ∙ ap (λ x. with_walked c.self.inside.memory x c.args.page c.args.walked) same)
+
+pub invariant_of-self : goal.invariant_of-self
+invariant_of-self c =
+    kept_touched c.self.inside.directories c.self.inside.memory c.set_word_walked.new.memory c.self.inside.frames c.self.inside.counts.items (spaces_at c.self.inside) c.self.invariant
+    (dir_word_walked c.self.inside.directories c.self.inside.memory c.set_word_walked.new.memory c.self.inside.frames c.args.pid c.home-directory.result c.args.page c.args.walked c.self.invariant.spaces.sound c.home-directory.ensures c.requires.user.1 c.set_word_walked.ensures.bytes c.set_word_walked.ensures.length) (λ q. refl)
 
 pub returns-clause-stay : goal.returns-clause-stay
 returns-clause-stay c =
-    subst (λ (v : View). FramesStay none_goes (record { directories = v.directories; bytes = v.bytes; roles = v.roles })
-    (image_at c.set_walked.new.self)) c.self.view_is c.set_walked.ensures.stay
+    rw (← c.self.view_is)
+    (let touched = dir_word_walked c.self.inside.directories c.self.inside.memory c.set_word_walked.new.memory c.self.inside.frames c.args.pid c.home-directory.result c.args.page c.args.walked c.self.invariant.spaces.sound c.home-directory.ensures c.requires.user.1 c.set_word_walked.ensures.bytes c.set_word_walked.ensures.length in
+    frames_stay none_goes c.self.inside.directories c.self.inside.memory c.set_word_walked.new.memory c.self.inside.frames c.self.inside.frames c.self.invariant.spaces.sound touched.sound touched.stay)

@@ -1,10 +1,16 @@
-use Rattle.std.proofs.Common.{subst}
-use Rattle.address_space.specs.Stays.{FramesStay, none_goes}
-use Rattle.address_space.specs.View.{View}
-use Rattle.address_space.specs.Finds.{image_at}
+use Rattle.address_space.proofs.steps.Finding.{finds_each, finds_takes}
+use Rattle.table_walk.specs.declared.Access.TheVariants.{Write}
 use Rattle.address_space.proofs.Spaces.store_by_walk.Goals as goal
 
-pub returns-clause-stay : goal.returns-clause-stay
-returns-clause-stay c =
-    subst (λ (v : View). FramesStay none_goes (record { directories = v.directories; bytes = v.bytes; roles = v.roles })
-    (image_at c.store_by_walk.new.self)) c.self.view_is c.store_by_walk.ensures.stay
+pub store_through-requires-clause-finds : goal.store_through-requires-clause-finds
+store_through-requires-clause-finds c =
+    rw (← c.self.view_is) (finds_each c.self.inside.directories c.self.inside.memory c.self.inside.frames c.args.pid c.args.address c.args.size Write c.self.invariant.spaces.sound (rw (← c.self.view_is) at c.requires)).finds
+
+pub store_through-requires-clause-fits : goal.store_through-requires-clause-fits
+store_through-requires-clause-fits c =
+    (finds_each c.self.inside.directories c.self.inside.memory c.self.inside.frames c.args.pid c.args.address c.args.size Write c.self.invariant.spaces.sound (rw (← c.self.view_is) at c.requires)).fits
+
+pub returns-clause-takes : goal.returns-clause-takes
+returns-clause-takes c =
+    rw (← c.self.view_is)
+    (finds_takes c.self.inside.directories c.self.inside.memory c.self.inside.frames c.args.pid c.args.address c.args.size c.self.invariant.spaces.sound (rw (← c.self.view_is) at c.requires))

@@ -1,10 +1,4 @@
-use Rattle.std.proofs.Common.{subst}
-use Rattle.address_space.specs.Stays.{FramesStay, none_goes}
-use Rattle.address_space.specs.View.{View}
-use Rattle.address_space.specs.Finds.{image_at}
 use Rattle.address_space.proofs.Spaces.try_write.Goals as goal
 
-pub returns-clause-stay : goal.returns-clause-stay
-returns-clause-stay c =
-    subst (λ (v : View). FramesStay none_goes (record { directories = v.directories; bytes = v.bytes; roles = v.roles })
-    (image_at c.try_store.new.self)) c.self.view_is c.try_store.ensures.stay
+pub try_write_at-requires-clause-place : goal.try_write_at-requires-clause-place
+try_write_at-requires-clause-place c = rw c.page_of.ensures.value at c.place-place.ensures

@@ -14,8 +14,8 @@ returns-clause-kept c =
     let p = c.args.pid in
     let slot : Slot = at_page p c.args.page in
     let cell = fresh slot c.args.write in
-    let used = used_of q p + c.need-need.result in
-    subst (IsProcesses c.map_zero.new.self) (sym c.take_room.ensures.quotas)
-    (charged-one v c.map_zero.new.self q p used c.requires.kept c.map_zero.ensures.directories c.map_zero.ensures.frames
-    ((λ i. c.requires.kept.charged p c.requires.live i + c.need-need.ensures.value i) ∙ sym (cost-insert v.spaces slot cell c.requires.unmapped) ∙ sym (ap (λ S. cost S p) c.map_zero.ensures.spaces))
-    (λ other n. ap (λ S. cost S other) c.map_zero.ensures.spaces ∙ cost-insert_other v.spaces slot cell other n))
+    let used = used_of q p + c.need_at-need.result in
+    subst (IsProcesses c.map_at.new.self) (sym c.take_room.ensures.quotas)
+    (charged-one v c.map_at.new.self q p used c.requires.kept c.map_at.ensures.directories c.map_at.ensures.frames
+    ((λ i. c.requires.kept.charged p c.requires.live i + c.need_at-need.ensures.value i) ∙ sym (cost-insert v.spaces slot cell c.requires.unmapped) ∙ sym (ap (λ S. cost S p) c.map_at.ensures.spaces))
+    (λ other n. ap (λ S. cost S other) c.map_at.ensures.spaces ∙ cost-insert_other v.spaces slot cell other n))

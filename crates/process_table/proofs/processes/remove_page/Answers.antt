@@ -17,7 +17,7 @@ returns-clause-kept c =
     let q = c.args.quotas.now in
     let p = c.args.pid in
     let page = c.args.page in
-    subst (IsProcesses c.unmap.new.self) (sym c.refund.ensures)
-    (charged-one v c.unmap.new.self q p (used_of q p - c.relief-relief.result) c.requires.kept c.unmap.ensures.directories c.unmap.ensures.frames
-    (less (used_of q p) c.relief-relief.result (cost v.spaces p) (cost (without v.spaces (is_slot p page)) p) (c.requires.kept.charged p c.requires.live) c.relief-relief.ensures ∙ sym (ap (λ S. cost S p) c.unmap.ensures.spaces))
-    (λ other n. ap (λ S. cost S other) c.unmap.ensures.spaces ∙ cost-without_other v.spaces (is_slot p page) other (λ at. slot_of_process p page (at_page other at) (ne_eqb other p n))))
+    subst (IsProcesses c.unmap_at.new.self) (sym c.refund.ensures)
+    (charged-one v c.unmap_at.new.self q p (used_of q p - c.relief_at-relief.result) c.requires.kept c.unmap_at.ensures.directories c.unmap_at.ensures.frames
+    (less (used_of q p) c.relief_at-relief.result (cost v.spaces p) (cost (without v.spaces (is_slot p page)) p) (c.requires.kept.charged p c.requires.live) c.relief_at-relief.ensures ∙ sym (ap (λ S. cost S p) c.unmap_at.ensures.spaces))
+    (λ other n. ap (λ S. cost S other) c.unmap_at.ensures.spaces ∙ cost-without_other v.spaces (is_slot p page) other (λ at. slot_of_process p page (at_page other at) (ne_eqb other p n))))

@@ -23,3 +23,12 @@ returns-clause-ends c =
     (subst (λ (x : Event). new.state ≡ next inside.state x) same c.carry_out.ensures.state))
     (subst (λ (v : View). FramesStay (gone_by v.state e) (memory_of v) (memory_of new)) c.self.view_is
     (subst (λ (x : Event). FramesStay (gone_by inside.state x) (memory_of inside) (memory_of new)) same c.carry_out.ensures.stay))
+
+pub returns-clause-stay : goal.returns-clause-stay
+returns-clause-stay c =
+    let inside = c.self.inside.processes in
+    let new = c.carry_out.new.processes in
+    let same = ap (λ (d : Decision). d.event) c.decide_on-decision.ensures in
+    let e = c.args.event.now in
+    subst (λ (v : View). FramesStay (gone_by v.state e) (memory_of v) (memory_of new)) c.self.view_is
+    (subst (λ (x : Event). FramesStay (gone_by inside.state x) (memory_of inside) (memory_of new)) same c.carry_out.ensures.stay)

@@ -1,0 +1,32 @@
+use Rattle.std.proofs.Common.{ap, sym, ◌∙◌}
+use Rattle.std.specs.Prelude.{is_some}
+use Rattle.page_words.specs.Addresses.{page_number, offset_number, byte_count}
+use Rattle.address_space.specs.Spaces.{Cell, value_of, bytes_at}
+use Rattle.address_space.specs.Places.{found_of}
+use Rattle.address_space.proofs.Insides.{spaces_at}
+use Rattle.address_space.proofs.steps.Bytes.{number_in_page}
+use Rattle.address_space.proofs.steps.FoundPages.{found_mapped, found_lies, found_cell, found_loaded}
+use Rattle.address_space.proofs.steps.Placing.{place_found}
+use Rattle.address_space.proofs.Spaces.load_at.Goals as goal
+
+pub unwrap-found-requires : goal.unwrap-found-requires
+unwrap-found-requires c = ap is_some (c.found.ensures ∙ ap found_of (rw (← c.self.view_is) at c.requires.place) ∙ place_found c.self.inside c.args.pid (page_number c.args.address)) ∙ found_mapped c.self.inside c.args.pid (page_number c.args.address) c.self.invariant c.requires.user ∙ (rw (← c.self.view_is) at c.requires.mapped)
+
+pub load-requires-clause-lies : goal.load-requires-clause-lies
+load-requires-clause-lies c = found_lies c.self.inside c.args.pid (page_number c.args.address) c.unwrap-found.result c.self.invariant c.requires.user (sym (place_found c.self.inside c.args.pid (page_number c.args.address)) ∙ ap found_of (sym (rw (← c.self.view_is) at c.requires.place)) ∙ sym c.found.ensures ∙ c.unwrap-found.ensures)
+
+pub returns-clause-value : goal.returns-clause-value
+returns-clause-value c =
+    rw (← c.self.view_is)
+    ((rw c.offset_of.ensures.value at c.load.ensures.value)
+    ∙ sym (ap (λ (x : Cell). value_of (bytes_at x.bytes (offset_number c.args.address) (byte_count c.args.size))) (found_cell c.self.inside c.args.pid (page_number c.args.address) c.unwrap-found.result c.self.invariant c.requires.user (sym (place_found c.self.inside c.args.pid (page_number c.args.address)) ∙ ap found_of (sym (rw (← c.self.view_is) at c.requires.place)) ∙ sym c.found.ensures ∙ c.unwrap-found.ensures)))
+    ∙ sym (number_in_page (spaces_at c.self.inside) c.args.pid c.args.address c.args.size c.requires.within))
+
+pub returns-clause-spaces : goal.returns-clause-spaces
+returns-clause-spaces c = rw (← c.self.view_is) (found_loaded c.self.inside c.args.pid (page_number c.args.address) c.unwrap-found.result c.self.invariant c.requires.user (sym (place_found c.self.inside c.args.pid (page_number c.args.address)) ∙ ap found_of (sym (rw (← c.self.view_is) at c.requires.place)) ∙ sym c.found.ensures ∙ c.unwrap-found.ensures) c.load.new.memory c.load.ensures.entry c.load.ensures.length).spaces
+
+pub invariant_of-self : goal.invariant_of-self
+invariant_of-self c = (found_loaded c.self.inside c.args.pid (page_number c.args.address) c.unwrap-found.result c.self.invariant c.requires.user (sym (place_found c.self.inside c.args.pid (page_number c.args.address)) ∙ ap found_of (sym (rw (← c.self.view_is) at c.requires.place)) ∙ sym c.found.ensures ∙ c.unwrap-found.ensures) c.load.new.memory c.load.ensures.entry c.load.ensures.length).kept
+
+pub returns-clause-stay : goal.returns-clause-stay
+returns-clause-stay c = rw (← c.self.view_is) (found_loaded c.self.inside c.args.pid (page_number c.args.address) c.unwrap-found.result c.self.invariant c.requires.user (sym (place_found c.self.inside c.args.pid (page_number c.args.address)) ∙ ap found_of (sym (rw (← c.self.view_is) at c.requires.place)) ∙ sym c.found.ensures ∙ c.unwrap-found.ensures) c.load.new.memory c.load.ensures.entry c.load.ensures.length).stay

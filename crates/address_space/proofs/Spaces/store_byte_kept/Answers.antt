@@ -1,0 +1,61 @@
+use Rattle.std.proofs.Common.{◌≡◌, ◌∙◌, ap, sym, subst, Some}
+use Rattle.std.specs.Prelude.{◌%◌, [], ◌∷◌}
+use Rattle.page_words.specs.Addresses.{offset_number}
+use Rattle.table_walk.specs.declared.Access.TheVariants.{Write}
+use Rattle.table_walk.specs.Walk.{walk_of}
+use Rattle.address_space.specs.Kept.{is_marked}
+use Rattle.address_space.specs.Spaces.{slot_at}
+use Rattle.address_space.proofs.Insides.{spaces_at, image_at}
+use Rattle.address_space.proofs.steps.Finding.{finds_live_at, found_at}
+use Rattle.address_space.proofs.steps.WalkedPages.{byte_kept, marked_stored}
+use Rattle.address_space.proofs.Spaces.store_byte_kept.Goals as goal
+
+pub home-directory-requires : goal.home-directory-requires
+home-directory-requires c =
+    finds_live_at (image_at c.self.inside) c.args.pid c.args.address Write (rw (← c.self.view_is) at c.requires.finds)
+
+pub write_byte_found-requires : goal.write_byte_found-requires
+write_byte_found-requires c =
+    record { found = (found_at (image_at c.self.inside) c.args.pid c.home-directory.result c.args.address Write c.home-directory.ensures (rw (← c.self.view_is) at c.requires.finds)).1 }
+
+pub returns-clause-spaces : goal.returns-clause-spaces
+returns-clause-spaces c =
+    rw (← c.self.view_is)
+    ((byte_kept c.self.inside c.args.pid c.home-directory.result c.args.address c.args.value c.write_byte_found.new.memory c.self.invariant c.home-directory.ensures (rw (← c.self.view_is) at c.requires.finds)
+    (rw (← c.self.view_is) at c.requires.marked) c.write_byte_found.ensures.bytes c.write_byte_found.ensures.length).left.spaces)
+
+pub returns-clause-stay : goal.returns-clause-stay
+returns-clause-stay c =
+    rw (← c.self.view_is)
+    ((byte_kept c.self.inside c.args.pid c.home-directory.result c.args.address c.args.value c.write_byte_found.new.memory c.self.invariant c.home-directory.ensures (rw (← c.self.view_is) at c.requires.finds)
+    (rw (← c.self.view_is) at c.requires.marked) c.write_byte_found.ensures.bytes c.write_byte_found.ensures.length).left.stay)
+
+pub returns-clause-walks : goal.returns-clause-walks
+returns-clause-walks c =
+    rw (← c.self.view_is)
+    (λ directory at kind live small.
+    let e : Some c.home-directory.result ≡ Some directory = sym c.home-directory.ensures ∙ live in
+    let same : c.home-directory.result ≡ directory = cc in
+    subst (λ d. walk_of c.write_byte_found.new.memory d at kind ≡ walk_of c.self.inside.memory d at kind) same
+    ((byte_kept c.self.inside c.args.pid c.home-directory.result c.args.address c.args.value c.write_byte_found.new.memory c.self.invariant c.home-directory.ensures (rw (← c.self.view_is) at c.requires.finds)
+    (rw (← c.self.view_is) at c.requires.marked) c.write_byte_found.ensures.bytes c.write_byte_found.ensures.length).walks at kind small))
+
+pub returns-clause-finds : goal.returns-clause-finds
+returns-clause-finds c =
+    rw (← c.self.view_is)
+    ((byte_kept c.self.inside c.args.pid c.home-directory.result c.args.address c.args.value c.write_byte_found.new.memory c.self.invariant c.home-directory.ensures (rw (← c.self.view_is) at c.requires.finds)
+    (rw (← c.self.view_is) at c.requires.marked) c.write_byte_found.ensures.bytes c.write_byte_found.ensures.length).left.finds)
+
+pub returns-clause-marked : goal.returns-clause-marked
+returns-clause-marked c =
+    rw (← c.self.view_is)
+    (λ slot h.
+    let spaces = (byte_kept c.self.inside c.args.pid c.home-directory.result c.args.address c.args.value c.write_byte_found.new.memory c.self.invariant c.home-directory.ensures (rw (← c.self.view_is) at c.requires.finds)
+    (rw (← c.self.view_is) at c.requires.marked) c.write_byte_found.ensures.bytes c.write_byte_found.ensures.length).left.spaces in
+    ap (λ S. is_marked S slot) spaces
+    ∙ marked_stored (spaces_at c.self.inside) (slot_at c.args.pid c.args.address) (offset_number c.args.address) (c.args.value % 256 ∷ []) slot h)
+
+pub invariant_of-self : goal.invariant_of-self
+invariant_of-self c =
+    (byte_kept c.self.inside c.args.pid c.home-directory.result c.args.address c.args.value c.write_byte_found.new.memory c.self.invariant c.home-directory.ensures (rw (← c.self.view_is) at c.requires.finds)
+    (rw (← c.self.view_is) at c.requires.marked) c.write_byte_found.ensures.bytes c.write_byte_found.ensures.length).left.kept

@@ -1,0 +1,22 @@
+-- The pages of a process by its directory.
+use Rattle.std.proofs.Common.{◌≡◌, ℕ, List, ap, sym, ◌∙◌, inl, inr, Option, Some}
+use Rattle.std.specs.Prelude.{is_some}
+use Rattle.page_words.specs.FiniteMap as map
+use Rattle.phys_memory.specs.Bytes.{frame_bytes}
+use Rattle.alloc_table.specs.declared.Role.{Role}
+use Rattle.page_map.specs.Pages.{is_mapped}
+use Rattle.page_map.proofs.PageLemmas.{user_cases, get-entries_user, get-entries_other}
+use Rattle.address_space.specs.Spaces.{at_page}
+use Rattle.address_space.specs.View.{directory_of, spaces_in}
+use Rattle.address_space.specs.Sound.{IsSound}
+use Rattle.address_space.proofs.entries.Readings.{mapped_read}
+use Rattle.address_space.proofs.steps.Departures.{no_cell_outside}
+use Rattle.address_space.proofs.steps.Steps.{live_small}
+
+-- a process has the pages mapped that its directory maps
+pub next_read : (directories : List (Option ℕ)) (bytes : List ℕ) (roles : List Role) (p d page : ℕ) → IsSound directories bytes roles → directory_of directories p ≡ Some d
+    → map.contains_key (spaces_in directories bytes) (at_page p page) ≡ is_mapped (frame_bytes bytes) d page
+next_read directories bytes roles p d page sound live = elim (user_cases page) [
+  | inl user ↦ mapped_read directories bytes p d page live (live_small directories p d sound.pids live) user.0 user.1 ∙ sym (ap is_some (get-entries_user (frame_bytes bytes) d page user))
+  | inr other ↦ ap is_some (no_cell_outside directories bytes roles p page sound other) ∙ sym (ap is_some (get-entries_other (frame_bytes bytes) d page other))
+]

@@ -1,0 +1,112 @@
+//! Parts of a page: bytes that are read or written as one slice, as a load or a store of each would do it.
+
+ghost use Rattle.std.specs.Prelude.{◌≡◌, ◌+◌, ◌<◌, ◌≤◌, length, map, slice_index, is_some, true, false};
+ghost use Rattle.std.specs.List.{range_with_len};
+ghost use Rattle.page_words.specs.Addresses.{page_number, offset_number, IsUserPage};
+ghost use Rattle.page_words.specs.FiniteMap as finite_map;
+ghost use Rattle.phys_memory.specs.Bytes.{frame_bytes, with_frame};
+ghost use Rattle.address_space.specs.Spaces.{at_page, slot_at, cell_or_fresh, accessed, stored, bytes_at, byte_at, write_at};
+ghost use Rattle.address_space.specs.Image.{image_of, takes_stores};
+ghost use Rattle.address_space.specs.Sound.{Inside};
+ghost use Rattle.address_space.specs.Stays.{FramesStay, none_goes};
+ghost use Rattle.address_space.specs.Finds.{LiesIn, EntryIs, BytesStored};
+
+use crate::Spaces;
+use crate::accesses::set_flags;
+use crate::lookup::Found;
+use page_map::place_of;
+use page_words::{Frame, Pid, Vaddr, offset_of, page_of};
+use phys_memory::Memory;
+
+/// Copies bytes of a frame out.
+fn copy_part(memory: &Memory, frame: Frame, at: u32, out: &mut [u8])
+    requires frame { Inside memory.now frame }
+    requires place { at < 4096 }
+    requires inside { at + length out.old ≤ 4096 }
+    ensures { out.new ≡ bytes_at (frame_bytes memory.now frame) at (length out.old) }
+{
+    let place = place_of(frame, at);
+    out.copy_from_slice(&memory.bytes()[place..place + out.len()]);
+}
+
+/// Copies bytes of a page out, and sets accessed in its entry.
+fn read_part(memory: &mut Memory, found: &Found, at: u32, out: &mut [u8])
+    requires lies { LiesIn memory.old found.now }
+    requires place { at < 4096 }
+    requires inside { at + length out.old ≤ 4096 }
+    ensures bytes { out.new ≡ bytes_at (frame_bytes memory.old found.now.entry.frame) at (length out.old) }
+    ensures entry { EntryIs memory.old found.now (record found.now.entry { accessed = true }) memory.new }
+    ensures length { length memory.new ≡ length memory.old }
+{
+    copy_part(memory, found.entry.frame, at, out);
+    set_flags(memory, found, found.entry.write, true, found.entry.dirty);
+}
+
+/// Writes bytes into a frame.
+fn put_part(memory: &mut Memory, frame: Frame, at: u32, part: &[u8])
+    requires frame { Inside memory.old frame }
+    requires place { at < 4096 }
+    requires inside { at + length part.now ≤ 4096 }
+    ensures frames { frame_bytes memory.new ≡ with_frame (frame_bytes memory.old) frame (write_at (frame_bytes memory.old frame) at part.now) }
+    ensures length { length memory.new ≡ length memory.old }
+{
+    memory.write_bytes(place_of(frame, at), part);
+}
+
+/// Writes bytes into a page, and sets accessed and dirty in its entry.
+fn write_part(memory: &mut Memory, found: &Found, at: u32, part: &[u8])
+    requires lies { LiesIn memory.old found.now }
+    requires place { at < 4096 }
+    requires inside { at + length part.now ≤ 4096 }
+    ensures { BytesStored memory.old found.now at part.now memory.new }
+{
+    put_part(memory, found.entry.frame, at, part);
+    set_flags(memory, found, found.entry.write, true, true);
+}
+
+impl Spaces {
+    /// Copies the bytes from an address on, which lie in one page, where it is mapped; accessed is set in its slot.
+    /// Whether it is mapped; where it isn't, nothing changes.
+    pub fn try_read_part(&mut self, pid: Pid, address: Vaddr, out: &mut [u8]) -> bool
+        requires within { offset_number address + length out.old ≤ 4096 }
+        requires user { IsUserPage (page_number address) }
+        ensures mapped { result ≡ finite_map.contains_key self.old.spaces (slot_at pid address) }
+        ensures bytes { result ≡ true → out.new ≡ map (byte_at self.old.spaces pid) (range_with_len address (length out.old)) }
+        ensures spaces { result ≡ true → self.new.spaces ≡ accessed self.old.spaces (slot_at pid address) }
+        ensures stay { FramesStay none_goes (image_of self.old) (image_of self.new) }
+        ensures directories { self.new.directories ≡ self.old.directories }
+        ensures roles { self.new.roles ≡ self.old.roles }
+        ensures none { result ≡ false → (self.new ≡ self.old) × (out.new ≡ out.old) }
+    {
+        self.stands();
+        let Some(found) = self.find(pid, page_of(address)) else {
+            return false;
+        };
+        read_part(&mut self.memory, &found, offset_of(address), out);
+        true
+    }
+
+    /// Writes bytes from an address on, which lie in one page, where its slot takes a store as memory stands: it is
+    /// mapped, with the right to write, and isn't lazy; accessed and dirty are set. Whether it is so; where it isn't,
+    /// nothing changes.
+    pub fn try_write_part(&mut self, pid: Pid, address: Vaddr, part: &[u8]) -> bool
+        requires within { offset_number address + length part.now ≤ 4096 }
+        requires user { IsUserPage (page_number address) }
+        ensures done { result ≡ takes_stores self.old.spaces (image_of self.old) (slot_at pid address) }
+        ensures spaces { result ≡ true → self.new.spaces ≡ stored self.old.spaces (slot_at pid address) (offset_number address) part.now }
+        ensures stay { FramesStay none_goes (image_of self.old) (image_of self.new) }
+        ensures directories { self.new.directories ≡ self.old.directories }
+        ensures roles { self.new.roles ≡ self.old.roles }
+        ensures none { result ≡ false → self.new ≡ self.old }
+    {
+        self.stands();
+        let Some(found) = self.find(pid, page_of(address)) else {
+            return false;
+        };
+        if !found.takes_stores() {
+            return false;
+        }
+        write_part(&mut self.memory, &found, offset_of(address), part);
+        true
+    }
+}

@@ -1,0 +1,381 @@
+//! What stands at a page, looked up once, and what goes through it.
+
+ghost use Rattle.std.specs.Prelude.{◌≡◌, ◌+◌, ◌*◌, ◌<◌, ◌≤◌, length, slice_get, Some, IfSome, IsSome, IsNone, is_some, true, false};
+ghost use Rattle.page_words.specs.Addresses.{page_number, offset_number, byte_count, covered, second_page, EachTouched, IsUserPage};
+ghost use Rattle.page_words.specs.FiniteMap as map;
+ghost use Rattle.std.specs.Option.{option_map};
+ghost use Rattle.phys_memory.specs.Bytes.{frame_bytes};
+ghost use Rattle.alloc_table.specs.Roles.{IsPageBelow};
+ghost use Rattle.address_space.specs.Shown.{shown};
+ghost use Rattle.address_space.specs.Seen.{cell_seen, lazy_seen, need_seen};
+ghost use Rattle.address_space.specs.Spaces.{Slot, need, access_need, stored, bytes_of, byte_at, number_of, cell_or_fresh, accessed, protected, at_page, slot_at};
+ghost use Rattle.address_space.specs.Image.{image_of, is_lazy_at, takes_stores};
+ghost use Rattle.address_space.specs.Stays.{FramesStay, none_goes, of_lazy};
+ghost use Rattle.address_space.specs.View.{directory_of};
+ghost use Rattle.address_space.specs.Places.{found_of, place_by, place_in};
+ghost use Rattle.address_space.specs.Finds.{table_at};
+
+use crate::group_sizes::group_size;
+use crate::lookup::{Found, Place};
+use crate::seen_pages::{Seen, mapped, need_behind};
+use crate::{Cell, Spaces, accesses, fills, space_of};
+use alloc_table::{FrameTable, Role};
+use page_map::PageEntry;
+use page_words::{Frame, Page, Pid, Size, Vaddr, offset_of, page_of, second_page, slot_of};
+use phys_memory::Memory;
+
+/// The place of a page, by the table of its region.
+fn place_behind(memory: &Memory, table: Option<Frame>, page: Page) -> Place
+    requires { IfSome table (λ table. 4096 * table + 4096 ≤ length memory.now) }
+    ensures { result ≡ place_by (frame_bytes memory.now) page table }
+{
+    let Some(table) = table else {
+        return Place::Bare;
+    };
+    match page_map::entry_in(memory, table, page) {
+        None => Place::Open { table },
+        Some(entry) => Place::Mapped(Found { page, table, entry }),
+    }
+}
+
+/// The cell of a mapped page, by its entry.
+fn cell_of(frames: &FrameTable, entry: &PageEntry) -> Cell
+    requires real { entry.now.lazy ≡ false → IsPageBelow frames.now entry.now.frame 4294967295 }
+    ensures flags { result ≡ record { write = entry.now.write; may = entry.now.may; accessed = entry.now.accessed; dirty = entry.now.dirty; holders = result.holders } }
+    ensures lazy { entry.now.lazy ≡ true → result.holders ≡ 1 }
+    ensures page { entry.now.lazy ≡ false → slice_get frames.now entry.now.frame ≡ Some (Role.Page result.holders) }
+{
+    Cell {
+        write: entry.write,
+        may: entry.may,
+        accessed: entry.accessed,
+        dirty: entry.dirty,
+        holders: group_size(frames, entry.lazy, entry.frame),
+    }
+}
+
+impl Spaces {
+    /// The table of a page's region; None where the process has none there.
+    fn table(&self, pid: Pid, page: Page) -> Option<Frame>
+        requires { IsUserPage page }
+        ensures table { result ≡ table_at self.now pid page }
+        ensures inside { IfSome result (λ table. 4096 * table + 4096 ≤ length self.now.bytes) }
+    {
+        let directory = space_of(&self.directories, pid)?;
+        page_map::table(&self.memory, directory, slot_of(page))
+    }
+
+    /// What stands at a page of a process, by one look. `stands` says what places tell.
+    pub fn place(&self, pid: Pid, page: Page) -> Place
+        requires { IsUserPage page }
+        ensures { result ≡ place_in self.now.directories self.now.bytes pid page }
+    {
+        place_behind(&self.memory, self.table(pid, page), page)
+    }
+
+    /// The number at an address of a mapped page, in which its bytes lie; accessed is set in its slot. The place is the
+    /// page's.
+    pub fn load_at(&mut self, pid: Pid, address: Vaddr, size: Size, place: &Place) -> u32
+        requires within { second_page address size ≡ None }
+        requires mapped { is_some (map.get self.old.spaces (slot_at pid address)) ≡ true }
+        requires user { IsUserPage (page_number address) }
+        requires place { place.now ≡ place_in self.old.directories self.old.bytes pid (page_number address) }
+        ensures value { result ≡ number_of self.old.spaces pid (covered address size) }
+        ensures spaces { self.new.spaces ≡ accessed self.old.spaces (slot_at pid address) }
+        ensures stay { FramesStay none_goes (image_of self.old) (image_of self.new) }
+        ensures directories { self.new.directories ≡ self.old.directories }
+        ensures roles { self.new.roles ≡ self.old.roles }
+    {
+        let memory = &mut self.memory;
+        let found = place.found().unwrap();
+        accesses::load(memory, &found, offset_of(address), size)
+    }
+
+    /// Stores bytes that lie in one page, which is mapped and isn't lazy, and sets accessed and dirty in its slot. The
+    /// place is the page's.
+    pub fn store_at(&mut self, pid: Pid, address: Vaddr, size: Size, value: u32, place: &Place)
+        requires within { second_page address size ≡ None }
+        requires mapped { is_some (map.get self.old.spaces (slot_at pid address)) ≡ true }
+        requires user { IsUserPage (page_number address) }
+        requires real { is_lazy_at (image_of self.old) (slot_at pid address) ≡ false }
+        requires place { place.now ≡ place_in self.old.directories self.old.bytes pid (page_number address) }
+        ensures spaces { self.new.spaces ≡ stored self.old.spaces (slot_at pid address) (offset_number address) (bytes_of (byte_count size) value) }
+        ensures stay { FramesStay none_goes (image_of self.old) (image_of self.new) }
+        ensures directories { self.new.directories ≡ self.old.directories }
+        ensures roles { self.new.roles ≡ self.old.roles }
+        ensures lazy { (slot : Slot) → is_lazy_at (image_of self.new) slot ≡ is_lazy_at (image_of self.old) slot }
+    {
+        let memory = &mut self.memory;
+        let found = place.found().unwrap();
+        accesses::store(memory, &found, offset_of(address), size, value);
+    }
+
+    /// Where a process's page is; None where it is not mapped.
+    pub(crate) fn find(&self, pid: Pid, page: Page) -> Option<Found>
+        requires { IsUserPage page }
+        ensures { result ≡ found_of (place_in self.now.directories self.now.bytes pid page) }
+    {
+        self.place(pid, page).found()
+    }
+
+    /// What a process has at a page, by one look: its cell, whether it is lazy, and what one more page costs there.
+    pub fn seen(&self, pid: Pid, page: Page) -> Seen
+        requires user { IsUserPage page }
+        ensures cell { cell_seen result ≡ option_map shown (map.get self.now.spaces (at_page pid page)) }
+        ensures lazy { lazy_seen result ≡ is_lazy_at (image_of self.now) (at_page pid page) }
+        ensures need { need_seen result ≡ need self.now.spaces pid page }
+        ensures most { need_seen result ≤ 2 }
+    {
+        let memory = &self.memory;
+        let Some(table) = self.table(pid, page) else {
+            return Seen::Absent { need: 2 };
+        };
+        let Some(entry) = page_map::entry_in(memory, table, page) else {
+            return Seen::Absent { need: 1 };
+        };
+        let lazy = entry.lazy;
+        let cell = cell_of(&self.frames, &entry);
+        mapped(cell, lazy)
+    }
+
+    /// Whether a slot has a lazy page, which has no frame of its own yet.
+    pub fn is_lazy(&self, pid: Pid, page: Page) -> bool
+        requires user { IsUserPage page }
+        ensures { result ≡ is_lazy_at (image_of self.now) (at_page pid page) }
+    {
+        self.seen(pid, page).is_lazy()
+    }
+
+    /// The flags of a slot and the size of its group; None where the page is not mapped.
+    pub fn cell(&self, pid: Pid, page: Page) -> Option<Cell>
+        requires user { IsUserPage page }
+        ensures { result ≡ option_map shown (map.get self.now.spaces (at_page pid page)) }
+    {
+        self.seen(pid, page).cell()
+    }
+
+    /// What one more page costs a process: 1 where it has a page in that region of 1,024 pages, else 2.
+    pub fn need(&self, pid: Pid, page: Page) -> u32
+        requires live { is_some (directory_of self.now.directories pid) ≡ true }
+        requires user { IsUserPage page }
+        ensures value { result ≡ need self.now.spaces pid page }
+        ensures most { result ≤ 2 }
+    {
+        self.seen(pid, page).need()
+    }
+
+    /// What a process needs for an access: 1 for each page that it touches and that is not mapped, and 1 for each of
+    /// their regions of 1,024 pages in which the process has none.
+    pub fn access_need(&self, pid: Pid, address: Vaddr, size: Size) -> u32
+        requires live { is_some (directory_of self.now.directories pid) ≡ true }
+        requires user { EachTouched address size IsUserPage }
+        ensures value { result ≡ access_need self.now.spaces pid address size }
+        ensures most { result ≤ 4 }
+    {
+        let page = page_of(address);
+        let first = self.seen(pid, page);
+        let Some(second) = second_page(address, size) else {
+            return first.page_need();
+        };
+        let other = self.seen(pid, second);
+        first.page_need() + need_behind(&first, page, &other, second)
+    }
+
+    /// The byte at an address, 0 where no page is mapped. It sets no flag.
+    pub(crate) fn byte(&self, pid: Pid, address: Vaddr) -> u8
+        requires { IsUserPage (page_number address) }
+        ensures { result ≡ byte_at self.now.spaces pid address }
+    {
+        match self.find(pid, page_of(address)) {
+            Some(found) => accesses::byte_of(&self.memory, found.entry.frame, offset_of(address)),
+            None => 0,
+        }
+    }
+
+    /// The number at an address, where its bytes lie in one page and it is mapped.
+    pub(crate) fn look(&self, pid: Pid, address: Vaddr, size: Size) -> Option<u32>
+        requires { IsUserPage (page_number address) }
+        ensures { IfSome result (λ value. value ≡ number_of self.now.spaces pid (covered address size)) }
+    {
+        if second_page(address, size).is_some() {
+            return None;
+        }
+        let found = self.find(pid, page_of(address))?;
+        Some(accesses::number_at(&self.memory, found.entry.frame, offset_of(address), size))
+    }
+
+    /// The number at an address, as `read` gives it, where the bytes lie in one page and it is mapped. None where it
+    /// isn't, and nothing changes.
+    pub fn try_read_at(
+        &mut self,
+        pid: Pid,
+        address: Vaddr,
+        size: Size,
+        place: &Place,
+    ) -> Option<u32>
+        requires within { second_page address size ≡ None }
+        requires user { IsUserPage (page_number address) }
+        requires place { place.now ≡ place_in self.old.directories self.old.bytes pid (page_number address) }
+        ensures mapped { is_some result ≡ map.contains_key self.old.spaces (slot_at pid address) }
+        ensures value { IfSome result (λ value. value ≡ number_of self.old.spaces pid (covered address size)) }
+        ensures spaces { IsSome result → self.new.spaces ≡ accessed self.old.spaces (slot_at pid address) }
+        ensures stay { FramesStay none_goes (image_of self.old) (image_of self.new) }
+        ensures directories { self.new.directories ≡ self.old.directories }
+        ensures roles { self.new.roles ≡ self.old.roles }
+        ensures none { IsNone result → self.new ≡ self.old }
+    {
+        self.stands();
+        if !place.is_mapped() {
+            return None;
+        }
+        Some(self.load_at(pid, address, size, place))
+    }
+
+    /// The number at an address, as `read` gives it, where the bytes lie in one page and it is mapped. None where it
+    /// isn't, and nothing changes.
+    pub fn try_read(&mut self, pid: Pid, address: Vaddr, size: Size) -> Option<u32>
+        requires within { second_page address size ≡ None }
+        requires user { IsUserPage (page_number address) }
+        ensures mapped { is_some result ≡ map.contains_key self.old.spaces (slot_at pid address) }
+        ensures value { IfSome result (λ value. value ≡ number_of self.old.spaces pid (covered address size)) }
+        ensures spaces { IsSome result → self.new.spaces ≡ accessed self.old.spaces (slot_at pid address) }
+        ensures stay { FramesStay none_goes (image_of self.old) (image_of self.new) }
+        ensures directories { self.new.directories ≡ self.old.directories }
+        ensures roles { self.new.roles ≡ self.old.roles }
+        ensures none { IsNone result → self.new ≡ self.old }
+    {
+        let place = self.place(pid, page_of(address));
+        self.try_read_at(pid, address, size, &place)
+    }
+
+    /// Stores bytes that lie in one page, which is mapped and isn't lazy, and sets accessed and dirty in its slot.
+    pub(crate) fn write_in_page(&mut self, pid: Pid, address: Vaddr, size: Size, value: u32)
+        requires within { second_page address size ≡ None }
+        requires mapped { is_some (map.get self.old.spaces (slot_at pid address)) ≡ true }
+        requires user { IsUserPage (page_number address) }
+        requires real { is_lazy_at (image_of self.old) (slot_at pid address) ≡ false }
+        ensures spaces { self.new.spaces ≡ stored self.old.spaces (slot_at pid address) (offset_number address) (bytes_of (byte_count size) value) }
+        ensures stay { FramesStay none_goes (image_of self.old) (image_of self.new) }
+        ensures directories { self.new.directories ≡ self.old.directories }
+        ensures roles { self.new.roles ≡ self.old.roles }
+        ensures lazy { (slot : Slot) → is_lazy_at (image_of self.new) slot ≡ is_lazy_at (image_of self.old) slot }
+    {
+        let place = self.place(pid, page_of(address));
+        self.store_at(pid, address, size, value, &place);
+    }
+
+    /// Stores bytes that lie in one page, as `write` does, where the slot takes a store as memory stands: it is
+    /// mapped, with the right to write, and isn't lazy. Whether it is so; where it isn't, nothing changes.
+    pub fn try_write_at(
+        &mut self,
+        pid: Pid,
+        address: Vaddr,
+        size: Size,
+        value: u32,
+        place: &Place,
+    ) -> bool
+        requires user { IsUserPage (page_number address) }
+        requires within { second_page address size ≡ None }
+        requires place { place.now ≡ place_in self.old.directories self.old.bytes pid (page_number address) }
+        ensures done { result ≡ takes_stores self.old.spaces (image_of self.old) (slot_at pid address) }
+        ensures spaces { result ≡ true → self.new.spaces ≡ stored self.old.spaces (slot_at pid address) (offset_number address) (bytes_of (byte_count size) value) }
+        ensures stay { FramesStay none_goes (image_of self.old) (image_of self.new) }
+        ensures directories { self.new.directories ≡ self.old.directories }
+        ensures roles { self.new.roles ≡ self.old.roles }
+        ensures none { result ≡ false → self.new ≡ self.old }
+    {
+        self.stands();
+        if !place.takes_stores() {
+            return false;
+        }
+        self.store_at(pid, address, size, value, place);
+        true
+    }
+
+    /// Stores bytes that lie in one page, as `write` does, where the slot takes a store as memory stands: it is
+    /// mapped, with the right to write, and isn't lazy. Whether it is so; where it isn't, nothing changes.
+    pub fn try_write(&mut self, pid: Pid, address: Vaddr, size: Size, value: u32) -> bool
+        requires user { IsUserPage (page_number address) }
+        requires within { second_page address size ≡ None }
+        ensures done { result ≡ takes_stores self.old.spaces (image_of self.old) (slot_at pid address) }
+        ensures spaces { result ≡ true → self.new.spaces ≡ stored self.old.spaces (slot_at pid address) (offset_number address) (bytes_of (byte_count size) value) }
+        ensures stay { FramesStay none_goes (image_of self.old) (image_of self.new) }
+        ensures directories { self.new.directories ≡ self.old.directories }
+        ensures roles { self.new.roles ≡ self.old.roles }
+        ensures none { result ≡ false → self.new ≡ self.old }
+    {
+        let place = self.place(pid, page_of(address));
+        self.try_write_at(pid, address, size, value, &place)
+    }
+
+    /// Gives a lazy page a frame of its own; any other stays as it is, and none becomes lazy. What is mapped stays
+    /// the same. The place is the page's, and the result is the place that it is at then.
+    pub fn fill_at(&mut self, pid: Pid, page: Page, place: &Place) -> Place
+        requires mapped { is_some (map.get self.old.spaces (at_page pid page)) ≡ true }
+        requires user { IsUserPage page }
+        requires place { place.now ≡ place_in self.old.directories self.old.bytes pid page }
+        ensures spaces { self.new.spaces ≡ self.old.spaces }
+        ensures stay { FramesStay (of_lazy pid page) (image_of self.old) (image_of self.new) }
+        ensures directories { self.new.directories ≡ self.old.directories }
+        ensures real { is_lazy_at (image_of self.new) (at_page pid page) ≡ false }
+        ensures others { (slot : Slot) → is_lazy_at (image_of self.old) slot ≡ false → is_lazy_at (image_of self.new) slot ≡ false }
+        ensures frames { length self.new.roles ≡ length self.old.roles }
+        ensures place { result ≡ place_in self.new.directories self.new.bytes pid page }
+    {
+        self.stands();
+        let found = place.found().unwrap();
+        if !found.entry.lazy {
+            return *place;
+        }
+        let entry = fills::give_frame(&mut self.memory, &mut self.frames, &found);
+        let table = found.table;
+        Place::Mapped(Found { page, table, entry })
+    }
+
+    /// Gives a lazy page a frame of its own; any other stays as it is, and none becomes lazy. What is mapped stays
+    /// the same.
+    pub fn fill(&mut self, pid: Pid, page: Page)
+        requires mapped { is_some (map.get self.old.spaces (at_page pid page)) ≡ true }
+        requires user { IsUserPage page }
+        ensures spaces { self.new.spaces ≡ self.old.spaces }
+        ensures stay { FramesStay (of_lazy pid page) (image_of self.old) (image_of self.new) }
+        ensures directories { self.new.directories ≡ self.old.directories }
+        ensures real { is_lazy_at (image_of self.new) (at_page pid page) ≡ false }
+        ensures others { (slot : Slot) → is_lazy_at (image_of self.old) slot ≡ false → is_lazy_at (image_of self.new) slot ≡ false }
+        ensures frames { length self.new.roles ≡ length self.old.roles }
+    {
+        let place = self.place(pid, page);
+        self.fill_at(pid, page, &place);
+    }
+
+    /// Sets whether a process may write to a mapped page, whose place this is; to set it, the process must be allowed
+    /// to.
+    pub fn protect_at(&mut self, pid: Pid, page: Page, write: bool, place: &Place)
+        requires mapped { is_some (map.get self.old.spaces (at_page pid page)) ≡ true }
+        requires user { IsUserPage page }
+        requires right { write ≡ true → (cell_or_fresh self.old.spaces (at_page pid page)).may ≡ true }
+        requires place { place.now ≡ place_in self.old.directories self.old.bytes pid page }
+        ensures spaces { self.new.spaces ≡ protected self.old.spaces (at_page pid page) write }
+        ensures stay { FramesStay none_goes (image_of self.old) (image_of self.new) }
+        ensures directories { self.new.directories ≡ self.old.directories }
+        ensures roles { self.new.roles ≡ self.old.roles }
+    {
+        let memory = &mut self.memory;
+        let found = place.found().unwrap();
+        accesses::set_right(memory, &found, write);
+    }
+
+    /// Sets whether a process may write to a mapped page; to set it, the process must be allowed to.
+    pub fn protect(&mut self, pid: Pid, page: Page, write: bool)
+        requires mapped { is_some (map.get self.old.spaces (at_page pid page)) ≡ true }
+        requires user { IsUserPage page }
+        requires right { write ≡ true → (cell_or_fresh self.old.spaces (at_page pid page)).may ≡ true }
+        ensures spaces { self.new.spaces ≡ protected self.old.spaces (at_page pid page) write }
+        ensures stay { FramesStay none_goes (image_of self.old) (image_of self.new) }
+        ensures directories { self.new.directories ≡ self.old.directories }
+        ensures roles { self.new.roles ≡ self.old.roles }
+    {
+        let place = self.place(pid, page);
+        self.protect_at(pid, page, write, &place);
+    }
+}

@@ -1,0 +1,19 @@
+use Rattle.std.proofs.Common.{◌≡◌, ◌+◌, ◌-◌, ◌≤◌, length, take, drop}
+use Rattle.address_space.specs.Stays.{FramesStay, none_goes}
+use Rattle.process_table.specs.Image.{memory_of}
+use Rattle.kernel_calls.specs.Transfers.{AreLoaded}
+use Rattle.kernel_calls.proofs.cores.Core.load_pages.Given as goal
+
+-- the bytes so far were loaded, and the others are as they were
+abbrev pub invariant-loop-done : goal.invariant-loop-done
+invariant-loop-done l = record {
+  place : l.at ≡ l.fn.address + l.done;
+  within : l.done ≤ length l.out;
+  loaded : AreLoaded l.fn.self.state l.pid l.fn.address l.done (take l.done l.out) l.self.state;
+  rest : drop l.done l.out ≡ drop l.done l.fn.out;
+  stay : FramesStay none_goes (memory_of l.fn.self) (memory_of l.self);
+  still : l.done ≡ 0 → l.self ≡ l.fn.self;
+}
+
+abbrev pub decreases-loop-done : goal.decreases-loop-done
+decreases-loop-done l = length l.out - l.done

@@ -1,0 +1,18 @@
+use Rattle.std.proofs.Common.{◌≡◌, ◌+◌, ◌-◌, ◌≤◌, length, take}
+use Rattle.address_space.specs.Stays.{FramesStay}
+use Rattle.process_table.specs.Image.{memory_of}
+use Rattle.kernel_calls.specs.Transfers.{of_lazy_pages, AreStored}
+use Rattle.kernel_calls.proofs.cores.Core.store_pages.Given as goal
+
+-- the bytes so far were stored
+abbrev pub invariant-loop-done : goal.invariant-loop-done
+invariant-loop-done l = record {
+  place : l.at ≡ l.fn.address + l.done;
+  within : l.done ≤ length l.bytes;
+  stored : AreStored l.fn.self.state l.pid l.fn.address (take l.done l.bytes) l.self.state;
+  stay : FramesStay (of_lazy_pages l.pid l.fn.address (length l.bytes)) (memory_of l.fn.self) (memory_of l.self);
+  still : l.done ≡ 0 → l.self ≡ l.fn.self;
+}
+
+abbrev pub decreases-loop-done : goal.decreases-loop-done
+decreases-loop-done l = length l.bytes - l.done

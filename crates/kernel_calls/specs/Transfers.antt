@@ -1,0 +1,72 @@
+-- A process's memory in and out: the accesses of one byte each that it stands for, up to the first that stops.
+use Rattle.std.proofs.Common.{◌≡◌, ℕ, zero, suc, ◌+◌, if◌then◌else◌, ◌&&◌, ◌==◌, List, [], ◌∷◌, map, Option, Some, None}
+use Rattle.std.specs.Prelude.{nat_le}
+use Rattle.page_words.specs.Addresses.{page_number}
+use Rattle.page_words.specs.declared.addresses.Size.TheVariants.{One}
+use Rattle.address_space.specs.Spaces.{is_of}
+use Rattle.address_space.specs.Stays.{Gone}
+use Rattle.process_table.specs.State.{State}
+use Rattle.kernel_calls.specs.Machine.{answer, answers, next, end_of, completes}
+use Rattle.kernel_calls.specs.declared.calls.Call.TheVariants as call
+use Rattle.kernel_calls.specs.declared.calls.Event.{Event}
+use Rattle.kernel_calls.specs.declared.calls.Reply.{Reply}
+use Rattle.kernel_calls.specs.declared.calls.Reply.TheVariants as reply
+
+-- ---- The accesses
+
+-- the load of the byte at an address
+abbrev pub load_byte : ℕ → ℕ → Event
+load_byte p address = record { cpu = 0; pid = p; call = call.Load address One }
+
+-- a store to the byte at an address
+abbrev pub store_byte : ℕ → ℕ → ℕ → Event
+store_byte p address value = record { cpu = 0; pid = p; call = call.Store address One value }
+
+-- the loads of so many bytes from an address on, in order
+abbrev pub loads : ℕ → ℕ → ℕ → List Event
+loads p address zero = []
+loads p address (suc n) = load_byte p address ∷ loads p (address + 1) n
+
+-- the stores of these bytes from an address on, in order
+abbrev pub stores : ℕ → ℕ → List ℕ → List Event
+stores p address [] = []
+stores p address (byte ∷ bytes) = store_byte p address byte ∷ stores p (address + 1) bytes
+
+-- ---- Runs that stop
+
+-- the events of a list that are carried out before the first that is refused or faults
+abbrev pub carried : State → List Event → List Event
+carried s [] = []
+carried s (e ∷ events) = if completes (answer s e) then e ∷ carried (next s e) events else []
+
+-- the reply to that first one
+abbrev pub stop_of : State → List Event → Option Reply
+stop_of s [] = None
+stop_of s (e ∷ events) = if completes (answer s e) then stop_of (next s e) events else Some (answer s e)
+
+-- the value that a load is told
+abbrev pub value_in : Reply → ℕ
+value_in (reply.Value value) = value
+value_in _ = 0
+
+-- the values that loads are told, in order
+abbrev pub values : List Reply → List ℕ
+values replies = map value_in replies
+
+-- the ways of a process's lazy pages, from that of an address to that of the address so many bytes behind it
+abbrev pub of_lazy_pages : ℕ → ℕ → ℕ → Gone
+of_lazy_pages p address count slot frame =
+    (is_of p slot && (nat_le (page_number address) slot.page && nat_le slot.page (page_number (address + count)))) && (frame == 0)
+
+-- ---- Transfers that go on to their end
+
+-- so many bytes from an address on were loaded one after the other, these, which led to this state
+pub record AreLoaded (s : State) (p address count : ℕ) (bytes : List ℕ) (later : State) : Type 0 where
+  pub all : carried s (loads p address count) ≡ loads p address count
+  pub told : values (answers s (loads p address count)) ≡ bytes
+  pub after : end_of s (loads p address count) ≡ later
+
+-- these bytes were stored one after the other from an address on, which led to this state
+pub record AreStored (s : State) (p address : ℕ) (bytes : List ℕ) (later : State) : Type 0 where
+  pub all : carried s (stores p address bytes) ≡ stores p address bytes
+  pub after : end_of s (stores p address bytes) ≡ later

@@ -1,0 +1,29 @@
+//! What stands at a page of a process, as it is told without a call.
+
+ghost use Rattle.std.specs.Prelude.{◌≡◌};
+ghost use Rattle.page_words.specs.Addresses.{IsUserPage};
+ghost use Rattle.kernel_calls.specs.Pages.{page_in};
+
+use address_space::Cell;
+use page_words::{Page, Pid};
+use process_table::Processes;
+
+/// What stands at a mapped page.
+#[derive(Clone, Copy, Debug, PartialEq, Eq)]
+pub struct PageState {
+    /// Its flags, and how many slots its group has.
+    pub cell: Cell,
+    /// It has no frame of its own yet.
+    pub lazy: bool,
+}
+
+/// What stands at a page of the user range; None where it is not mapped.
+pub fn state_of(processes: &Processes, pid: Pid, page: Page) -> Option<PageState>
+    requires user { IsUserPage page }
+    ensures { result ≡ page_in processes.now pid page }
+{
+    let seen = processes.seen(pid, page);
+    let cell = seen.cell()?;
+    let lazy = seen.is_lazy();
+    Some(PageState { cell, lazy })
+}

@@ -1,0 +1,241 @@
+//! A process's memory in and out, as copyin and copyout are: what the accesses of one byte each come to, up to the
+//! first that is refused or faults. Each page is looked up once, and its bytes go as one slice.
+
+ghost use Rattle.std.specs.Prelude.{◌≡◌, ◌+◌, ◌++◌, ◌<◌, ◌≤◌, Some, None, IfSome, IsSome, IsNone, true, false, length, drop, slice_index};
+ghost use Rattle.page_words.specs.Addresses.{page_number, offset_number, IsUserPage};
+ghost use Rattle.address_space.specs.Stays.{FramesStay, none_goes, of_lazy};
+ghost use Rattle.process_table.specs.Image.{StandsFor, image_of, memory_of};
+ghost use Rattle.kernel_calls.specs.Machine.{answer, answers, next, end_of, completes};
+ghost use Rattle.kernel_calls.specs.Transfers.{load_byte, store_byte, loads, stores, carried, stop_of, values, of_lazy_pages, AreLoaded, AreStored};
+
+use crate::calls::{Call, Event, Reply};
+use crate::cores::Core;
+use page_words::{Pid, Size, Vaddr, offset_of};
+
+/// How far a transfer went.
+#[derive(Clone, Copy, Debug, PartialEq, Eq)]
+pub struct Transfer {
+    /// How many bytes went.
+    pub count: usize,
+    /// What the access of the byte behind them was told, which stopped it; None where all went.
+    pub stop: Option<Reply>,
+}
+
+/// A transfer that stopped behind so many bytes.
+fn stopped_at(count: usize, reply: Reply) -> Transfer
+    ensures { result ≡ record { count = count; stop = Some reply } }
+{
+    let stop = Some(reply);
+    Transfer { count, stop }
+}
+
+/// A transfer of so many bytes that went to its end.
+fn all_of(count: usize) -> Transfer
+    ensures { result ≡ record { count = count; stop = None } }
+{
+    Transfer { count, stop: None }
+}
+
+/// The load of a byte.
+fn load_byte(pid: Pid, address: Vaddr) -> Event
+    ensures { result ≡ load_byte pid address }
+{
+    Event {
+        cpu: 0,
+        pid,
+        call: Call::Load {
+            addr: address,
+            size: Size::One,
+        },
+    }
+}
+
+/// A store to a byte.
+fn store_byte(pid: Pid, address: Vaddr, value: u8) -> Event
+    ensures { result ≡ store_byte pid address value }
+{
+    Event {
+        cpu: 0,
+        pid,
+        call: Call::Store {
+            addr: address,
+            size: Size::One,
+            value: u32::from(value),
+        },
+    }
+}
+
+/// Whether a reply is neither a refusal nor a fault.
+fn completes(reply: &Reply) -> bool
+    ensures { result ≡ completes reply.now }
+{
+    !matches!(reply, Reply::Refused(_) | Reply::Fault { .. })
+}
+
+/// How many of so many bytes from an address on lie in its page: one at least.
+fn count_in_page(address: Vaddr, left: usize) -> usize
+    requires some { 0 < left }
+    ensures within { offset_number address + result ≤ 4096 }
+    ensures some { 0 < result }
+    ensures most { result ≤ left }
+{
+    let room = 4096 - offset_of(address) as usize;
+    room.min(left)
+}
+
+impl Core {
+    /// Loads the bytes from an address on, which lie in one page. None where all went; else what the load of the first
+    /// was told, and nothing changes.
+    fn load_in_page(&mut self, pid: Pid, address: Vaddr, out: &mut [u8]) -> Option<Reply>
+        requires within { offset_number address + length out.old ≤ 4096 }
+        requires some { 0 < length out.old }
+        ensures loaded { IsNone result → AreLoaded self.old.state pid address (length out.old) out.new self.new.state }
+        ensures stay { FramesStay none_goes (memory_of self.old) (memory_of self.new) }
+        ensures user { IsNone result → IsUserPage (page_number address) }
+        ensures told { IfSome result (λ reply. reply ≡ answer self.old.state (load_byte pid address)) }
+        ensures stops { IfSome result (λ reply. completes reply ≡ false) }
+        ensures kept { IsSome result → (self.new ≡ self.old) × (out.new ≡ out.old) }
+    {
+        if self.load_mapped(pid, address, out) {
+            return None;
+        }
+        self.load_first(pid, address, out)
+    }
+
+    /// The same, where the load of the first byte comes first: it maps the page, where it may.
+    #[inline(never)]
+    fn load_first(&mut self, pid: Pid, address: Vaddr, out: &mut [u8]) -> Option<Reply>
+        requires within { offset_number address + length out.old ≤ 4096 }
+        requires some { 0 < length out.old }
+        ensures loaded { IsNone result → AreLoaded self.old.state pid address (length out.old) out.new self.new.state }
+        ensures stay { FramesStay none_goes (memory_of self.old) (memory_of self.new) }
+        ensures user { IsNone result → IsUserPage (page_number address) }
+        ensures told { IfSome result (λ reply. reply ≡ answer self.old.state (load_byte pid address)) }
+        ensures stops { IfSome result (λ reply. completes reply ≡ false) }
+        ensures kept { IsSome result → (self.new ≡ self.old) × (out.new ≡ out.old) }
+    {
+        let reply = self.reply_planned(&load_byte(pid, address));
+        if !completes(&reply) {
+            return Some(reply); // of a load
+        }
+        self.load_mapped(pid, address, out);
+        None
+    }
+
+    /// Loads page by page.
+    fn load_pages(&mut self, pid: Pid, address: Vaddr, out: &mut [u8]) -> Transfer
+        ensures count { result.count ≡ length (carried self.old.state (loads pid address (length out.old))) }
+        ensures stop { result.stop ≡ stop_of self.old.state (loads pid address (length out.old)) }
+        ensures bytes { out.new ≡ values (answers self.old.state (carried self.old.state (loads pid address (length out.old)))) ++ drop result.count out.old }
+        ensures state { self.new.state ≡ end_of self.old.state (carried self.old.state (loads pid address (length out.old))) }
+        ensures stay { FramesStay none_goes (memory_of self.old) (memory_of self.new) }
+        ensures kept { result.count ≡ 0 → self.new ≡ self.old }
+    {
+        let (mut done, mut at) = (0, address);
+        while done < out.len() {
+            let count = count_in_page(at, out.len() - done);
+            if let Some(reply) = self.load_in_page(pid, at, &mut out[done..done + count]) {
+                return stopped_at(done, reply); // loads
+            }
+            done += count;
+            at = Vaddr(at.0 + count as u32); // loads
+        }
+        all_of(done)
+    }
+
+    /// Reads a process's memory from an address on: what the loads of one byte each come to, in order, up to the first
+    /// that is refused or faults. A page that is not mapped is mapped first, which may take a table; none gets a frame.
+    /// The rest of `out` stays as it was.
+    pub fn read_bytes(&mut self, pid: Pid, address: Vaddr, out: &mut [u8]) -> Transfer
+        ensures count { result.count ≡ length (carried self.old.state (loads pid address (length out.old))) }
+        ensures stop { result.stop ≡ stop_of self.old.state (loads pid address (length out.old)) }
+        ensures bytes { out.new ≡ values (answers self.old.state (carried self.old.state (loads pid address (length out.old)))) ++ drop result.count out.old }
+        ensures state { self.new.state ≡ end_of self.old.state (carried self.old.state (loads pid address (length out.old))) }
+        ensures stay { FramesStay none_goes (memory_of self.old) (memory_of self.new) }
+        ensures stands { StandsFor (image_of self.new) self.new.state }
+        ensures kept { result.count ≡ 0 → self.new ≡ self.old }
+    {
+        let transfer = self.load_pages(pid, address, out);
+        self.stands();
+        transfer
+    }
+
+    /// Stores bytes from an address on, which lie in one page. None where all went; else what the store of the first
+    /// was told, and nothing changes.
+    fn store_in_page(&mut self, pid: Pid, address: Vaddr, part: &[u8]) -> Option<Reply>
+        requires within { offset_number address + length part.now ≤ 4096 }
+        requires some { 0 < length part.now }
+        ensures stored { IsNone result → AreStored self.old.state pid address part.now self.new.state }
+        ensures stay { FramesStay (of_lazy pid (page_number address)) (memory_of self.old) (memory_of self.new) }
+        ensures user { IsNone result → IsUserPage (page_number address) }
+        ensures told { IfSome result (λ reply. reply ≡ answer self.old.state (store_byte pid address (slice_index part.now 0))) }
+        ensures stops { IfSome result (λ reply. completes reply ≡ false) }
+        ensures kept { IsSome result → self.new ≡ self.old }
+    {
+        if self.store_taken(pid, address, part) {
+            return None;
+        }
+        self.store_first(pid, address, part)
+    }
+
+    /// The same, where the store of the first byte comes first: it maps the page or gives it a frame, where it may.
+    #[inline(never)]
+    fn store_first(&mut self, pid: Pid, address: Vaddr, part: &[u8]) -> Option<Reply>
+        requires within { offset_number address + length part.now ≤ 4096 }
+        requires some { 0 < length part.now }
+        ensures stored { IsNone result → AreStored self.old.state pid address part.now self.new.state }
+        ensures stay { FramesStay (of_lazy pid (page_number address)) (memory_of self.old) (memory_of self.new) }
+        ensures user { IsNone result → IsUserPage (page_number address) }
+        ensures told { IfSome result (λ reply. reply ≡ answer self.old.state (store_byte pid address (slice_index part.now 0))) }
+        ensures stops { IfSome result (λ reply. completes reply ≡ false) }
+        ensures kept { IsSome result → self.new ≡ self.old }
+    {
+        let reply = self.reply_planned(&store_byte(pid, address, part[0]));
+        if !completes(&reply) {
+            return Some(reply); // of a store
+        }
+        if part.len() > 1 {
+            self.stands();
+            self.store_taken(pid, Vaddr(address.0 + 1), &part[1..]);
+            return None;
+        }
+        None
+    }
+
+    /// Stores page by page.
+    fn store_pages(&mut self, pid: Pid, address: Vaddr, bytes: &[u8]) -> Transfer
+        ensures count { result.count ≡ length (carried self.old.state (stores pid address bytes.now)) }
+        ensures stop { result.stop ≡ stop_of self.old.state (stores pid address bytes.now) }
+        ensures state { self.new.state ≡ end_of self.old.state (carried self.old.state (stores pid address bytes.now)) }
+        ensures stay { FramesStay (of_lazy_pages pid address (length bytes.now)) (memory_of self.old) (memory_of self.new) }
+        ensures kept { result.count ≡ 0 → self.new ≡ self.old }
+    {
+        let (mut done, mut at) = (0, address);
+        while done < bytes.len() {
+            let count = count_in_page(at, bytes.len() - done);
+            if let Some(reply) = self.store_in_page(pid, at, &bytes[done..done + count]) {
+                return stopped_at(done, reply); // stores
+            }
+            done += count;
+            at = Vaddr(at.0 + count as u32); // stores
+        }
+        all_of(done)
+    }
+
+    /// Writes a process's memory from an address on: what the stores of one byte each come to, in order, up to the
+    /// first that is refused or faults. A page that is not mapped is mapped first, and a lazy one gets a frame. Each way
+    /// to a frame stays but those of lazy pages: whoever keeps translations invalidates those of the process's pages
+    /// from the first byte's to that of the address behind the last.
+    pub fn write_bytes(&mut self, pid: Pid, address: Vaddr, bytes: &[u8]) -> Transfer
+        ensures count { result.count ≡ length (carried self.old.state (stores pid address bytes.now)) }
+        ensures stop { result.stop ≡ stop_of self.old.state (stores pid address bytes.now) }
+        ensures state { self.new.state ≡ end_of self.old.state (carried self.old.state (stores pid address bytes.now)) }
+        ensures stay { FramesStay (of_lazy_pages pid address (length bytes.now)) (memory_of self.old) (memory_of self.new) }
+        ensures stands { StandsFor (image_of self.new) self.new.state }
+        ensures kept { result.count ≡ 0 → self.new ≡ self.old }
+    {
+        let transfer = self.store_pages(pid, address, bytes);
+        self.stands();
+        transfer
+    }
+}

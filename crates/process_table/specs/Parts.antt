@@ -1,0 +1,13 @@
+-- The state after accesses to bytes in a row, of one mapped page.
+use Rattle.std.proofs.Common.{ℕ, List}
+use Rattle.page_words.specs.Addresses.{offset_number}
+use Rattle.address_space.specs.Spaces.{accessed, stored, slot_at}
+use Rattle.process_table.specs.State.{State}
+
+-- after loads of bytes from an address on
+abbrev pub after_loads : State → ℕ → ℕ → State
+after_loads s p address = record s { spaces = accessed s.spaces (slot_at p address) }
+
+-- after stores of these bytes from an address on
+abbrev pub after_stores : State → ℕ → ℕ → List ℕ → State
+after_stores s p address bytes = record s { spaces = stored s.spaces (slot_at p address) (offset_number address) bytes }

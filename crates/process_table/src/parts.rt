@@ -1,0 +1,48 @@
+//! Parts of a process's page: bytes that are loaded or stored as one slice, as an access of each would do it.
+
+ghost use Rattle.std.specs.Prelude.{◌≡◌, ◌+◌, ◌≤◌, ◌<◌, ℕ, length, map, slice_index, true, false};
+ghost use Rattle.std.specs.List.{range_with_len};
+ghost use Rattle.page_words.specs.Addresses.{page_number, offset_number, IsUserPage};
+ghost use Rattle.address_space.specs.Image.{takes_stores};
+ghost use Rattle.address_space.specs.Spaces.{slot_at, byte_at};
+ghost use Rattle.address_space.specs.Stays.{FramesStay, none_goes};
+ghost use Rattle.process_table.specs.Image.{memory_of};
+ghost use Rattle.process_table.specs.Parts.{after_loads, after_stores};
+ghost use Rattle.process_table.specs.State.{is_live, is_mapped};
+
+use crate::processes::Processes;
+use page_words::{Pid, Vaddr};
+
+impl Processes {
+    /// Loads the bytes from an address on, which lie in one page of the user range, where it is mapped: they are copied
+    /// out, and accessed is set. Whether it is mapped; where it isn't, nothing changes.
+    pub fn try_load_part(&mut self, pid: Pid, address: Vaddr, out: &mut [u8]) -> bool
+        requires within { offset_number address + length out.old ≤ 4096 }
+        requires user { IsUserPage (page_number address) }
+        ensures mapped { result ≡ is_mapped self.old.state (slot_at pid address) }
+        ensures live { result ≡ true → is_live self.old.state pid ≡ true }
+        ensures bytes { result ≡ true → out.new ≡ map (byte_at self.old.state.spaces pid) (range_with_len address (length out.old)) }
+        ensures state { result ≡ true → self.new.state ≡ after_loads self.old.state pid address }
+        ensures stay { FramesStay none_goes (memory_of self.old) (memory_of self.new) }
+        ensures roles { self.new.roles ≡ self.old.roles }
+        ensures none { result ≡ false → (self.new ≡ self.old) × (out.new ≡ out.old) }
+    {
+        self.spaces.try_read_part(pid, address, out)
+    }
+
+    /// Stores bytes from an address on, which lie in one page of the user range, where it takes a store as memory
+    /// stands: it is mapped, with the right to write, and isn't lazy; accessed and dirty are set. Whether it is so;
+    /// where it isn't, nothing changes.
+    pub fn try_store_part(&mut self, pid: Pid, address: Vaddr, part: &[u8]) -> bool
+        requires within { offset_number address + length part.now ≤ 4096 }
+        requires user { IsUserPage (page_number address) }
+        ensures done { result ≡ takes_stores self.old.state.spaces (memory_of self.old) (slot_at pid address) }
+        ensures live { result ≡ true → is_live self.old.state pid ≡ true }
+        ensures state { result ≡ true → self.new.state ≡ after_stores self.old.state pid address part.now }
+        ensures stay { FramesStay none_goes (memory_of self.old) (memory_of self.new) }
+        ensures roles { self.new.roles ≡ self.old.roles }
+        ensures none { result ≡ false → self.new ≡ self.old }
+    {
+        self.spaces.try_write_part(pid, address, part)
+    }
+}
