@@ -1,6 +1,7 @@
 /* The same through the library: the nanoseconds of a million loads, and of a million maps with unmaps, the
- * best of fifteen runs. */
+ * best of fifteen runs; and those of one copy of a page's 4,096 bytes, in each of five ways. */
 #include <stdio.h>
+#include <string.h>
 #include <time.h>
 
 #include "tower.h"
@@ -37,6 +38,65 @@ static unsigned long long maps(void) {
     return now() - start;
 }
 
+enum { BYTES = 4096, COPIES = 20000 };
+
+static const uint32_t FROM = 0x40000000;
+static uint8_t copy[BYTES];
+
+/* A page by loads of four bytes. */
+static void by_events(void) {
+    struct tower_event load = {.call = TOWER_LOAD, .flag = 4};
+    struct tower_reply reply;
+    for (uint32_t at = 0; at < BYTES; at += 4) {
+        load.first = FROM + at;
+        tower_step(&tower, &load, &reply);
+        memcpy(copy + at, &reply.first, 4);
+    }
+}
+
+/* The same loads, in one run. */
+static void by_run(void) {
+    static struct tower_event events[BYTES / 4];
+    static struct tower_reply replies[BYTES / 4];
+    for (uint32_t i = 0; i < BYTES / 4; i++) {
+        events[i] = (struct tower_event){.call = TOWER_LOAD, .flag = 4, .first = FROM + 4 * i};
+    }
+    tower_run(&tower, events, BYTES / 4, replies, BYTES / 4);
+    for (uint32_t i = 0; i < BYTES / 4; i++) {
+        memcpy(copy + 4 * i, &replies[i].first, 4);
+    }
+}
+
+static void by_read(void) {
+    struct tower_reply stop;
+    size_t moved;
+    tower_read(&tower, 0, FROM, copy, BYTES, &moved, &stop);
+}
+
+static void by_write(void) {
+    struct tower_reply stop;
+    size_t moved;
+    tower_write(&tower, 0, FROM, copy, BYTES, &moved, &stop);
+}
+
+/* By a walk of the tables, and the memory that it leads to. */
+static void by_walk(void) {
+    struct tower_memory memory;
+    struct tower_walk found;
+    tower_memory(&tower, &memory);
+    tower_walk(&tower, 0, FROM, false, &found);
+    memcpy(copy, (const uint8_t *)memory.begins + (size_t)BYTES * found.frame, BYTES);
+}
+
+/* A page's time: so many times, as each way takes. */
+static unsigned long long copies(void (*way)(void), int times) {
+    unsigned long long start = now();
+    for (int i = 0; i < times; i++) {
+        way();
+    }
+    return (now() - start) * (COPIES / times);
+}
+
 static unsigned long long least(unsigned long long one, unsigned long long other) {
     return one < other ? one : other;
 }
@@ -52,7 +112,17 @@ int main(void) {
         load = least(load, loads());
         map = least(map, maps());
     }
-    tower_free(&tower);
     printf("load %llu\nmap %llu\n", load, map);
+    const struct { const char *name; void (*way)(void); int times; } ways[] = {
+        {"events", by_events, 200}, {"run", by_run, 200}, {"read", by_read, COPIES}, {"write", by_write, COPIES},
+        {"walk", by_walk, COPIES}};
+    for (size_t nth = 0; nth < sizeof ways / sizeof *ways; nth++) {
+        unsigned long long best = ~0ull;
+        for (int i = 0; i < RUNS; i++) {
+            best = least(best, copies(ways[nth].way, ways[nth].times));
+        }
+        printf("copy-%s %llu\n", ways[nth].name, best / COPIES);
+    }
+    tower_free(&tower);
     return 0;
 }

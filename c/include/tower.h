@@ -28,7 +28,7 @@ extern "C" {
 
 /* 10,000 for each major version, 100 for each minor one, 1 for each patch: the header's, and by
  * tower_version() the library's. */
-#define TOWER_VERSION 100
+#define TOWER_VERSION 200
 
 /* Limits. A page is an address without its last 12 bits; the user range has the pages from
  * TOWER_FIRST_PAGE to TOWER_LAST_PAGE. A process's number is below TOWER_PROCESSES. */
@@ -44,7 +44,11 @@ struct tower {
     bool live;
     void *core;
 };
-#define TOWER_NONE {false, 0}
+#ifdef __cplusplus
+#define TOWER_NONE {false, nullptr}
+#else
+#define TOWER_NONE {false, NULL}
+#endif
 
 /* What tower_boot answers. All but the first leave the handle as it was. */
 enum tower_status {
@@ -53,6 +57,17 @@ enum tower_status {
     TOWER_NO_MEMORY = 2,
     TOWER_HAS_CORE = 3,     /* the handle has a core already */
 };
+
+/* The name of a status; "" for a number of none. */
+static inline const char *tower_status_name(uint32_t status) {
+    switch (status) {
+    case TOWER_BOOTED: return "Booted";
+    case TOWER_BAD_SIZE: return "BadSize";
+    case TOWER_NO_MEMORY: return "NoMemory";
+    case TOWER_HAS_CORE: return "HasCore";
+    default: return "";
+    }
+}
 
 /* The calls, and what each takes:    flag                first          second    third  */
 enum tower_call {
@@ -70,6 +85,26 @@ enum tower_call {
     TOWER_QUOTA = 11,
     TOWER_FORK = 12,               /*                     quota                           */
 };
+
+/* The name of a call, as docs/MACHINE.md has it; "" for a number of no call. */
+static inline const char *tower_call_name(uint32_t call) {
+    switch (call) {
+    case TOWER_LOAD: return "Load";
+    case TOWER_STORE: return "Store";
+    case TOWER_MAP: return "Map";
+    case TOWER_UNMAP: return "Unmap";
+    case TOWER_PROTECT: return "Protect";
+    case TOWER_INFO: return "Info";
+    case TOWER_OFFER: return "Offer";
+    case TOWER_WITHDRAW: return "Withdraw";
+    case TOWER_ACCEPT: return "Accept";
+    case TOWER_SPAWN: return "Spawn";
+    case TOWER_EXIT: return "Exit";
+    case TOWER_QUOTA: return "Quota";
+    case TOWER_FORK: return "Fork";
+    default: return "";
+    }
+}
 
 /* One event. A page is an address without its last 12 bits, a process 0 to 63. What a call does not take
  * is not read. Any other number of a call, process, size or right is no event. */
@@ -94,6 +129,21 @@ enum tower_kind {
     TOWER_REFUSED = 6,                       /* cause                      */
     TOWER_NO_EVENT = 7,                      /* the numbers were no event  */
 };
+
+/* The name of a kind of reply, as docs/MACHINE.md has it; "" for a number of no kind. */
+static inline const char *tower_kind_name(uint32_t kind) {
+    switch (kind) {
+    case TOWER_DONE: return "Done";
+    case TOWER_VALUE: return "Value";
+    case TOWER_CHILD: return "Child";
+    case TOWER_FLAGS: return "Info";
+    case TOWER_USAGE: return "Quota";
+    case TOWER_FAULT: return "Fault";
+    case TOWER_REFUSED: return "Refused";
+    case TOWER_NO_EVENT: return "NoEvent";
+    default: return "";
+    }
+}
 
 enum tower_cause {
     TOWER_NO_PROCESS = 1,
@@ -181,6 +231,16 @@ enum tower_end {
     TOWER_WALK_OUTSIDE = 2,  /* at a word that names no frame of memory; a booted core has none */
 };
 
+/* The name of a walk's end; "" for a number of none. */
+static inline const char *tower_end_name(uint32_t end) {
+    switch (end) {
+    case TOWER_WALK_FRAME: return "Frame";
+    case TOWER_WALK_FAULT: return "Fault";
+    case TOWER_WALK_OUTSIDE: return "Outside";
+    default: return "";
+    }
+}
+
 struct tower_walk {
     uint32_t kind;
     uint32_t frame;
@@ -216,6 +276,24 @@ bool tower_step(struct tower *tower, const struct tower_event *event, struct tow
 bool tower_run(struct tower *tower, const struct tower_event *events, size_t event_count,
                struct tower_reply *replies, size_t reply_count);
 
+/* Carries out events in order up to the first that is refused, faults or is no event, and writes the reply to each in
+ * its place, to that one too; the other places stay as they were. `carried` is how many were carried out, and so the
+ * place of that one; where all were, it is their number. False as for tower_run: nothing is written then. */
+bool tower_run_until(struct tower *tower, const struct tower_event *events, size_t event_count,
+                     struct tower_reply *replies, size_t reply_count, size_t *carried);
+
+/* A process's memory in and out, as copyin and copyout are: what a load, or a store, of one byte each comes to, in
+ * order, up to the first that is refused or faults. `moved` is how many bytes went, and `stop` what stopped it:
+ * TOWER_DONE where all went, TOWER_NO_EVENT where pid is no process's number. A read leaves the other bytes as they
+ * were; it maps a page that is not mapped, as a load does, and gives none a frame. A write gives lazy
+ * pages frames: whoever keeps translations invalidates those of the process's pages from the first byte's to that of the
+ * address behind the last, before any access or event that comes next. False where the handle has no core: nothing is
+ * written then. */
+bool tower_read(struct tower *tower, uint32_t pid, uint32_t address, uint8_t *bytes, size_t byte_count, size_t *moved,
+                struct tower_reply *stop);
+bool tower_write(struct tower *tower, uint32_t pid, uint32_t address, const uint8_t *bytes, size_t byte_count,
+                 size_t *moved, struct tower_reply *stop);
+
 /* Which cached translations an event will end: a processor that keeps what its walks gave invalidates these once
  * the event is carried out, and no others. It changes nothing of the core. False where the handle has no core or
  * the numbers are no event: nothing is written then. */
@@ -240,6 +318,21 @@ bool tower_container(const struct tower *tower, uint32_t pid, struct tower_conta
 bool tower_role(const struct tower *tower, uint32_t frame, struct tower_role *role);
 bool tower_walk(const struct tower *tower, uint32_t pid, uint32_t address, bool write, struct tower_walk *found);
 bool tower_copy_frame(const struct tower *tower, uint32_t frame, uint8_t *bytes, size_t byte_count);
+
+/* What stands at a mapped page. */
+struct tower_page {
+    uint32_t holders;  /* slots that share it, this one among them */
+    bool write;
+    bool may;
+    bool accessed;
+    bool dirty;
+    bool lazy;         /* it has no frame of its own yet */
+};
+
+/* The least page from `from` on that a process has mapped, and what stands there. It changes nothing of the core. False
+ * where there is no core, pid is no process's number, or the process has no page from there on: nothing is written
+ * then. To go over all pages, begin with 0, and go on behind the page that was told. */
+bool tower_next_page(const struct tower *tower, uint32_t pid, uint32_t from, uint32_t *page, struct tower_page *found);
 
 /* Where the core's memory lies, from the boot until tower_free: frame f is the 4,096 bytes from place
  * 4,096 f on. It begins where rattle_alloc put the block. Between two calls a processor that walks the

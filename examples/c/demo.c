@@ -138,7 +138,21 @@ static void asks(void) {
     expect(!tower_copy_frame(&tower, 0, little, sizeof little), "100 bytes are no room for a frame");
     expect(tower_memory(&tower, &memory) && memory.length == 64 * TOWER_FRAME_BYTES, "its memory is that of 64 frames");
     expect(tower_version() == TOWER_VERSION, "header and library are of one version");
-    expect(strcmp(tower_cause_name(TOWER_OVER_QUOTA), "Quota") == 0 && !*tower_cause_name(3), "causes have names");
+}
+
+static bool is_named(const char *given, const char *name) {
+    return strcmp(given, name) == 0;
+}
+
+static void names(void) {
+    expect(is_named(tower_cause_name(TOWER_OVER_QUOTA), "Quota") && is_named(tower_cause_name(3), ""),
+           "causes have names");
+    expect(is_named(tower_call_name(TOWER_FORK), "Fork") && is_named(tower_call_name(13), ""), "calls too");
+    expect(is_named(tower_kind_name(TOWER_FLAGS), "Info") && is_named(tower_kind_name(8), ""), "and kinds of replies");
+    expect(is_named(tower_status_name(TOWER_HAS_CORE), "HasCore") && is_named(tower_status_name(4), ""),
+           "and statuses");
+    expect(is_named(tower_end_name(TOWER_WALK_OUTSIDE), "Outside") && is_named(tower_end_name(3), ""),
+           "and ends of a walk");
 }
 
 static void runs(void) {
@@ -151,13 +165,63 @@ static void runs(void) {
     expect(replies[1].kind == TOWER_NO_EVENT && replies[2].kind == TOWER_NO_EVENT, "the others are no events");
 }
 
+/* Stops at the second event, which is refused: the third is not made. */
+static void runs_until(void) {
+    struct tower_event map = {.call = TOWER_MAP, .flag = 1, .first = PAGE + 9};
+    struct tower_event events[3] = {map, map, {.call = TOWER_UNMAP, .first = PAGE + 9}};
+    struct tower_reply replies[3] = {{.kind = 99}, {.kind = 99}, {.kind = 99}};
+    size_t carried = 99;
+    expect(!tower_run_until(&tower, events, 3, replies, 2, &carried) && carried == 99, "no room for a reply, no run");
+    expect(tower_run_until(&tower, events, 3, replies, 3, &carried) && carried == 1, "a run stops at a refusal");
+    expect(replies[0].kind == TOWER_DONE && replies[1].first == TOWER_MAPPED && replies[2].kind == 99,
+           "and tells which");
+}
+
+/* Copies over two pages, out and in again, and stops where the user range ends. */
+static void copies(void) {
+    static uint8_t wrote[6000], read[6000];
+    struct tower_reply stop = {0};
+    size_t moved = 0;
+    for (size_t i = 0; i < sizeof wrote; i++) {
+        wrote[i] = (uint8_t)(i * 7);
+    }
+    expect(tower_write(&tower, 0, ADDRESS + 100, wrote, sizeof wrote, &moved, &stop) && moved == sizeof wrote &&
+               stop.kind == TOWER_DONE, "6,000 bytes are written");
+    expect(tower_read(&tower, 0, ADDRESS + 100, read, sizeof read, &moved, &stop) && moved == sizeof read &&
+               memcmp(read, wrote, sizeof read) == 0, "and read again");
+    expect(loads((struct tower_event){.call = TOWER_LOAD, .flag = 1, .first = ADDRESS + 107}, 49),
+           "as a load reads them");
+    expect(tower_write(&tower, 0, 0xeffffffe, wrote, 3, &moved, &stop) && moved == 2 && stop.kind == TOWER_FAULT &&
+               stop.first == 0xf0000000, "a write stops at the first byte that faults");
+    expect(tower_read(&tower, 64, ADDRESS, read, 1, &moved, &stop) && moved == 0 && stop.kind == TOWER_NO_EVENT,
+           "process 64 is none");
+}
+
+static void goes_over_pages(void) {
+    struct tower_page found = {0};
+    uint32_t page = 0, count = 0, last = 0;
+    for (uint32_t from = 0; tower_next_page(&tower, 0, from, &page, &found); from = page + 1) {
+        count++;
+        last = page;
+    }
+    expect(count == 4 && last == TOWER_LAST_PAGE && found.dirty && !found.lazy, "process 0 has four pages");
+    expect(tower_next_page(&tower, 1, 0, &page, &found) && page == OTHER_PAGE && found.holders == 2,
+           "process 1 shares one");
+    expect(!tower_next_page(&tower, 2, 0, &page, &found) && !tower_next_page(&tower, 64, 0, &page, &found),
+           "no process 2 or 64");
+}
+
 int main(void) {
     boots();
     maps_and_loads();
     shares();
     tells_what_ends();
     asks();
+    names();
     runs();
+    runs_until();
+    copies();
+    goes_over_pages();
     tower_free(&tower);
     tower_free(&tower);
     expect(!tower.live && tower_frames(&tower) == 0, "freed");

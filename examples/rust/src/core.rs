@@ -1,5 +1,6 @@
 //! A booted core: all calls and queries of the library.
 
+use crate::VERSION;
 use crate::raw;
 use crate::words::{
     Access, Container, Ended, Event, FRAME_BYTES, Frame, Page, Pid, Reply, Role, Vaddr, WalkEnd,
@@ -7,11 +8,16 @@ use crate::words::{
 use ::core::cell::UnsafeCell;
 use ::core::error::Error;
 use ::core::fmt;
-use ::core::ptr::null_mut;
+use ::core::ptr::{NonNull, null_mut};
 
 /// Why no core is booted.
-#[derive(Clone, Copy, Debug, PartialEq, Eq)]
+#[derive(Clone, Copy, Debug, PartialEq, Eq, Hash)]
 pub enum BootFault {
+    /// The library is of another version than the header that this crate was written to.
+    OtherVersion {
+        /// The library's, as [`version`] gives it.
+        library: u32,
+    },
     /// The number of frames is not 16 to 4,096.
     BadSize,
     /// There is no memory.
@@ -20,20 +26,32 @@ pub enum BootFault {
 
 impl fmt::Display for BootFault {
     fn fmt(&self, to: &mut fmt::Formatter<'_>) -> fmt::Result {
-        to.write_str(match self {
-            BootFault::BadSize => "frames must be 16 to 4096",
-            BootFault::NoMemory => "out of memory",
-        })
+        match self {
+            BootFault::OtherVersion { library } => {
+                write!(to, "the library is of version {library}, and not {VERSION}")
+            }
+            BootFault::BadSize => to.write_str("frames must be 16 to 4096"),
+            BootFault::NoMemory => to.write_str("out of memory"),
+        }
     }
 }
 
 impl Error for BootFault {}
 
 /// There are not as many places for replies as events.
-#[derive(Clone, Copy, Debug, PartialEq, Eq)]
+#[derive(Clone, Copy, Debug, PartialEq, Eq, Hash)]
 pub struct UnequalLengths;
 
+impl fmt::Display for UnequalLengths {
+    fn fmt(&self, to: &mut fmt::Formatter<'_>) -> fmt::Result {
+        to.write_str("there are not as many places for replies as events")
+    }
+}
+
+impl Error for UnequalLengths {}
+
 /// The library's version: 10,000 for each major version, 100 for each minor one, 1 for each patch.
+#[must_use]
 pub fn version() -> u32 {
     raw::tower_version()
 }
@@ -53,13 +71,21 @@ unsafe impl Send for Core {}
 impl Core {
     /// A machine of so many frames, 16 to 4,096, as it boots: process 0 alone, with all frames but one as its
     /// quota.
+    ///
+    /// # Errors
+    ///
+    /// `OtherVersion` where the library that was linked is not of [`VERSION`]; else `BadSize` where the number of
+    /// frames is not 16 to 4,096; else `NoMemory` where there is none for them.
     pub fn boot(frames: u32) -> Result<Core, BootFault> {
+        if version() != VERSION {
+            return Err(BootFault::OtherVersion { library: version() });
+        }
         let mut handle = raw::Tower {
             live: false,
             core: null_mut(),
         };
         // SAFETY: the handle is all zeros, and nobody else has it.
-        match unsafe { raw::tower_boot(frames, &mut handle) } {
+        match unsafe { raw::tower_boot(frames, &raw mut handle) } {
             0 => Ok(Core {
                 handle: UnsafeCell::new(handle),
             }),
@@ -68,20 +94,31 @@ impl Core {
         }
     }
 
+    /// The handle, for a call.
+    pub(crate) fn handle_mut(&mut self) -> *mut raw::Tower {
+        self.handle.get_mut()
+    }
+
+    /// The handle, for a query.
+    pub(crate) fn handle(&self) -> *const raw::Tower {
+        self.handle.get()
+    }
+
     /// Carries out one event.
     pub fn step(&mut self, event: &Event) -> Reply {
         let mut reply = raw::Reply::default();
         // SAFETY: the handle was booted and is borrowed alone; all three lie apart.
-        unsafe { raw::tower_step(self.handle.get_mut(), &event.into(), &mut reply) };
+        unsafe { raw::tower_step(self.handle.get_mut(), &event.into(), &raw mut reply) };
         (&reply).into()
     }
 
     /// Which cached translations an event will end. Whoever keeps what walks gave invalidates these once it is
     /// carried out; where other events may come in between, `step_ending` tells them with the event.
+    #[must_use]
     pub fn ends(&self, event: &Event) -> Ended {
         let mut ended = raw::Ended::default();
         // SAFETY: as for `frames`, and the event and `ended` lie apart.
-        unsafe { raw::tower_ends(self.handle.get(), &event.into(), &mut ended) };
+        unsafe { raw::tower_ends(self.handle.get(), &event.into(), &raw mut ended) };
         ended.into()
     }
 
@@ -93,12 +130,21 @@ impl Core {
         let mut ended = raw::Ended::default();
         // SAFETY: as for `step`, and `ended` lies apart from the others.
         unsafe {
-            raw::tower_step_ending(self.handle.get_mut(), &event.into(), &mut reply, &mut ended)
+            raw::tower_step_ending(
+                self.handle.get_mut(),
+                &event.into(),
+                &raw mut reply,
+                &raw mut ended,
+            )
         };
         ((&reply).into(), ended.into())
     }
 
     /// Carries out events in order, and writes the reply to each in its place.
+    ///
+    /// # Errors
+    ///
+    /// Where there are not as many places for replies as events; then nothing is done.
     pub fn run(&mut self, events: &[Event], replies: &mut [Reply]) -> Result<(), UnequalLengths> {
         if events.len() != replies.len() {
             return Err(UnequalLengths);
@@ -107,6 +153,57 @@ impl Core {
             self.run_chunk(events, replies);
         }
         Ok(())
+    }
+
+    /// Carries out events in order up to the first that is refused or faults, and writes the reply to each in its
+    /// place, to that one too; the other places stay as they were. How many were carried out, which is the place of that
+    /// one.
+    ///
+    /// # Errors
+    ///
+    /// Where there are not as many places for replies as events; then nothing is done.
+    pub fn run_until(
+        &mut self,
+        events: &[Event],
+        replies: &mut [Reply],
+    ) -> Result<usize, UnequalLengths> {
+        if events.len() != replies.len() {
+            return Err(UnequalLengths);
+        }
+        let mut carried = 0;
+        for (events, replies) in events.chunks(CHUNK).zip(replies.chunks_mut(CHUNK)) {
+            let here = self.run_chunk_until(events, replies);
+            carried += here;
+            if here < events.len() {
+                break;
+            }
+        }
+        Ok(carried)
+    }
+
+    /// At most `CHUNK` events, with as many places for replies.
+    fn run_chunk_until(&mut self, events: &[Event], replies: &mut [Reply]) -> usize {
+        let mut asked = [raw::Event::default(); CHUNK];
+        let mut told = [raw::Reply::default(); CHUNK];
+        for (raw, event) in asked.iter_mut().zip(events) {
+            *raw = event.into();
+        }
+        let (count, mut carried) = (events.len(), 0);
+        // SAFETY: as for `run_chunk`, and `carried` lies apart from the others.
+        unsafe {
+            raw::tower_run_until(
+                self.handle.get_mut(),
+                asked.as_ptr(),
+                count,
+                told.as_mut_ptr(),
+                count,
+                &raw mut carried,
+            )
+        };
+        for (reply, raw) in replies.iter_mut().zip(&told).take(carried + 1) {
+            *reply = raw.into();
+        }
+        carried
     }
 
     /// At most `CHUNK` events, with as many places for replies.
@@ -133,39 +230,45 @@ impl Core {
     }
 
     /// How many frames the machine has.
+    #[must_use]
     pub fn frames(&self) -> u32 {
         // SAFETY: the handle was booted; as a `Core` is not `Sync`, no other call has it.
         unsafe { raw::tower_frames(self.handle.get()) }
     }
 
     /// The frame of a process's directory; None where the process is not live.
+    #[must_use]
     pub fn directory(&self, pid: Pid) -> Option<Frame> {
         let mut frame = 0;
         // SAFETY: as for `frames`, and `frame` lies apart.
         let is_there =
-            unsafe { raw::tower_directory(self.handle.get(), pid.number().into(), &mut frame) };
+            unsafe { raw::tower_directory(self.handle.get(), pid.number().into(), &raw mut frame) };
         is_there.then_some(Frame(frame))
     }
 
     /// What a process may use, uses and gives; None where it is not live.
+    #[must_use]
     pub fn container(&self, pid: Pid) -> Option<Container> {
         let mut container = raw::Container::default();
         // SAFETY: as for `directory`.
-        let is_there =
-            unsafe { raw::tower_container(self.handle.get(), pid.number().into(), &mut container) };
+        let is_there = unsafe {
+            raw::tower_container(self.handle.get(), pid.number().into(), &raw mut container)
+        };
         is_there.then(|| container.into())
     }
 
     /// What a frame serves; None where memory has no such frame.
+    #[must_use]
     pub fn role(&self, frame: Frame) -> Option<Role> {
         let mut role = raw::Role::default();
         // SAFETY: as for `directory`.
-        let is_there = unsafe { raw::tower_role(self.handle.get(), frame.0, &mut role) };
+        let is_there = unsafe { raw::tower_role(self.handle.get(), frame.0, &raw mut role) };
         is_there.then(|| role.into())
     }
 
     /// How the processor's walk of a process's tables ends, for an access to a byte; None where the process
     /// is not live.
+    #[must_use]
     pub fn walk(&self, pid: Pid, addr: Vaddr, access: Access) -> Option<Result<Frame, WalkEnd>> {
         let mut found = raw::Walk::default();
         let write = access == Access::Write;
@@ -176,18 +279,46 @@ impl Core {
                 pid.number().into(),
                 addr.0,
                 write,
-                &mut found,
+                &raw mut found,
             )
         };
         is_there.then(|| found.into())
     }
 
     /// Copies a frame's bytes out; false where memory has no such frame, and then nothing is written.
+    #[must_use = "there may be no such frame"]
     pub fn copy_frame(&self, frame: Frame, bytes: &mut [u8; FRAME_BYTES]) -> bool {
         // SAFETY: as for `directory`, and the length is the array's.
         unsafe {
             raw::tower_copy_frame(self.handle.get(), frame.0, bytes.as_mut_ptr(), FRAME_BYTES)
         }
+    }
+
+    /// Where the machine's memory lies, until the core is dropped: frame f is the 4,096 bytes from place 4,096 f on. It
+    /// is for a processor that walks the core's directories, which may write there between two calls as
+    /// docs/C-LIBRARY.md says, and for nobody else.
+    ///
+    /// # Panics
+    ///
+    /// Never: a booted core has a memory.
+    #[must_use]
+    pub fn memory(&self) -> NonNull<[u8]> {
+        let mut memory = raw::Memory {
+            begins: null_mut(),
+            length: 0,
+        };
+        // SAFETY: as for `directory`.
+        unsafe { raw::tower_memory(self.handle.get(), &raw mut memory) };
+        let begins = NonNull::new(memory.begins).expect("a booted core has a memory");
+        NonNull::slice_from_raw_parts(begins, memory.length)
+    }
+}
+
+impl fmt::Debug for Core {
+    fn fmt(&self, to: &mut fmt::Formatter<'_>) -> fmt::Result {
+        to.debug_struct("Core")
+            .field("frames", &self.frames())
+            .finish_non_exhaustive()
     }
 }
 
@@ -200,6 +331,7 @@ impl Drop for Core {
 
 impl Vaddr {
     /// The page of an address.
+    #[must_use]
     pub const fn page(self) -> Page {
         Page(self.0 >> 12)
     }

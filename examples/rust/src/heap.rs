@@ -2,6 +2,8 @@
 //!
 //! `rattle_dealloc` is told no size, so each block has its size in the 16 bytes before it.
 
+#![allow(clippy::cast_ptr_alignment)] // (a block lies at a multiple of 16, and its size at its beginning)
+
 extern crate alloc;
 
 use ::core::alloc::Layout;

@@ -9,28 +9,32 @@
 //!
 //! let mut core = Core::boot(16)?;
 //! let (page, addr) = (Page(0x40000), Vaddr(0x4000_0ffc));
-//! let calls = [
-//!     Call::Map { page, write: true },
-//!     Call::Store { addr, size: Size::Four, value: 7 },
-//!     Call::Load { addr, size: Size::Four },
-//! ];
-//! let replies = calls.map(|call| core.step(&Event { cpu: 0, pid: Pid::ROOT, call }));
-//! assert_eq!(replies, [Reply::Done, Reply::Done, Reply::Value(7)]);
-//! # Ok::<(), tower::BootFault>(())
+//! core.map(Pid::ROOT, page, true)?;
+//! core.store(Pid::ROOT, addr, Size::Four, 7)?;
+//! assert_eq!(core.load(Pid::ROOT, addr, Size::Four)?, 7);
+//! let call = Call::Quota;
+//! let told = Reply::Quota { quota: 15, used: 3, given: 0 };
+//! assert_eq!(core.step(&Event { cpu: 0, pid: Pid::ROOT, call }), told);
+//! # Ok::<(), Box<dyn std::error::Error>>(())
 //! ```
 #![no_std]
+#![warn(missing_docs)]
 
+mod calls;
 mod core;
 #[cfg(feature = "heap")]
 mod heap;
+mod memory;
 mod raw;
 mod words;
 
+pub use calls::{Info, Usage};
 pub use core::{BootFault, Core, UnequalLengths, version};
+pub use memory::{Mapped, Pages, Stopped};
 pub use words::{
-    Access, Call, Cause, Container, Ended, Event, FRAME_BYTES, Frame, Page, Pid, Reply, Role, Size,
-    Vaddr, WalkEnd,
+    Access, Call, Cause, Container, Ended, Event, FRAME_BYTES, Frame, Page, Pid, Refusal, Reply,
+    Role, Size, Vaddr, WalkEnd,
 };
 
 /// The version of the header that this crate was written to; [`version`] is the library's.
-pub const VERSION: u32 = 100;
+pub const VERSION: u32 = 200;

@@ -70,11 +70,29 @@ pub struct Ended {
     pub second: u32,
 }
 
+#[repr(C)]
+#[derive(Clone, Copy, Default)]
+#[allow(clippy::struct_excessive_bools)] // (as the header has it)
+pub struct Page {
+    pub holders: u32,
+    pub write: bool,
+    pub may: bool,
+    pub accessed: bool,
+    pub dirty: bool,
+    pub lazy: bool,
+}
+
+#[repr(C)]
+pub struct Memory {
+    pub begins: *mut u8,
+    pub length: usize,
+}
+
 // The sizes that c/layout holds the header to.
 const _: () = {
     assert!(size_of::<Tower>() == 16 && size_of::<Event>() == 16 && size_of::<Reply>() == 20);
     assert!(size_of::<Role>() == 16 && size_of::<Container>() == 20 && size_of::<Walk>() == 12);
-    assert!(size_of::<Ended>() == 16);
+    assert!(size_of::<Ended>() == 16 && size_of::<Memory>() == 16 && size_of::<Page>() == 12);
 };
 
 unsafe extern "C" {
@@ -87,6 +105,39 @@ unsafe extern "C" {
         event_count: usize,
         replies: *mut Reply,
         reply_count: usize,
+    ) -> bool;
+    pub fn tower_run_until(
+        tower: *mut Tower,
+        events: *const Event,
+        event_count: usize,
+        replies: *mut Reply,
+        reply_count: usize,
+        carried: *mut usize,
+    ) -> bool;
+    pub fn tower_read(
+        tower: *mut Tower,
+        pid: u32,
+        address: u32,
+        bytes: *mut u8,
+        byte_count: usize,
+        moved: *mut usize,
+        stop: *mut Reply,
+    ) -> bool;
+    pub fn tower_write(
+        tower: *mut Tower,
+        pid: u32,
+        address: u32,
+        bytes: *const u8,
+        byte_count: usize,
+        moved: *mut usize,
+        stop: *mut Reply,
+    ) -> bool;
+    pub fn tower_next_page(
+        tower: *const Tower,
+        pid: u32,
+        from: u32,
+        page: *mut u32,
+        found: *mut Page,
     ) -> bool;
     pub fn tower_ends(tower: *const Tower, event: *const Event, ended: *mut Ended) -> bool;
     pub fn tower_step_ending(
@@ -112,5 +163,6 @@ unsafe extern "C" {
         bytes: *mut u8,
         byte_count: usize,
     ) -> bool;
+    pub fn tower_memory(tower: *const Tower, memory: *mut Memory) -> bool;
     pub fn tower_free(tower: *mut Tower);
 }

@@ -8,144 +8,263 @@ use ::core::fmt;
 pub const FRAME_BYTES: usize = 4096;
 
 /// A virtual address.
-#[derive(Clone, Copy, Debug, PartialEq, Eq)]
+#[derive(Clone, Copy, Debug, PartialEq, Eq, PartialOrd, Ord, Hash)]
 pub struct Vaddr(pub u32);
 
 /// A page: an address without its last 12 bits.
-#[derive(Clone, Copy, Debug, PartialEq, Eq)]
+#[derive(Clone, Copy, Debug, PartialEq, Eq, PartialOrd, Ord, Hash)]
 pub struct Page(pub u32);
 
 /// A frame of memory.
-#[derive(Clone, Copy, Debug, PartialEq, Eq)]
+#[derive(Clone, Copy, Debug, PartialEq, Eq, PartialOrd, Ord, Hash)]
 pub struct Frame(pub u32);
 
 /// The number of a process, 0 to 63.
-#[derive(Clone, Copy, Debug, PartialEq, Eq)]
+#[derive(Clone, Copy, Debug, PartialEq, Eq, PartialOrd, Ord, Hash)]
 pub struct Pid(u8);
 
 impl Pid {
     /// Process 0, which a machine boots with.
     pub const ROOT: Pid = Pid(0);
 
-    /// None from 64 on.
+    /// The process of that number; None from 64 on.
+    #[must_use]
     pub const fn new(number: u8) -> Option<Pid> {
         if number < 64 { Some(Pid(number)) } else { None }
     }
 
+    /// Its number.
+    #[must_use]
     pub const fn number(self) -> u8 {
         self.0
     }
 }
 
 /// How many bytes an access covers.
-#[derive(Clone, Copy, Debug, PartialEq, Eq)]
+#[derive(Clone, Copy, Debug, PartialEq, Eq, PartialOrd, Ord, Hash)]
 pub enum Size {
+    /// One byte.
     One = 1,
+    /// Two bytes.
     Two = 2,
+    /// Four bytes.
     Four = 4,
 }
 
 /// A call; docs/MACHINE.md says what each does.
-#[derive(Clone, Copy, Debug, PartialEq, Eq)]
+#[derive(Clone, Copy, Debug, PartialEq, Eq, Hash)]
 pub enum Call {
+    /// Reads the bytes at an address. They may lie in two pages.
     Load {
+        /// The first byte.
         addr: Vaddr,
+        /// How many there are.
         size: Size,
     },
+    /// Writes the low bytes of a value at an address. They may lie in two pages.
     Store {
+        /// The first byte.
         addr: Vaddr,
+        /// How many there are.
         size: Size,
+        /// What is written, the lowest byte first.
         value: u32,
     },
+    /// Maps a page of zeros.
     Map {
+        /// The page, which must not be mapped.
         page: Page,
+        /// Whether the process may write to it.
         write: bool,
     },
+    /// Takes a page out of the process's space.
     Unmap {
+        /// The page.
         page: Page,
     },
+    /// Sets whether the process may write to a page.
     Protect {
+        /// The page.
         page: Page,
+        /// The right to write from now on.
         write: bool,
     },
+    /// Asks for a page's flags and how many slots share it.
     Info {
+        /// The page.
         page: Page,
     },
+    /// Offers a page to another process.
     Offer {
+        /// The page.
         page: Page,
+        /// Who may accept it.
         target: Pid,
+        /// The right to write that goes with it.
         write: bool,
     },
+    /// Takes an offer back.
     Withdraw {
+        /// The page that was offered.
         page: Page,
+        /// To whom.
         target: Pid,
     },
+    /// Maps a page that another process offers, with the offer's right.
     Accept {
+        /// Who offers it.
         giver: Pid,
+        /// Where the giver has it.
         giver_page: Page,
+        /// Where it is to be mapped.
         page: Page,
     },
+    /// Makes a child with an empty space.
     Spawn {
+        /// The child's quota, in frames.
         quota: u32,
     },
+    /// Makes a child with a copy of each of the process's pages.
     Fork {
+        /// The child's quota, in frames.
         quota: u32,
     },
+    /// Ends the process, whose quota returns to its parent.
     Exit,
+    /// Asks for the process's quota, and how much of it is used and given.
     Quota,
 }
 
 /// A call of a process, from a CPU. The CPU has no effect.
-#[derive(Clone, Copy, Debug, PartialEq, Eq)]
+#[derive(Clone, Copy, Debug, PartialEq, Eq, Hash)]
 pub struct Event {
+    /// The CPU, any number.
     pub cpu: u8,
+    /// The process.
     pub pid: Pid,
+    /// What it asks.
     pub call: Call,
 }
 
 /// What a call is told.
-#[derive(Clone, Copy, Debug, PartialEq, Eq)]
+#[derive(Clone, Copy, Debug, PartialEq, Eq, Hash)]
+#[must_use = "a call may have been refused"]
 pub enum Reply {
+    /// It is done.
     Done,
+    /// What was loaded, zero-extended.
     Value(u32),
+    /// The new child.
     Child(Pid),
+    /// What stands at a page.
     Info {
+        /// The process may write to it now.
         write: bool,
+        /// The process may make it writable.
         may: bool,
+        /// An access has completed through it.
         accessed: bool,
+        /// A store has completed through it.
         dirty: bool,
+        /// How many slots share it, this one among them.
         holders: u32,
     },
+    /// What the process may use, in frames.
     Quota {
+        /// Its quota.
         quota: u32,
+        /// What it is charged for.
         used: u32,
+        /// The sum of its children's quotas.
         given: u32,
     },
+    /// A page fault. Nothing changed.
     Fault {
+        /// The first byte that the access may not have.
         addr: Vaddr,
+        /// The processor's error code.
         code: u8,
     },
+    /// A refusal. Nothing changed.
     Refused(Cause),
 }
 
+/// Why an event was not carried out. Nothing changed.
+#[derive(Clone, Copy, Debug, PartialEq, Eq, Hash)]
+pub enum Refusal {
+    /// A page fault.
+    Fault {
+        /// The first byte that the access may not have.
+        addr: Vaddr,
+        /// The processor's error code.
+        code: u8,
+    },
+    /// A refusal of the call.
+    Refused(Cause),
+}
+
+impl fmt::Display for Refusal {
+    fn fmt(&self, to: &mut fmt::Formatter<'_>) -> fmt::Result {
+        match self {
+            Refusal::Fault { addr, code } => {
+                write!(to, "page fault at {:08x}, code {code}", addr.0)
+            }
+            Refusal::Refused(cause) => write!(to, "refused: {cause}"),
+        }
+    }
+}
+
+impl Error for Refusal {}
+
+impl Reply {
+    /// The reply of an event that was carried out, or why it was not.
+    ///
+    /// # Errors
+    ///
+    /// The fault or the refusal, where the reply is one.
+    pub fn into_result(self) -> Result<Reply, Refusal> {
+        match self {
+            Reply::Fault { addr, code } => Err(Refusal::Fault { addr, code }),
+            Reply::Refused(cause) => Err(Refusal::Refused(cause)),
+            told => Ok(told),
+        }
+    }
+}
+
 /// Why a call is refused.
-#[derive(Clone, Copy, Debug, PartialEq, Eq)]
+#[derive(Clone, Copy, Debug, PartialEq, Eq, PartialOrd, Ord, Hash)]
 pub enum Cause {
+    /// The process is not live.
     NoProcess = 1,
+    /// The page lies outside the user range.
     BadPage = 2,
+    /// The page is not mapped.
     NotMapped = 4,
+    /// The page is mapped already.
     Mapped = 5,
+    /// The quota has no room.
     Quota = 6,
+    /// The process may not write to the page.
     Rights = 7,
+    /// An offer of a process to itself.
     SelfOffer = 8,
+    /// The target is not live.
     NoTarget = 9,
+    /// The same offer is pending.
     OfferPending = 10,
+    /// 32 offers of the process are pending.
     TooManyOffers = 11,
+    /// No such offer is pending.
     NoOffer = 12,
+    /// No number is free for a child.
     TableFull = 13,
+    /// A quota of 0.
     BadQuota = 14,
+    /// The process has children.
     HasChildren = 15,
+    /// Process 0 does not exit.
     RootExit = 16,
+    /// The quota is less than what the process is charged for.
     TooSmall = 17,
 }
 
@@ -170,6 +289,7 @@ impl Cause {
     ];
 
     /// The cause of a number, as docs/MACHINE.md counts them.
+    #[must_use]
     pub fn numbered(number: u32) -> Option<Cause> {
         Cause::ALL.into_iter().find(|cause| *cause as u32 == number)
     }
@@ -184,52 +304,104 @@ impl fmt::Display for Cause {
 impl Error for Cause {}
 
 /// What a frame serves.
-#[derive(Clone, Copy, Debug, PartialEq, Eq)]
+#[derive(Clone, Copy, Debug, PartialEq, Eq, Hash)]
 pub enum Role {
+    /// Frame 0, which is nobody's.
     Reserved,
+    /// Nothing.
     Free,
-    Directory { pid: Pid },
-    Table { pid: Pid, slot: u32 },
-    Page { count: u32 },
+    /// A directory.
+    Directory {
+        /// Whose it is.
+        pid: Pid,
+    },
+    /// A table.
+    Table {
+        /// Whose it is.
+        pid: Pid,
+        /// The slot of the directory that leads to it.
+        slot: u32,
+    },
+    /// A page.
+    Page {
+        /// How many slots hold it.
+        count: u32,
+    },
 }
 
 /// What a process may use, uses and gives to children, in frames.
-#[derive(Clone, Copy, Debug, PartialEq, Eq)]
+#[derive(Clone, Copy, Debug, PartialEq, Eq, Hash)]
 pub struct Container {
+    /// Who gave the quota; process 0 is its own.
     pub parent: Pid,
+    /// What the process may use and give.
     pub quota: u32,
+    /// What it is charged for.
     pub used: u32,
+    /// The sum of its children's quotas.
     pub given: u32,
+    /// How many children it has.
     pub children: u32,
 }
 
 /// What a walk asks for.
-#[derive(Clone, Copy, Debug, PartialEq, Eq)]
+#[derive(Clone, Copy, Debug, PartialEq, Eq, Hash)]
 pub enum Access {
+    /// To read.
     Read,
+    /// To write.
     Write,
 }
 
 /// How a walk ends that finds no frame.
-#[derive(Clone, Copy, Debug, PartialEq, Eq)]
+#[derive(Clone, Copy, Debug, PartialEq, Eq, Hash)]
 pub enum WalkEnd {
-    /// A page fault with this error code.
-    Fault { code: u8 },
+    /// A page fault.
+    Fault {
+        /// The processor's error code.
+        code: u8,
+    },
     /// A word of the way names no frame of memory.
     Outside,
 }
 
+impl fmt::Display for WalkEnd {
+    fn fmt(&self, to: &mut fmt::Formatter<'_>) -> fmt::Result {
+        match self {
+            WalkEnd::Fault { code } => write!(to, "page fault, code {code}"),
+            WalkEnd::Outside => to.write_str("a word names no frame of memory"),
+        }
+    }
+}
+
+impl Error for WalkEnd {}
+
 /// Which cached translations an event ends.
-#[derive(Clone, Copy, Debug, PartialEq, Eq)]
+#[derive(Clone, Copy, Debug, PartialEq, Eq, Hash)]
 pub enum Ended {
     /// None.
     Nothing,
     /// That of one page of a process.
-    Page { pid: Pid, page: Page },
+    Page {
+        /// Whose it is.
+        pid: Pid,
+        /// The page.
+        page: Page,
+    },
     /// Those of two pages of a process.
-    Pages { pid: Pid, first: Page, second: Page },
+    Pages {
+        /// Whose they are.
+        pid: Pid,
+        /// The one.
+        first: Page,
+        /// The other.
+        second: Page,
+    },
     /// All of a process, which is gone.
-    Space { pid: Pid },
+    Space {
+        /// Whose they were.
+        pid: Pid,
+    },
 }
 
 /// What the library tells, where its contracts leave no other number.

@@ -1,8 +1,8 @@
 //! Each call and query, and what crosses between types and numbers.
 
 use tower::{
-    Access, BootFault, Call, Cause, Container, Core, Ended, Event, FRAME_BYTES, Frame, Page, Pid,
-    Reply, Role, Size, UnequalLengths, Vaddr, WalkEnd,
+    Access, BootFault, Call, Cause, Container, Core, Ended, Event, FRAME_BYTES, Frame, Info, Page,
+    Pid, Refusal, Reply, Role, Size, Stopped, UnequalLengths, Usage, Vaddr, WalkEnd,
 };
 
 const PAGE: Page = Page(0x40000);
@@ -306,4 +306,156 @@ fn tells_both_pages_that_a_store_fills() {
         ending(&mut core, Pid::ROOT, store),
         (Reply::Done, Ended::Nothing)
     );
+}
+
+#[test]
+fn calls_as_methods() -> Result<(), Box<dyn std::error::Error>> {
+    let (mut core, child) = shared();
+    core.map(Pid::ROOT, Page(0x40001), true)?;
+    core.store(Pid::ROOT, Vaddr(0x4000_1000), Size::Two, 0x1234)?;
+    assert_eq!(core.load(Pid::ROOT, Vaddr(0x4000_1001), Size::One)?, 0x12);
+    core.protect(Pid::ROOT, Page(0x40001), false)?;
+    let fault = Refusal::Fault {
+        addr: Vaddr(0x4000_1000),
+        code: 7,
+    };
+    let store = core.store(Pid::ROOT, Vaddr(0x4000_1000), Size::One, 0);
+    assert_eq!(store, Err(fault));
+    assert_eq!(fault.to_string(), "page fault at 40001000, code 7");
+    let told = Info {
+        write: false,
+        may: true,
+        accessed: true,
+        dirty: true,
+        holders: 1,
+    };
+    assert_eq!(core.info(Pid::ROOT, Page(0x40001))?, told);
+    core.offer(Pid::ROOT, Page(0x40001), child, false)?;
+    core.withdraw(Pid::ROOT, Page(0x40001), child)?;
+    let accept = core.accept(child, Pid::ROOT, Page(0x40001), Page(0x40001));
+    assert_eq!(accept, Err(Refusal::Refused(Cause::NoOffer)));
+    let usage = Usage {
+        quota: 10,
+        used: 3,
+        given: 0,
+    };
+    assert_eq!(core.quota(child)?, usage);
+    let grandchild = core.spawn(child, 1)?;
+    core.exit(grandchild)?;
+    let copy = core.fork(Pid::ROOT, 10)?;
+    core.unmap(copy, Page(0x40001))?;
+    core.exit(copy)?;
+    assert_eq!(format!("{core:?}"), "Core { frames: 64, .. }");
+    Ok(())
+}
+
+#[test]
+fn tells_where_its_memory_lies() {
+    let (core, _) = shared();
+    let own = core.walk(Pid::ROOT, ADDR, Access::Read).unwrap().unwrap();
+    let memory = core.memory();
+    assert_eq!(memory.len(), 64 * FRAME_BYTES);
+    let place = FRAME_BYTES * own.0 as usize + 8;
+    // SAFETY: the place is within the memory, and no call is made meanwhile.
+    let byte = unsafe { memory.cast::<u8>().add(place).read() };
+    assert_eq!(byte, 0x44);
+}
+
+#[test]
+fn stops_at_the_first_that_is_refused() {
+    let mut core = Core::boot(64).unwrap();
+    let map = |nth: u32| Event {
+        cpu: 0,
+        pid: Pid::ROOT,
+        call: Call::Map {
+            page: Page(0x40000 + nth % 50),
+            write: true,
+        },
+    };
+    let events: Vec<Event> = (0..90).map(map).collect();
+    let mut replies = vec![Reply::Value(9); 90];
+    assert_eq!(
+        core.run_until(&events, &mut replies[1..]),
+        Err(UnequalLengths)
+    );
+    assert_eq!(core.run_until(&events, &mut replies), Ok(50));
+    assert_eq!(
+        replies[49..52],
+        [Reply::Done, Reply::Refused(Cause::Mapped), Reply::Value(9)]
+    );
+    assert_eq!(core.run_until(&events[..1], &mut replies[..1]), Ok(0));
+}
+
+#[test]
+fn copies_in_and_out() {
+    let (mut core, child) = shared();
+    let wrote: Vec<u8> = (0..10_000_u32).map(|nth| nth.to_le_bytes()[0]).collect();
+    let from = Vaddr(0x4000_0ff0);
+    assert_eq!(core.write_bytes(Pid::ROOT, from, &wrote), Ok(()));
+    let mut read = vec![0; 10_000];
+    assert_eq!(core.read_bytes(Pid::ROOT, from, &mut read), Ok(()));
+    assert_eq!(read, wrote);
+    // the child has the first of these pages, read-only
+    let mut few = [9; 32];
+    let stopped = Stopped {
+        count: 0,
+        refusal: Refusal::Fault {
+            addr: Vaddr(0x5000_0ff0),
+            code: 7,
+        },
+    };
+    assert_eq!(
+        core.write_bytes(child, Vaddr(0x5000_0ff0), &few),
+        Err(stopped)
+    );
+    assert_eq!(
+        core.read_bytes(child, Vaddr(0x5000_0ff0), &mut few[..16]),
+        Ok(())
+    );
+    assert_eq!(few[..16], wrote[..16]);
+    assert_eq!(few[16..], [9; 16]);
+}
+
+#[test]
+fn stops_a_transfer_at_the_end_of_the_user_range() {
+    let mut core = Core::boot(64).unwrap();
+    let stopped = Stopped {
+        count: 10,
+        refusal: Refusal::Fault {
+            addr: Vaddr(0xf000_0000),
+            code: 6,
+        },
+    };
+    assert_eq!(
+        core.write_bytes(Pid::ROOT, Vaddr(0xefff_fff6), &[1; 20]),
+        Err(stopped)
+    );
+    let mut read = [9; 20];
+    let stop = core.read_bytes(Pid::ROOT, Vaddr(0xefff_fff6), &mut read);
+    assert_eq!(stop.unwrap_err().count, 10);
+    assert_eq!((&read[..10], &read[10..]), (&[1; 10][..], &[9; 10][..]));
+    assert_eq!(core.read_bytes(Pid::ROOT, Vaddr(0), &mut []), Ok(()));
+    let none = core.read_bytes(Pid::new(3).unwrap(), ADDR, &mut read);
+    assert_eq!(
+        none.unwrap_err().refusal,
+        Refusal::Refused(Cause::NoProcess)
+    );
+}
+
+#[test]
+fn goes_over_pages() {
+    let (mut core, child) = shared();
+    for page in [0x40001, 0x40400, 0xeffff] {
+        core.map(Pid::ROOT, Page(page), false).unwrap();
+    }
+    let pages: Vec<u32> = core.pages(Pid::ROOT).map(|it| it.page.0).collect();
+    assert_eq!(pages, [0x40000, 0x40001, 0x40400, 0xeffff]);
+    let only = core.pages(child).collect::<Vec<_>>();
+    assert_eq!(only.len(), 1);
+    assert_eq!((only[0].page, only[0].holders), (OTHER_PAGE, 2));
+    assert!(!only[0].write && !only[0].lazy);
+    let lazy = core.next_page(Pid::ROOT, Page(0x40001)).unwrap();
+    assert!(lazy.lazy && lazy.may && !lazy.write && !lazy.accessed && lazy.holders == 1);
+    assert_eq!(core.next_page(Pid::ROOT, Page(0xf0000)), None);
+    assert_eq!(core.pages(Pid::new(9).unwrap()).count(), 0);
 }

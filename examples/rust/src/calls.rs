@@ -1,0 +1,216 @@
+//! Each call as a method, which gives what it tells or why it was not carried out.
+//!
+//! The event's CPU is 0: it has no effect.
+
+use crate::core::Core;
+use crate::words::{Call, Event, Page, Pid, Refusal, Reply, Size, Vaddr};
+
+/// What stands at a page of a process.
+#[derive(Clone, Copy, Debug, PartialEq, Eq, Hash)]
+#[allow(clippy::struct_excessive_bools)] // (four flags of a page, as a reply has them)
+pub struct Info {
+    /// The process may write to it now.
+    pub write: bool,
+    /// The process may make it writable.
+    pub may: bool,
+    /// An access has completed through it.
+    pub accessed: bool,
+    /// A store has completed through it.
+    pub dirty: bool,
+    /// How many slots share it, this one among them.
+    pub holders: u32,
+}
+
+/// What a process may use, in frames.
+#[derive(Clone, Copy, Debug, PartialEq, Eq, Hash)]
+pub struct Usage {
+    /// Its quota.
+    pub quota: u32,
+    /// What it is charged for.
+    pub used: u32,
+    /// The sum of its children's quotas.
+    pub given: u32,
+}
+
+/// What a call can't be told, by the library's contracts.
+fn untold(told: Reply) -> ! {
+    unreachable!("a call was told {told:?}")
+}
+
+impl Core {
+    fn call(&mut self, pid: Pid, call: Call) -> Result<Reply, Refusal> {
+        self.step(&Event { cpu: 0, pid, call }).into_result()
+    }
+
+    fn done(&mut self, pid: Pid, call: Call) -> Result<(), Refusal> {
+        match self.call(pid, call)? {
+            Reply::Done => Ok(()),
+            told => untold(told),
+        }
+    }
+
+    fn child(&mut self, pid: Pid, call: Call) -> Result<Pid, Refusal> {
+        match self.call(pid, call)? {
+            Reply::Child(child) => Ok(child),
+            told => untold(told),
+        }
+    }
+
+    /// Reads the bytes at an address, zero-extended.
+    ///
+    /// # Errors
+    ///
+    /// The fault or the refusal, as docs/MACHINE.md has it; nothing changed then.
+    pub fn load(&mut self, pid: Pid, addr: Vaddr, size: Size) -> Result<u32, Refusal> {
+        match self.call(pid, Call::Load { addr, size })? {
+            Reply::Value(value) => Ok(value),
+            told => untold(told),
+        }
+    }
+
+    /// Writes the low bytes of a value at an address.
+    ///
+    /// # Errors
+    ///
+    /// The fault or the refusal, as docs/MACHINE.md has it; nothing changed then.
+    pub fn store(&mut self, pid: Pid, addr: Vaddr, size: Size, value: u32) -> Result<(), Refusal> {
+        self.done(pid, Call::Store { addr, size, value })
+    }
+
+    /// Maps a page of zeros, with the right to write as asked.
+    ///
+    /// # Errors
+    ///
+    /// The fault or the refusal, as docs/MACHINE.md has it; nothing changed then.
+    pub fn map(&mut self, pid: Pid, page: Page, write: bool) -> Result<(), Refusal> {
+        self.done(pid, Call::Map { page, write })
+    }
+
+    /// Takes a page out of the process's space.
+    ///
+    /// # Errors
+    ///
+    /// The fault or the refusal, as docs/MACHINE.md has it; nothing changed then.
+    pub fn unmap(&mut self, pid: Pid, page: Page) -> Result<(), Refusal> {
+        self.done(pid, Call::Unmap { page })
+    }
+
+    /// Sets whether the process may write to a page.
+    ///
+    /// # Errors
+    ///
+    /// The fault or the refusal, as docs/MACHINE.md has it; nothing changed then.
+    pub fn protect(&mut self, pid: Pid, page: Page, write: bool) -> Result<(), Refusal> {
+        self.done(pid, Call::Protect { page, write })
+    }
+
+    /// A page's flags, and how many slots share it.
+    ///
+    /// # Errors
+    ///
+    /// The fault or the refusal, as docs/MACHINE.md has it; nothing changed then.
+    pub fn info(&mut self, pid: Pid, page: Page) -> Result<Info, Refusal> {
+        match self.call(pid, Call::Info { page })? {
+            Reply::Info {
+                write,
+                may,
+                accessed,
+                dirty,
+                holders,
+            } => Ok(Info {
+                write,
+                may,
+                accessed,
+                dirty,
+                holders,
+            }),
+            told => untold(told),
+        }
+    }
+
+    /// Offers a page to another process, with the right to write or without it.
+    ///
+    /// # Errors
+    ///
+    /// The fault or the refusal, as docs/MACHINE.md has it; nothing changed then.
+    pub fn offer(&mut self, pid: Pid, page: Page, target: Pid, write: bool) -> Result<(), Refusal> {
+        self.done(
+            pid,
+            Call::Offer {
+                page,
+                target,
+                write,
+            },
+        )
+    }
+
+    /// Takes an offer back.
+    ///
+    /// # Errors
+    ///
+    /// The fault or the refusal, as docs/MACHINE.md has it; nothing changed then.
+    pub fn withdraw(&mut self, pid: Pid, page: Page, target: Pid) -> Result<(), Refusal> {
+        self.done(pid, Call::Withdraw { page, target })
+    }
+
+    /// Maps a page that another process offers at `page`.
+    ///
+    /// # Errors
+    ///
+    /// The fault or the refusal, as docs/MACHINE.md has it; nothing changed then.
+    pub fn accept(
+        &mut self,
+        pid: Pid,
+        giver: Pid,
+        giver_page: Page,
+        page: Page,
+    ) -> Result<(), Refusal> {
+        self.done(
+            pid,
+            Call::Accept {
+                giver,
+                giver_page,
+                page,
+            },
+        )
+    }
+
+    /// Makes a child with that quota, in frames, and an empty space.
+    ///
+    /// # Errors
+    ///
+    /// The fault or the refusal, as docs/MACHINE.md has it; nothing changed then.
+    pub fn spawn(&mut self, pid: Pid, quota: u32) -> Result<Pid, Refusal> {
+        self.child(pid, Call::Spawn { quota })
+    }
+
+    /// Makes a child with that quota, in frames, and a copy of each of the process's pages.
+    ///
+    /// # Errors
+    ///
+    /// The fault or the refusal, as docs/MACHINE.md has it; nothing changed then.
+    pub fn fork(&mut self, pid: Pid, quota: u32) -> Result<Pid, Refusal> {
+        self.child(pid, Call::Fork { quota })
+    }
+
+    /// Ends a process, whose quota returns to its parent.
+    ///
+    /// # Errors
+    ///
+    /// The fault or the refusal, as docs/MACHINE.md has it; nothing changed then.
+    pub fn exit(&mut self, pid: Pid) -> Result<(), Refusal> {
+        self.done(pid, Call::Exit)
+    }
+
+    /// A process's quota, and how much of it is used and given.
+    ///
+    /// # Errors
+    ///
+    /// The fault or the refusal, as docs/MACHINE.md has it; nothing changed then.
+    pub fn quota(&mut self, pid: Pid) -> Result<Usage, Refusal> {
+        match self.call(pid, Call::Quota)? {
+            Reply::Quota { quota, used, given } => Ok(Usage { quota, used, given }),
+            told => untold(told),
+        }
+    }
+}
