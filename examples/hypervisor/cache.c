@@ -6,7 +6,7 @@ enum { MOST_KEPT = 4096 };
 
 /* What one processor keeps: a translation, by the page's number, or a directory's word, by its place there. */
 struct kept {
-    uint32_t cpu, identifier, number;
+    uint32_t identifier, number;
     uint32_t leads_to; /* a translation to a frame; else the word itself */
     bool write, dirty; /* of a translation: whether it lets writes through, and dirty is set */
     uint32_t *table_word;
@@ -17,18 +17,22 @@ struct list {
     uint32_t count;
 };
 
-static struct list translations, directory_words;
+/* One processor: all that it keeps, and how often it did so. */
+static struct cache {
+    struct list translations, directory_words;
+    uint32_t found_kept, found_walked, walked_again;
+} caches[CACHES];
+
 static uint8_t *memory;
-static uint32_t found_kept, found_walked, walked_again;
 
 void cache_open(uint8_t *of) {
     memory = of;
-    cache_forget_all();
+    memset(caches, 0, sizeof caches);
 }
 
-static struct kept *find(struct list *in, const struct access *it, uint32_t number) {
+static struct kept *find(struct list *in, uint32_t identifier, uint32_t number) {
     for (struct kept *one = in->kept; one < in->kept + in->count; one++) {
-        if (one->cpu == it->cpu && one->identifier == it->identifier && one->number == number) {
+        if (one->identifier == identifier && one->number == number) {
             return one;
         }
     }
@@ -46,25 +50,35 @@ static void drop(struct list *in, struct kept *one) {
 }
 
 static void forget(struct list *in, uint32_t identifier, uint32_t number) {
-    uint32_t of = wrong == WRONG_CPU ? 1 : CACHES;
-    for (struct access it = {.identifier = identifier}; it.cpu < of; it.cpu++) {
-        struct kept *one = find(in, &it, number);
-        if (one) {
-            drop(in, one);
-        }
+    struct kept *one = find(in, identifier, number);
+    if (one) {
+        drop(in, one);
     }
 }
 
 /* As INVLPGA does: the page's translation, and the words that lead to it. */
-void cache_forget_page(uint32_t identifier, uint32_t page) {
-    forget(&translations, identifier, page);
+void cache_forget_page_of(uint32_t cpu, uint32_t identifier, uint32_t page) {
+    forget(&caches[cpu].translations, identifier, page);
     if (wrong != WRONG_TABLE) {
-        forget(&directory_words, identifier, page >> 10);
+        forget(&caches[cpu].directory_words, identifier, page >> 10);
     }
 }
 
+void cache_forget_page(uint32_t identifier, uint32_t page) {
+    uint32_t of = wrong == WRONG_CPU ? 1 : CACHES;
+    for (uint32_t cpu = 0; cpu < of; cpu++) {
+        cache_forget_page_of(cpu, identifier, page);
+    }
+}
+
+void cache_forget_all_of(uint32_t cpu) {
+    caches[cpu].translations.count = caches[cpu].directory_words.count = 0;
+}
+
 void cache_forget_all(void) {
-    translations.count = directory_words.count = 0;
+    for (uint32_t cpu = 0; cpu < CACHES; cpu++) {
+        cache_forget_all_of(cpu);
+    }
 }
 
 static uint32_t *word_at(uint32_t frame, uint32_t index) {
@@ -73,14 +87,15 @@ static uint32_t *word_at(uint32_t frame, uint32_t index) {
 
 /* The directory's word for an address, as it is kept or, where it is present, from now on is. */
 static uint32_t directory_word(const struct access *it, uint32_t address) {
-    struct kept *one = find(&directory_words, it, address >> 22);
+    struct list *words = &caches[it->cpu].directory_words;
+    struct kept *one = find(words, it->identifier, address >> 22);
     if (one) {
         return one->leads_to;
     }
     uint32_t *word = word_at(it->directory, address >> 22);
     if (*word & PRESENT) {
         *word |= ACCESSED;
-        keep(&directory_words, (struct kept){it->cpu, it->identifier, address >> 22, .leads_to = *word});
+        keep(words, (struct kept){it->identifier, address >> 22, .leads_to = *word});
     }
     return *word;
 }
@@ -88,17 +103,18 @@ static uint32_t directory_word(const struct access *it, uint32_t address) {
 /* What two words that lead to a page give of it. */
 static struct kept translation_of(const struct access *it, uint32_t page, uint32_t first, uint32_t *table_word) {
     uint32_t last = *table_word;
-    return (struct kept){it->cpu, it->identifier, page, last >> 12, first & last & WRITE, last & DIRTY, table_word};
+    return (struct kept){it->identifier, page, last >> 12, first & last & WRITE, last & DIRTY, table_word};
 }
 
 /* A walk, marks and all. What it finds is kept. */
 static struct walk walk_and_keep(const struct access *it, uint32_t address, struct kept **kept) {
+    struct cache *cache = &caches[it->cpu];
     uint32_t word = directory_word(it, address);
     struct walk walk = walk_by(memory, FRAMES, word, address, it->is_store);
     if (walk.kind == WALK_FOUND) {
         *walk.table_word |= ACCESSED | (it->is_store ? DIRTY : 0);
-        *kept = keep(&translations, translation_of(it, address >> 12, word, walk.table_word));
-        found_walked++;
+        *kept = keep(&cache->translations, translation_of(it, address >> 12, word, walk.table_word));
+        cache->found_walked++;
     }
     return walk;
 }
@@ -106,14 +122,15 @@ static struct walk walk_and_keep(const struct access *it, uint32_t address, stru
 /* The frame of an address: by what is kept, or else by a walk. A refusal by what is kept says nothing, since the right
  * may have been given since: the walk is made again. A store through what is kept without dirty marks it first. */
 static struct walk translate(const struct access *it, uint32_t address) {
-    struct kept *kept = find(&translations, it, address >> 12);
+    struct cache *cache = &caches[it->cpu];
+    struct kept *kept = find(&cache->translations, it->identifier, address >> 12);
     if (kept && it->is_store && !kept->write) {
         if (wrong == WRONG_REFUSAL) {
             return (struct walk){.kind = WALK_FAULT, .code = 7};
         }
-        drop(&translations, kept);
+        drop(&cache->translations, kept);
         kept = 0;
-        walked_again++;
+        cache->walked_again++;
     }
     if (!kept) {
         struct walk walk = walk_and_keep(it, address, &kept);
@@ -121,7 +138,7 @@ static struct walk translate(const struct access *it, uint32_t address) {
             return walk;
         }
     } else {
-        found_kept++;
+        cache->found_kept++;
     }
     if (it->is_store && !kept->dirty) {
         kept->dirty = true;
@@ -164,28 +181,42 @@ struct walk cache_access(struct access *it) {
 
 /* In place of what was kept of it. */
 static void keep_anew(struct list *in, const struct access *it, struct kept one) {
-    struct kept *old = find(in, it, one.number);
+    struct kept *old = find(in, it->identifier, one.number);
     if (old) {
         drop(in, old);
     }
     keep(in, one);
 }
 
+static bool are_none(const uint32_t *eight) {
+    const uint64_t *pairs = (const uint64_t *)eight;
+    return (pairs[0] | pairs[1] | pairs[2] | pairs[3]) == 0;
+}
+
+/* The first word from an index on that may be one: most of a directory's and of a table's are none. */
+static uint32_t next_in(uint32_t frame, uint32_t index) {
+    while (index < FRAME / 4 && index % 8 == 0 && are_none(word_at(frame, index))) {
+        index += 8;
+    }
+    return index;
+}
+
 static void keep_accessed_in(const struct access *it, uint32_t slot, uint32_t word) {
-    for (uint32_t index = 0; index < FRAME / 4; index++) {
-        uint32_t *last = word_at(word >> 12, index);
+    uint32_t table = word >> 12;
+    for (uint32_t index = next_in(table, 0); index < FRAME / 4; index = next_in(table, index + 1)) {
+        uint32_t *last = word_at(table, index);
         if ((*last & PRESENT) && (*last & ACCESSED)) {
-            keep_anew(&translations, it, translation_of(it, slot << 10 | index, word, last));
+            keep_anew(&caches[it->cpu].translations, it, translation_of(it, slot << 10 | index, word, last));
         }
     }
 }
 
-void cache_keep_accessed(uint32_t identifier, uint32_t directory) {
-    struct access it = {.identifier = identifier, .directory = directory};
-    for (uint32_t slot = 0; slot < FRAME / 4; slot++) {
+void cache_keep_accessed(uint32_t cpu, uint32_t identifier, uint32_t directory) {
+    struct access it = {.cpu = cpu, .identifier = identifier, .directory = directory};
+    for (uint32_t slot = next_in(directory, 0); slot < FRAME / 4; slot = next_in(directory, slot + 1)) {
         uint32_t word = *word_at(directory, slot);
         if ((word & PRESENT) && (word & ACCESSED)) {
-            keep_anew(&directory_words, &it, (struct kept){.identifier = identifier, .number = slot, .leads_to = word});
+            keep_anew(&caches[cpu].directory_words, &it, (struct kept){identifier, slot, .leads_to = word});
             keep_accessed_in(&it, slot, word);
         }
     }
@@ -201,7 +232,7 @@ static bool is_word_given(const struct kept *one, uint32_t directory) {
     return (one->leads_to | ACCESSED) == (*word_at(directory, one->number) | ACCESSED);
 }
 
-static bool all_given(const struct list *in, uint32_t identifier, uint32_t directory,
+static bool are_given(const struct list *in, uint32_t identifier, uint32_t directory,
                       bool (*is_given)(const struct kept *one, uint32_t directory)) {
     for (const struct kept *one = in->kept; one < in->kept + in->count; one++) {
         if (one->identifier == identifier && !is_given(one, directory)) {
@@ -211,13 +242,16 @@ static bool all_given(const struct list *in, uint32_t identifier, uint32_t direc
     return true;
 }
 
-bool cache_is_given(uint32_t identifier, uint32_t directory) {
-    return all_given(&translations, identifier, directory, is_translation_given) &&
-           all_given(&directory_words, identifier, directory, is_word_given);
+bool cache_is_given(uint32_t cpu, uint32_t identifier, uint32_t directory) {
+    return are_given(&caches[cpu].translations, identifier, directory, is_translation_given) &&
+           are_given(&caches[cpu].directory_words, identifier, directory, is_word_given);
 }
 
 void cache_counts(uint32_t *kept, uint32_t *walked, uint32_t *again) {
-    *kept = found_kept;
-    *walked = found_walked;
-    *again = walked_again;
+    *kept = *walked = *again = 0;
+    for (const struct cache *one = caches; one < caches + CACHES; one++) {
+        *kept += one->found_kept;
+        *walked += one->found_walked;
+        *again += one->walked_again;
+    }
 }

@@ -9,6 +9,8 @@ enum {
     CALL_EXITS = 20, /* answers Value: how often this guest left the processor */
     CALL_IMAGE = 21, /* writes the core's image for the host */
     CALL_END = 22,   /* this guest runs no more; its process stays */
+    CALL_SLEEP = 23, /* ECX a number: no turn until as much was told */
+    CALL_TELL = 24,  /* ECX a number: so much is told, to all that sleep until then */
 };
 
 enum { PROGRAM_AT = 0x40000000, STACK_TOP = 0x40010000 };
@@ -23,5 +25,8 @@ enum {
     PROGRAM_SPINNER,
     PROGRAM_CODE,
     PROGRAM_PORT,
+    PROGRAM_CROWD, /* begins those that run at once, in place of init */
+    PROGRAM_BORROWER,
+    PROGRAM_COUNTER,
     PROGRAMS,
 };

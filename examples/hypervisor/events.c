@@ -1,4 +1,5 @@
 #include "cache.h"
+#include "compare.h"
 #include "machine.h"
 #include "probe.h"
 #include "translations.h"
@@ -9,6 +10,9 @@
 /* Processes that make calls: the root and those behind process 1, which has what the root's quota has over ROOM and a
  * frame, so that the trial is the same on any number of frames. */
 enum { PROCESSES = 64, LIVE = 7, ROOM = 62 };
+
+/* How many processors in software make the accesses. */
+enum { IN_SOFTWARE = 2 };
 
 /* A core, and what the processors over it keep: none of them is over the last. */
 struct machine {
@@ -40,15 +44,10 @@ static struct tower_reply on(struct machine *it, uint32_t pid, struct tower_even
     return reply;
 }
 
-static bool same(struct tower_reply a, struct tower_reply b) {
-    return a.kind == b.kind && a.first == b.first && a.second == b.second && a.third == b.third && a.write == b.write &&
-           a.may == b.may && a.accessed == b.accessed && a.dirty == b.dirty;
-}
-
 static struct tower_reply on_each(uint32_t pid, struct tower_event event) {
     struct tower_reply reply = on(&mirror, pid, event);
-    need(same(reply, on(&walked, pid, event)), "the two cores answer a call alike");
-    need(same(reply, on(&cached, pid, event)), "a core below what is kept answers a call alike");
+    need(same_replies(reply, on(&walked, pid, event)), "the two cores answer a call alike");
+    need(same_replies(reply, on(&cached, pid, event)), "a core below what is kept answers a call alike");
     return reply;
 }
 
@@ -140,15 +139,15 @@ static bool is_open(uint32_t pid, uint32_t address, bool is_store) {
 
 static void access_by_all(uint32_t pid, uint32_t entry, uint32_t address, uint32_t value) {
     struct tower_event fetch = {.call = TOWER_LOAD, .flag = 1, .first = STUB_AT};
-    uint32_t cpu = random(CACHES);
+    uint32_t cpu = random(IN_SOFTWARE);
     /* The processor fetches the instruction, too. */
     struct tower_reply fetched = on(&mirror, pid, fetch);
     need(fetched.kind == TOWER_VALUE, "a process has the code");
-    need(same(on_cache(pid, cpu, fetch), fetched), "a load by what is kept gives what the event does");
+    need(same_replies(on_cache(pid, cpu, fetch), fetched), "a load by what is kept gives what the event does");
     struct tower_reply expected = in_parts(told, pid, cpu, entry, address, value);
-    need(same(on_processor(pid, entry, address, value), expected),
+    need(same_replies(on_processor(pid, entry, address, value), expected),
          "the processor's access comes to what the event does");
-    need(same(in_parts(on_cache, pid, cpu, entry, address, value), expected),
+    need(same_replies(in_parts(on_cache, pid, cpu, entry, address, value), expected),
          "an access by what is kept comes to what the event does");
 }
 
@@ -206,15 +205,6 @@ static bool same_frames(uint32_t frame) {
     return differ == 0;
 }
 
-static bool same_roles(struct tower_role a, struct tower_role b) {
-    return a.kind == b.kind && a.pid == b.pid && a.slot == b.slot && a.count == b.count;
-}
-
-static bool same_containers(struct tower_container a, struct tower_container b) {
-    return a.parent == b.parent && a.quota == b.quota && a.used == b.used && a.given == b.given &&
-           a.children == b.children;
-}
-
 static void compare_containers(void) {
     for (uint32_t pid = 0; pid < PROCESSES; pid++) {
         struct tower_container a = {0}, b = {0}, c = {0};
@@ -255,7 +245,8 @@ static uint32_t random_page(void) {
 /* A child with the page of code: one that was spawned accepts it, a copy has one of its own. */
 static void make_child(uint32_t pid) {
     bool copies = random(2);
-    struct tower_event event = {.call = copies ? TOWER_FORK : TOWER_SPAWN, .first = random(8) ? 4 + random(14) : random(3)};
+    struct tower_event event = {.call = copies ? TOWER_FORK : TOWER_SPAWN,
+                                .first = random(8) ? 4 + random(14) : random(3)};
     struct tower_reply child = on_each(pid, event);
     if (child.kind != TOWER_CHILD) {
         return;

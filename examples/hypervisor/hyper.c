@@ -1,69 +1,73 @@
-/* A small hypervisor over the proved core: guests run on the processor's own paging, over the directories and
- * tables that the core wrote, and every other thing that they do is an event of it. */
+/* A small hypervisor over the proved core: guests run on the processors' own paging, over the directories and
+ * tables that the core wrote, and every other thing that they do is an event of it, under one lock. */
+#include <stdatomic.h>
+
 #include "cache.h"
 #include "calls.h"
 #include "image.h"
+#include "kernel.h"
 #include "machine.h"
 #include "svm.h"
-#include "translations.h"
 #include "trial.h"
 #include "walk.h"
 #include "wrong.h"
 
-enum { RUNNING_MAX = 16, NOBODY = 255, NO_CALL = 255 };
-enum { SLICES = 5, EXITS = 1000, WALKS = 10000, EVENTS = 20000 };
+enum { RUNNING_MAX = 16, NOBODY = 255, NONE_LEFT = 254, NO_CALL = 255 };
+enum { SLICES = 5, EXITS = 1000, WALKS = 10000, EVENTS = 20000, TURNS = 4000 };
 
 static struct tower tower = TOWER_NONE;
 static uint8_t *memory;
+static struct kernel kernel;
+static struct queue queue;
 
-/* The processor forgets, and with it what stands for all that it may keep. */
+/* This processor forgets, and with it what stands for all that it may keep. */
 static void forget_page(uint32_t identifier, uint32_t page) {
     svm_forget_page(identifier, page);
-    cache_forget_page(identifier, page);
+    cache_forget_page_of(this_processor(), identifier, page);
 }
 
 static void forget_all(void) {
     svm_forget_all();
-    cache_forget_all();
+    cache_forget_all_of(this_processor());
 }
-
-static struct translations translations = {forget_page, forget_all, .most = 0};
 
 struct stop {
     uint32_t address, code, eip;
 };
 
+/* Its processor's, or that of whoever holds the lock while it runs nowhere. */
 static struct guest {
     bool runs;
     uint32_t slices; /* since its last call */
     uint32_t exits;
+    uint32_t sleeps_until; /* so much is told; 0: it has turns */
     struct stop last; /* its last page fault, where it made no call since */
     struct guest_cpu cpu;
 } guests[RUNNING_MAX];
 
-static uint32_t page_faults, stopped;
+static _Atomic uint32_t running; /* how many guests run, or wait for a turn */
+static uint32_t page_faults, stopped, slices_allowed = SLICES;
+static uint32_t told; /* the greatest number that a guest told */
 
 extern const struct {
     const uint8_t *begin, *end;
 } programs[PROGRAMS];
 
-/* That each identifier is a live process's, and whatever the processor may keep under it is what the walks give. */
+/* That each identifier of this processor is a live process's, and whatever it may keep under it is what the walks
+ * give. */
 static void all_kept_is_given(void) {
     for (uint32_t pid = 0; pid < TOWER_PROCESSES; pid++) {
-        uint32_t directory = 0, identifier = translations.identifiers[pid];
+        uint32_t directory = 0, identifier = kernel.books[this_processor()].identifiers[pid];
         bool is_live = tower_directory(&tower, pid, &directory);
         need(!identifier || is_live, "a process that is gone has no identifier");
-        need(!identifier || cache_is_given(identifier, directory), "all that may be kept is what the walks give");
+        need(!identifier || cache_is_given(this_processor(), identifier, directory),
+             "all that may be kept is what the walks give");
     }
 }
 
 /* An event. What it ended is invalidated before anything else is done. */
 static struct tower_reply step(uint32_t pid, struct tower_event event) {
-    struct tower_reply reply = {0};
-    struct tower_ended ended = {0};
-    event.pid = (uint8_t)pid;
-    need(tower_step_ending(&tower, &event, &reply, &ended), "a core answers");
-    invalidate(&translations, ended);
+    struct tower_reply reply = make_event(&kernel, pid, event);
     all_kept_is_given();
     return reply;
 }
@@ -110,6 +114,8 @@ static bool load(uint32_t program, uint32_t pid) {
         return false;
     }
     guests[pid] = (struct guest){.runs = true};
+    running++;
+    put_last(&queue, pid);
     svm_open(&guests[pid].cpu, directory, PROGRAM_AT, STACK_TOP);
     return true;
 }
@@ -121,10 +127,16 @@ static bool load_child(uint32_t parent, uint32_t program, uint32_t pid) {
     return pid != parent && tower_container(&tower, pid, &container) && container.parent == parent && load(program, pid);
 }
 
-/* The guest runs no more. Its process exits, if the core lets it. */
+/* The guest runs no more. */
+static void end(struct guest *guest) {
+    guest->runs = false;
+    running--;
+}
+
+/* Its process exits, too, if the core lets it. */
 static void stop(uint32_t pid) {
     struct tower_reply reply = step(pid, (struct tower_event){.call = TOWER_EXIT});
-    guests[pid].runs = false;
+    end(&guests[pid]);
     stopped++;
     if (reply.kind != TOWER_DONE) {
         say("[%u] stays, as its exit is refused: %s\n", pid, causes[reply.first]);
@@ -174,14 +186,6 @@ static void page_fault(uint32_t pid, struct guest *guest) {
 
 /* ---- Calls */
 
-static uint32_t others(uint32_t pid) {
-    uint32_t count = 0;
-    for (uint32_t i = 0; i < RUNNING_MAX; i++) {
-        count += i != pid && guests[i].runs;
-    }
-    return count;
-}
-
 /* A line of a guest's text, a byte at a time by loads of its process. */
 static struct tower_reply write(uint32_t pid, uint32_t address, uint32_t bytes) {
     say("[%u] ", pid);
@@ -198,6 +202,23 @@ static struct tower_reply write(uint32_t pid, uint32_t address, uint32_t bytes) 
     return (struct tower_reply){.kind = TOWER_DONE};
 }
 
+/* A guest that sleeps has no turn until somebody tells so much. */
+static bool sleep_until(struct guest *guest, uint32_t number) {
+    guest->sleeps_until = number > told ? number : 0;
+    return guest->sleeps_until != 0;
+}
+
+static void tell_sleepers(uint32_t number) {
+    told = number > told ? number : told;
+    for (uint32_t pid = 0; pid < RUNNING_MAX; pid++) {
+        struct guest *guest = &guests[pid];
+        if (guest->runs && guest->sleeps_until && guest->sleeps_until <= told) {
+            guest->sleeps_until = 0;
+            put_last(&queue, pid);
+        }
+    }
+}
+
 /* The reply to a call. `over` is set where the guest's turn is. */
 static struct tower_reply answer(uint32_t pid, struct guest *guest, const struct tower_event *event, bool *over) {
     struct tower_reply done = {.kind = TOWER_DONE};
@@ -211,14 +232,22 @@ static struct tower_reply answer(uint32_t pid, struct guest *guest, const struct
         return load_child(pid, event->first, event->second) ? done : (struct tower_reply){.kind = TOWER_NO_EVENT};
     case CALL_WAIT:
         *over = true;
-        return (struct tower_reply){.kind = TOWER_VALUE, .first = others(pid)};
+        return (struct tower_reply){.kind = TOWER_VALUE, .first = running - 1};
+    case CALL_SLEEP:
+        *over = sleep_until(guest, event->first);
+        return done;
+    case CALL_TELL:
+        tell_sleepers(event->first);
+        return done;
     case CALL_EXITS:
         return (struct tower_reply){.kind = TOWER_VALUE, .first = guest->exits};
     case CALL_IMAGE:
+        stop_others(); /* its bytes are of one moment */
         write_image(&tower);
+        others_go_on();
         return done;
     case CALL_END:
-        guest->runs = false;
+        end(guest);
         *over = true;
         return done;
     case TOWER_LOAD:
@@ -241,7 +270,7 @@ static bool call(uint32_t pid, struct guest *guest) {
     };
     struct tower_reply reply = answer(pid, guest, &event, &over);
     if (event.call == TOWER_EXIT && reply.kind == TOWER_DONE) {
-        guest->runs = false;
+        end(guest);
         over = true;
     }
     svm_past_call(&guest->cpu);
@@ -258,88 +287,191 @@ static bool call(uint32_t pid, struct guest *guest) {
 
 /* A slice of time ended. The guest goes on in its next turn, unless it had too many without a call. */
 static void slice_ended(uint32_t pid, struct guest *guest) {
-    take_interrupt();
     guest->last = (struct stop){0};
-    if (++guest->slices > SLICES) {
-        say("[%u] stopped: more than %u slices of time without a call\n", pid, SLICES);
+    if (++guest->slices > slices_allowed) {
+        say("[%u] stopped: more than %u slices of time without a call\n", pid, slices_allowed);
         stop(pid);
     }
 }
 
-/* The processor may have kept a translation of each page that the guest accessed. */
-static void keep_what_ran(uint32_t pid) {
-    uint32_t directory = 0;
-    need(tower_directory(&tower, pid, &directory), "a guest has a directory");
-    all_kept_is_given();
-    cache_keep_accessed(translations.identifiers[pid], directory);
+/* What a guest left the processor for, with the lock. True where its turn is over. */
+static bool left_for(uint64_t exit, uint32_t pid, struct guest *guest) {
+    switch (exit) {
+    case EXIT_PAGE_FAULT:
+        page_fault(pid, guest);
+        return false;
+    case EXIT_CALL:
+        guest->last = (struct stop){0};
+        guest->slices = 0;
+        return call(pid, guest);
+    case EXIT_INTERRUPT:
+        slice_ended(pid, guest);
+        return true;
+    default:
+        say("[%u] stopped: exit %x\n", pid, (uint32_t)exit);
+        need(exit != EXIT_OUTSIDE, "no page of the core's lies outside its memory");
+        stop(pid);
+        return true;
+    }
 }
 
-/* One turn of a guest: until it yields or ends, a slice of time, or too many exits. */
-static void turn(uint32_t pid) {
-    struct guest *guest = &guests[pid];
-    uint32_t exits = 0;
-    for (bool over = false; guest->runs && !over;) {
+/* The guest runs until an exit that is its own, or its slice's end: another processor may stop this one meanwhile. What
+ * may be kept of its process is what the walks give; then it is what was kept, and each page that was accessed. */
+static uint64_t run(struct guest *guest, uint32_t identifier, uint32_t directory) {
+    uint64_t exit;
+    do {
         start_slice();
-        uint64_t exit = svm_run(&guest->cpu, identifier_of(&translations, pid));
-        keep_what_ran(pid);
+        answer_stop();
+        need(cache_is_given(this_processor(), identifier, directory), "all that may be kept is what the walks give");
+        exit = svm_run(&guest->cpu, identifier);
+        cache_keep_accessed(this_processor(), identifier, directory);
+        take_interrupts();
+    } while (exit == EXIT_INTERRUPT && !is_slice_over());
+    return exit;
+}
+
+/* One turn of a guest: until it yields or ends, a slice of time, or too many exits. Where it would have the next turn
+ * here, too, it waits for others most likely: the processor rests. */
+static void turn(uint32_t pid, uint32_t identifier) {
+    struct guest *guest = &guests[pid];
+    uint32_t exits = 0, directory = svm_directory(&guest->cpu);
+    for (bool over = false; !over;) {
+        uint64_t exit = run(guest, identifier, directory);
         guest->exits++;
-        over = ++exits == EXITS;
-        switch (exit) {
-        case EXIT_PAGE_FAULT:
-            page_fault(pid, guest);
-            break;
-        case EXIT_CALL:
-            guest->last = (struct stop){0};
-            guest->slices = 0;
-            over |= call(pid, guest);
-            break;
-        case EXIT_INTERRUPT:
-            over = true;
-            slice_ended(pid, guest);
-            break;
-        default:
-            say("[%u] stopped: exit %x\n", pid, (uint32_t)exit);
-            need(exit != EXIT_OUTSIDE, "no page of the core's lies outside its memory");
-            stop(pid);
+        take_lock();
+        over = left_for(exit, pid, guest) || !guest->runs || ++exits == EXITS;
+        bool goes_on = over && guest->runs && !guest->sleeps_until;
+        bool is_alone = goes_on && queue.count == 0 && processors() > 1;
+        if (goes_on) {
+            put_last(&queue, pid);
+        }
+        bool is_more = queue.count != 0 || running == 0;
+        let_go();
+        if (is_alone) {
+            rest();
+        } else if (is_more) {
+            wake_others();
         }
     }
 }
 
-static void run_guests(void) {
+/* The next guest for this processor, and its identifier here; NOBODY where others run all that are left. */
+static uint32_t next_guest(uint32_t *identifier) {
+    uint32_t pid = NOBODY;
+    take_lock();
+    if (take_near(&queue, &kernel, &pid)) {
+        *identifier = bring_here(&kernel, pid);
+    } else if (running == 0) {
+        pid = NONE_LEFT;
+        leave_kernel(&kernel);
+        depart();
+    }
+    let_go();
+    return pid;
+}
+
+static bool is_guest_waiting(const void *of) {
+    (void)of;
+    return running == 0 || *(volatile uint32_t *)&queue.count != 0;
+}
+
+/* Guests have turns on this processor until none is left. */
+static void serve(void) {
+    take_lock();
+    arrive();
+    let_go();
+    uint32_t identifier = 0, pid;
+    while ((pid = next_guest(&identifier)) != NONE_LEFT) {
+        if (pid != NOBODY) {
+            turn(pid, identifier);
+        } else if (is_guest_waiting(0)) {
+            rest(); /* it waits for a processor that has nothing else to do */
+        } else {
+            wait_until(is_guest_waiting, 0, "a processor gets a guest");
+        }
+    }
+}
+
+/* All guests, from the first program on, on all processors. */
+static void run_guests(uint32_t program) {
     boot(&tower);
     memory = memory_of(&tower);
     svm_memory(memory, FRAMES, false);
     cache_open(memory);
-    translations.most = svm_most_identifiers();
+    open_kernel(&kernel, &tower, forget_page, forget_all, svm_most_identifiers());
     say("core: %u frames\n", tower_frames(&tower));
-    need(load(PROGRAM_INIT, 0), "the first program is stored");
+    need(load(program, 0), "the first program is stored");
     same_memory();
-    while (others(NOBODY)) {
-        for (uint32_t pid = 0; pid < RUNNING_MAX; pid++) {
-            turn(pid);
-        }
-    }
+    on_all(serve);
     same_memory();
+}
+
+/* ---- One processor's guests and trials, and several processors' */
+
+static void tell_alone(void) {
+    struct invalidated sum = invalidated_by(&kernel);
     say("all guests ended: %u runs of the processor, %u page faults, %u guests stopped\n", (uint32_t)svm_runs(),
         page_faults, stopped);
     say("translations: %u pages invalidated, %u identifiers given up, %u flushes of all; at each run it would be %u\n",
-        translations.pages, translations.spaces, translations.all, (uint32_t)svm_runs());
-    tower_free(&tower);
+        sum.pages, sum.spaces, sum.all, (uint32_t)svm_runs());
 }
 
-/* All; or, where there is a word, the trial of events alone, in the version that it chooses. */
-void begin(const char *word) {
-    bool is_all = *word == 0;
-    choose_wrong(is_all ? "right" : word);
-    svm_start();
-    if (is_all) {
-        say("guests in 32-bit paging, over the core's page tables\n");
-        run_guests();
-        try_instructions();
-        try_walks(WALKS);
-    }
+static void try_alone(void) {
+    say("guests in 32-bit paging, over the core's page tables\n");
+    run_guests(PROGRAM_INIT);
+    tell_alone();
+    tower_free(&tower);
+    try_instructions();
+    try_walks(WALKS);
     try_events(EVENTS, &tower);
     write_image(&tower);
+}
+
+/* What the schedule has a part in begins with a word of its own. */
+static void try_several(void) {
+    slices_allowed = 20 * SLICES; /* the host's clock goes on where a processor's thread doesn't */
+    start_processors(svm_start);
+    say("schedule: %u processors\nguests that run at once, over the core's page tables\n", processors());
+    run_guests(PROGRAM_CROWD);
+    say("all guests ended, and %u were stopped\n", stopped);
+    say("schedule: %u page faults\n", page_faults);
+    tell_invalidated(&kernel, (uint32_t)svm_runs(), stops());
+    write_image(&tower);
+    tower_free(&tower);
+    try_storm(TURNS, true, &tower);
+    write_image(&tower);
+    tower_free(&tower);
+    try_storm(TURNS, false, &tower);
+    write_image(&tower);
+}
+
+/* The word behind another, or null. */
+static const char *behind(const char *first, const char *word) {
+    while (*first && *first == *word) {
+        first++;
+        word++;
+    }
+    return *first ? 0 : word;
+}
+
+/* With no word all that one processor does, with `several` what all do. With a word of wrong.c the trial of events
+ * alone in that version, and with `storm` before it the storm. */
+void begin(const char *word) {
+    const char *version = behind("storm ", word);
+    begin_first_processor();
+    svm_start();
+    if (version) {
+        choose_wrong(version);
+        start_processors(svm_start);
+        try_storm(TURNS, false, &tower);
+    } else if (*word == 0) {
+        try_alone();
+    } else if (behind("several", word)) {
+        try_several();
+    } else {
+        choose_wrong(word);
+        try_events(EVENTS, &tower);
+    }
     say(wrong == RIGHT ? "all is well\n" : "NOT FOUND\n");
     leave(wrong == RIGHT ? 0 : 2);
 }

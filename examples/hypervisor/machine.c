@@ -1,4 +1,5 @@
 #include <stdarg.h>
+#include <stdatomic.h>
 
 #include "machine.h"
 
@@ -10,6 +11,20 @@ uint8_t in8(uint16_t port) {
     uint8_t value;
     __asm__ volatile("inb %1, %0" : "=a"(value) : "Nd"(port));
     return value;
+}
+
+void out16(uint16_t port, uint16_t value) {
+    __asm__ volatile("outw %0, %1" : : "a"(value), "Nd"(port));
+}
+
+uint64_t read_msr(uint32_t msr) {
+    uint32_t low, high;
+    __asm__ volatile("rdmsr" : "=a"(low), "=d"(high) : "c"(msr));
+    return low | (uint64_t)high << 32;
+}
+
+void write_msr(uint32_t msr, uint64_t value) {
+    __asm__ volatile("wrmsr" : : "c"(msr), "a"((uint32_t)value), "d"((uint32_t)(value >> 32)) : "memory");
 }
 
 static void put(char byte) {
@@ -64,46 +79,20 @@ _Noreturn void leave(uint8_t status) {
 }
 
 _Noreturn void fail(const char *what) {
-    say("FAILED: %s\n", what);
-    leave(1);
+    static atomic_flag is_failing = ATOMIC_FLAG_INIT;
+    if (!atomic_flag_test_and_set(&is_failing)) {
+        say("FAILED: %s\n", what);
+        leave(1);
+    }
+    for (;;) {
+        __asm__ volatile("cli; hlt");
+    }
 }
 
 void need(bool holds, const char *what) {
     if (!holds) {
         fail(what);
     }
-}
-
-/* The first interrupt controller with the timer's line alone, and one countdown of the timer. An interrupt of a
- * countdown before is taken once the new one counts, so that none is left. */
-void start_slice(void) {
-    static bool is_set;
-    if (!is_set) {
-        is_set = true;
-        out8(0x20, 0x11);
-        out8(0x21, 0x20);
-        out8(0x21, 4);
-        out8(0x21, 1);
-        out8(0x21, 0xfe);
-        out8(0xa1, 0xff);
-    }
-    out8(0x43, 0x30);
-    out8(0x40, 11932 & 255);
-    out8(0x40, 11932 >> 8);
-    take_interrupt();
-}
-
-void let_slice_pass(void) {
-    start_slice();
-    out8(0x20, 0x0a); /* reads tell what is pending from here on */
-    while (!(in8(0x20) & 1)) {
-    }
-}
-
-void take_interrupt(void) {
-    out8(0x20, 0x0c); /* poll: the next read acknowledges */
-    (void)in8(0x20);
-    out8(0x20, 0x20); /* end of interrupt */
 }
 
 /* The four symbols that the library asks for. */

@@ -1,4 +1,4 @@
-/* A guest that makes one access, or one instruction, and calls. */
+/* A guest that makes one access, or one instruction, and calls: each processor has one. */
 #ifndef PROBE_H
 #define PROBE_H
 
@@ -9,7 +9,7 @@ extern const uint8_t stub[], stub_end[];
 enum { LOAD4 = 0, LOAD1 = 8, STORE4 = 16, STORE1 = 24, ADD4 = 32 };
 enum { STUB_PAGE = 0x40000, STUB_AT = STUB_PAGE << 12 };
 
-/* The next number below a limit. */
+/* The next number below a limit; each processor has a generator of its own, with a fixed seed. */
 uint32_t random(uint32_t limit);
 
 /* A probe over a directory, at an entry of the code. */

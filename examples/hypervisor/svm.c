@@ -42,11 +42,16 @@ enum { MSR_EFER = 0xc0000080, MSR_VM_CR = 0xc0010114, MSR_HOST_SAVE = 0xc0010117
 
 void enter_guest(void *vmcb, void *more, void *host);
 
-static _Alignas(FRAME) uint8_t host_save[FRAME], host_vmcb[FRAME], all_ones[3 * FRAME];
+/* What each processor has of its own. */
+static struct own {
+    uint8_t host_save[FRAME], host_vmcb[FRAME];
+    uint64_t runs;
+    bool forgets_all;
+} __attribute__((aligned(4096))) own[MOST_PROCESSORS];
+
+static _Alignas(FRAME) uint8_t all_ones[3 * FRAME];
 static _Alignas(FRAME) uint64_t nested4[512], nested3[512], nested2[512], nested1[8][512];
-static uint64_t runs;
 static uint32_t identifiers;
-static bool forgets_all;
 
 static void set8(struct guest_cpu *cpu, int at, uint8_t value) {
     cpu->vmcb[at] = value;
@@ -62,16 +67,6 @@ static void set64(struct guest_cpu *cpu, int at, uint64_t value) {
 
 static uint64_t get64(struct guest_cpu *cpu, int at) {
     return *(volatile uint64_t *)(cpu->vmcb + at);
-}
-
-static uint64_t read_msr(uint32_t msr) {
-    uint32_t low, high;
-    __asm__ volatile("rdmsr" : "=a"(low), "=d"(high) : "c"(msr));
-    return low | (uint64_t)high << 32;
-}
-
-static void write_msr(uint32_t msr, uint64_t value) {
-    __asm__ volatile("wrmsr" : : "c"(msr), "a"((uint32_t)value), "d"((uint32_t)(value >> 32)) : "memory");
 }
 
 static void cpuid(uint32_t leaf, uint32_t out[4]) {
@@ -90,9 +85,9 @@ void svm_start(void) {
     need(out[1] > 1, "the processor has an identifier for a guest");
     identifiers = out[1];
     write_msr(MSR_EFER, read_msr(MSR_EFER) | EFER_SVME);
-    write_msr(MSR_HOST_SAVE, (uint64_t)host_save);
+    write_msr(MSR_HOST_SAVE, (uint64_t)own[this_processor()].host_save);
     memset(all_ones, 0xff, sizeof all_ones);
-    __asm__ volatile("vmsave %0" : : "a"(host_vmcb) : "memory");
+    __asm__ volatile("vmsave %0" : : "a"(own[this_processor()].host_vmcb) : "memory");
 }
 
 void svm_memory(uint8_t *block, uint32_t frames, bool writes_first) {
@@ -108,7 +103,9 @@ void svm_memory(uint8_t *block, uint32_t frames, bool writes_first) {
         nested1[frame / 512][frame % 512] =
             (uint64_t)(block + (size_t)frame * FRAME) | PRESENT | USER | (frame || writes_first ? WRITE : 0);
     }
-    svm_forget_all();
+    for (uint32_t i = 0; i < MOST_PROCESSORS; i++) {
+        own[i].forgets_all = true;
+    }
 }
 
 uint32_t svm_most_identifiers(void) {
@@ -120,7 +117,7 @@ void svm_forget_page(uint32_t identifier, uint32_t page) {
 }
 
 void svm_forget_all(void) {
-    forgets_all = true;
+    own[this_processor()].forgets_all = true;
 }
 
 static void segment(struct guest_cpu *cpu, int at, uint16_t selector, uint16_t kind) {
@@ -163,13 +160,18 @@ void svm_open(struct guest_cpu *cpu, uint32_t directory, uint32_t eip, uint32_t 
 }
 
 uint64_t svm_run(struct guest_cpu *cpu, uint32_t identifier) {
+    struct own *mine = &own[this_processor()];
     set32(cpu, ASID, identifier);
-    set8(cpu, TLB_CONTROL, forgets_all);
-    forgets_all = false;
-    runs++;
-    enter_guest(cpu->vmcb, &cpu->more, host_vmcb);
+    set8(cpu, TLB_CONTROL, mine->forgets_all);
+    mine->forgets_all = false;
+    mine->runs++;
+    enter_guest(cpu->vmcb, &cpu->more, mine->host_vmcb);
     __asm__ volatile("" : : : "memory");
     return get64(cpu, EXIT_CODE);
+}
+
+uint32_t svm_directory(struct guest_cpu *cpu) {
+    return (uint32_t)(get64(cpu, SAVE_CR3) / FRAME);
 }
 
 uint32_t svm_fault_code(struct guest_cpu *cpu) {
@@ -202,5 +204,9 @@ void svm_past_call(struct guest_cpu *cpu) {
 }
 
 uint64_t svm_runs(void) {
+    uint64_t runs = 0;
+    for (uint32_t i = 0; i < MOST_PROCESSORS; i++) {
+        runs += own[i].runs;
+    }
     return runs;
 }

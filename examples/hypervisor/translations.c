@@ -19,6 +19,12 @@ uint32_t identifier_of(struct translations *it, uint32_t pid) {
     return it->identifiers[pid];
 }
 
+bool give_up(struct translations *it, uint32_t pid) {
+    bool had_one = it->identifiers[pid] != 0;
+    it->identifiers[pid] = 0;
+    return had_one;
+}
+
 /* A process that has no identifier ran on no processor since all was flushed: nothing of it is kept. */
 static void invalidate_page(struct translations *it, uint32_t pid, uint32_t page) {
     if (it->identifiers[pid]) {
@@ -36,7 +42,6 @@ void invalidate(struct translations *it, struct tower_ended ended) {
         invalidate_page(it, ended.pid, ended.first);
         break;
     case TOWER_ENDS_SPACE:
-        it->spaces += it->identifiers[ended.pid] != 0;
-        it->identifiers[ended.pid] = 0;
+        it->spaces += give_up(it, ended.pid);
     }
 }

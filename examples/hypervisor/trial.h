@@ -1,4 +1,4 @@
-/* Three trials of the processor against the definitions. Their numbers come of a generator with a fixed seed. */
+/* Trials of the processors against the definitions. Their numbers come of generators with fixed seeds. */
 #ifndef TRIAL_H
 #define TRIAL_H
 
@@ -14,5 +14,10 @@ void try_walks(uint32_t rounds);
  * the other's tables. Replies agree, and all bytes of memory but accessed in words of directories. The second
  * core is left in the handle. */
 void try_events(uint32_t rounds, struct tower *tower);
+
+/* A storm of calls and accesses of eight processes, which all processors run at once: the accesses are the processors'
+ * own, or those of processors in software, one on each. A second core is told all of them afterwards, in the lock's
+ * order; the first is left in the handle. */
+void try_storm(uint32_t turns, bool by_processor, struct tower *tower);
 
 #endif

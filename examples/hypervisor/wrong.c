@@ -3,21 +3,30 @@
 
 enum wrong wrong = RIGHT;
 
-/* In the order of `enum wrong`. ./wrong reads the words here. */
+/* Which trial is to find a version: that of events, which one processor makes, or the storm, or each of them. */
+enum trials { EVENTS, STORM, BOTH };
+
+/* In the order of `enum wrong`. ./wrong reads words and trials here. */
 static const struct {
-    const char *word, *what;
+    const char *word;
+    enum trials trials;
+    const char *what;
 } versions[] = {
-    {"right", ""},
-    {"unmap", "nothing is invalidated after an unmap"},
-    {"protect", "nothing is invalidated after a protect that takes the right to write"},
-    {"fill", "nothing is invalidated after a store that fills a lazy page"},
-    {"second", "of two pages that a store fills the first alone is invalidated"},
-    {"accept", "after an accept of a lazy page the caller's page is invalidated, and not the giver's"},
-    {"exit", "an exit keeps its process's identifier"},
-    {"cpu", "one processor alone is told what to invalidate"},
-    {"table", "the word that leads to an invalidated page's table is kept"},
-    {"refusal", "a refusal by what is kept is believed"},
-    {"dirty", "a store through what is kept without dirty doesn't mark it"},
+    {"right", BOTH, ""},
+    {"unmap", BOTH, "nothing is invalidated after an unmap"},
+    {"protect", BOTH, "nothing is invalidated after a protect that takes the right to write"},
+    {"fill", BOTH, "nothing is invalidated after a store that fills a lazy page"},
+    {"second", EVENTS, "of two pages that a store fills the first alone is invalidated"},
+    {"accept", BOTH, "after an accept of a lazy page the caller's page is invalidated, and not the giver's"},
+    {"exit", BOTH, "an exit keeps its process's identifier"},
+    {"cpu", EVENTS, "one processor alone is told what to invalidate"},
+    {"table", BOTH, "the word that leads to an invalidated page's table is kept"},
+    {"refusal", EVENTS, "a refusal by what is kept is believed"},
+    {"dirty", EVENTS, "a store through what is kept without dirty doesn't mark it"},
+    {"early", STORM, "the lock is let go first: a page is invalidated with the next event of who keeps it"},
+    {"twice", STORM, "two processors run one process"},
+    {"move", STORM, "a process that comes back to a processor finds what this one kept of it"},
+    {"fork", STORM, "the other processors run on while a fork copies"},
 };
 
 static bool is_same(const char *a, const char *b) {

@@ -1,5 +1,5 @@
-/* Wrong versions of the trial of events, each of which forgets or marks too little. The trial has to find each of
- * them. A word of the kernel's command line chooses one (./wrong tries all). */
+/* Wrong versions of the trials of events and of the storm, each of which forgets, marks or stops too little. The trials
+ * have to find each of them. A word of the kernel's command line chooses one (./wrong tries all). */
 #ifndef WRONG_H
 #define WRONG_H
 
@@ -17,6 +17,10 @@ enum wrong {
     WRONG_TABLE,
     WRONG_REFUSAL,
     WRONG_DIRTY,
+    WRONG_EARLY,
+    WRONG_TWICE,
+    WRONG_MOVE,
+    WRONG_FORK,
 };
 extern enum wrong wrong;
 

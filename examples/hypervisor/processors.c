@@ -1,0 +1,358 @@
+/* The machine's processors, by their local APICs. */
+#include "processors.h"
+
+#include <stdatomic.h>
+
+enum { APIC_ID = 0x20, APIC_EOI = 0xb0, APIC_SPURIOUS = 0xf0, APIC_COMMAND = 0x300, APIC_TARGET = 0x310 };
+enum { APIC_TIMER = 0x320, APIC_LINT0 = 0x350, APIC_FIRST = 0x380, APIC_NOW = 0x390, APIC_DIVIDE = 0x3e0 };
+enum { ASSERT = 0x4000, TO_OTHERS = 0xc0000, INIT = 0x500, STARTUP = 0x600, MASKED = 0x10000, DIVIDE_BY_16 = 3 };
+/* Of the timer, which counts a billion in a second before it divides: 10 ms, and 0.1 ms. */
+enum { SLICE_COUNT = 625000, REST_COUNT = 6250 };
+enum { VECTOR_TIMER = 0x40, VECTOR_STOP = 0x41, VECTOR_SPURIOUS = 0xff, EXCEPTIONS = 32, VECTORS = 256 };
+/* Where the others begin, below 1 MiB; the number of its page is the vector of SIPI. */
+enum { TRAMPOLINE_AT = 0x8000, MSR_GS_BASE = 0xc0000101 };
+
+/* Ticks of a wait, some ten seconds; and of the looks before it rests, some tenth of a millisecond. A look has no
+ * PAUSE: QEMU leaves its loop at each. */
+#define WAIT_BOUND 30000000000u
+#define LOOKS_BOUND 200000u
+
+/* What a processor has of its own; GS leads to it. start.S has the places of the first three. */
+static struct processor {
+    struct processor *self;
+    uint32_t number;
+    volatile uint32_t slice_over;
+    uint32_t apic;
+    bool works;
+    struct order order;
+    struct processor *asker;
+    _Atomic uint32_t asked, answered, released, done; /* the last stop by number: each follows the one before it */
+    _Atomic uint32_t ticket, rests;
+} all[MOST_PROCESSORS];
+
+static _Atomic uint32_t next_ticket, served;
+static _Atomic uint32_t begun = 1, jobs, busy;
+static void (*job)(void), (*first_job)(void);
+static uint32_t stop_count;
+
+void (*before_stop)(void);
+
+extern const uint8_t trampoline[], trampoline_end[], on_exception[], on_timer[], on_stop[], on_spurious[];
+
+static struct processor *me(void) {
+    struct processor *it;
+    __asm__("mov %%gs:0, %0" : "=r"(it));
+    return it;
+}
+
+uint32_t this_processor(void) {
+    return me()->number;
+}
+
+uint32_t processors(void) {
+    return atomic_load(&begun);
+}
+
+static volatile uint32_t *apic(uint32_t at) {
+    return (volatile uint32_t *)(uintptr_t)(0xfee00000u + at);
+}
+
+static uint64_t moment(void) {
+    uint32_t low, high;
+    __asm__ volatile("rdtsc" : "=a"(low), "=d"(high) : : "memory");
+    return low | (uint64_t)high << 32;
+}
+
+static void pass(uint64_t ticks) {
+    for (uint64_t since = moment(); moment() - since < ticks;) {
+    }
+}
+
+static void interrupt(const struct processor *it) {
+    *apic(APIC_TARGET) = it->apic << 24;
+    *apic(APIC_COMMAND) = ASSERT | VECTOR_STOP;
+}
+
+/* ---- Waits */
+
+static void rest_for(uint32_t count) {
+    *apic(APIC_FIRST) = count;
+    __asm__ volatile("sti; hlt; cli" : : : "memory");
+}
+
+/* Whoever is about to change what is waited for changes it first, and then looks who rests. */
+static void wake(const struct processor *it) {
+    if (atomic_load(&it->rests)) {
+        interrupt(it);
+    }
+}
+
+void wake_others(void) {
+    for (const struct processor *it = all; it < all + MOST_PROCESSORS; it++) {
+        wake(it);
+    }
+}
+
+void rest(void) {
+    rest_for(REST_COUNT);
+}
+
+void wait_until(bool (*holds)(const void *of), const void *of, const char *what) {
+    struct processor *it = me();
+    uint64_t since = moment();
+    while (!holds(of)) {
+        answer_stop();
+        if (moment() - since < LOOKS_BOUND) {
+            continue;
+        }
+        if (moment() - since > WAIT_BOUND) {
+            fail(what);
+        }
+        atomic_store(&it->rests, 1);
+        if (!holds(of) && atomic_load(&it->asked) == atomic_load(&it->answered)) {
+            rest_for(SLICE_COUNT);
+        }
+        atomic_store(&it->rests, 0);
+    }
+}
+
+/* ---- Interrupts. None is taken but where take_interrupts says so, or a processor rests. */
+
+static struct gate {
+    uint16_t low, selector, kind, middle;
+    uint32_t high, zero;
+} gates[VECTORS];
+
+static void set_gate(uint32_t vector, const uint8_t *handler) {
+    enum { CODE = 8, INTERRUPT = 0x8e00 };
+    uint64_t at = (uint64_t)handler;
+    gates[vector] = (struct gate){(uint16_t)at, CODE, INTERRUPT, (uint16_t)(at >> 16), (uint32_t)(at >> 32), 0};
+}
+
+static void set_gates(void) {
+    enum { HANDLER_BYTES = 16 };
+    for (uint32_t vector = 0; vector < EXCEPTIONS; vector++) {
+        set_gate(vector, on_exception + vector * HANDLER_BYTES);
+    }
+    set_gate(VECTOR_TIMER, on_timer);
+    set_gate(VECTOR_STOP, on_stop);
+    set_gate(VECTOR_SPURIOUS, on_spurious);
+}
+
+/* A fault of the program's own; start.S has the number and what the processor pushed. */
+_Noreturn void exception(uint64_t number, const uint64_t *pushed) {
+    say("exception %u of processor %u: %x %x\n", (uint32_t)number, this_processor(), (uint32_t)pushed[0],
+        (uint32_t)pushed[1]);
+    fail("the program makes no exception");
+}
+
+void take_interrupts(void) {
+    __asm__ volatile("sti; nop; nop; cli" : : : "memory");
+}
+
+/* An interrupt of a countdown before is taken once the new one counts, so that none is left. */
+void start_slice(void) {
+    *apic(APIC_FIRST) = SLICE_COUNT;
+    take_interrupts();
+    me()->slice_over = 0;
+}
+
+bool is_slice_over(void) {
+    return me()->slice_over;
+}
+
+void let_slice_pass(void) {
+    start_slice();
+    for (uint64_t since = moment(); *apic(APIC_NOW);) {
+        need(moment() - since < WAIT_BOUND, "the timer ends a slice");
+    }
+}
+
+/* ---- Starting */
+
+static void begin_processor(uint32_t number) {
+    struct processor *it = &all[number];
+    struct __attribute__((packed)) {
+        uint16_t limit;
+        uint64_t begins;
+    } table = {sizeof gates - 1, (uint64_t)gates};
+    it->self = it;
+    it->number = number;
+    write_msr(MSR_GS_BASE, (uint64_t)it);
+    __asm__ volatile("lidt %0" : : "m"(table));
+    it->apic = *apic(APIC_ID) >> 24;
+    *apic(APIC_SPURIOUS) = 0x100 | VECTOR_SPURIOUS;
+    *apic(APIC_LINT0) = MASKED;
+    *apic(APIC_DIVIDE) = DIVIDE_BY_16;
+    *apic(APIC_TIMER) = VECTOR_TIMER;
+}
+
+/* The first interrupt controllers are not used: all of their lines are masked. */
+void begin_first_processor(void) {
+    out8(0x21, 0xff);
+    out8(0xa1, 0xff);
+    set_gates();
+    begin_processor(0);
+}
+
+/* Another processor's: start.S gives it its number. */
+_Noreturn void begin_other(uint32_t number) {
+    begin_processor(number);
+    first_job();
+    atomic_fetch_add(&begun, 1);
+    for (uint32_t seen = 0;; seen++) {
+        while (atomic_load(&jobs) == seen) {
+            __asm__ volatile("sti; hlt; cli" : : : "memory");
+        }
+        job();
+        atomic_fetch_sub(&busy, 1);
+        wake(&all[0]);
+    }
+}
+
+/* How many processors the machine has, of which QEMU tells. */
+static uint32_t processors_there(void) {
+    enum { SELECTOR = 0x510, DATA = 0x511, PROCESSORS = 5 };
+    out16(SELECTOR, PROCESSORS);
+    uint32_t low = in8(DATA);
+    return low | (uint32_t)in8(DATA) << 8;
+}
+
+void start_processors(void (*first)(void)) {
+    uint32_t there = processors_there();
+    need(there >= 1 && there <= MOST_PROCESSORS, "there are one to eight processors");
+    first_job = first;
+    memmove((void *)TRAMPOLINE_AT, trampoline, (size_t)(trampoline_end - trampoline));
+    *apic(APIC_COMMAND) = TO_OTHERS | ASSERT | INIT;
+    pass(50000000);
+    for (uint32_t i = 0; i < 2; i++) {
+        *apic(APIC_COMMAND) = TO_OTHERS | ASSERT | STARTUP | TRAMPOLINE_AT / FRAME;
+        pass(2000000);
+    }
+    for (uint64_t since = moment(); processors() != there;) {
+        need(moment() - since < WAIT_BOUND, "all processors start");
+    }
+}
+
+static bool is_idle(const void *of) {
+    (void)of;
+    return atomic_load(&busy) == 0;
+}
+
+void on_all(void (*work)(void)) {
+    job = work;
+    atomic_store(&busy, processors() - 1);
+    atomic_fetch_add(&jobs, 1);
+    *apic(APIC_COMMAND) = TO_OTHERS | ASSERT | VECTOR_STOP;
+    work();
+    wait_until(is_idle, 0, "all processors end their work");
+}
+
+/* ---- The lock */
+
+static bool is_served(const void *of) {
+    return atomic_load(&served) == atomic_load(&((const struct processor *)of)->ticket);
+}
+
+void take_lock(void) {
+    atomic_store(&me()->ticket, atomic_fetch_add(&next_ticket, 1));
+    wait_until(is_served, me(), "the lock comes round");
+}
+
+void let_go(void) {
+    atomic_fetch_add(&served, 1);
+    for (const struct processor *it = all; it < all + MOST_PROCESSORS; it++) {
+        if (is_served(it)) {
+            wake(it);
+        }
+    }
+}
+
+/* ---- Stops */
+
+void arrive(void) {
+    me()->works = true;
+}
+
+void depart(void) {
+    me()->works = false;
+}
+
+static void ask(struct processor *it) {
+    it->asker = me();
+    atomic_fetch_add(&it->asked, 1);
+    interrupt(it);
+    stop_count++;
+}
+
+static bool has_answered(const void *of) {
+    const struct processor *it = of;
+    return atomic_load(&it->answered) == atomic_load(&it->asked);
+}
+
+static bool is_released(const void *of) {
+    const struct processor *it = of;
+    return atomic_load(&it->released) == atomic_load(&it->asked);
+}
+
+static bool is_done(const void *of) {
+    const struct processor *it = of;
+    return atomic_load(&it->done) == atomic_load(&it->asked);
+}
+
+void stop_processor(uint32_t number) {
+    ask(&all[number]);
+    wait_until(has_answered, &all[number], "a processor stops");
+}
+
+void go_on(uint32_t number, struct order order) {
+    struct processor *it = &all[number];
+    it->order = order;
+    atomic_store(&it->released, atomic_load(&it->asked));
+    wake(it);
+    wait_until(is_done, it, "a processor goes on");
+}
+
+void answer_stop(void) {
+    struct processor *it = me();
+    uint32_t asked = atomic_load(&it->asked);
+    if (asked == atomic_load(&it->answered)) {
+        return;
+    }
+    if (before_stop) {
+        before_stop();
+    }
+    atomic_store(&it->answered, asked);
+    wake(it->asker);
+    wait_until(is_released, it, "a processor that was stopped may go on");
+    if (it->order.forget) {
+        it->order.forget(it->order.identifier, it->order.page);
+    }
+    atomic_store(&it->done, asked);
+    wake(it->asker);
+}
+
+void stop_others(void) {
+    for (struct processor *it = all; it < all + MOST_PROCESSORS; it++) {
+        if (it->works && it != me()) {
+            ask(it);
+        }
+    }
+    for (struct processor *it = all; it < all + MOST_PROCESSORS; it++) {
+        if (it->works && it != me()) {
+            wait_until(has_answered, it, "all others stop");
+        }
+    }
+}
+
+void others_go_on(void) {
+    for (uint32_t number = 0; number < MOST_PROCESSORS; number++) {
+        if (all[number].works && &all[number] != me()) {
+            go_on(number, (struct order){0});
+        }
+    }
+}
+
+uint32_t stops(void) {
+    return stop_count;
+}
