@@ -52,6 +52,12 @@ class Translations(ctypes.Structure):
     _fields_ = [(name, ctypes.c_uint32) for name in ("kind", "pid", "first", "second")]
 
 
+class Page(ctypes.Structure):
+    """What stands at a page."""
+    _fields_ = [("holders", ctypes.c_uint32)] + \
+               [(name, ctypes.c_bool) for name in ("write", "may", "accessed", "dirty", "lazy")]
+
+
 class Block(ctypes.Structure):
     _fields_ = [("begins", ctypes.c_void_p), ("length", ctypes.c_size_t)]
 
@@ -62,7 +68,8 @@ def built(archive, folder):
     subprocess.run(["gcc", "-shared", "-fPIC", "-O2", f"-I{c}/include", "-o", made, ROOT / "checks" / "look.c", c / "heap.c",
                     "-Wl,--whole-archive", archive, "-Wl,--no-whole-archive"], check=True)
     library = ctypes.CDLL(made)
-    for name in ("step", "step_ending", "ends", "run", "directory", "container", "role", "walk", "copy_frame", "memory"):
+    for name in ("step", "step_ending", "ends", "run", "run_until", "read", "write", "next_page", "directory",
+                 "container", "role", "walk", "copy_frame", "memory"):
         getattr(library, "tower_" + name).restype = ctypes.c_bool
     return library
 
@@ -193,6 +200,31 @@ class Core:
         asked, answers = (Numbers * len(events))(*map(numbers_of, events)), (Answer * len(events))()
         self.library.tower_run(ctypes.byref(self.handle), asked, count, answers, count)
         return [reply_of(answer) for answer in answers]
+
+    def run_until(self, events):
+        """How many of them are carried out before the first that is not, and the replies up to that one."""
+        count, carried = ctypes.c_size_t(len(events)), ctypes.c_size_t(99)
+        asked, answers = (Numbers * len(events))(*map(numbers_of, events)), (Answer * len(events))()
+        self.library.tower_run_until(ctypes.byref(self.handle), asked, count, answers, count, ctypes.byref(carried))
+        return [reply_of(answer) for answer in answers[:carried.value + 1]]
+
+    def transfer(self, name, number, address, data):
+        """How a read into these bytes or a write of them goes: how many went, what stopped it, and the bytes."""
+        held, moved = (ctypes.c_uint8 * len(data))(*data), ctypes.c_size_t(99)
+        stop = Answer(99, 99, 99, 99, True, True, True, True)
+        asked = ctypes.c_uint32(number), ctypes.c_uint32(address), held, ctypes.c_size_t(len(data))
+        told = ctypes.byref(moved), ctypes.byref(stop)
+        if not getattr(self.library, f"tower_{name}")(ctypes.byref(self.handle), *asked, *told):
+            return None
+        return moved.value, reply_of(stop), bytes(held)
+
+    def pages(self, number):
+        """Each page that a process has mapped, as the library tells one after the other."""
+        page, found = ctypes.c_uint32(0), Page()
+        asked = ctypes.byref(page), ctypes.byref(found)
+        while self.library.tower_next_page(ctypes.byref(self.handle), ctypes.c_uint32(number), page, *asked):
+            yield page.value, found.write, found.may, found.accessed, found.dirty, found.holders, found.lazy
+            page.value += 1
 
     def walk(self, number, address, write):
         """The library's walk of a process, or None where it answers none."""
