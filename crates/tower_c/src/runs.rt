@@ -3,12 +3,12 @@
 ghost use Rattle.std.specs.Prelude.{◌≡◌, ◌↔◌, Some, IfSome, length, true, false};
 ghost use Rattle.process_table.specs.Image.{StandsFor, image_of};
 ghost use Rattle.tower_c.specs.Border.{event_in, reply_in, state_after, is_carried_out, end_after};
-ghost use Rattle.tower_c.specs.Handle.{IsTower};
+ghost use Rattle.core_handle.specs.Handle.{IsTower};
 ghost use Rattle.tower_c.specs.Runs.{carried_in, replies_until};
 
-use crate::handle::{Tower, put, take};
 use crate::numbers::{TowerEvent, TowerReply};
 use crate::step;
+use core_handle::{Tower, put, take};
 use kernel_calls::Core;
 use std::alloc::Global;
 

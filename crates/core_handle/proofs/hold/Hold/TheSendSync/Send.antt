@@ -15,8 +15,8 @@ use Rattle.std.specs.contracts.alloc.Global as heap
 use Rattle.process_table.specs.View.{View}
 use Rattle.kernel_calls.specs.contracts.cores.Core as core
 use Rattle.kernel_calls.proofs.cores.Core.TheSendSync.{the_send as core_sends}
-use Rattle.tower_c.specs.Held.{core_at}
-use Rattle.tower_c.specs.contracts.hold.Hold.{the_row, the_type}
+use Rattle.core_handle.specs.Held.{core_at}
+use Rattle.core_handle.specs.contracts.hold.Hold.{the_row, the_type}
 
 quiet : {D X : Type 0} (to : D → X) (e : Exit X) → Quiet e → Quiet (hidden (under to e))
 quiet to unchanged q = λ x w. tt

@@ -2,7 +2,7 @@
 
 ghost use Rattle.std.specs.Prelude.{◌≡◌, None, Some, true, false};
 ghost use Rattle.std.specs.Option.{option_map};
-ghost use Rattle.tower_c.specs.Handle.{IsTower};
+ghost use Rattle.core_handle.specs.Handle.{IsTower};
 
 use crate::hold::Hold;
 use crate::loose::Loose;
@@ -15,6 +15,19 @@ use std::alloc::Global;
 pub struct Tower {
     pub live: bool,
     pub hold: Hold,
+}
+
+impl Tower {
+    /// A handle that holds no core.
+    pub fn none(alloc: Global) -> Tower
+        ensures live { result.live ≡ false }
+        ensures core { result.hold.core ≡ None }
+    {
+        Tower {
+            live: false,
+            hold: Hold::none(alloc),
+        }
+    }
 }
 
 /// Takes the core out, if there is one.

@@ -4,7 +4,7 @@ ghost use Rattle.std.specs.Prelude.{◌≡◌, None, Some, IsSome};
 ghost use Rattle.std.specs.declared.option.Option.{Option};
 ghost use Rattle.std.specs.Coded.{coded_option};
 ghost use Rattle.process_table.specs.View.{View, view_code};
-ghost use Rattle.tower_c.specs.Held.{core_at};
+ghost use Rattle.core_handle.specs.Held.{core_at};
 
 use crate::loose::Loose;
 use kernel_calls::Core;

@@ -35,11 +35,11 @@ use Rattle.std.proofs.raw_atomic.Calls.{fm}
 use Rattle.std.proofs.raw_atomic.Walks.{proved_at, leaves}
 use Rattle.std.specs.contracts.boxed.Box.into_raw_with_allocator as callee
 use Rattle.std.proofs.boxed.Box.into_raw_with_allocator.Met.{met}
-use Rattle.tower_c.specs.contracts.loose.Loose as loose
-use Rattle.tower_c.specs.contracts.loose.Loose.of.{ended, clauses}
-use Rattle.tower_c.specs.contracts.loose.Loose.of.Key.{name as #self}
-use Rattle.tower_c.proofs.loose.Loose.of.Statement.{statement}
-use Rattle.tower_c.proofs.loose.Loose.of.Code as code
+use Rattle.core_handle.specs.contracts.loose.Loose as loose
+use Rattle.core_handle.specs.contracts.loose.Loose.of.{ended, clauses}
+use Rattle.core_handle.specs.contracts.loose.Loose.of.Key.{name as #self}
+use Rattle.core_handle.proofs.loose.Loose.of.Statement.{statement}
+use Rattle.core_handle.proofs.loose.Loose.of.Code as code
 
 pub of_spec : {M : Type 1} → statement M
 of_spec 𝓤 𝓛 𝓜 𝓡 wired X Z L LZ g d dd dx allocator glue glued =

@@ -31,11 +31,11 @@ use Rattle.std.proofs.BoxSteps.Steps.{box_out, box_in}
 use Rattle.std.proofs.raw_atomic.Walks.{proved_at, leaves}
 use Rattle.std.specs.contracts.boxed.Box.from_raw as callee
 use Rattle.std.proofs.boxed.Box.from_raw.Met.{met}
-use Rattle.tower_c.specs.contracts.loose.Loose as loose
-use Rattle.tower_c.specs.contracts.loose.Loose.into_box.{ended, clauses}
-use Rattle.tower_c.specs.contracts.loose.Loose.into_box.Key.{name as #self}
-use Rattle.tower_c.proofs.loose.Loose.into_box.Statement.{statement}
-use Rattle.tower_c.proofs.loose.Loose.into_box.Code as code
+use Rattle.core_handle.specs.contracts.loose.Loose as loose
+use Rattle.core_handle.specs.contracts.loose.Loose.into_box.{ended, clauses}
+use Rattle.core_handle.specs.contracts.loose.Loose.into_box.Key.{name as #self}
+use Rattle.core_handle.proofs.loose.Loose.into_box.Statement.{statement}
+use Rattle.core_handle.proofs.loose.Loose.into_box.Code as code
 
 pub into_box_spec : {M : Type 1} → statement M
 into_box_spec 𝓤 𝓛 𝓜 𝓡 wired X Z L LZ g d dd allocator glue =
