@@ -1,0 +1,98 @@
+//! The image of the core that a handle of C's holds, and the check of an image, for C: an archive of its own beside
+//! that of the core.
+//!
+//! Each function takes the memory that it needs from `rattle_alloc`, and gives all of it back before it ends.
+#![tactic(auto)]
+
+ghost use Rattle.std.specs.Prelude.{◌≡◌, ◌≢◌, ◌↔◌, ◌≤◌, ◌<◌, ◌⊎◌, IfSome, length, take, drop, true, false};
+ghost use Rattle.memory_image.specs.Sound.{IsSound};
+ghost use Rattle.memory_image.specs.Spelling.{Spells};
+ghost use Rattle.core_handle.specs.Handle.{IsTower};
+ghost use Rattle.tower_images.specs.Images.{image_length, SpellsCore, HasSoundImage};
+ghost use Rattle.tower_images.specs.Audits.{SpellsOne, FailsProcess, FailsFrame, IsNoImage};
+
+mod checking;
+mod spelling;
+mod statuses;
+mod verdicts;
+
+use checking::{check_bytes, check_core};
+use core_handle::{Tower, put, take};
+use spelling::{image_length, write_core};
+use statuses::NO_CORE;
+use std::alloc::Global;
+pub use verdicts::TowerVerdict;
+
+/// Writes the image of the core (docs/IMAGES.md) at the front of `bytes`, and tells how many there are: 0. Else nothing is
+/// written there: 1 where the handle has no core, and then no size is told; 2 where there is no memory for it; 3
+/// where there are fewer bytes than it has.
+#[unsafe(no_mangle)]
+pub extern "C" fn tower_image(
+    alloc: Global,
+    tower: &mut Tower,
+    bytes: &mut [u8],
+    size: &mut usize,
+) -> u32
+    requires { IsTower tower.old }
+    ensures kept { IsTower tower.new }
+    ensures same { tower.new.hold.core ≡ tower.old.hold.core }
+    ensures statuses { result ≤ 3 }
+    ensures image { result ≡ 0 → IfSome tower.old.hold.core (λ core. SpellsCore core (take size.new bytes.new)) }
+    ensures behind { result ≡ 0 → drop size.new bytes.new ≡ drop size.new bytes.old }
+    ensures size { IfSome tower.old.hold.core (λ core. size.new ≡ image_length core) }
+    ensures short { IfSome tower.old.hold.core (λ core. result ≡ 3 ↔ length bytes.old < image_length core) }
+    ensures empty { result ≡ 1 ↔ tower.old.live ≡ false }
+    ensures unwritten { result ≢ 0 → bytes.new ≡ bytes.old }
+    ensures none { result ≡ 1 → size.new ≡ size.old }
+{
+    match take(alloc, tower) {
+        Some(core) => {
+            let status = write_core(alloc, &core, bytes);
+            *size = image_length(core.frames());
+            put(tower, core); // after an image
+            status
+        }
+        None => NO_CORE,
+    }
+}
+
+/// Checks the core's own image: 0 where it is sound; 1 where the handle has no core; 2 where there is no memory for the
+/// check. No other comes of a core that these libraries alone have written; else 3 and 4 come as for
+/// `tower_check_bytes`.
+#[unsafe(no_mangle)]
+pub extern "C" fn tower_check(alloc: Global, tower: &mut Tower, verdict: &mut TowerVerdict) -> u32
+    requires { IsTower tower.old }
+    ensures kept { IsTower tower.new }
+    ensures same { tower.new.hold.core ≡ tower.old.hold.core }
+    ensures sound { result ≡ 0 → IfSome tower.old.hold.core HasSoundImage }
+    ensures passes { tower.old.live ≡ true → (result ≡ 0) ⊎ (result ≡ 2) }
+    ensures empty { result ≡ 1 ↔ tower.old.live ≡ false }
+    ensures none { verdict.new ≡ verdict.old }
+{
+    match take(alloc, tower) {
+        Some(core) => {
+            let status = check_core(alloc, &core, verdict);
+            put(tower, core); // after a check
+            status
+        }
+        None => NO_CORE,
+    }
+}
+
+/// Checks the image that bytes spell: 0 where it is sound. 3 where a process fails a clause: the first that does, and the
+/// number of the first clause that it fails, 1 to 7 for P1 to P7. 4 where no process fails one, but a frame does: the
+/// first, and the number of its clause, 1 to 5 for F1 to F5. 5 where the bytes spell no image, with the first reason
+/// against them: 1 not an image, 2 wrong length, 3 unknown version, 4 a field that breaks its rule, at that place. 2
+/// where there is no memory for the check. At 0 and 2 nothing is written.
+#[unsafe(no_mangle)]
+pub extern "C" fn tower_check_bytes(alloc: Global, bytes: &[u8], verdict: &mut TowerVerdict) -> u32
+    ensures statuses { (result ≤ 5) × (result ≢ 1) }
+    ensures sound { result ≡ 0 → SpellsOne bytes.now IsSound }
+    ensures passes { SpellsOne bytes.now IsSound → (result ≡ 0) ⊎ (result ≡ 2) }
+    ensures process { result ≡ 3 → SpellsOne bytes.now (FailsProcess verdict.new) }
+    ensures frame { result ≡ 4 → SpellsOne bytes.now (FailsFrame verdict.new) }
+    ensures refused { result ≡ 5 → IsNoImage verdict.new bytes.now }
+    ensures none { (result ≡ 0) ⊎ (result ≡ 2) → verdict.new ≡ verdict.old }
+{
+    check_bytes(alloc, bytes, verdict)
+}

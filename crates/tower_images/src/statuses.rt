@@ -1,0 +1,16 @@
+//! What the functions answer.
+
+/// The image was written, or it is sound.
+pub const DONE: u32 = 0;
+/// The handle has no core.
+pub const NO_CORE: u32 = 1;
+/// There is no memory for the image or its check.
+pub const NO_MEMORY: u32 = 2;
+/// There are fewer bytes than the image has.
+pub const TOO_SHORT: u32 = 3;
+/// A process fails a clause.
+pub const PROCESS_FAILS: u32 = 3;
+/// A frame fails a clause.
+pub const FRAME_FAILS: u32 = 4;
+/// The bytes spell no image.
+pub const NOT_IMAGE: u32 = 5;
