@@ -1,5 +1,4 @@
-/* The library's two functions for memory, over malloc and free. A kernel writes its own: examples/c/bare.c
- * does. */
+/* The libraries' functions for memory, over malloc, realloc and free. A kernel writes its own: examples/c/bare.c does. */
 #include <stdlib.h>
 
 #include "tower_heap.h"
@@ -9,6 +8,13 @@ static char nothing;
 struct rattle_tried rattle_alloc(size_t size, size_t align) {
     void *block = malloc(size ? size : align);
     struct rattle_tried tried = {block != NULL, block ? block : &nothing};
+    return tried;
+}
+
+struct rattle_tried rattle_realloc(void *block, size_t kept, size_t size, size_t align) {
+    (void)kept;
+    void *moved = realloc(block, size ? size : align);
+    struct rattle_tried tried = {moved != NULL, moved ? moved : &nothing};
     return tried;
 }
 

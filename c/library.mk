@@ -1,13 +1,19 @@
-# The archive of crates/tower_c, $(LIB), built anew where anything that it stands on has changed. It is proved
-# first: an archive is built of a proved crate alone. TOWER is the repository's folder. The
-# sources' folders are among them: a folder changes where a file comes or goes.
+# The archives of crates/tower_c and crates/tower_images, $(LIB) and $(IMAGES), built anew where anything that they
+# stand on has changed. Each is proved first: an archive is built of a proved crate alone. TOWER is the repository's
+# folder. The sources' folders are among the sources: a folder changes where a file comes or goes.
 LIB = $(TOWER)/crates/tower_c/out/libtower_c.a
-TOWER_PARTS := $(foreach crate,$(shell $(TOWER)/c/below tower_c),$(wildcard $(addprefix $(TOWER)/crates/$(crate)/,src specs proofs)))
-TOWER_SOURCES := $(shell find $(TOWER_PARTS))
+IMAGES = $(TOWER)/crates/tower_images/out/libtower_images.a
+sources_of = $(shell find $(foreach crate,$(shell $(TOWER)/c/below $(1)),$(wildcard $(addprefix $(TOWER)/crates/$(crate)/,src specs proofs))))
+TOWER_SOURCES := $(call sources_of,tower_c)
+IMAGES_SOURCES := $(call sources_of,tower_images)
 
 $(LIB): $(TOWER)/crates.txt $(TOWER_SOURCES)
 	cd $(TOWER)/crates/tower_c && rt lib
 	touch $@
 
+$(IMAGES): $(TOWER)/crates.txt $(IMAGES_SOURCES)
+	cd $(TOWER)/crates/tower_images && rt lib
+	touch $@
+
 # (no rule makes a source: make looks for none)
-$(TOWER)/crates.txt $(TOWER_SOURCES): ;
+$(TOWER)/crates.txt $(sort $(TOWER_SOURCES) $(IMAGES_SOURCES)): ;

@@ -1,5 +1,6 @@
-/* What the library asks for: the two functions for memory that a kernel writes itself, and two of the C
- * library's. c/heap.c has the first two over malloc and free. */
+/* What the libraries ask for: the functions for memory that a kernel writes itself, and some of the C library's.
+ * c/heap.c has the first over malloc, realloc and free. Of those below libtower_images.a alone asks for rattle_realloc
+ * and memcpy. */
 #ifndef TOWER_HEAP_H
 #define TOWER_HEAP_H
 
@@ -24,9 +25,15 @@ struct rattle_tried rattle_alloc(size_t size, size_t align);
 /* Takes back a block that rattle_alloc gave. */
 void rattle_dealloc(void *block);
 
+/* The block, made one of `size` bytes, with its first `kept` bytes as they were; it may move. Where that can't be done
+ * it answers false, and the block is as it was: a kernel's may always do so, since each block is asked for in its whole
+ * size at once. */
+struct rattle_tried rattle_realloc(void *block, size_t kept, size_t size, size_t align);
+
 /* As the C library's, which has them in string.h; in C++ they are taken from there. */
 #ifndef __cplusplus
 void *memset(void *to, int byte, size_t count);
+void *memcpy(void *to, const void *from, size_t count);
 void *memmove(void *to, const void *from, size_t count);
 #endif
 

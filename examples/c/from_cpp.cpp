@@ -2,7 +2,7 @@
 #include <cstdint>
 #include <cstdio>
 
-#include "tower.h"
+#include "tower_images.h"
 #include "tower_heap.h"
 
 class Core {

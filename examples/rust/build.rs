@@ -1,18 +1,36 @@
-//! Links the archive of `crates/tower_c`.
+//! Links the archive of `crates/tower_c`, and with the feature `images` that of `crates/tower_images`.
 //!
-//! It is that of the folder which `TOWER_LIB` names; else that beside this crate, in a release; else that of the
-//! repository, which `make -C c` proves and builds where it is missing or older than its sources. That takes minutes
+//! They are those of the folder which `TOWER_LIB` names; else those beside this crate, in a release; else those of the
+//! repository, which `make -C c` proves and builds where one is missing or older than its sources. That takes minutes
 //! and the kit's `rt`, so a warning says so before it begins.
 use std::path::{Path, PathBuf};
 use std::process::Command;
 use std::{env, fs};
 
-const ARCHIVE: &str = "libtower_c.a";
-const NAME_ONE: &str = "TOWER_LIB=FOLDER names the folder of a built libtower_c.a";
+/// The crates whose archives are linked.
+fn crates() -> Vec<&'static str> {
+    let with_images = env::var_os("CARGO_FEATURE_IMAGES").is_some();
+    ["tower_c"]
+        .into_iter()
+        .chain(with_images.then_some("tower_images"))
+        .collect()
+}
 
-/// Each folder whose files the archive is made of, and the list of crates.
-fn sources(root: &Path) -> Vec<PathBuf> {
-    let below = Command::new(root.join("c/below")).arg("tower_c").output();
+fn archive(name: &str) -> String {
+    format!("lib{name}.a")
+}
+
+/// What to do where there is no archive.
+fn advice(name: &str) -> String {
+    format!(
+        "TOWER_LIB=FOLDER names the folder of a built {}",
+        archive(name)
+    )
+}
+
+/// Each folder whose files a crate's archive is made of, and the list of crates.
+fn sources(root: &Path, name: &str) -> Vec<PathBuf> {
+    let below = Command::new(root.join("c/below")).arg(name).output();
     let names = String::from_utf8(below.expect("c/below runs").stdout).expect("names of crates");
     assert!(!names.is_empty(), "c/below names no crate");
     let crates = names.lines().map(|name| root.join("crates").join(name));
@@ -23,63 +41,74 @@ fn sources(root: &Path) -> Vec<PathBuf> {
         .collect()
 }
 
-/// Whether `make -C c` of the archive, with these words, ends with status 0.
-fn makes(root: &Path, words: &[&str]) -> bool {
+/// Whether `make -C c` of a crate's archive, with these words, ends with status 0.
+fn makes(root: &Path, name: &str, words: &[&str]) -> bool {
     let ended = Command::new("make")
         .arg("-s")
         .arg("-C")
         .arg(root.join("c"))
         .args(words)
-        .arg(format!("../crates/tower_c/out/{ARCHIVE}"))
+        .arg(format!("../crates/{name}/out/{}", archive(name)))
         .status();
     ended.is_ok_and(|status| status.success())
 }
 
-/// The repository's archive, proved and built first where it is missing or older than its sources.
-fn built(root: &Path) -> PathBuf {
-    for source in sources(root) {
+/// The folder of a crate's archive in the repository, proved and built first where it is missing or older than its
+/// sources.
+fn built(root: &Path, name: &str) -> PathBuf {
+    for source in sources(root, name) {
         println!("cargo::rerun-if-changed={}", source.display());
     }
-    if !makes(root, &["-q"]) {
+    if !makes(root, name, &["-q"]) {
+        let (archive, advice) = (archive(name), advice(name));
         println!(
-            "cargo::warning=`make -C c` proves and builds {ARCHIVE}, which takes minutes; {NAME_ONE}"
+            "cargo::warning=`make -C c` proves and builds {archive}, which takes minutes; {advice}"
         );
         assert!(
-            makes(root, &[]),
-            "`make -C c` did not build {ARCHIVE}; {NAME_ONE}"
+            makes(root, name, &[]),
+            "`make -C c` did not build {archive}; {advice}"
         );
     }
-    root.join("crates/tower_c/out")
+    root.join("crates").join(name).join("out")
 }
 
 /// The folder of the archive that is linked.
-fn folder() -> PathBuf {
+fn folder(name: &str) -> PathBuf {
     if let Some(named) = env::var_os("TOWER_LIB") {
         return PathBuf::from(named);
     }
     let own = PathBuf::from(env::var_os("CARGO_MANIFEST_DIR").expect("cargo sets it"));
     let (released, root) = (own.join("../lib"), own.join("../.."));
-    if released.join(ARCHIVE).exists() {
+    if released.join(archive(name)).exists() {
         return released;
     }
+    let is_repository = root.join("c/below").exists();
     assert!(
-        root.join("c/below").exists(),
-        "there is no {ARCHIVE} here: {NAME_ONE}"
+        is_repository,
+        "there is no {} here: {}",
+        archive(name),
+        advice(name)
     );
-    built(&root)
+    built(&root, name)
+}
+
+/// Links a crate's archive.
+fn links(name: &str) {
+    let folder = folder(name);
+    let folder = fs::canonicalize(&folder).unwrap_or(folder);
+    let found = folder.join(archive(name));
+    assert!(
+        found.exists(),
+        "there is no {}: {}",
+        found.display(),
+        advice(name)
+    );
+    println!("cargo::rerun-if-changed={}", found.display());
+    println!("cargo::rustc-link-search=native={}", folder.display());
+    println!("cargo::rustc-link-lib=static={name}");
 }
 
 fn main() {
     println!("cargo::rerun-if-env-changed=TOWER_LIB");
-    let folder = folder();
-    let folder = fs::canonicalize(&folder).unwrap_or(folder);
-    let archive = folder.join(ARCHIVE);
-    assert!(
-        archive.exists(),
-        "there is no {}: {NAME_ONE}",
-        archive.display()
-    );
-    println!("cargo::rerun-if-changed={}", archive.display());
-    println!("cargo::rustc-link-search=native={}", folder.display());
-    println!("cargo::rustc-link-lib=static=tower_c");
+    crates().into_iter().for_each(links);
 }

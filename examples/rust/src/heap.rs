@@ -1,4 +1,4 @@
-//! The library's two functions for memory, over the program's global allocator.
+//! The libraries' functions for memory, over the program's global allocator.
 //!
 //! `rattle_dealloc` is told no size, so each block has its size in the 16 bytes before it.
 
@@ -44,6 +44,26 @@ extern "C" fn rattle_alloc(size: usize, _align: usize) -> Tried {
             block: head.add(HEAD),
         }
     }
+}
+
+/// A larger block with the first bytes of the old one, which is given back. `libtower_images.a` asks for it.
+#[cfg(feature = "images")]
+#[unsafe(no_mangle)]
+unsafe extern "C" fn rattle_realloc(
+    block: *mut u8,
+    kept: usize,
+    size: usize,
+    align: usize,
+) -> Tried {
+    let tried = rattle_alloc(size, align);
+    if tried.ok {
+        // SAFETY: the old block has so many bytes, the new one at least as many, and they lie apart.
+        unsafe {
+            block.copy_to_nonoverlapping(tried.block, kept);
+            rattle_dealloc(block);
+        }
+    }
+    tried
 }
 
 #[unsafe(no_mangle)]

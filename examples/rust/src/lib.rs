@@ -2,7 +2,8 @@
 //!
 //! [`Core`] has all calls and queries of the library that `crates/tower_c` builds. What they do is proved up
 //! to that library's exports (docs/C-LIBRARY.md); this crate turns types into its numbers and back, is not
-//! proved, and is tested by `cargo test`. Its `unsafe` blocks are those of `src/core.rs` and `src/heap.rs`.
+//! proved, and is tested by `cargo test`. The feature `images` adds those of `crates/tower_images`. Its `unsafe` blocks are
+//! those of `src/core.rs`, `src/memory.rs`, `src/images.rs` and `src/heap.rs`.
 //!
 //! ```
 //! use tower::{Call, Core, Event, Page, Pid, Reply, Size, Vaddr};
@@ -24,12 +25,16 @@ mod calls;
 mod core;
 #[cfg(feature = "heap")]
 mod heap;
+#[cfg(feature = "images")]
+mod images;
 mod memory;
 mod raw;
 mod words;
 
 pub use calls::{Info, Usage};
 pub use core::{BootFault, Core, UnequalLengths, version};
+#[cfg(feature = "images")]
+pub use images::{ImageFault, NoMemory, Verdict, check_image};
 pub use memory::{Mapped, Pages, Stopped};
 pub use words::{
     Access, Call, Cause, Container, Ended, Event, FRAME_BYTES, Frame, Page, Pid, Refusal, Reply,

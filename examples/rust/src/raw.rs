@@ -1,4 +1,4 @@
-//! The library's structs and functions, as c/include/tower.h has them.
+//! The libraries' structs and functions, as c/include/tower.h and tower_images.h have them.
 
 use ::core::ffi::c_void;
 use ::core::mem::size_of;
@@ -80,6 +80,14 @@ pub struct Page {
     pub accessed: bool,
     pub dirty: bool,
     pub lazy: bool,
+}
+
+#[cfg(feature = "images")]
+#[repr(C)]
+#[derive(Clone, Copy, Default)]
+pub struct Verdict {
+    pub number: u32,
+    pub clause: u32,
 }
 
 #[repr(C)]
@@ -165,4 +173,16 @@ unsafe extern "C" {
     ) -> bool;
     pub fn tower_memory(tower: *const Tower, memory: *mut Memory) -> bool;
     pub fn tower_free(tower: *mut Tower);
+}
+
+#[cfg(feature = "images")]
+unsafe extern "C" {
+    pub fn tower_image(
+        tower: *const Tower,
+        bytes: *mut u8,
+        byte_count: usize,
+        size: *mut usize,
+    ) -> u32;
+    pub fn tower_check(tower: *const Tower, verdict: *mut Verdict) -> u32;
+    pub fn tower_check_bytes(bytes: *const u8, byte_count: usize, verdict: *mut Verdict) -> u32;
 }

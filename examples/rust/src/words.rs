@@ -405,8 +405,8 @@ pub enum Ended {
 }
 
 /// What the library tells, where its contracts leave no other number.
-fn told<T>(number: Option<T>) -> T {
-    number.expect("the library's numbers are those of tower.h")
+pub(crate) fn told<T>(number: Option<T>) -> T {
+    number.expect("the library's numbers are those of its headers")
 }
 
 pub(crate) fn pid_of(number: u32) -> Pid {

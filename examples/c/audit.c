@@ -1,0 +1,101 @@
+/* A kernel that audits itself: the image of its core in a buffer, and the check of it, of the core's own and of images
+ * that were damaged. It ends with status 1 at the first answer that is not the expected one. */
+#include <stdio.h>
+#include <stdlib.h>
+#include <string.h>
+
+#include "tower_images.h"
+
+enum { FRAMES = 16, PAGE = TOWER_FIRST_PAGE, ADDRESS = PAGE << 12, ROLES = 1548, MEMORY = ROLES + 16 * FRAMES };
+
+static struct tower tower = TOWER_NONE;
+static uint8_t image[TOWER_IMAGE_LENGTH(FRAMES) + 1];
+
+static void expect(bool holds, const char *what) {
+    printf("%s: %s\n", what, holds ? "yes" : "NO");
+    if (!holds) {
+        exit(1);
+    }
+}
+
+static void asks_without_a_core(void) {
+    struct tower_verdict verdict = {7, 7};
+    size_t length = 7;
+    expect(tower_image(&tower, image, sizeof image, &length) == TOWER_IMAGE_NO_CORE && length == 7, "no core, no image");
+    expect(tower_check(&tower, &verdict) == TOWER_CHECK_NO_CORE && verdict.number == 7, "and no check");
+}
+
+/* Process 0 stores a word: its directory is frame 1, its table frame 2, and the page frame 3. */
+static void boots(void) {
+    struct tower_event store = {.call = TOWER_STORE, .flag = 4, .first = ADDRESS, .second = 0xdeadbeef};
+    struct tower_reply reply = {0};
+    expect(tower_boot(FRAMES, &tower) == TOWER_BOOTED, "a core boots");
+    expect(tower_step(&tower, &store, &reply) && reply.kind == TOWER_DONE, "and a word is stored");
+}
+
+static void asks_for_the_length(void) {
+    size_t length = 0;
+    expect(tower_image(&tower, image, 0, &length) == TOWER_IMAGE_TOO_SHORT && length == TOWER_IMAGE_LENGTH(FRAMES),
+           "with no room the length is told");
+    expect(tower_image(&tower, image, length - 1, &length) == TOWER_IMAGE_TOO_SHORT && image[0] == 0,
+           "and with a byte too few, and nothing is written");
+}
+
+static void writes(void) {
+    struct tower_verdict verdict = {7, 7};
+    size_t length = 0;
+    image[sizeof image - 1] = 0xaa;
+    expect(tower_image(&tower, image, sizeof image, &length) == TOWER_IMAGE_WRITTEN && length == sizeof image - 1,
+           "an image is written");
+    expect(memcmp(image, "mC2I", 4) == 0 && image[sizeof image - 1] == 0xaa, "at the front of the buffer alone");
+    expect(memcmp(image + MEMORY + 3 * TOWER_FRAME_BYTES, "\xef\xbe\xad\xde", 4) == 0, "with the word in frame 3");
+    expect(tower_check(&tower, &verdict) == TOWER_SOUND, "the core is sound");
+    expect(tower_check_bytes(image, length, &verdict) == TOWER_SOUND && verdict.number == 7, "and so is its image");
+}
+
+/* The status and the verdict on the image with another byte at a place, which is put back. */
+static bool tells(size_t place, uint8_t byte, uint32_t status, uint32_t number, uint32_t clause) {
+    struct tower_verdict verdict = {0};
+    uint8_t old = image[place];
+    image[place] = byte;
+    bool is_told = tower_check_bytes(image, sizeof image - 1, &verdict) == status && verdict.number == number &&
+                   verdict.clause == clause;
+    image[place] = old;
+    return is_told;
+}
+
+static void damages(void) {
+    struct tower_verdict verdict = {0};
+    expect(tells(24, 4, TOWER_PROCESS_FAILS, 0, 5), "a frame charged too many: process 0 fails P5");
+    expect(tells(ROLES + 16 * 3 + 12, 2, TOWER_FRAME_FAILS, 3, 4), "a holder counted too many: frame 3 fails F4");
+    expect(tells(MEMORY, 1, TOWER_FRAME_FAILS, 0, 1), "a byte in frame 0: it fails F1");
+    expect(tells(0, 0, TOWER_NOT_IMAGE, 0, TOWER_FAULT_NOT_IMAGE), "another first byte: no image");
+    expect(tells(4, 3, TOWER_NOT_IMAGE, 0, TOWER_FAULT_BAD_VERSION), "version 3: not known");
+    expect(tells(16, 64, TOWER_NOT_IMAGE, 16, TOWER_FAULT_BAD_FIELD), "parent 64: a bad field at byte 16");
+    expect(tower_check_bytes(image, sizeof image - 2, &verdict) == TOWER_NOT_IMAGE &&
+               verdict.clause == TOWER_FAULT_BAD_LENGTH,
+           "a byte too few: another length");
+}
+
+/* What the check of the core is for: something else writes where only the library may. */
+static void is_overwritten(void) {
+    struct tower_memory memory = {0};
+    struct tower_verdict verdict = {0};
+    expect(tower_memory(&tower, &memory), "the core's memory lies there");
+    ((uint8_t *)memory.begins)[0] = 1;
+    expect(tower_check(&tower, &verdict) == TOWER_FRAME_FAILS && verdict.number == 0 && verdict.clause == 1,
+           "a byte that is written behind the library's back is told");
+    ((uint8_t *)memory.begins)[0] = 0;
+    expect(tower_check(&tower, &verdict) == TOWER_SOUND, "and put back the core is sound");
+}
+
+int main(void) {
+    asks_without_a_core();
+    boots();
+    asks_for_the_length();
+    writes();
+    damages();
+    is_overwritten();
+    tower_free(&tower);
+    return 0;
+}

@@ -1,0 +1,187 @@
+//! The image of a core, and the check of images: what the archive of `crates/tower_images` has.
+
+extern crate alloc;
+
+use crate::core::Core;
+use crate::raw;
+use crate::words::{Frame, Pid, pid_of, told};
+use ::core::error::Error;
+use ::core::fmt;
+use alloc::vec::Vec;
+
+/// There is no memory for an image or its check.
+#[derive(Clone, Copy, Debug, PartialEq, Eq, Hash)]
+pub struct NoMemory;
+
+impl fmt::Display for NoMemory {
+    fn fmt(&self, to: &mut fmt::Formatter<'_>) -> fmt::Result {
+        to.write_str("out of memory")
+    }
+}
+
+impl Error for NoMemory {}
+
+/// What a check finds of an image. docs/IMAGES.md has its clauses.
+#[derive(Clone, Copy, Debug, PartialEq, Eq, Hash)]
+pub enum Verdict {
+    /// No clause fails.
+    Sound,
+    /// A process fails a clause, and none before it does.
+    ProcessFails {
+        /// The process.
+        pid: Pid,
+        /// The first clause that it fails, 1 to 7 for P1 to P7.
+        clause: u32,
+    },
+    /// No process fails a clause, but a frame does, and none before it.
+    FrameFails {
+        /// The frame.
+        frame: Frame,
+        /// The clause that it fails, 1 to 5 for F1 to F5.
+        clause: u32,
+    },
+}
+
+impl fmt::Display for Verdict {
+    fn fmt(&self, to: &mut fmt::Formatter<'_>) -> fmt::Result {
+        match self {
+            Verdict::Sound => to.write_str("sound"),
+            Verdict::ProcessFails { pid, clause } => {
+                write!(to, "process {} P{clause}", pid.number())
+            }
+            Verdict::FrameFails { frame, clause } => write!(to, "frame {} F{clause}", frame.0),
+        }
+    }
+}
+
+/// Why bytes are not judged.
+#[derive(Clone, Copy, Debug, PartialEq, Eq, Hash)]
+pub enum ImageFault {
+    /// They do not begin with the four bytes of an image.
+    NotImage,
+    /// They are fewer than 12, or not as many as the number of frames says.
+    BadLength,
+    /// A version other than 1 and 2.
+    BadVersion,
+    /// The first field that breaks its rule.
+    BadField {
+        /// The place of its first byte.
+        offset: u32,
+    },
+    /// There is no memory for the check.
+    NoMemory,
+}
+
+impl fmt::Display for ImageFault {
+    fn fmt(&self, to: &mut fmt::Formatter<'_>) -> fmt::Result {
+        match self {
+            ImageFault::NotImage => to.write_str("not an image"),
+            ImageFault::BadLength => to.write_str("wrong image length"),
+            ImageFault::BadVersion => to.write_str("unknown image version"),
+            ImageFault::BadField { offset } => write!(to, "bad field at byte {offset}"),
+            ImageFault::NoMemory => NoMemory.fmt(to),
+        }
+    }
+}
+
+impl Error for ImageFault {}
+
+impl From<NoMemory> for ImageFault {
+    fn from(NoMemory: NoMemory) -> ImageFault {
+        ImageFault::NoMemory
+    }
+}
+
+/// What a check answered; None where the bytes are no image.
+fn verdict_of(status: u32, raw: raw::Verdict) -> Result<Option<Verdict>, NoMemory> {
+    match status {
+        0 => Ok(Some(Verdict::Sound)),
+        2 => Err(NoMemory),
+        3 => Ok(Some(Verdict::ProcessFails {
+            pid: pid_of(raw.number),
+            clause: raw.clause,
+        })),
+        4 => Ok(Some(Verdict::FrameFails {
+            frame: Frame(raw.number),
+            clause: raw.clause,
+        })),
+        5 => Ok(None),
+        _ => told(None),
+    }
+}
+
+/// Why bytes are no image.
+fn fault_of(raw: raw::Verdict) -> ImageFault {
+    match raw.clause {
+        1 => ImageFault::NotImage,
+        2 => ImageFault::BadLength,
+        3 => ImageFault::BadVersion,
+        4 => ImageFault::BadField { offset: raw.number },
+        _ => told(None),
+    }
+}
+
+/// Checks the image that bytes spell, whoever wrote it.
+///
+/// # Errors
+///
+/// Where the bytes spell no image, the first reason against them; `NoMemory` where there is none for the check.
+pub fn check_image(bytes: &[u8]) -> Result<Verdict, ImageFault> {
+    let mut raw = raw::Verdict::default();
+    // SAFETY: the pointer and the length are the slice's, whose pointer is never null; both lie apart.
+    let status = unsafe { raw::tower_check_bytes(bytes.as_ptr(), bytes.len(), &raw mut raw) };
+    verdict_of(status, raw)?.ok_or_else(|| fault_of(raw))
+}
+
+impl Core {
+    /// How many bytes the core's image has.
+    fn image_length(&self) -> usize {
+        let mut length = 0;
+        let none: &mut [u8] = &mut [];
+        // SAFETY: the handle was booted; as a `Core` is not `Sync`, no other call has it; all lie apart.
+        unsafe { raw::tower_image(self.handle(), none.as_mut_ptr(), 0, &raw mut length) };
+        length
+    }
+
+    /// The bytes of the core's image, which docs/IMAGES.md has.
+    ///
+    /// # Errors
+    ///
+    /// Where there is no memory for it.
+    pub fn image(&self) -> Result<Vec<u8>, NoMemory> {
+        let mut length = self.image_length();
+        let mut bytes = Vec::new();
+        bytes.try_reserve_exact(length).map_err(|_| NoMemory)?;
+        bytes.resize(length, 0);
+        // SAFETY: as for `image_length`.
+        let status = unsafe {
+            raw::tower_image(
+                self.handle(),
+                bytes.as_mut_ptr(),
+                bytes.len(),
+                &raw mut length,
+            )
+        };
+        if status == 0 {
+            Ok(bytes)
+        } else {
+            Err(NoMemory)
+        }
+    }
+
+    /// Checks the core's own image. Anything but `Sound` says that something else has written in the core's memory.
+    ///
+    /// # Errors
+    ///
+    /// Where there is no memory for it.
+    ///
+    /// # Panics
+    ///
+    /// Never: a core has an image.
+    pub fn check(&self) -> Result<Verdict, NoMemory> {
+        let mut raw = raw::Verdict::default();
+        // SAFETY: as for `image_length`.
+        let status = unsafe { raw::tower_check(self.handle(), &raw mut raw) };
+        verdict_of(status, raw).map(|verdict| verdict.expect("a core has an image"))
+    }
+}
