@@ -226,6 +226,14 @@ fn child_number(quotas: &Quotas, pid: Pid, quota: u32) -> Result<Pid, Cause>
     }
 }
 
+/// How many frames a live process uses.
+fn used_by(quotas: &Quotas, pid: Pid) -> u32
+    requires live { IsLive quotas.now pid }
+    ensures { result ≡ used_of quotas.now pid }
+{
+    quotas.get(pid).unwrap().used
+}
+
 /// Makes a child with a space of its own.
 fn add_process(spaces: &mut Spaces, quotas: &mut Quotas, pid: Pid, quota: u32) -> Pid
     requires kept { IsProcesses spaces.old quotas.old }
@@ -269,9 +277,9 @@ fn add_copy(spaces: &mut Spaces, quotas: &mut Quotas, pid: Pid, quota: u32) -> P
 {
     spaces.stands();
     quotas.within();
+    let used = used_by(quotas, pid);
     let child = add_process(spaces, quotas, pid, quota);
-    let cost = spaces.cost(pid);
-    take_room(quotas, child, cost - 1);
+    take_room(quotas, child, used - 1);
     spaces.copy_space(pid, child);
     child
 }

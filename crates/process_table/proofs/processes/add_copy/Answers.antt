@@ -12,14 +12,6 @@ use Rattle.process_table.proofs.Spawns.{now_live, child-absent, child-has_none, 
 use Rattle.process_table.proofs.processes.add_copy.Goals as goal
 use Rattle.address_space.proofs.standing.FramesStand.{stays_then}
 
-pub cost-cost-requires : goal.cost-cost-requires
-cost-cost-requires c =
-    let p = c.args.pid in
-    record {
-      live = c.add_process-child.ensures.kept.live p ∙ ap (λ (x : Containers). map.contains_key x.book p) c.add_process-child.ensures.quotas
-          ∙ contains_key-insert c.args.quotas.now.book c.add_process-child.result (record { parent = p; quota = c.args.quota }) p c.requires.live;
-    }
-
 pub take_room-requires-clause-live : goal.take_room-requires-clause-live
 take_room-requires-clause-live c =
     ap (λ (x : Containers). map.contains_key x.book c.add_process-child.result) c.add_process-child.ensures.quotas ∙ now_live c.args.quotas.now c.args.pid c.args.quota c.add_process-child.result
@@ -31,7 +23,7 @@ take_room-requires-clause-room c =
     let child = c.add_process-child.result in
     let room = ap (λ (x : Containers). room_of x child) c.add_process-child.ensures.quotas ∙ child-room q p c.args.quota child (child-absent q p c.args.quota child c.add_process-child.ensures.child) c.requires.live c.within.ensures.parents in
     let large = c.requires.large in
-    let is = c.cost-cost.ensures ∙ ap (λ S. cost S p) c.add_process-child.ensures.spaces in
+    let is = c.used_by-used.ensures ∙ c.requires.kept.charged p c.requires.live in
     omega (arith, room, large, is)
 
 pub copy_space-requires-clause-from : goal.copy_space-requires-clause-from
@@ -63,11 +55,18 @@ returns-clause-kept c =
     let child = c.add_process-child.result in
     let used = ap (λ (x : Containers). used_of x child) c.add_process-child.ensures.quotas ∙ child-used c.args.quotas.now p c.args.quota child in
     let costs = ap (λ S. cost S child) c.copy_space.ensures.spaces ∙ cost-copied v.spaces p child in
-    let is = c.cost-cost.ensures in
+    let is = c.used_by-used.ensures ∙ c.requires.kept.charged p c.requires.live ∙ ap (λ S. cost S p) (sym c.add_process-child.ensures.spaces) in
     subst (IsProcesses w) (sym c.take_room.ensures.quotas)
-    (charged-one v w q child (used_of q child + (c.cost-cost.result - 1)) c.add_process-child.ensures.kept c.copy_space.ensures.directories c.copy_space.ensures.frames
+    (charged-one v w q child (used_of q child + (c.used_by-used.result - 1)) c.add_process-child.ensures.kept c.copy_space.ensures.directories c.copy_space.ensures.frames
     (omega (arith, used, costs, is))
     (λ other n. ap (λ S. cost S other) c.copy_space.ensures.spaces ∙ cost-copied_other v.spaces p child other n))
 
 pub returns-clause-stay : goal.returns-clause-stay
 returns-clause-stay c = stays_then c.add_process-child.ensures.stay c.copy_space.ensures.stay
+
+pub copy_space-requires-clause-room : goal.copy_space-requires-clause-room
+copy_space-requires-clause-room c =
+    let p = c.args.pid in
+    let is = c.used_by-used.ensures ∙ c.requires.kept.charged p c.requires.live ∙ ap (λ S. cost S p) (sym c.add_process-child.ensures.spaces) in
+    let room = c.take_room.ensures.room c.add_process-child.new.spaces c.add_process-child.ensures.kept in
+    omega (arith, room, is)
