@@ -5,3 +5,5 @@ pub mod LineLemmas
 pub mod ScriptLemmas
 pub mod ProgressLemmas
 pub mod RunLemmas
+pub mod OperandLemmas
+pub mod FirstNumbers

@@ -1,15 +1,14 @@
 -- The value of digits, as a loop over them builds it.
-use Rattle.std.proofs.Common.{◌≡◌, ℕ, ◌+◌, ◌*◌, ◌^◌, ◌<◌, ◌≤◌, true, ◌&&◌, cond, List, [], ◌∷◌, length, get_or, take, Some, None, sym, ap, ◌∙◌, add-one, arith, inl, inr}
-use Rattle.std.specs.Prelude.{nat_le}
+use Rattle.std.proofs.Common.{◌≡◌, ℕ, ◌+◌, ◌*◌, ◌^◌, ◌<◌, ◌≤◌, true, ◌&&◌, List, [], ◌∷◌, length, get_or, take, ap, ◌∙◌, add-one, arith}
 use Rattle.std.specs.Char.{digit_value, is_digit}
 use Rattle.std.specs.Str.Parse.{digits_value, AllDigits}
 use Rattle.std.proofs.lemmas.Int.Digits.{digits_value-lt, digits_value_more}
-use Rattle.std.proofs.lemmas.Bool.{and_parts, ltb-true, leb-true, cases_Bool}
+use Rattle.std.proofs.lemmas.Bool.{and_parts, ltb-true}
 use Rattle.std.proofs.lemmas.List.{take_more}
 use Rattle.std.proofs.lemmas.List.Folds.{list_all-append}
 use Rattle.std.proofs.Math.Bool.{and-true}
 use Rattle.std.proofs.Math.Nat.{pow-le-pow_left, pow-le-pow_right, pow-suc, mul-le-mul_left}
-use Rattle.script_run.specs.Numbers.{are_digits, number_of}
+use Rattle.script_run.specs.Numbers.{are_digits}
 
 -- the test, as std's fact
 all_digits : (radix : ℕ) (ds : List ℕ) → are_digits radix ds ≡ true → AllDigits radix ds
@@ -18,7 +17,7 @@ all_digits radix (c ∷ cs) h =
     let parts = and_parts (is_digit c radix) (are_digits radix cs) h in
     (ltb-true (digit_value c) radix parts.0, all_digits radix cs parts.1)
 
-digits_bound : (radix most : ℕ) (ds : List ℕ) → radix ≤ 16 → length ds ≤ most → are_digits radix ds ≡ true → digits_value radix ds < 16 ^ most
+pub digits_bound : (radix most : ℕ) (ds : List ℕ) → radix ≤ 16 → length ds ≤ most → are_digits radix ds ≡ true → digits_value radix ds < 16 ^ most
 digits_bound radix most ds low short h =
     let own : digits_value radix ds < radix ^ length ds = digits_value-lt radix ds (all_digits radix ds h) in
     let wider : radix ^ length ds ≤ 16 ^ length ds = pow-le-pow_left low (length ds) in
@@ -45,19 +44,3 @@ value_grows radix value digit i low digits small =
     omega arith
 
 pub ruleset number_steps = (digits_step, value_fits, value_grows, digits_value_more)
-
--- eight hexadecimal digits stand for a number below 2 ^ 32
-pub hexadecimal_fits : (token : List ℕ) (n : ℕ) → number_of 16 8 token ≡ Some n → n < 2 ^ 32
-hexadecimal_fits token n e =
-    elim (cases_Bool (nat_le 1 (length token) && nat_le (length token) 8 && are_digits 16 token)) [
-      | inl is ↦
-          let outer = and_parts (nat_le 1 (length token) && nat_le (length token) 8) (are_digits 16 token) is in
-          let inner = and_parts (nat_le 1 (length token)) (nat_le (length token) 8) outer.0 in
-          let value : Some (digits_value 16 token) ≡ Some n = sym (ap (λ t. cond t (Some (digits_value 16 token)) None) is) ∙ e in
-          let same : digits_value 16 token ≡ n = cc in
-          let bound : digits_value 16 token < 16 ^ 8 = digits_bound 16 8 token (omega arith) (leb-true _ _ inner.1) outer.1 in
-          omega arith
-      | inr not_so ↦
-          let none : None ≡ Some n = sym (ap (λ t. cond t (Some (digits_value 16 token)) None) not_so) ∙ e in
-          cc
-    ]

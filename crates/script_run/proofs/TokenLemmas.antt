@@ -1,13 +1,15 @@
 -- The first token of a line, and those after it.
-use Rattle.std.proofs.Common.{◌≡◌, ℕ, suc, ◌<◌, ◌≤◌, Bool, true, false, not, cond, List, [], ◌∷◌, length, take, drop, refl, sym, ap, subst, ◌∙◌, arith, Some, None, unwrap_or, position}
-use Rattle.std.specs.Prelude.{filter, nat_lt}
+use Rattle.std.proofs.Common.{◌≡◌, ℕ, suc, ◌<◌, ◌≤◌, Bool, true, false, not, cond, List, [], ◌∷◌, length, take, drop, refl, sym, ap, subst, ◌∙◌, arith, Some, None, unwrap_or, position, get_or, inl, inr, eq-eqb}
+use Rattle.std.specs.Prelude.{filter, nat_lt, ◌==◌}
 use Rattle.std.specs.List.{slice_split, onto_first, position_or_len}
-use Rattle.std.proofs.lemmas.Bool.{ltb-true, ltb-false}
+use Rattle.std.proofs.lemmas.Bool.{ltb-true, ltb-false, eqb-true, cases_Bool, cases_lt, cases_eq, false≢true}
 use Rattle.std.proofs.lemmas.List.{drop_all}
-use Rattle.std.proofs.lemmas.List.Sums.{prefix_len-le-length}
+use Rattle.std.proofs.lemmas.List.Sums.{prefix_len-le-length, position_or_len_is, passes_at_first}
 use Rattle.std.proofs.lemmas.List.Splits.{slice_split-cons_yes, slice_split-cons_no}
 use Rattle.std.proofs.Math.Numerals.{one-add}
 use Rattle.script_run.specs.Tokens.{is_space, is_visible, is_run, tokens_of}
+use Rattle.script_run.specs.Lines.{is_blank}
+use Rattle.script_run.specs.Operands.{is_trimmed}
 
 -- ---- Places: the first that passes, or the length
 
@@ -36,7 +38,7 @@ no_place p xs e = within (nat_lt (position_or_len p xs) (length xs)) refl where
       cc
   within false t = ltb-false _ _ t
 
-place_or_length : (p : ℕ → Bool) (xs : List ℕ) → unwrap_or (position p xs) (length xs) ≡ position_or_len p xs
+pub place_or_length : (p : ℕ → Bool) (xs : List ℕ) → unwrap_or (position p xs) (length xs) ≡ position_or_len p xs
 place_or_length p xs = within (nat_lt (position_or_len p xs) (length xs)) refl where
   within : (b : Bool) → nat_lt (position_or_len p xs) (length xs) ≡ b → unwrap_or (position p xs) (length xs) ≡ position_or_len p xs
   within true t = ap (λ b. unwrap_or (cond b (Some (position_or_len p xs)) None) (length xs)) t
@@ -75,33 +77,96 @@ cut_at_space (x ∷ xs) = at_head (cut_at_space xs) (is_space x) refl where
       let later = at_failing is_space x xs e in
       (cut.0, slice_split-cons_no is_space x xs e ∙ ap (onto_first x) cut.1 ∙ sym (ap (λ n. take n (x ∷ xs) ∷ cut.0) later), cut.2 ∙ sym (ap (λ n. tokens_of (drop n (x ∷ xs))) later))
 
--- what stands from the first visible byte up to a space is not empty
-abbrev Runs : List ℕ → ℕ → Type 0
-Runs xs n = is_run (take (position_or_len is_space (drop n xs)) (drop n xs)) ≡ true
-
-runs : (xs : List ℕ) → position_or_len is_visible xs < length xs → Runs xs (position_or_len is_visible xs)
-runs [] inside = absurd (omega arith)
-runs (x ∷ xs) inside = at_head (runs xs) (is_space x) refl where
-  at_head : (position_or_len is_visible xs < length xs → Runs xs (position_or_len is_visible xs)) → (b : Bool) → is_space x ≡ b → Runs (x ∷ xs) (position_or_len is_visible (x ∷ xs))
-  at_head more true e =
-      let later : position_or_len is_visible (x ∷ xs) ≡ suc (position_or_len is_visible xs) = at_failing is_visible x xs (ap not e) in
-      subst (Runs (x ∷ xs)) (sym later) (more (omega arith))
-  at_head more false e =
-      let here = at_passing is_visible x xs (ap not e) in
-      subst (Runs (x ∷ xs)) (sym here) (ap (λ n. is_run (take n (x ∷ xs))) (at_failing is_space x xs e))
-
 pub no_tokens : (xs : List ℕ) → position is_visible xs ≡ None → tokens_of xs ≡ []
 unfolding tokens_of
 no_tokens xs e = tokens_past_spaces xs ∙ ap tokens_of (drop_all (position_or_len is_visible xs) xs (no_place is_visible xs e))
 
-pub first_of_tokens : (xs : List ℕ) (start : ℕ) → position is_visible xs ≡ Some start → let rest = drop start xs in let end = unwrap_or (position is_space rest) (length rest) in tokens_of xs ≡ take end rest ∷ tokens_of (drop end rest)
+-- ---- Bytes that begin with a token
+
+trims : (xs : List ℕ) → is_trimmed (drop (position_or_len is_visible xs) xs) ≡ true
+trims [] = refl
+trims (x ∷ xs) = at_head (trims xs) (is_space x) refl where
+  at_head : is_trimmed (drop (position_or_len is_visible xs) xs) ≡ true → (b : Bool) → is_space x ≡ b → is_trimmed (drop (position_or_len is_visible (x ∷ xs)) (x ∷ xs)) ≡ true
+  at_head more true e = subst (λ n. is_trimmed (drop n (x ∷ xs)) ≡ true) (sym (at_failing is_visible x xs (ap not e))) more
+  at_head more false e = subst (λ n. is_trimmed (drop n (x ∷ xs)) ≡ true) (sym (at_passing is_visible x xs (ap not e))) (ap not e)
+
+pub same_tokens : (xs : List ℕ) (start : ℕ) → position is_visible xs ≡ Some start → tokens_of (drop start xs) ≡ tokens_of xs
+same_tokens xs start e = sym (tokens_past_spaces xs ∙ ap (λ n. tokens_of (drop n xs)) (sym (found_place is_visible xs start e).0))
+
+pub trimmed_from : (xs : List ℕ) (start : ℕ) → position is_visible xs ≡ Some start → is_trimmed (drop start xs) ≡ true
+trimmed_from xs start e = subst (λ n. is_trimmed (drop n xs) ≡ true) (sym (found_place is_visible xs start e).0) (trims xs)
+
+-- where no space stands in front, the first token is not empty
+pub some_front : (xs : List ℕ) → is_trimmed xs ≡ true → 0 < length xs → 0 < position_or_len is_space xs
+some_front [] front some = some
+some_front (x ∷ xs) front some = at (is_space x) refl where
+  at : (b : Bool) → is_space x ≡ b → 0 < position_or_len is_space (x ∷ xs)
+  at true e = absurd (false≢true (sym (ap not e) ∙ front))
+  at false e = rw (at_failing is_space x xs e) (omega arith)
+
+pub no_front : (xs : List ℕ) → is_trimmed xs ≡ true → position_or_len is_space xs ≡ 0 → tokens_of xs ≡ []
 unfolding tokens_of
-first_of_tokens xs start e =
-    let found = found_place is_visible xs start e in
-    let rest = drop start xs in
-    let cut = cut_at_space rest in
-    let run : is_run (take (position_or_len is_space rest) rest) ≡ true = subst (Runs xs) (sym found.0) (runs xs (subst (λ (n : ℕ). n < length xs) found.0 found.1)) in
-    tokens_past_spaces xs ∙ ap (λ n. tokens_of (drop n xs)) (sym found.0) ∙ ap (filter is_run) cut.1
-    ∙ ap (λ b. cond b (take (position_or_len is_space rest) rest ∷ filter is_run cut.0) (filter is_run cut.0)) run
-    ∙ ap (λ ts. take (position_or_len is_space rest) rest ∷ ts) cut.2
-    ∙ sym (ap (λ n. take n rest ∷ tokens_of (drop n rest)) (place_or_length is_space rest))
+no_front [] front none = refl
+no_front (x ∷ xs) front none = absurd (omega (arith, none, some_front (x ∷ xs) front (omega arith)))
+
+runs_front : (xs : List ℕ) → 0 < position_or_len is_space xs → is_run (take (position_or_len is_space xs) xs) ≡ true
+runs_front [] some = absurd (omega (arith, some))
+runs_front (x ∷ xs) some = at (is_space x) refl where
+  at : (b : Bool) → is_space x ≡ b → is_run (take (position_or_len is_space (x ∷ xs)) (x ∷ xs)) ≡ true
+  at true e = absurd (omega (arith, some, at_passing is_space x xs e))
+  at false e = ap (λ n. is_run (take n (x ∷ xs))) (at_failing is_space x xs e)
+
+pub front_token : (xs : List ℕ) (n : ℕ) → n ≡ position_or_len is_space xs → 0 < n → tokens_of xs ≡ take n xs ∷ tokens_of (drop n xs)
+unfolding tokens_of
+front_token xs n is some =
+    let cut = cut_at_space xs in
+    let run : is_run (take (position_or_len is_space xs) xs) ≡ true = runs_front xs (subst (λ (k : ℕ). 0 < k) is some) in
+    ap (filter is_run) cut.1
+    ∙ ap (λ b. cond b (take (position_or_len is_space xs) xs ∷ filter is_run cut.0) (filter is_run cut.0)) run
+    ∙ ap (λ ts. take (position_or_len is_space xs) xs ∷ ts) cut.2
+    ∙ sym (ap (λ k. take k xs ∷ tokens_of (drop k xs)) is)
+
+pub past_space : (xs : List ℕ) → tokens_of (32 ∷ xs) ≡ tokens_of xs
+unfolding tokens_of
+past_space xs = ap (filter is_run) (slice_split-cons_yes is_space 32 xs refl)
+
+-- ---- Where the first token ends
+
+visible_before : (xs : List ℕ) (n : ℕ) → ((k : ℕ) → k < n → get_or xs k 0 ≡ 32 → ⊥) → (k : ℕ) → k < n → is_space (get_or xs k 0) ≡ false
+visible_before xs n visible k before = elim (cases_Bool (is_space (get_or xs k 0))) [
+  | inl here ↦ absurd (visible k before (eqb-true _ _ here))
+  | inr other ↦ other
+]
+
+pub token_ends : (xs : List ℕ) (n : ℕ) → n ≤ length xs → ((k : ℕ) → k < n → get_or xs k 0 ≡ 32 → ⊥) → (n < length xs → get_or xs n 0 ≡ 32) → n ≡ position_or_len is_space xs
+token_ends xs n within visible ends = sym (position_or_len_is is_space xs n 0 within (visible_before xs n visible) (λ inside. eq-eqb _ _ (ends inside)))
+
+pub token_goes_on : (xs : List ℕ) (n : ℕ) → ((k : ℕ) → k < n → get_or xs k 0 ≡ 32 → ⊥) → n < length xs → (get_or xs n 0 ≡ 32 → ⊥) → n < position_or_len is_space xs
+token_goes_on xs n visible inside here = elim (cases_lt n (position_or_len is_space xs)) [
+  | inl more ↦ more
+  | inr least ↦
+      let within : position_or_len is_space xs < length xs = omega (arith, least, inside) in
+      let stops : is_space (get_or xs (position_or_len is_space xs) 0) ≡ true = passes_at_first is_space xs 0 within in
+      let at : get_or xs (position_or_len is_space xs) 0 ≡ 32 = eqb-true _ _ stops in
+      elim (cases_eq (position_or_len is_space xs) n) [
+        | inl same ↦ absurd (here (subst (λ (k : ℕ). get_or xs k 0 ≡ 32) same at))
+        | inr apart ↦ absurd (visible (position_or_len is_space xs) (omega (arith, least, apart)) at)
+      ]
+]
+
+-- ---- Whether a token is left
+
+pub empty_front : (xs : List ℕ) → length xs ≡ 0 → tokens_of xs ≡ []
+unfolding tokens_of
+empty_front [] none = refl
+empty_front (x ∷ xs) none = absurd (omega (arith, none))
+
+pub blank_front : (xs : List ℕ) → is_trimmed xs ≡ true → (length xs == 0) ≡ is_blank (tokens_of xs)
+unfolding tokens_of
+blank_front [] front = refl
+blank_front (x ∷ xs) front =
+    let some : (suc (length xs) == 0) ≡ false = elim (cases_Bool (suc (length xs) == 0)) [
+      | inl none ↦ absurd (omega (arith, eqb-true (suc (length xs)) 0 none))
+      | inr other ↦ other
+    ] in
+    some ∙ sym (ap is_blank (front_token (x ∷ xs) _ refl (some_front (x ∷ xs) front (omega arith))))

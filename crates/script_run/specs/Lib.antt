@@ -1,4 +1,5 @@
 pub mod Numbers
+pub mod Operands
 pub mod Tokens
 pub mod Lines
 pub mod Replies

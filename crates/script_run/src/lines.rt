@@ -1,12 +1,12 @@
 //! What a line of a script says.
 
-ghost use Rattle.std.specs.Prelude.{◌≡◌, ◌∷◌, codes};
+ghost use Rattle.std.specs.Prelude.{◌≡◌, codes};
 ghost use Rattle.std.specs.Option.{option_map};
 ghost use Rattle.std.specs.Str.{bytes_eq};
 ghost use Rattle.script_run.specs.Tokens.{tokens_of};
 
-use super::numbers::{decimal, hexadecimal};
-use super::tokens::first_token;
+use super::numbers::{hexadecimal, number_below};
+use super::tokens::{first_token, is_blank};
 use kernel_calls::{Call, Event};
 use page_words::{Page, Pid, Size, Vaddr};
 
@@ -23,39 +23,10 @@ pub enum Line {
 }
 
 // The clauses' words on lines name `Line`, and so stand below it.
-ghost use Rattle.script_run.specs.Lines.{one, two, three, cpu_of, process_of, size_of, right_of, quota_of, load_of, store_of, map_of, unmap_of, protect_of, info_of, offer_of, withdraw_of, accept_of, spawn_of, fork_of, alone, process_call_of, sharing_call_of, call_of, event_of_words, line_of};
-
-/// A CPU's number, 0 to 7 in decimal.
-fn cpu_of(token: &[u8]) -> Option<u8>
-    ensures { result ≡ cpu_of token.now }
-{
-    let number = decimal(token)?;
-    if number < 8 { Some(number as u8) } else { None }
-}
-
-/// A process's number, 0 to 63 in decimal.
-fn process_of(token: &[u8]) -> Option<Pid>
-    ensures { result ≡ process_of token.now }
-{
-    let number = decimal(token)?;
-    if number < 64 {
-        Pid::new(number as u8)
-    } else {
-        None
-    }
-}
-
-/// A number of frames in decimal, at most 4,294,967,295.
-fn quota_of(token: &[u8]) -> Option<u32>
-    ensures { result ≡ quota_of token.now }
-{
-    let number = decimal(token)?;
-    if number < 4_294_967_296 {
-        Some(number as u32)
-    } else {
-        None
-    }
-}
+ghost use Rattle.script_run.specs.Lines.{cpu_of, process_of, size_of, right_of, quota_of, alone, process_call_of, sharing_call_of, call_of, line_of};
+ghost use Rattle.script_run.specs.Numbers.{hexadecimal_number};
+ghost use Rattle.script_run.specs.Operands.{first_by, one_by, two_by, three_by, event_by};
+ghost use Rattle.kernel_calls.specs.declared.calls.Call.TheVariants as call;
 
 /// Whether a token is this word. The words of up to five letters have functions of their own, which look at
 /// the bytes without a loop.
@@ -126,7 +97,7 @@ fn is_quota(op: &[u8]) -> bool
 }
 
 /// `1`, `2` or `4`, bytes.
-fn size_of(token: &[u8]) -> Option<Size>
+fn size_named(token: &[u8]) -> Option<Size>
     ensures { result ≡ size_of token.now }
 {
     match token {
@@ -138,7 +109,7 @@ fn size_of(token: &[u8]) -> Option<Size>
 }
 
 /// Whether the right is to write: `rw` or `ro`.
-fn right_of(token: &[u8]) -> Option<bool>
+fn right_named(token: &[u8]) -> Option<bool>
     ensures { result ≡ right_of token.now }
 {
     match token {
@@ -148,172 +119,177 @@ fn right_of(token: &[u8]) -> Option<bool>
     }
 }
 
-/// The one token.
-fn one(operands: &[u8]) -> Option<&[u8]>
-    ensures { option_map (λ token. token.now) result ≡ one (tokens_of operands.now) }
+/// A size, and the bytes after it.
+#[inline(always)]
+#[tactic(auto, unfolding(crate::specs::Operands::first_by))]
+fn size_of(line: &[u8]) -> Option<(Size, &[u8])>
+    ensures { option_map (λ found. (found.0, tokens_of found.1.now)) result ≡ first_by size_of (tokens_of line.now) }
 {
-    let (a, rest) = first_token(operands)?;
-    match first_token(rest) {
-        None => Some(a),
-        Some(_) => None,
-    }
+    let (token, rest) = first_token(line)?;
+    let size = size_named(token)?;
+    Some((size, rest))
 }
 
-/// The two tokens.
-fn two(operands: &[u8]) -> Option<(&[u8], &[u8])>
-    ensures { option_map (λ tokens. (tokens.0.now, tokens.1.now)) result ≡ two (tokens_of operands.now) }
+/// A right, and the bytes after it.
+#[inline(always)]
+#[tactic(auto, unfolding(crate::specs::Operands::first_by))]
+fn right_of(line: &[u8]) -> Option<(bool, &[u8])>
+    ensures { option_map (λ found. (found.0, tokens_of found.1.now)) result ≡ first_by right_of (tokens_of line.now) }
 {
-    let (a, rest) = first_token(operands)?;
-    let b = one(rest)?;
-    Some((a, b))
+    let (token, rest) = first_token(line)?;
+    let write = right_named(token)?;
+    Some((write, rest))
 }
 
-/// The three tokens.
-fn three(operands: &[u8]) -> Option<(&[u8], &[u8], &[u8])>
-    ensures { option_map (λ tokens. (tokens.0.now, tokens.1.now, tokens.2.now)) result ≡ three (tokens_of operands.now) }
+/// A call with all its operands, where no token is left.
+#[inline(always)]
+#[tactic(auto, unfolding(crate::specs::Lines::alone))]
+fn alone(call: Call, line: &[u8]) -> Option<Call>
+    ensures { result ≡ alone call (tokens_of line.now) }
 {
-    let (a, rest) = first_token(operands)?;
-    let (b, c) = two(rest)?;
-    Some((a, b, c))
+    if is_blank(line) { Some(call) } else { None }
 }
 
 /// `load ADDR SIZE`.
-#[tactic(auto, unfolding(crate::specs::Lines::load_of))]
-fn load_of(operands: &[u8]) -> Option<Call>
-    ensures { result ≡ load_of (tokens_of operands.now) }
+#[tactic(auto, unfolding(crate::specs::Operands::two_by))]
+fn load_of(line: &[u8]) -> Option<Call>
+    ensures { result ≡ two_by hexadecimal_number size_of call.Load (tokens_of line.now) }
 {
-    let (addr, size) = two(operands)?;
-    let addr = Vaddr(hexadecimal(addr)?);
-    let size = size_of(size)?;
-    Some(Call::Load { addr, size })
+    let (addr, rest) = hexadecimal(line)?;
+    let addr = Vaddr(addr);
+    let (size, rest) = size_of(rest)?;
+    alone(Call::Load { addr, size }, rest)
 }
 
 /// `store ADDR SIZE VALUE`.
-#[tactic(auto, unfolding(crate::specs::Lines::store_of))]
-fn store_of(operands: &[u8]) -> Option<Call>
-    ensures { result ≡ store_of (tokens_of operands.now) }
+#[tactic(auto, unfolding(crate::specs::Operands::three_by))]
+fn store_of(line: &[u8]) -> Option<Call>
+    ensures { result ≡ three_by hexadecimal_number size_of hexadecimal_number call.Store (tokens_of line.now) }
 {
-    let (addr, size, value) = three(operands)?;
-    let addr = Vaddr(hexadecimal(addr)?);
-    let size = size_of(size)?;
-    let value = hexadecimal(value)?;
-    Some(Call::Store { addr, size, value })
+    let (addr, rest) = hexadecimal(line)?;
+    let addr = Vaddr(addr);
+    let (size, rest) = size_of(rest)?;
+    let (value, rest) = hexadecimal(rest)?;
+    alone(Call::Store { addr, size, value }, rest)
 }
 
 /// `map PAGE RIGHT`.
-#[tactic(auto, unfolding(crate::specs::Lines::map_of))]
-fn map_of(operands: &[u8]) -> Option<Call>
-    ensures { result ≡ map_of (tokens_of operands.now) }
+#[tactic(auto, unfolding(crate::specs::Operands::two_by))]
+fn map_of(line: &[u8]) -> Option<Call>
+    ensures { result ≡ two_by hexadecimal_number right_of call.Map (tokens_of line.now) }
 {
-    let (page, right) = two(operands)?;
-    let page = Page(hexadecimal(page)?);
-    let write = right_of(right)?;
-    Some(Call::Map { page, write })
+    let (page, rest) = hexadecimal(line)?;
+    let page = Page(page);
+    let (write, rest) = right_of(rest)?;
+    alone(Call::Map { page, write }, rest)
 }
 
 /// `unmap PAGE`.
-#[tactic(auto, unfolding(crate::specs::Lines::unmap_of))]
-fn unmap_of(operands: &[u8]) -> Option<Call>
-    ensures { result ≡ unmap_of (tokens_of operands.now) }
+#[tactic(auto, unfolding(crate::specs::Operands::one_by))]
+fn unmap_of(line: &[u8]) -> Option<Call>
+    ensures { result ≡ one_by hexadecimal_number call.Unmap (tokens_of line.now) }
 {
-    let page = Page(hexadecimal(one(operands)?)?);
-    Some(Call::Unmap { page })
+    let (page, rest) = hexadecimal(line)?;
+    let page = Page(page);
+    alone(Call::Unmap { page }, rest)
 }
 
 /// `protect PAGE RIGHT`.
-#[tactic(auto, unfolding(crate::specs::Lines::protect_of))]
-fn protect_of(operands: &[u8]) -> Option<Call>
-    ensures { result ≡ protect_of (tokens_of operands.now) }
+#[tactic(auto, unfolding(crate::specs::Operands::two_by))]
+fn protect_of(line: &[u8]) -> Option<Call>
+    ensures { result ≡ two_by hexadecimal_number right_of call.Protect (tokens_of line.now) }
 {
-    let (page, right) = two(operands)?;
-    let page = Page(hexadecimal(page)?);
-    let write = right_of(right)?;
-    Some(Call::Protect { page, write })
+    let (page, rest) = hexadecimal(line)?;
+    let page = Page(page);
+    let (write, rest) = right_of(rest)?;
+    alone(Call::Protect { page, write }, rest)
 }
 
 /// `info PAGE`.
-#[tactic(auto, unfolding(crate::specs::Lines::info_of))]
-fn info_of(operands: &[u8]) -> Option<Call>
-    ensures { result ≡ info_of (tokens_of operands.now) }
+#[tactic(auto, unfolding(crate::specs::Operands::one_by))]
+fn info_of(line: &[u8]) -> Option<Call>
+    ensures { result ≡ one_by hexadecimal_number call.Info (tokens_of line.now) }
 {
-    let page = Page(hexadecimal(one(operands)?)?);
-    Some(Call::Info { page })
+    let (page, rest) = hexadecimal(line)?;
+    let page = Page(page);
+    alone(Call::Info { page }, rest)
 }
 
 /// `offer PAGE process RIGHT`.
-#[tactic(auto, unfolding(crate::specs::Lines::offer_of))]
-fn offer_of(operands: &[u8]) -> Option<Call>
-    ensures { result ≡ offer_of (tokens_of operands.now) }
+#[tactic(auto, unfolding(crate::specs::Operands::three_by))]
+fn offer_of(line: &[u8]) -> Option<Call>
+    ensures { result ≡ three_by hexadecimal_number process_of right_of call.Offer (tokens_of line.now) }
 {
-    let (page, target, right) = three(operands)?;
-    let page = Page(hexadecimal(page)?);
-    let target = process_of(target)?;
-    let write = right_of(right)?;
-    Some(Call::Offer {
-        page,
-        target,
-        write,
-    })
+    let (page, rest) = hexadecimal(line)?;
+    let page = Page(page);
+    let (target, rest) = number_below(rest, 64)?;
+    let target = Pid::new(target as u8)?;
+    let (write, rest) = right_of(rest)?;
+    alone(
+        Call::Offer {
+            page,
+            target,
+            write,
+        },
+        rest,
+    )
 }
 
 /// `withdraw PAGE process`.
-#[tactic(auto, unfolding(crate::specs::Lines::withdraw_of))]
-fn withdraw_of(operands: &[u8]) -> Option<Call>
-    ensures { result ≡ withdraw_of (tokens_of operands.now) }
+#[tactic(auto, unfolding(crate::specs::Operands::two_by))]
+fn withdraw_of(line: &[u8]) -> Option<Call>
+    ensures { result ≡ two_by hexadecimal_number process_of call.Withdraw (tokens_of line.now) }
 {
-    let (page, target) = two(operands)?;
-    let page = Page(hexadecimal(page)?);
-    let target = process_of(target)?;
-    Some(Call::Withdraw { page, target })
+    let (page, rest) = hexadecimal(line)?;
+    let page = Page(page);
+    let (target, rest) = number_below(rest, 64)?;
+    let target = Pid::new(target as u8)?;
+    alone(Call::Withdraw { page, target }, rest)
 }
 
 /// `accept process PAGE PAGE`: the giver, its page, and the own page.
-#[tactic(auto, unfolding(crate::specs::Lines::accept_of))]
-fn accept_of(operands: &[u8]) -> Option<Call>
-    ensures { result ≡ accept_of (tokens_of operands.now) }
+#[tactic(auto, unfolding(crate::specs::Operands::three_by))]
+fn accept_of(line: &[u8]) -> Option<Call>
+    ensures { result ≡ three_by process_of hexadecimal_number hexadecimal_number call.Accept (tokens_of line.now) }
 {
-    let (giver, giver_page, page) = three(operands)?;
-    let giver = process_of(giver)?;
-    let giver_page = Page(hexadecimal(giver_page)?);
-    let page = Page(hexadecimal(page)?);
-    Some(Call::Accept {
-        giver,
-        giver_page,
-        page,
-    })
+    let (giver, rest) = number_below(line, 64)?;
+    let giver = Pid::new(giver as u8)?;
+    let (giver_page, rest) = hexadecimal(rest)?;
+    let giver_page = Page(giver_page);
+    let (page, rest) = hexadecimal(rest)?;
+    let page = Page(page);
+    alone(
+        Call::Accept {
+            giver,
+            giver_page,
+            page,
+        },
+        rest,
+    )
 }
 
 /// `spawn N`.
-#[tactic(auto, unfolding(crate::specs::Lines::spawn_of))]
-fn spawn_of(operands: &[u8]) -> Option<Call>
-    ensures { result ≡ spawn_of (tokens_of operands.now) }
+#[tactic(auto, unfolding(crate::specs::Operands::one_by))]
+fn spawn_of(line: &[u8]) -> Option<Call>
+    ensures { result ≡ one_by quota_of call.Spawn (tokens_of line.now) }
 {
-    let quota = quota_of(one(operands)?)?;
-    Some(Call::Spawn { quota })
+    let (quota, rest) = number_below(line, 4_294_967_296)?;
+    let quota = quota as u32;
+    alone(Call::Spawn { quota }, rest)
 }
 
 /// `fork N`.
-#[tactic(auto, unfolding(crate::specs::Lines::fork_of))]
-fn fork_of(operands: &[u8]) -> Option<Call>
-    ensures { result ≡ fork_of (tokens_of operands.now) }
+#[tactic(auto, unfolding(crate::specs::Operands::one_by))]
+fn fork_of(line: &[u8]) -> Option<Call>
+    ensures { result ≡ one_by quota_of call.Fork (tokens_of line.now) }
 {
-    let quota = quota_of(one(operands)?)?;
-    Some(Call::Fork { quota })
-}
-
-/// A call without operands.
-#[tactic(auto, unfolding(crate::specs::Lines::alone))]
-fn alone(call: Call, operands: &[u8]) -> Option<Call>
-    ensures { result ≡ alone call (tokens_of operands.now) }
-{
-    match first_token(operands) {
-        None => Some(call),
-        Some(_) => None,
-    }
+    let (quota, rest) = number_below(line, 4_294_967_296)?;
+    let quota = quota as u32;
+    alone(Call::Fork { quota }, rest)
 }
 
 /// A call of processes and their quotas.
-#[tactic(auto, unfolding(crate::specs::Lines::process_call_of))]
+#[tactic(auto, unfolding(crate::specs::Lines::process_call_of), using(crate::proofs::OperandLemmas::process_calls))]
 fn process_call_of(op: &[u8], operands: &[u8]) -> Option<Call>
     ensures { result ≡ process_call_of op.now (tokens_of operands.now) }
 {
@@ -331,7 +307,7 @@ fn process_call_of(op: &[u8], operands: &[u8]) -> Option<Call>
 }
 
 /// A call of offers, or one of processes.
-#[tactic(auto, unfolding(crate::specs::Lines::sharing_call_of))]
+#[tactic(auto, unfolding(crate::specs::Lines::sharing_call_of), using(crate::proofs::OperandLemmas::sharing_calls))]
 fn sharing_call_of(op: &[u8], operands: &[u8]) -> Option<Call>
     ensures { result ≡ sharing_call_of op.now (tokens_of operands.now) }
 {
@@ -347,7 +323,7 @@ fn sharing_call_of(op: &[u8], operands: &[u8]) -> Option<Call>
 }
 
 /// The call of that name, with these operands.
-#[tactic(auto, unfolding(crate::specs::Lines::call_of))]
+#[tactic(auto, unfolding(crate::specs::Lines::call_of), using(crate::proofs::OperandLemmas::calls))]
 fn call_of(op: &[u8], operands: &[u8]) -> Option<Call>
     ensures { result ≡ call_of op.now (tokens_of operands.now) }
 {
@@ -368,36 +344,33 @@ fn call_of(op: &[u8], operands: &[u8]) -> Option<Call>
     }
 }
 
-/// The event that a line's first token, its CPU, and the bytes after it spell: process, name of the call,
-/// operands.
-#[tactic(auto, unfolding(crate::specs::Lines::event_of_words))]
-fn event_of_words(cpu: &[u8], rest: &[u8]) -> Option<Event>
-    ensures { result ≡ event_of_words (cpu.now ∷ tokens_of rest.now) }
+/// The event that a line spells: its CPU, its process, the name of the call and the operands.
+#[tactic(auto, unfolding(crate::specs::Operands::event_by, crate::specs::Operands::first_by))]
+fn event_of(line: &[u8]) -> Option<Event>
+    ensures { result ≡ event_by (tokens_of line.now) }
 {
-    let (pid, rest) = first_token(rest)?;
+    let (cpu, rest) = number_below(line, 8)?;
+    let cpu = cpu as u8;
+    let (pid, rest) = number_below(rest, 64)?;
+    let pid = Pid::new(pid as u8)?;
     let (op, operands) = first_token(rest)?;
-    let cpu = cpu_of(cpu)?;
-    let pid = process_of(pid)?;
     let call = call_of(op, operands)?;
     Some(Event { cpu, pid, call })
 }
 
 /// What a line says, whose line feed is left out. One of more than 100 bytes is malformed, whatever
 /// stands in it.
-#[tactic(auto, unfolding(crate::specs::Lines::line_of))]
+#[tactic(auto, unfolding(crate::specs::Lines::line_of), using(crate::proofs::OperandLemmas::event_read))]
 pub fn line_of(bytes: &[u8]) -> Line
     ensures { result ≡ line_of bytes.now }
 {
     if bytes.len() > LINE {
         return Line::Malformed;
     }
-    if bytes.first() == Some(&b'#') {
+    if bytes.first() == Some(&b'#') || is_blank(bytes) {
         return Line::Skipped;
     }
-    let Some((cpu, rest)) = first_token(bytes) else {
-        return Line::Skipped;
-    };
-    match event_of_words(cpu, rest) {
+    match event_of(bytes) {
         Some(event) => Line::Event(event),
         None => Line::Malformed,
     }

@@ -1,8 +1,14 @@
 //! Numbers as a script writes them.
 
-ghost use Rattle.std.specs.Prelude.{◌≡◌, ◌≤◌, slice_index};
+ghost use Rattle.std.specs.Prelude.{◌≡◌, ◌<◌, ◌≤◌, IfSome, IfNone, true, false, length, slice_index, take};
 ghost use Rattle.std.specs.Char.{digit_value};
-ghost use Rattle.script_run.specs.Numbers.{number_of, decimal_number, hexadecimal_number};
+ghost use Rattle.std.specs.List.{position_or_len};
+ghost use Rattle.std.specs.Option.{option_map};
+ghost use Rattle.script_run.specs.Numbers.{number_of, below, decimal_number, hexadecimal_number};
+ghost use Rattle.script_run.specs.Operands.{IsWorth, first_by, worth};
+ghost use Rattle.script_run.specs.Tokens.{is_space, tokens_of};
+
+use super::tokens::{first_token, trimmed};
 
 /// What each byte is worth as a digit, a letter of either case behind the nine; 36 where it is neither.
 const DIGITS: [u8; 256] = [
@@ -17,6 +23,29 @@ const DIGITS: [u8; 256] = [
     36, 36, 36, 36, 36, 36, 36, 36, 36, 36, 36, 36, 36, 36, 36, 36, 36, 36, 36, 36, 36, 36, 36, 36,
     36, 36, 36, 36, 36, 36, 36, 36, 36, 36, 36, 36, 36, 36, 36, 36, 36, 36, 36, 36, 36, 36, 36, 36,
     36, 36, 36, 36, 36, 36, 36, 36, 36, 36, 36, 36, 36, 36,
+];
+
+/// More than eight hexadecimal digits are worth.
+const NONE: u64 = 4_294_967_296;
+
+/// What each byte is worth as a hexadecimal digit, of either case; `NONE` where it is none.
+const HEXADECIMAL: [u64; 256] = [
+    NONE, NONE, NONE, NONE, NONE, NONE, NONE, NONE, NONE, NONE, NONE, NONE, NONE, NONE, NONE, NONE,
+    NONE, NONE, NONE, NONE, NONE, NONE, NONE, NONE, NONE, NONE, NONE, NONE, NONE, NONE, NONE, NONE,
+    NONE, NONE, NONE, NONE, NONE, NONE, NONE, NONE, NONE, NONE, NONE, NONE, NONE, NONE, NONE, NONE,
+    0, 1, 2, 3, 4, 5, 6, 7, 8, 9, NONE, NONE, NONE, NONE, NONE, NONE, NONE, 10, 11, 12, 13, 14, 15,
+    NONE, NONE, NONE, NONE, NONE, NONE, NONE, NONE, NONE, NONE, NONE, NONE, NONE, NONE, NONE, NONE,
+    NONE, NONE, NONE, NONE, NONE, NONE, NONE, NONE, NONE, NONE, 10, 11, 12, 13, 14, 15, NONE, NONE,
+    NONE, NONE, NONE, NONE, NONE, NONE, NONE, NONE, NONE, NONE, NONE, NONE, NONE, NONE, NONE, NONE,
+    NONE, NONE, NONE, NONE, NONE, NONE, NONE, NONE, NONE, NONE, NONE, NONE, NONE, NONE, NONE, NONE,
+    NONE, NONE, NONE, NONE, NONE, NONE, NONE, NONE, NONE, NONE, NONE, NONE, NONE, NONE, NONE, NONE,
+    NONE, NONE, NONE, NONE, NONE, NONE, NONE, NONE, NONE, NONE, NONE, NONE, NONE, NONE, NONE, NONE,
+    NONE, NONE, NONE, NONE, NONE, NONE, NONE, NONE, NONE, NONE, NONE, NONE, NONE, NONE, NONE, NONE,
+    NONE, NONE, NONE, NONE, NONE, NONE, NONE, NONE, NONE, NONE, NONE, NONE, NONE, NONE, NONE, NONE,
+    NONE, NONE, NONE, NONE, NONE, NONE, NONE, NONE, NONE, NONE, NONE, NONE, NONE, NONE, NONE, NONE,
+    NONE, NONE, NONE, NONE, NONE, NONE, NONE, NONE, NONE, NONE, NONE, NONE, NONE, NONE, NONE, NONE,
+    NONE, NONE, NONE, NONE, NONE, NONE, NONE, NONE, NONE, NONE, NONE, NONE, NONE, NONE, NONE, NONE,
+    NONE, NONE, NONE, NONE, NONE, NONE, NONE,
 ];
 
 /// What a table of 256 bytes has at a byte.
@@ -55,19 +84,101 @@ fn number(token: &[u8], radix: u32, most: usize) -> Option<u64>
     if all_digits { Some(value) } else { None }
 }
 
-/// One to ten decimal digits.
-#[tactic(auto, unfolding(crate::specs::Numbers::decimal_number))]
-pub fn decimal(token: &[u8]) -> Option<u64>
-    ensures { result ≡ decimal_number token.now }
+/// What a table of 256 numbers has at a byte.
+fn number_at(table: &[u64; 256], byte: u8) -> u64
+    ensures { result ≡ slice_index table.now byte }
 {
-    number(token, 10, 10)
+    table[byte as usize]
 }
 
-/// One to eight hexadecimal digits, of either case.
-#[tactic(auto, unfolding(crate::specs::Numbers::hexadecimal_number), using(crate::proofs::NumberLemmas::hexadecimal_fits))]
-pub fn hexadecimal(token: &[u8]) -> Option<u32>
-    ensures { result ≡ hexadecimal_number token.now }
+/// What a byte is worth as a hexadecimal digit: so much where it is none that the number shows it.
+fn worth_of(byte: u8) -> u64
+    ensures value { result ≡ worth byte }
+    ensures bound { result ≤ 4294967296 }
 {
-    let value = number(token, 16, 8)?;
-    Some(value as u32)
+    number_at(&HEXADECIMAL, byte)
+}
+
+/// Whether the token in front ends at this place: a space stands there, or nothing.
+fn ends_at(line: &[u8], place: usize) -> bool
+    requires { place ≤ length line.now }
+    ensures ends { result ≡ true → place < length line.now → slice_index line.now place ≡ 32 }
+    ensures goes_on { result ≡ false → (place < length line.now) × (slice_index line.now place ≡ 32 → ⊥) }
+{
+    place == line.len() || line[place] == b' '
+}
+
+/// What the bytes up to the first space are worth as hexadecimal digits, and how many they are; None
+/// where they are more than eight. Each byte is looked at once.
+fn short_token(line: &[u8]) -> Option<(u64, usize)>
+    ensures short { IfSome result (λ found. found.1 ≤ 8) }
+    ensures end { IfSome result (λ found. found.1 ≡ position_or_len is_space line.now) }
+    ensures worth { IfSome result (λ found. IsWorth (take found.1 line.now) found.0) }
+    ensures long { IfNone result (8 < position_or_len is_space line.now) }
+{
+    let mut value: u64 = 0;
+    for place in 0..8 {
+        if ends_at(line, place) {
+            return Some((value, place));
+        }
+        value = value * 16 + worth_of(line[place]);
+    }
+    if ends_at(line, 8) {
+        Some((value, 8))
+    } else {
+        None
+    }
+}
+
+/// The number that the first token writes in one to eight hexadecimal digits, of either case, and the
+/// bytes after it.
+pub fn hexadecimal(line: &[u8]) -> Option<(u32, &[u8])>
+    ensures { option_map (λ found. (found.0, tokens_of found.1.now)) result ≡ first_by hexadecimal_number (tokens_of line.now) }
+{
+    let line = trimmed(line);
+    let (value, end) = short_token(line)?;
+    if end == 0 || value >= NONE {
+        return None;
+    }
+    Some((value as u32, &line[end..]))
+}
+
+/// The number that the first token writes in one to ten decimal digits, and the bytes after it. A token of
+/// one digit, which a space follows, is read at once.
+#[inline(always)]
+fn decimal(line: &[u8]) -> Option<(u64, &[u8])>
+    ensures { option_map (λ found. (found.0, tokens_of found.1.now)) result ≡ first_by decimal_number (tokens_of line.now) }
+{
+    let line = trimmed(line);
+    match line {
+        [byte, b' ', rest @ ..] if digit_of(*byte) < 10 => {
+            Some((u64::from(digit_of(*byte)), rest))
+        }
+        _ => long_decimal(line),
+    }
+}
+
+/// A decimal number below a limit, and the bytes after it.
+#[inline(always)]
+pub fn number_below(line: &[u8], limit: u64) -> Option<(u64, &[u8])>
+    ensures bound { IfSome result (λ found. found.0 < limit) }
+    ensures number { option_map (λ found. (found.0, tokens_of found.1.now)) result ≡ first_by (λ token. below limit (decimal_number token)) (tokens_of line.now) }
+{
+    let (number, rest) = decimal(line)?;
+    if number < limit {
+        Some((number, rest))
+    } else {
+        None
+    }
+}
+
+/// The same, for a token of any length.
+#[inline(never)]
+#[tactic(auto, unfolding(crate::specs::Numbers::decimal_number, crate::specs::Operands::first_by))]
+fn long_decimal(line: &[u8]) -> Option<(u64, &[u8])>
+    ensures { option_map (λ found. (found.0, tokens_of found.1.now)) result ≡ first_by decimal_number (tokens_of line.now) }
+{
+    let (token, rest) = first_token(line)?;
+    let value = number(token, 10, 10)?;
+    Some((value, rest))
 }

@@ -1,17 +1,20 @@
-use Rattle.std.proofs.Common.{◌≡◌, Some, None, position, length, take, drop, ◌-◌}
-use Rattle.std.proofs.lemmas.List.{take_rest}
-use Rattle.script_run.specs.Tokens.{is_visible}
-use Rattle.script_run.proofs.TokenLemmas.{no_tokens, first_of_tokens}
+use Rattle.std.proofs.Common.{◌≡◌, ◌<◌, [], length, sym, ap, ◌∙◌, arith, unwrap_or}
+use Rattle.std.proofs.lemmas.Bool.{eqb-true, eqb-false}
+use Rattle.std.specs.List.{position_or_len}
+use Rattle.script_run.specs.Tokens.{is_space, tokens_of}
+use Rattle.script_run.proofs.TokenLemmas.{empty_front, front_token, place_or_length, some_front}
 use Rattle.script_run.proofs.tokens.first_token.Goals as goal
+
+pub returns-then-is_empty : goal.returns-then-is_empty
+returns-then-is_empty c =
+    let none : length c.trimmed-line.result.now ≡ 0 = eqb-true _ 0 (sym c.is_empty.ensures ∙ c.if-is_empty.true) in
+    sym c.trimmed-line.ensures.tokens ∙ empty_front c.trimmed-line.result.now none
 
 pub returns : goal.returns
 returns c =
-    let at : position is_visible c.args.line.now ≡ Some c.in-Some.start = cc c.in-Some.ensures in
-    let rest : take (length c.args.line.now - c.in-Some.start) (drop c.in-Some.start c.args.line.now) ≡ drop c.in-Some.start c.args.line.now = take_rest c.args.line.now c.in-Some.start in
-    let first = first_of_tokens c.args.line.now c.in-Some.start at in
-    cc (first, rest, c.split_at.ensures.front, c.split_at.ensures.back, c.unwrap_or-end.ensures, c.first_space.ensures)
-
-pub returns-in_default : goal.returns-in_default
-returns-in_default c =
-    let none : position is_visible c.args.line.now ≡ None = cc (c.in_default.is, c.first_visible.ensures) in
-    no_tokens c.args.line.now none
+    let some = eqb-false (length c.trimmed-line.result.now) 0 (sym c.is_empty.ensures ∙ c.if-is_empty.false) in
+    let end : c.unwrap_or-end.result ≡ position_or_len is_space c.trimmed-line.result.now =
+    c.unwrap_or-end.ensures ∙ ap (λ o. unwrap_or o (length c.trimmed-line.result.now)) c.first_space.ensures ∙ place_or_length is_space c.trimmed-line.result.now in
+    let after : 0 < c.unwrap_or-end.result = omega (arith, end, some_front c.trimmed-line.result.now c.trimmed-line.ensures.front (omega (arith, some))) in
+    let token = front_token c.trimmed-line.result.now c.unwrap_or-end.result end after in
+    cc (token, c.trimmed-line.ensures.tokens, c.split_at.ensures.front, c.split_at.ensures.back)

@@ -1,0 +1,134 @@
+-- The number that the first token of a line writes.
+use Rattle.std.proofs.Common.{◌≡◌, ℕ, ◌+◌, ◌*◌, ◌^◌, ◌<◌, ◌≤◌, Bool, true, false, not, ◌&&◌, cond, ◌⊎◌, List, [], ◌∷◌, length, get_or, take, drop, Option, Some, None, refl, sym, ap, subst, ◌∙◌, add-one, arith, inl, inr}
+use Rattle.std.specs.Prelude.{nat_le, MatchBool}
+use Rattle.std.specs.Char.{digit_value, is_digit}
+use Rattle.std.specs.List.{position_or_len}
+use Rattle.std.specs.Str.Parse.{digits_value}
+use Rattle.std.proofs.lemmas.Bool.{lt-ltb, le-leb, lt-leb, eqb-true, cases_Bool, cases_eq}
+use Rattle.std.proofs.lemmas.Int.Digits.{digits_value_more}
+use Rattle.std.proofs.lemmas.List.Folds.{length-prefix_len}
+use Rattle.std.proofs.Math.Bool.{and-false}
+use Rattle.std.proofs.Math.Nat.{pow-le-pow_right, pow-suc}
+use Rattle.script_run.specs.Lines.{◌>>=◌}
+use Rattle.script_run.specs.Numbers.{are_digits, decimal_number, hexadecimal_number}
+use Rattle.script_run.specs.Operands.{IsWorth, first_by, is_trimmed, worth}
+use Rattle.script_run.specs.Tokens.{is_space, tokens_of}
+use Rattle.script_run.proofs.NumberLemmas.{digits_bound, digits_step}
+use Rattle.script_run.proofs.OperandLemmas.{with_rest}
+use Rattle.script_run.proofs.TokenLemmas.{front_token, no_front, past_space}
+
+-- ---- Hexadecimal digits, and what is none
+
+at_worth : (value : ℕ) (bytes : List ℕ) (b c : Bool) → b ≡ c → MatchBool b (value ≡ digits_value 16 bytes) (2 ^ 32 ≤ value) → MatchBool c (value ≡ digits_value 16 bytes) (2 ^ 32 ≤ value)
+at_worth value bytes b c e is = subst (λ x. MatchBool x (value ≡ digits_value 16 bytes) (2 ^ 32 ≤ value)) e is
+
+pub worth_step : (xs : List ℕ) (i value : ℕ) → i < length xs → IsWorth (take i xs) value → IsWorth (take (i + 1) xs) (value * 16 + worth (get_or xs i 0))
+worth_step xs i value inside is = at (are_digits 16 (take i xs)) refl (is_digit (get_or xs i 0) 16) refl where
+  at : (a : Bool) → are_digits 16 (take i xs) ≡ a → (d : Bool) → is_digit (get_or xs i 0) 16 ≡ d → IsWorth (take (i + 1) xs) (value * 16 + worth (get_or xs i 0))
+  at true before true here =
+      let whole : are_digits 16 (take (i + 1) xs) ≡ true = digits_step 16 xs i inside ∙ ap (λ b. b && is_digit (get_or xs i 0) 16) before ∙ here in
+      let so_far : value ≡ digits_value 16 (take i xs) = at_worth value (take i xs) _ true before is in
+      let digit : worth (get_or xs i 0) ≡ digit_value (get_or xs i 0) = ap (λ b. cond b (digit_value (get_or xs i 0)) (2 ^ 32)) here in
+      at_worth _ (take (i + 1) xs) true _ (sym whole) (ap (λ w. value * 16 + w) digit ∙ ap (λ v. v * 16 + digit_value (get_or xs i 0)) so_far ∙ sym (digits_value_more 16 xs i inside))
+  at true before false here =
+      let whole : are_digits 16 (take (i + 1) xs) ≡ false = digits_step 16 xs i inside ∙ ap (λ b. b && is_digit (get_or xs i 0) 16) before ∙ here in
+      let other : worth (get_or xs i 0) ≡ 2 ^ 32 = ap (λ b. cond b (digit_value (get_or xs i 0)) (2 ^ 32)) here in
+      at_worth _ (take (i + 1) xs) false _ (sym whole) (rw other (omega arith))
+  at false before d here =
+      let whole : are_digits 16 (take (i + 1) xs) ≡ false = digits_step 16 xs i inside ∙ ap (λ b. b && is_digit (get_or xs i 0) 16) before in
+      let large : 2 ^ 32 ≤ value = at_worth value (take i xs) _ false before is in
+      at_worth _ (take (i + 1) xs) false _ (sym whole) (omega (arith, large))
+
+pub worth_fits : (value w i : ℕ) → i < 8 → value * 15 + 2 ^ 32 ≤ 2 ^ 32 * 16 ^ i → w ≤ 4294967296 → value * 16 + w < 2 ^ 64
+worth_fits value w i few small bound =
+    let below : i ≤ 7 = omega (arith, few) in
+    let most : 16 ^ i ≤ 16 ^ 7 = pow-le-pow_right (omega arith) below in
+    omega (arith, most, small, bound)
+
+pub worth_grows : (value w i : ℕ) → value * 15 + 2 ^ 32 ≤ 2 ^ 32 * 16 ^ i → w ≤ 4294967296 → (value * 16 + w) * 15 + 2 ^ 32 ≤ 2 ^ 32 * 16 ^ (i + 1)
+worth_grows value w i small bound =
+    let more : 16 ^ (i + 1) ≡ 16 ^ i * 16 = ap (λ k. 16 ^ k) (add-one i) ∙ pow-suc 16 i in
+    omega (arith, more, small, bound)
+
+-- ---- The number of the first token
+
+-- what is no number of at most eight digits
+no_number : (token : List ℕ) → (nat_le 1 (length token) && nat_le (length token) 8 && are_digits 16 token) ≡ false → hexadecimal_number token ≡ None
+unfolding hexadecimal_number
+no_number token e = ap (λ t. cond t (Some (digits_value 16 token)) None) e
+
+at_token : (xs : List ℕ) (n : ℕ) → n ≡ position_or_len is_space xs → 0 < n → first_by hexadecimal_number (tokens_of xs) ≡ first_by hexadecimal_number (take n xs ∷ tokens_of (drop n xs))
+at_token xs n is some = ap (first_by hexadecimal_number) (front_token xs n is some)
+
+long_token : (xs : List ℕ) → length (take (position_or_len is_space xs) xs) ≡ position_or_len is_space xs
+long_token xs = length-prefix_len (λ x. not (is_space x)) xs
+
+pub hexadecimal_long : (xs : List ℕ) → 8 < position_or_len is_space xs → None ≡ first_by hexadecimal_number (tokens_of xs)
+unfolding first_by
+hexadecimal_long xs long =
+    let n = position_or_len is_space xs in
+    let token = take n xs in
+    let over : nat_le (length token) 8 ≡ false = lt-leb (length token) 8 (subst (λ (k : ℕ). 8 < k) (sym (long_token xs)) long) in
+    let none = no_number token (ap (λ b. (nat_le 1 (length token) && b) && are_digits 16 token) over ∙ ap (λ b. b && are_digits 16 token) (and-false (nat_le 1 (length token)))) in
+    sym (at_token xs n refl (omega (arith, long)) ∙ ap (λ o. o >>= with_rest (tokens_of (drop n xs))) none)
+
+-- no token, or one that is not of digits alone
+hexadecimal_bad : (xs : List ℕ) (n v : ℕ) → n ≡ position_or_len is_space xs → 0 < n → n ≤ 8 → IsWorth (take n xs) v → 2 ^ 32 ≤ v → None ≡ first_by hexadecimal_number (tokens_of xs)
+unfolding first_by
+hexadecimal_bad xs n v is some few worths large = at (are_digits 16 (take n xs)) refl where
+  at : (b : Bool) → are_digits 16 (take n xs) ≡ b → None ≡ first_by hexadecimal_number (tokens_of xs)
+  at true digits =
+      let value : v ≡ digits_value 16 (take n xs) = at_worth v (take n xs) _ true digits worths in
+      let short : length (take n xs) ≤ 8 = subst (λ (k : ℕ). length (take k xs) ≤ 8) (sym is) (omega (arith, is, few, long_token xs)) in
+      let bound : digits_value 16 (take n xs) < 16 ^ 8 = digits_bound 16 8 (take n xs) (omega arith) short digits in
+      absurd (omega (arith, value, bound, large))
+  at false digits =
+      let none = no_number (take n xs) (ap (λ b. (nat_le 1 (length (take n xs)) && nat_le (length (take n xs)) 8) && b) digits ∙ and-false (nat_le 1 (length (take n xs)) && nat_le (length (take n xs)) 8)) in
+      sym (at_token xs n is some ∙ ap (λ o. o >>= with_rest (tokens_of (drop n xs))) none)
+
+pub hexadecimal_none : (xs : List ℕ) (n v : ℕ) → is_trimmed xs ≡ true → n ≡ position_or_len is_space xs → n ≤ 8 → IsWorth (take n xs) v → ((n ≡ 0) ⊎ (2 ^ 32 ≤ v)) → None ≡ first_by hexadecimal_number (tokens_of xs)
+unfolding first_by
+hexadecimal_none xs n v front is few worths (inl none) = sym (ap (first_by hexadecimal_number) (no_front xs front (sym is ∙ none)))
+hexadecimal_none xs n v front is few worths (inr large) = elim (cases_eq n 0) [
+  | inl none ↦ sym (ap (first_by hexadecimal_number) (no_front xs front (sym is ∙ none)))
+  | inr some ↦ hexadecimal_bad xs n v is (omega (arith, some)) few worths large
+]
+
+pub hexadecimal_some : (xs : List ℕ) (n v : ℕ) → n ≡ position_or_len is_space xs → 0 < n → n ≤ 8 → IsWorth (take n xs) v → v < 2 ^ 32 → Some (v, tokens_of (drop n xs)) ≡ first_by hexadecimal_number (tokens_of xs)
+unfolding first_by hexadecimal_number
+hexadecimal_some xs n v is some few worths small = at (are_digits 16 (take n xs)) refl where
+  len : length (take n xs) ≡ n
+  len = subst (λ (k : ℕ). length (take k xs) ≡ k) (sym is) (long_token xs)
+
+  at : (b : Bool) → are_digits 16 (take n xs) ≡ b → Some (v, tokens_of (drop n xs)) ≡ first_by hexadecimal_number (tokens_of xs)
+  at true digits =
+      let value : v ≡ digits_value 16 (take n xs) = at_worth v (take n xs) _ true digits worths in
+      let one : nat_le 1 (length (take n xs)) ≡ true = le-leb 1 _ (omega (arith, len, some)) in
+      let eight : nat_le (length (take n xs)) 8 ≡ true = le-leb _ 8 (omega (arith, len, few)) in
+      let is_number : hexadecimal_number (take n xs) ≡ Some v =
+      ap (λ b. cond ((b && nat_le (length (take n xs)) 8) && are_digits 16 (take n xs)) (Some (digits_value 16 (take n xs))) None) one
+      ∙ ap (λ b. cond (b && are_digits 16 (take n xs)) (Some (digits_value 16 (take n xs))) None) eight
+      ∙ ap (λ b. cond b (Some (digits_value 16 (take n xs))) None) digits ∙ ap Some (sym value) in
+      sym (at_token xs n is some ∙ ap (λ o. o >>= with_rest (tokens_of (drop n xs))) is_number)
+  at false digits = let large : 2 ^ 32 ≤ v = at_worth v (take n xs) _ false digits worths in absurd (omega (arith, small, large))
+
+-- ---- One decimal digit
+
+pub one_decimal : (d v : ℕ) (xs : List ℕ) → v ≡ digit_value d → v < 10 → Some (v, tokens_of xs) ≡ first_by decimal_number (tokens_of (d ∷ 32 ∷ xs))
+unfolding first_by decimal_number
+one_decimal d v xs is small =
+    let digit : is_digit d 10 ≡ true = lt-ltb (digit_value d) 10 (subst (λ (k : ℕ). k < 10) is small) in
+    let apart : is_space d ≡ false = elim (cases_Bool (is_space d)) [
+      | inl here ↦ absurd (omega (arith, is, small, ap digit_value (eqb-true d 32 here)))
+      | inr other ↦ other
+    ] in
+    let place : 1 ≡ position_or_len is_space (d ∷ 32 ∷ xs) = sym (ap (λ b. cond (not b) (1 + 0) 0) apart) in
+    let tokens : tokens_of (d ∷ 32 ∷ xs) ≡ (d ∷ []) ∷ tokens_of xs = front_token (d ∷ 32 ∷ xs) 1 place (omega arith) ∙ ap (λ ts. (d ∷ []) ∷ ts) (past_space xs) in
+    let is_number : decimal_number (d ∷ []) ≡ Some v = ap (λ b. cond ((true && true) && (b && true)) (Some (0 * 10 + digit_value d)) None) digit ∙ ap Some (omega (arith, is)) in
+    sym (ap (first_by decimal_number) tokens ∙ ap (λ o. o >>= with_rest (tokens_of xs)) is_number)
+
+-- a byte and a space in front
+pub after_space : (xs : List ℕ) → 2 ≤ length xs → get_or xs 1 0 ≡ 32 → xs ≡ get_or xs 0 0 ∷ 32 ∷ drop 2 xs
+after_space [] long space = absurd (omega (arith, long))
+after_space (d ∷ []) long space = absurd (omega (arith, long))
+after_space (d ∷ e ∷ xs) long space = ap (λ byte. d ∷ byte ∷ xs) space

@@ -1,0 +1,57 @@
+-- Operands read one behind another: each gives what its token says, and the tokens behind it.
+--     first_by read tokens      what the first token says, and the tokens behind it
+--     one_by, two_by, three_by      a call of so many operands, behind which no token stands
+use Rattle.std.specs.Prelude.{ℕ, ◌≡◌, ◌≤◌, ◌^◌, Bool, true, List, [], ◌∷◌, Option, None, Some, MatchBool, if◌then◌else◌}
+use Rattle.std.specs.Char.{digit_value, is_digit}
+use Rattle.std.specs.Str.Parse.{digits_value}
+use Rattle.kernel_calls.specs.declared.calls.Call.{Call}
+use Rattle.kernel_calls.specs.declared.calls.Event.{Event}
+use Rattle.script_run.specs.Lines.{◌>>=◌, alone, cpu_of, process_of, call_of}
+use Rattle.script_run.specs.Numbers.{are_digits}
+use Rattle.script_run.specs.Tokens.{is_visible}
+
+-- no space stands in front
+abbrev pub is_trimmed : List ℕ → Bool
+is_trimmed [] = true
+is_trimmed (byte ∷ bytes) = is_visible byte
+
+-- what a byte is worth as a hexadecimal digit: more than eight digits are, where it is none
+abbrev pub worth : ℕ → ℕ
+worth byte = if is_digit byte 16 then digit_value byte else 2 ^ 32
+
+-- the bytes' value where all are hexadecimal digits, and else a number that eight digits don't have
+abbrev pub IsWorth : List ℕ → ℕ → Type 0
+IsWorth bytes value = MatchBool (are_digits 16 bytes) (value ≡ digits_value 16 bytes) (2 ^ 32 ≤ value)
+
+unfoldable pub first_by : {A : Type 0} → (List ℕ → Option A) → List (List ℕ) → Option (A × List (List ℕ))
+first_by read [] = None
+first_by read (token ∷ tokens) = do
+  said ← read token
+  Some (said, tokens)
+
+unfoldable pub one_by : {A : Type 0} → (List ℕ → Option A) → (A → Call) → List (List ℕ) → Option Call
+one_by read call tokens = do
+  first ← first_by read tokens
+  alone (call first.0) first.1
+
+unfoldable pub two_by : {A B : Type 0} → (List ℕ → Option A) → (List ℕ → Option B) → (A → B → Call) → List (List ℕ) → Option Call
+two_by read next call tokens = do
+  first ← first_by read tokens
+  second ← first_by next first.1
+  alone (call first.0 second.0) second.1
+
+unfoldable pub three_by : {A B C : Type 0} → (List ℕ → Option A) → (List ℕ → Option B) → (List ℕ → Option C) → (A → B → C → Call) → List (List ℕ) → Option Call
+three_by read next last call tokens = do
+  first ← first_by read tokens
+  second ← first_by next first.1
+  third ← first_by last second.1
+  alone (call first.0 second.0 third.0) third.1
+
+-- CPU, process, and the call with its operands
+unfoldable pub event_by : List (List ℕ) → Option Event
+event_by tokens = do
+  cpu ← first_by cpu_of tokens
+  pid ← first_by process_of cpu.1
+  op ← first_by Some pid.1
+  call ← call_of op.0 op.1
+  Some (record { cpu = cpu.0; pid = pid.0; call = call })
