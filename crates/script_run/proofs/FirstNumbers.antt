@@ -11,10 +11,10 @@ use Rattle.std.proofs.Math.Bool.{and-false}
 use Rattle.std.proofs.Math.Nat.{pow-le-pow_right, pow-suc}
 use Rattle.script_run.specs.Lines.{◌>>=◌}
 use Rattle.script_run.specs.Numbers.{are_digits, decimal_number, hexadecimal_number}
-use Rattle.script_run.specs.Operands.{IsWorth, first_by, is_trimmed, worth}
+use Rattle.script_run.specs.Operands.{IsWorth, caller_by, first_by, is_trimmed, worth}
 use Rattle.script_run.specs.Tokens.{is_space, tokens_of}
 use Rattle.script_run.proofs.NumberLemmas.{digits_bound, digits_step}
-use Rattle.script_run.proofs.OperandLemmas.{with_rest}
+use Rattle.script_run.proofs.OperandLemmas.{first_below, with_cpu, with_pid, with_rest}
 use Rattle.script_run.proofs.TokenLemmas.{front_token, no_front, past_space}
 
 -- ---- Hexadecimal digits, and what is none
@@ -127,8 +127,9 @@ one_decimal d v xs is small =
     let is_number : decimal_number (d ∷ []) ≡ Some v = ap (λ b. cond ((true && true) && (b && true)) (Some (0 * 10 + digit_value d)) None) digit ∙ ap Some (omega (arith, is)) in
     sym (ap (first_by decimal_number) tokens ∙ ap (λ o. o >>= with_rest (tokens_of xs)) is_number)
 
--- a byte and a space in front
-pub after_space : (xs : List ℕ) → 2 ≤ length xs → get_or xs 1 0 ≡ 32 → xs ≡ get_or xs 0 0 ∷ 32 ∷ drop 2 xs
-after_space [] long space = absurd (omega (arith, long))
-after_space (d ∷ []) long space = absurd (omega (arith, long))
-after_space (d ∷ e ∷ xs) long space = ap (λ byte. d ∷ byte ∷ xs) space
+pub two_decimals : (d e cpu pid : ℕ) (xs : List ℕ) → cpu ≡ digit_value d → cpu < 8 → pid ≡ digit_value e → pid < 10 → Some (cpu, pid, tokens_of xs) ≡ caller_by (tokens_of (d ∷ 32 ∷ e ∷ 32 ∷ xs))
+unfolding caller_by
+two_decimals d e cpu pid xs is_cpu few is_pid small =
+    let first = first_below decimal_number 8 (tokens_of (d ∷ 32 ∷ e ∷ 32 ∷ xs)) cpu (tokens_of (e ∷ 32 ∷ xs)) (one_decimal d cpu (e ∷ 32 ∷ xs) is_cpu (omega (arith, few))) few in
+    let second = first_below decimal_number 64 (tokens_of (e ∷ 32 ∷ xs)) pid (tokens_of xs) (one_decimal e pid xs is_pid small) (omega (arith, small)) in
+    ap (λ o. o >>= with_pid cpu) second ∙ ap (λ o. o >>= with_cpu) first

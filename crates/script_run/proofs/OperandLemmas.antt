@@ -3,9 +3,10 @@ use Rattle.std.proofs.Common.{◌≡◌, ℕ, Bool, true, false, nat_lt, cond, L
 use Rattle.std.proofs.lemmas.Bool.{lt-ltb, le-ltb}
 use Rattle.kernel_calls.specs.declared.calls.Call.{Call}
 use Rattle.kernel_calls.specs.declared.calls.Call.TheVariants as call
+use Rattle.kernel_calls.specs.declared.calls.Event.{Event}
 use Rattle.script_run.specs.Lines.{◌>>=◌, one, two, three, alone, cpu_of, process_of, size_of, right_of, quota_of, load_of, store_of, map_of, unmap_of, protect_of, info_of, offer_of, withdraw_of, accept_of, spawn_of, fork_of, call_of, event_of_words}
 use Rattle.script_run.specs.Numbers.{hexadecimal_number, decimal_number, below}
-use Rattle.script_run.specs.Operands.{first_by, one_by, two_by, three_by, event_by}
+use Rattle.script_run.specs.Operands.{first_by, one_by, two_by, three_by, caller_by, named_by, event_by}
 
 -- ---- Steps of a chain
 
@@ -110,18 +111,42 @@ pub fork_read : (ts : List (List ℕ)) → one_by quota_of call.Fork ts ≡ fork
 unfolding fork_of
 fork_read ts = ones quota_of call.Fork ts
 
+-- ---- The line
+
+abbrev pub Caller : Type 0
+Caller = ℕ × ℕ × List (List ℕ)
+
+abbrev pub with_pid : ℕ → ℕ × List (List ℕ) → Option Caller
+with_pid cpu pid = Some (cpu, pid.0, pid.1)
+
+abbrev pub with_cpu : ℕ × List (List ℕ) → Option Caller
+with_cpu cpu = first_by process_of cpu.1 >>= with_pid cpu.0
+
+abbrev with_call : Caller → Option Event
+with_call caller = named_by caller.2 >>= λ call. Some (record { cpu = caller.0; pid = caller.1; call = call })
+
+chained : {A B C : Type 0} (x : Option A) (F : A → Option B) (G : B → Option C) → ((x >>= F) >>= G) ≡ (x >>= λ v. F v >>= G)
+chained None F G = refl
+chained (Some v) F G = refl
+
 pub event_read : (ts : List (List ℕ)) → event_by ts ≡ event_of_words ts
-unfolding event_by event_of_words first_by
+unfolding event_by caller_by event_of_words first_by
 event_read [] = refl
-event_read (a ∷ []) = first cpu_of a [] _ ∙ ends_so (cpu_of a)
-event_read (a ∷ b ∷ []) = first cpu_of a (b ∷ []) _ ∙ same_rest (cpu_of a) _ (λ v. None) (λ v. first process_of b [] _ ∙ ends_so (process_of b)) ∙ ends_so (cpu_of a)
-event_read (a ∷ b ∷ op ∷ ts) = first cpu_of a (b ∷ op ∷ ts) _ ∙ same_rest (cpu_of a) _ _ (λ v. first process_of b (op ∷ ts) _)
+event_read (a ∷ []) = ap (λ x. x >>= with_call) (first cpu_of a [] with_cpu ∙ ends_so (cpu_of a))
+event_read (a ∷ b ∷ []) =
+    ap (λ x. x >>= with_call) (first cpu_of a (b ∷ []) with_cpu) ∙ chained (cpu_of a) (λ v. with_cpu (v, b ∷ [])) with_call
+    ∙ same_rest (cpu_of a) _ (λ v. None) (λ v. ap (λ x. x >>= with_call) (first process_of b [] (with_pid v)) ∙ chained (process_of b) (λ w. with_pid v (w, [])) with_call ∙ ends_so (process_of b)) ∙ ends_so (cpu_of a)
+event_read (a ∷ b ∷ op ∷ ts) =
+    ap (λ x. x >>= with_call) (first cpu_of a (b ∷ op ∷ ts) with_cpu) ∙ chained (cpu_of a) (λ v. with_cpu (v, b ∷ op ∷ ts)) with_call
+    ∙ same_rest (cpu_of a) _ _ (λ v. ap (λ x. x >>= with_call) (first process_of b (op ∷ ts) (with_pid v)) ∙ chained (process_of b) (λ w. with_pid v (w, op ∷ ts)) with_call)
 
 pub ruleset calls = (load_read, store_read, map_read, unmap_read, protect_read, info_read)
 
 pub ruleset sharing_calls = (offer_read, withdraw_read, accept_read)
 
 pub ruleset process_calls = (spawn_read, fork_read)
+
+pub ruleset often = (load_read, store_read, map_read, unmap_read, offer_read, accept_read)
 
 -- ---- Limits
 

@@ -1,9 +1,10 @@
 -- The first token of a line, and those after it.
-use Rattle.std.proofs.Common.{◌≡◌, ℕ, suc, ◌<◌, ◌≤◌, Bool, true, false, not, cond, List, [], ◌∷◌, length, take, drop, refl, sym, ap, subst, ◌∙◌, arith, Some, None, unwrap_or, position, get_or, inl, inr, eq-eqb}
+use Rattle.std.proofs.Common.{◌≡◌, ℕ, suc, ◌<◌, ◌≤◌, Bool, true, false, not, cond, List, [], ◌∷◌, ◌++◌, length, take, drop, refl, sym, ap, subst, ◌∙◌, arith, Some, None, unwrap_or, position, get_or, inl, inr, eq-eqb}
 use Rattle.std.specs.Prelude.{filter, nat_lt, ◌==◌}
 use Rattle.std.specs.List.{slice_split, onto_first, position_or_len}
 use Rattle.std.proofs.lemmas.Bool.{ltb-true, ltb-false, eqb-true, cases_Bool, cases_lt, cases_eq, false≢true}
 use Rattle.std.proofs.lemmas.List.{drop_all}
+use Rattle.std.proofs.lemmas.Slice.Eq.{HasBytesAt}
 use Rattle.std.proofs.lemmas.List.Sums.{prefix_len-le-length, position_or_len_is, passes_at_first}
 use Rattle.std.proofs.lemmas.List.Splits.{slice_split-cons_yes, slice_split-cons_no}
 use Rattle.std.proofs.Math.Numerals.{one-add}
@@ -129,6 +130,18 @@ front_token xs n is some =
 pub past_space : (xs : List ℕ) → tokens_of (32 ∷ xs) ≡ tokens_of xs
 unfolding tokens_of
 past_space xs = ap (filter is_run) (slice_split-cons_yes is_space 32 xs refl)
+
+-- ---- Bytes that are known in front
+
+-- what is known of a list at each place, but for its first
+later : (x : ℕ) (xs front : List ℕ) (i : ℕ) → HasBytesAt (x ∷ xs) (suc i) front → HasBytesAt xs i front
+later x xs [] i known = tt
+later x xs (c ∷ front) i known = (known.0, later x xs front (suc i) known.1)
+
+pub known_front : (front xs : List ℕ) → length front ≤ length xs → HasBytesAt xs 0 front → xs ≡ front ++ drop (length front) xs
+known_front [] xs fits known = refl
+known_front (c ∷ front) [] fits known = absurd (omega (arith, fits))
+known_front (c ∷ front) (x ∷ xs) fits known = ap (λ byte. byte ∷ xs) known.0 ∙ ap (λ ys. c ∷ ys) (known_front front xs (omega (arith, fits)) (later x xs front 0 known.1))
 
 -- ---- Where the first token ends
 

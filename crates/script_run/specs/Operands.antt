@@ -47,11 +47,21 @@ three_by read next last call tokens = do
   third ← first_by last second.1
   alone (call first.0 second.0 third.0) third.1
 
+-- the call that the first token names, with the others as its operands
+abbrev pub named_by : List (List ℕ) → Option Call
+named_by [] = None
+named_by (op ∷ operands) = call_of op operands
+
+-- CPU and process, and the tokens behind them
+unfoldable pub caller_by : List (List ℕ) → Option (ℕ × ℕ × List (List ℕ))
+caller_by tokens = do
+  cpu ← first_by cpu_of tokens
+  pid ← first_by process_of cpu.1
+  Some (cpu.0, pid.0, pid.1)
+
 -- CPU, process, and the call with its operands
 unfoldable pub event_by : List (List ℕ) → Option Event
 event_by tokens = do
-  cpu ← first_by cpu_of tokens
-  pid ← first_by process_of cpu.1
-  op ← first_by Some pid.1
-  call ← call_of op.0 op.1
-  Some (record { cpu = cpu.0; pid = pid.0; call = call })
+  caller ← caller_by tokens
+  call ← named_by caller.2
+  Some (record { cpu = caller.0; pid = caller.1; call = call })

@@ -1,11 +1,11 @@
 //! What a line of a script says.
 
-ghost use Rattle.std.specs.Prelude.{◌≡◌, codes};
+ghost use Rattle.std.specs.Prelude.{◌≡◌, ◌<◌, ◌∷◌, IfSome, codes};
 ghost use Rattle.std.specs.Option.{option_map};
 ghost use Rattle.std.specs.Str.{bytes_eq};
 ghost use Rattle.script_run.specs.Tokens.{tokens_of};
 
-use super::numbers::{hexadecimal, number_below};
+use super::numbers::{digit_of, hexadecimal, number_below};
 use super::tokens::{first_token, is_blank};
 use kernel_calls::{Call, Event};
 use page_words::{Page, Pid, Size, Vaddr};
@@ -23,9 +23,9 @@ pub enum Line {
 }
 
 // The clauses' words on lines name `Line`, and so stand below it.
-ghost use Rattle.script_run.specs.Lines.{cpu_of, process_of, size_of, right_of, quota_of, alone, process_call_of, sharing_call_of, call_of, line_of};
+ghost use Rattle.script_run.specs.Lines.{cpu_of, process_of, size_of, right_of, quota_of, alone, process_call_of, sharing_call_of, line_of};
 ghost use Rattle.script_run.specs.Numbers.{hexadecimal_number};
-ghost use Rattle.script_run.specs.Operands.{first_by, one_by, two_by, three_by, event_by};
+ghost use Rattle.script_run.specs.Operands.{first_by, one_by, two_by, three_by, named_by, caller_by, event_by};
 ghost use Rattle.kernel_calls.specs.declared.calls.Call.TheVariants as call;
 
 /// Whether a token is this word. The words of up to five letters have functions of their own, which look at
@@ -151,6 +151,7 @@ fn alone(call: Call, line: &[u8]) -> Option<Call>
 }
 
 /// `load ADDR SIZE`.
+#[inline(never)]
 #[tactic(auto, unfolding(crate::specs::Operands::two_by))]
 fn load_of(line: &[u8]) -> Option<Call>
     ensures { result ≡ two_by hexadecimal_number size_of call.Load (tokens_of line.now) }
@@ -162,6 +163,7 @@ fn load_of(line: &[u8]) -> Option<Call>
 }
 
 /// `store ADDR SIZE VALUE`.
+#[inline(never)]
 #[tactic(auto, unfolding(crate::specs::Operands::three_by))]
 fn store_of(line: &[u8]) -> Option<Call>
     ensures { result ≡ three_by hexadecimal_number size_of hexadecimal_number call.Store (tokens_of line.now) }
@@ -174,6 +176,7 @@ fn store_of(line: &[u8]) -> Option<Call>
 }
 
 /// `map PAGE RIGHT`.
+#[inline(never)]
 #[tactic(auto, unfolding(crate::specs::Operands::two_by))]
 fn map_of(line: &[u8]) -> Option<Call>
     ensures { result ≡ two_by hexadecimal_number right_of call.Map (tokens_of line.now) }
@@ -185,6 +188,7 @@ fn map_of(line: &[u8]) -> Option<Call>
 }
 
 /// `unmap PAGE`.
+#[inline(never)]
 #[tactic(auto, unfolding(crate::specs::Operands::one_by))]
 fn unmap_of(line: &[u8]) -> Option<Call>
     ensures { result ≡ one_by hexadecimal_number call.Unmap (tokens_of line.now) }
@@ -195,6 +199,7 @@ fn unmap_of(line: &[u8]) -> Option<Call>
 }
 
 /// `protect PAGE RIGHT`.
+#[inline(never)]
 #[tactic(auto, unfolding(crate::specs::Operands::two_by))]
 fn protect_of(line: &[u8]) -> Option<Call>
     ensures { result ≡ two_by hexadecimal_number right_of call.Protect (tokens_of line.now) }
@@ -206,6 +211,7 @@ fn protect_of(line: &[u8]) -> Option<Call>
 }
 
 /// `info PAGE`.
+#[inline(never)]
 #[tactic(auto, unfolding(crate::specs::Operands::one_by))]
 fn info_of(line: &[u8]) -> Option<Call>
     ensures { result ≡ one_by hexadecimal_number call.Info (tokens_of line.now) }
@@ -216,6 +222,7 @@ fn info_of(line: &[u8]) -> Option<Call>
 }
 
 /// `offer PAGE process RIGHT`.
+#[inline(never)]
 #[tactic(auto, unfolding(crate::specs::Operands::three_by))]
 fn offer_of(line: &[u8]) -> Option<Call>
     ensures { result ≡ three_by hexadecimal_number process_of right_of call.Offer (tokens_of line.now) }
@@ -236,6 +243,7 @@ fn offer_of(line: &[u8]) -> Option<Call>
 }
 
 /// `withdraw PAGE process`.
+#[inline(never)]
 #[tactic(auto, unfolding(crate::specs::Operands::two_by))]
 fn withdraw_of(line: &[u8]) -> Option<Call>
     ensures { result ≡ two_by hexadecimal_number process_of call.Withdraw (tokens_of line.now) }
@@ -248,6 +256,7 @@ fn withdraw_of(line: &[u8]) -> Option<Call>
 }
 
 /// `accept process PAGE PAGE`: the giver, its page, and the own page.
+#[inline(never)]
 #[tactic(auto, unfolding(crate::specs::Operands::three_by))]
 fn accept_of(line: &[u8]) -> Option<Call>
     ensures { result ≡ three_by process_of hexadecimal_number hexadecimal_number call.Accept (tokens_of line.now) }
@@ -269,6 +278,7 @@ fn accept_of(line: &[u8]) -> Option<Call>
 }
 
 /// `spawn N`.
+#[inline(never)]
 #[tactic(auto, unfolding(crate::specs::Operands::one_by))]
 fn spawn_of(line: &[u8]) -> Option<Call>
     ensures { result ≡ one_by quota_of call.Spawn (tokens_of line.now) }
@@ -279,6 +289,7 @@ fn spawn_of(line: &[u8]) -> Option<Call>
 }
 
 /// `fork N`.
+#[inline(never)]
 #[tactic(auto, unfolding(crate::specs::Operands::one_by))]
 fn fork_of(line: &[u8]) -> Option<Call>
     ensures { result ≡ one_by quota_of call.Fork (tokens_of line.now) }
@@ -289,6 +300,7 @@ fn fork_of(line: &[u8]) -> Option<Call>
 }
 
 /// A call of processes and their quotas.
+#[inline(always)]
 #[tactic(auto, unfolding(crate::specs::Lines::process_call_of), using(crate::proofs::OperandLemmas::process_calls))]
 fn process_call_of(op: &[u8], operands: &[u8]) -> Option<Call>
     ensures { result ≡ process_call_of op.now (tokens_of operands.now) }
@@ -307,6 +319,7 @@ fn process_call_of(op: &[u8], operands: &[u8]) -> Option<Call>
 }
 
 /// A call of offers, or one of processes.
+#[inline(always)]
 #[tactic(auto, unfolding(crate::specs::Lines::sharing_call_of), using(crate::proofs::OperandLemmas::sharing_calls))]
 fn sharing_call_of(op: &[u8], operands: &[u8]) -> Option<Call>
     ensures { result ≡ sharing_call_of op.now (tokens_of operands.now) }
@@ -322,11 +335,13 @@ fn sharing_call_of(op: &[u8], operands: &[u8]) -> Option<Call>
     }
 }
 
-/// The call of that name, with these operands.
+/// The call whose name is the first token, and whose operands are the others.
+#[inline(never)]
 #[tactic(auto, unfolding(crate::specs::Lines::call_of), using(crate::proofs::OperandLemmas::calls))]
-fn call_of(op: &[u8], operands: &[u8]) -> Option<Call>
-    ensures { result ≡ call_of op.now (tokens_of operands.now) }
+fn any_call_of(line: &[u8]) -> Option<Call>
+    ensures { result ≡ named_by (tokens_of line.now) }
 {
+    let (op, operands) = first_token(line)?;
     if is_load(op) {
         load_of(operands)
     } else if is_store(op) {
@@ -344,22 +359,133 @@ fn call_of(op: &[u8], operands: &[u8]) -> Option<Call>
     }
 }
 
+/// The operands of `load`, where the bytes begin with it and a space.
+fn after_load(line: &[u8]) -> Option<&[u8]>
+    ensures { IfSome result (λ operands. tokens_of line.now ≡ codes "load" ∷ tokens_of operands.now) }
+{
+    match line {
+        [b'l', b'o', b'a', b'd', b' ', operands @ ..] => Some(operands),
+        _ => None,
+    }
+}
+
+/// The operands of `store`, where the bytes begin with it and a space.
+fn after_store(line: &[u8]) -> Option<&[u8]>
+    ensures { IfSome result (λ operands. tokens_of line.now ≡ codes "store" ∷ tokens_of operands.now) }
+{
+    match line {
+        [b's', b't', b'o', b'r', b'e', b' ', operands @ ..] => Some(operands),
+        _ => None,
+    }
+}
+
+/// The operands of `map`, where the bytes begin with it and a space.
+fn after_map(line: &[u8]) -> Option<&[u8]>
+    ensures { IfSome result (λ operands. tokens_of line.now ≡ codes "map" ∷ tokens_of operands.now) }
+{
+    match line {
+        [b'm', b'a', b'p', b' ', operands @ ..] => Some(operands),
+        _ => None,
+    }
+}
+
+/// The operands of `unmap`, where the bytes begin with it and a space.
+fn after_unmap(line: &[u8]) -> Option<&[u8]>
+    ensures { IfSome result (λ operands. tokens_of line.now ≡ codes "unmap" ∷ tokens_of operands.now) }
+{
+    match line {
+        [b'u', b'n', b'm', b'a', b'p', b' ', operands @ ..] => Some(operands),
+        _ => None,
+    }
+}
+
+/// The operands of `offer`, where the bytes begin with it and a space.
+fn after_offer(line: &[u8]) -> Option<&[u8]>
+    ensures { IfSome result (λ operands. tokens_of line.now ≡ codes "offer" ∷ tokens_of operands.now) }
+{
+    match line {
+        [b'o', b'f', b'f', b'e', b'r', b' ', operands @ ..] => Some(operands),
+        _ => None,
+    }
+}
+
+/// The operands of `accept`, where the bytes begin with it and a space.
+fn after_accept(line: &[u8]) -> Option<&[u8]>
+    ensures { IfSome result (λ operands. tokens_of line.now ≡ codes "accept" ∷ tokens_of operands.now) }
+{
+    match line {
+        [b'a', b'c', b'c', b'e', b'p', b't', b' ', operands @ ..] => Some(operands),
+        _ => None,
+    }
+}
+
+/// The same; a call that is often made is told by the bytes in front.
+#[inline(always)]
+#[tactic(auto, unfolding(crate::specs::Lines::call_of, crate::specs::Lines::sharing_call_of), using(crate::proofs::OperandLemmas::often))]
+fn call_of(line: &[u8]) -> Option<Call>
+    ensures { result ≡ named_by (tokens_of line.now) }
+{
+    if let Some(operands) = after_load(line) {
+        load_of(operands)
+    } else if let Some(operands) = after_store(line) {
+        store_of(operands)
+    } else if let Some(operands) = after_map(line) {
+        map_of(operands)
+    } else if let Some(operands) = after_unmap(line) {
+        unmap_of(operands)
+    } else if let Some(operands) = after_offer(line) {
+        offer_of(operands)
+    } else if let Some(operands) = after_accept(line) {
+        accept_of(operands)
+    } else {
+        any_call_of(line)
+    }
+}
+
+/// The CPU and the process that a line begins with, and the bytes after them.
+#[inline(never)]
+#[tactic(auto, unfolding(crate::specs::Operands::caller_by))]
+fn any_caller_of(line: &[u8]) -> Option<(u64, u64, &[u8])>
+    ensures cpu { IfSome result (λ found. found.0 < 8) }
+    ensures pid { IfSome result (λ found. found.1 < 64) }
+    ensures read { option_map (λ found. (found.0, found.1, tokens_of found.2.now)) result ≡ caller_by (tokens_of line.now) }
+{
+    let (cpu, rest) = number_below(line, 8)?;
+    let (pid, rest) = number_below(rest, 64)?;
+    Some((cpu, pid, rest))
+}
+
+/// The same; two numbers of one digit are told by the bytes in front.
+#[inline(always)]
+fn caller_of(line: &[u8]) -> Option<(u64, u64, &[u8])>
+    ensures cpu { IfSome result (λ found. found.0 < 8) }
+    ensures pid { IfSome result (λ found. found.1 < 64) }
+    ensures read { option_map (λ found. (found.0, found.1, tokens_of found.2.now)) result ≡ caller_by (tokens_of line.now) }
+{
+    match line {
+        [cpu, b' ', pid, b' ', rest @ ..] if digit_of(*cpu) < 8 && digit_of(*pid) < 10 => {
+            Some((u64::from(digit_of(*cpu)), u64::from(digit_of(*pid)), rest))
+        }
+        _ => any_caller_of(line),
+    }
+}
+
 /// The event that a line spells: its CPU, its process, the name of the call and the operands.
-#[tactic(auto, unfolding(crate::specs::Operands::event_by, crate::specs::Operands::first_by))]
+#[inline(always)]
+#[tactic(auto, unfolding(crate::specs::Operands::event_by))]
 fn event_of(line: &[u8]) -> Option<Event>
     ensures { result ≡ event_by (tokens_of line.now) }
 {
-    let (cpu, rest) = number_below(line, 8)?;
+    let (cpu, pid, rest) = caller_of(line)?;
     let cpu = cpu as u8;
-    let (pid, rest) = number_below(rest, 64)?;
     let pid = Pid::new(pid as u8)?;
-    let (op, operands) = first_token(rest)?;
-    let call = call_of(op, operands)?;
+    let call = call_of(rest)?;
     Some(Event { cpu, pid, call })
 }
 
 /// What a line says, whose line feed is left out. One of more than 100 bytes is malformed, whatever
 /// stands in it.
+#[inline(always)]
 #[tactic(auto, unfolding(crate::specs::Lines::line_of), using(crate::proofs::OperandLemmas::event_read))]
 pub fn line_of(bytes: &[u8]) -> Line
     ensures { result ≡ line_of bytes.now }

@@ -56,7 +56,7 @@ fn look_up(table: &[u8; 256], byte: u8) -> u8
 }
 
 /// What a byte is worth as a digit: a table, so that no digit asks for a branch.
-fn digit_of(byte: u8) -> u8
+pub fn digit_of(byte: u8) -> u8
     ensures value { result ≡ digit_value byte }
     ensures bound { result ≤ 36 }
 {
@@ -100,6 +100,7 @@ fn worth_of(byte: u8) -> u64
 }
 
 /// Whether the token in front ends at this place: a space stands there, or nothing.
+#[inline(always)]
 fn ends_at(line: &[u8], place: usize) -> bool
     requires { place ≤ length line.now }
     ensures ends { result ≡ true → place < length line.now → slice_index line.now place ≡ 32 }
@@ -110,6 +111,7 @@ fn ends_at(line: &[u8], place: usize) -> bool
 
 /// What the bytes up to the first space are worth as hexadecimal digits, and how many they are; None
 /// where they are more than eight. Each byte is looked at once.
+#[inline(always)]
 fn short_token(line: &[u8]) -> Option<(u64, usize)>
     ensures short { IfSome result (λ found. found.1 ≤ 8) }
     ensures end { IfSome result (λ found. found.1 ≡ position_or_len is_space line.now) }
@@ -132,6 +134,7 @@ fn short_token(line: &[u8]) -> Option<(u64, usize)>
 
 /// The number that the first token writes in one to eight hexadecimal digits, of either case, and the
 /// bytes after it.
+#[inline(always)]
 pub fn hexadecimal(line: &[u8]) -> Option<(u32, &[u8])>
     ensures { option_map (λ found. (found.0, tokens_of found.1.now)) result ≡ first_by hexadecimal_number (tokens_of line.now) }
 {
