@@ -1,6 +1,6 @@
 -- The number that the first token of a line writes.
 use Rattle.std.proofs.Common.{◌≡◌, ℕ, ◌+◌, ◌*◌, ◌^◌, ◌<◌, ◌≤◌, Bool, true, false, not, ◌&&◌, cond, ◌⊎◌, List, [], ◌∷◌, length, get_or, take, drop, Option, Some, None, refl, sym, ap, subst, ◌∙◌, add-one, arith, inl, inr}
-use Rattle.std.specs.Prelude.{nat_le, MatchBool}
+use Rattle.std.specs.Prelude.{nat_le, MatchBool, codes}
 use Rattle.std.specs.Char.{digit_value, is_digit}
 use Rattle.std.specs.List.{position_or_len}
 use Rattle.std.specs.Str.Parse.{digits_value}
@@ -9,7 +9,7 @@ use Rattle.std.proofs.lemmas.Int.Digits.{digits_value_more}
 use Rattle.std.proofs.lemmas.List.Folds.{length-prefix_len}
 use Rattle.std.proofs.Math.Bool.{and-false}
 use Rattle.std.proofs.Math.Nat.{pow-le-pow_right, pow-suc}
-use Rattle.script_run.specs.Lines.{◌>>=◌}
+use Rattle.script_run.specs.Lines.{◌>>=◌, right_of}
 use Rattle.script_run.specs.Numbers.{are_digits, decimal_number, hexadecimal_number}
 use Rattle.script_run.specs.Operands.{IsWorth, caller_by, first_by, is_trimmed, worth}
 use Rattle.script_run.specs.Tokens.{is_space, tokens_of}
@@ -112,19 +112,34 @@ hexadecimal_some xs n v is some few worths small = at (are_digits 16 (take n xs)
       sym (at_token xs n is some ∙ ap (λ o. o >>= with_rest (tokens_of (drop n xs))) is_number)
   at false digits = let large : 2 ^ 32 ≤ v = at_worth v (take n xs) _ false digits worths in absurd (omega (arith, small, large))
 
--- ---- One decimal digit
+-- ---- One decimal digit, or two
+
+digit_apart : (d : ℕ) → digit_value d < 10 → is_space d ≡ false
+digit_apart d small = elim (cases_Bool (is_space d)) [
+  | inl here ↦ absurd (omega (arith, small, ap digit_value (eqb-true d 32 here)))
+  | inr other ↦ other
+]
 
 pub one_decimal : (d v : ℕ) (xs : List ℕ) → v ≡ digit_value d → v < 10 → Some (v, tokens_of xs) ≡ first_by decimal_number (tokens_of (d ∷ 32 ∷ xs))
 unfolding first_by decimal_number
 one_decimal d v xs is small =
-    let digit : is_digit d 10 ≡ true = lt-ltb (digit_value d) 10 (subst (λ (k : ℕ). k < 10) is small) in
-    let apart : is_space d ≡ false = elim (cases_Bool (is_space d)) [
-      | inl here ↦ absurd (omega (arith, is, small, ap digit_value (eqb-true d 32 here)))
-      | inr other ↦ other
-    ] in
-    let place : 1 ≡ position_or_len is_space (d ∷ 32 ∷ xs) = sym (ap (λ b. cond (not b) (1 + 0) 0) apart) in
+    let low : digit_value d < 10 = subst (λ (k : ℕ). k < 10) is small in
+    let digit : is_digit d 10 ≡ true = lt-ltb (digit_value d) 10 low in
+    let place : 1 ≡ position_or_len is_space (d ∷ 32 ∷ xs) = sym (ap (λ b. cond (not b) (1 + 0) 0) (digit_apart d low)) in
     let tokens : tokens_of (d ∷ 32 ∷ xs) ≡ (d ∷ []) ∷ tokens_of xs = front_token (d ∷ 32 ∷ xs) 1 place (omega arith) ∙ ap (λ ts. (d ∷ []) ∷ ts) (past_space xs) in
     let is_number : decimal_number (d ∷ []) ≡ Some v = ap (λ b. cond ((true && true) && (b && true)) (Some (0 * 10 + digit_value d)) None) digit ∙ ap Some (omega (arith, is)) in
+    sym (ap (first_by decimal_number) tokens ∙ ap (λ o. o >>= with_rest (tokens_of xs)) is_number)
+
+pub two_digits : (d e v : ℕ) (xs : List ℕ) → digit_value d < 10 → digit_value e < 10 → v ≡ digit_value d * 10 + digit_value e → Some (v, tokens_of xs) ≡ first_by decimal_number (tokens_of (d ∷ e ∷ 32 ∷ xs))
+unfolding first_by decimal_number
+two_digits d e v xs first second is =
+    let place : 2 ≡ position_or_len is_space (d ∷ e ∷ 32 ∷ xs) =
+    sym (ap (λ b. cond (not b) (1 + position_or_len is_space (e ∷ 32 ∷ xs)) 0) (digit_apart d first) ∙ ap (λ b. 1 + cond (not b) (1 + 0) 0) (digit_apart e second)) in
+    let tokens : tokens_of (d ∷ e ∷ 32 ∷ xs) ≡ (d ∷ e ∷ []) ∷ tokens_of xs = front_token (d ∷ e ∷ 32 ∷ xs) 2 place (omega arith) ∙ ap (λ ts. (d ∷ e ∷ []) ∷ ts) (past_space xs) in
+    let is_number : decimal_number (d ∷ e ∷ []) ≡ Some v =
+    ap (λ b. cond ((true && true) && (b && (is_digit e 10 && true))) (Some ((0 * 10 + digit_value d) * 10 + digit_value e)) None) (lt-ltb (digit_value d) 10 first)
+    ∙ ap (λ b. cond (b && true) (Some ((0 * 10 + digit_value d) * 10 + digit_value e)) None) (lt-ltb (digit_value e) 10 second)
+    ∙ ap Some (omega (arith, is)) in
     sym (ap (first_by decimal_number) tokens ∙ ap (λ o. o >>= with_rest (tokens_of xs)) is_number)
 
 pub two_decimals : (d e cpu pid : ℕ) (xs : List ℕ) → cpu ≡ digit_value d → cpu < 8 → pid ≡ digit_value e → pid < 10 → Some (cpu, pid, tokens_of xs) ≡ caller_by (tokens_of (d ∷ 32 ∷ e ∷ 32 ∷ xs))
@@ -133,3 +148,7 @@ two_decimals d e cpu pid xs is_cpu few is_pid small =
     let first = first_below decimal_number 8 (tokens_of (d ∷ 32 ∷ e ∷ 32 ∷ xs)) cpu (tokens_of (e ∷ 32 ∷ xs)) (one_decimal d cpu (e ∷ 32 ∷ xs) is_cpu (omega (arith, few))) few in
     let second = first_below decimal_number 64 (tokens_of (e ∷ 32 ∷ xs)) pid (tokens_of xs) (one_decimal e pid xs is_pid small) (omega (arith, small)) in
     ap (λ o. o >>= with_pid cpu) second ∙ ap (λ o. o >>= with_cpu) first
+
+pub last_right : Some (true, tokens_of []) ≡ first_by right_of (tokens_of (codes " rw"))
+unfolding first_by tokens_of
+last_right = refl

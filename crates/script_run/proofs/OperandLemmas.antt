@@ -4,7 +4,7 @@ use Rattle.std.proofs.lemmas.Bool.{lt-ltb, le-ltb}
 use Rattle.kernel_calls.specs.declared.calls.Call.{Call}
 use Rattle.kernel_calls.specs.declared.calls.Call.TheVariants as call
 use Rattle.kernel_calls.specs.declared.calls.Event.{Event}
-use Rattle.script_run.specs.Lines.{◌>>=◌, one, two, three, alone, cpu_of, process_of, size_of, right_of, quota_of, load_of, store_of, map_of, unmap_of, protect_of, info_of, offer_of, withdraw_of, accept_of, spawn_of, fork_of, call_of, event_of_words}
+use Rattle.script_run.specs.Lines.{◌>>=◌, is_blank, one, two, three, alone, cpu_of, process_of, size_of, right_of, quota_of, load_of, store_of, map_of, unmap_of, protect_of, info_of, offer_of, withdraw_of, accept_of, spawn_of, fork_of, call_of, event_of_words}
 use Rattle.script_run.specs.Numbers.{hexadecimal_number, decimal_number, below}
 use Rattle.script_run.specs.Operands.{first_by, one_by, two_by, three_by, caller_by, named_by, event_by}
 
@@ -139,6 +139,12 @@ event_read (a ∷ b ∷ []) =
 event_read (a ∷ b ∷ op ∷ ts) =
     ap (λ x. x >>= with_call) (first cpu_of a (b ∷ op ∷ ts) with_cpu) ∙ chained (cpu_of a) (λ v. with_cpu (v, b ∷ op ∷ ts)) with_call
     ∙ same_rest (cpu_of a) _ _ (λ v. ap (λ x. x >>= with_call) (first process_of b (op ∷ ts) (with_pid v)) ∙ chained (process_of b) (λ w. with_pid v (w, op ∷ ts)) with_call)
+
+-- where an event is spelled, a token stands
+pub some_token : (ts : List (List ℕ)) (event : Event) → event_of_words ts ≡ Some event → is_blank ts ≡ false
+unfolding event_of_words
+some_token [] event spelled = cc
+some_token (t ∷ ts) event spelled = refl
 
 pub ruleset calls = (load_read, store_read, map_read, unmap_read, protect_read, info_read)
 

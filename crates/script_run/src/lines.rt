@@ -1,6 +1,6 @@
 //! What a line of a script says.
 
-ghost use Rattle.std.specs.Prelude.{◌≡◌, ◌<◌, ◌∷◌, IfSome, codes};
+ghost use Rattle.std.specs.Prelude.{◌≡◌, ◌<◌, ◌∷◌, IfSome, codes, if◌then◌else◌};
 ghost use Rattle.std.specs.Option.{option_map};
 ghost use Rattle.std.specs.Str.{bytes_eq};
 ghost use Rattle.script_run.specs.Tokens.{tokens_of};
@@ -23,73 +23,85 @@ pub enum Line {
 }
 
 // The clauses' words on lines name `Line`, and so stand below it.
-ghost use Rattle.script_run.specs.Lines.{cpu_of, process_of, size_of, right_of, quota_of, alone, process_call_of, sharing_call_of, line_of};
+ghost use Rattle.script_run.specs.declared.lines.Line.TheVariants as line;
+ghost use Rattle.script_run.specs.Lines.{is_blank, cpu_of, process_of, size_of, right_of, quota_of, alone, process_call_of, sharing_call_of, line_of};
 ghost use Rattle.script_run.specs.Numbers.{hexadecimal_number};
 ghost use Rattle.script_run.specs.Operands.{first_by, one_by, two_by, three_by, named_by, caller_by, event_by};
 ghost use Rattle.kernel_calls.specs.declared.calls.Call.TheVariants as call;
 
 /// Whether a token is this word. The words of up to five letters have functions of their own, which look at
 /// the bytes without a loop.
+#[inline(always)]
 fn is_word(token: &[u8], word: &str) -> bool
     ensures { result ≡ bytes_eq token.now word.now }
 {
     token == word.as_bytes()
 }
 
+#[inline(always)]
 fn is_load(op: &[u8]) -> bool
     ensures { result ≡ bytes_eq op.now (codes "load") }
 {
     matches!(op, b"load")
 }
 
+#[inline(always)]
 fn is_store(op: &[u8]) -> bool
     ensures { result ≡ bytes_eq op.now (codes "store") }
 {
     matches!(op, b"store")
 }
 
+#[inline(always)]
 fn is_map(op: &[u8]) -> bool
     ensures { result ≡ bytes_eq op.now (codes "map") }
 {
     matches!(op, b"map")
 }
 
+#[inline(always)]
 fn is_unmap(op: &[u8]) -> bool
     ensures { result ≡ bytes_eq op.now (codes "unmap") }
 {
     matches!(op, b"unmap")
 }
 
+#[inline(always)]
 fn is_info(op: &[u8]) -> bool
     ensures { result ≡ bytes_eq op.now (codes "info") }
 {
     matches!(op, b"info")
 }
 
+#[inline(always)]
 fn is_offer(op: &[u8]) -> bool
     ensures { result ≡ bytes_eq op.now (codes "offer") }
 {
     matches!(op, b"offer")
 }
 
+#[inline(always)]
 fn is_spawn(op: &[u8]) -> bool
     ensures { result ≡ bytes_eq op.now (codes "spawn") }
 {
     matches!(op, b"spawn")
 }
 
+#[inline(always)]
 fn is_fork(op: &[u8]) -> bool
     ensures { result ≡ bytes_eq op.now (codes "fork") }
 {
     matches!(op, b"fork")
 }
 
+#[inline(always)]
 fn is_exit(op: &[u8]) -> bool
     ensures { result ≡ bytes_eq op.now (codes "exit") }
 {
     matches!(op, b"exit")
 }
 
+#[inline(always)]
 fn is_quota(op: &[u8]) -> bool
     ensures { result ≡ bytes_eq op.now (codes "quota") }
 {
@@ -131,14 +143,25 @@ fn size_of(line: &[u8]) -> Option<(Size, &[u8])>
 }
 
 /// A right, and the bytes after it.
-#[inline(always)]
+#[inline(never)]
 #[tactic(auto, unfolding(crate::specs::Operands::first_by))]
-fn right_of(line: &[u8]) -> Option<(bool, &[u8])>
+fn any_right_of(line: &[u8]) -> Option<(bool, &[u8])>
     ensures { option_map (λ found. (found.0, tokens_of found.1.now)) result ≡ first_by right_of (tokens_of line.now) }
 {
     let (token, rest) = first_token(line)?;
     let write = right_named(token)?;
     Some((write, rest))
+}
+
+/// The same: `rw` at the line's end is told at once.
+#[inline(always)]
+fn right_of(line: &[u8]) -> Option<(bool, &[u8])>
+    ensures { option_map (λ found. (found.0, tokens_of found.1.now)) result ≡ first_by right_of (tokens_of line.now) }
+{
+    match line {
+        b" rw" => Some((true, &[])),
+        _ => any_right_of(line),
+    }
 }
 
 /// A call with all its operands, where no token is left.
@@ -483,21 +506,33 @@ fn event_of(line: &[u8]) -> Option<Event>
     Some(Event { cpu, pid, call })
 }
 
+/// What a line says that spells no event, and is no comment.
+#[inline(never)]
+fn without_event(bytes: &[u8]) -> Line
+    ensures { result ≡ (if is_blank (tokens_of bytes.now) then line.Skipped else line.Malformed) }
+{
+    if is_blank(bytes) {
+        Line::Skipped
+    } else {
+        Line::Malformed
+    }
+}
+
 /// What a line says, whose line feed is left out. One of more than 100 bytes is malformed, whatever
 /// stands in it.
 #[inline(always)]
-#[tactic(auto, unfolding(crate::specs::Lines::line_of), using(crate::proofs::OperandLemmas::event_read))]
+#[tactic(auto, unfolding(crate::specs::Lines::line_of), using(crate::proofs::OperandLemmas::event_read, crate::proofs::OperandLemmas::some_token))]
 pub fn line_of(bytes: &[u8]) -> Line
     ensures { result ≡ line_of bytes.now }
 {
     if bytes.len() > LINE {
         return Line::Malformed;
     }
-    if bytes.first() == Some(&b'#') || is_blank(bytes) {
+    if bytes.first() == Some(&b'#') {
         return Line::Skipped;
     }
     match event_of(bytes) {
         Some(event) => Line::Event(event),
-        None => Line::Malformed,
+        None => without_event(bytes),
     }
 }

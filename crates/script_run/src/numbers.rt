@@ -146,8 +146,8 @@ pub fn hexadecimal(line: &[u8]) -> Option<(u32, &[u8])>
     Some((value as u32, &line[end..]))
 }
 
-/// The number that the first token writes in one to ten decimal digits, and the bytes after it. A token of
-/// one digit, which a space follows, is read at once.
+/// The number that the first token writes in one to ten decimal digits, and the bytes after it. One or two
+/// digits that a space follows are read at once.
 #[inline(always)]
 fn decimal(line: &[u8]) -> Option<(u64, &[u8])>
     ensures { option_map (λ found. (found.0, tokens_of found.1.now)) result ≡ first_by decimal_number (tokens_of line.now) }
@@ -156,6 +156,31 @@ fn decimal(line: &[u8]) -> Option<(u64, &[u8])>
     match line {
         [byte, b' ', rest @ ..] if digit_of(*byte) < 10 => {
             Some((u64::from(digit_of(*byte)), rest))
+        }
+        _ => longer_decimal(line),
+    }
+}
+
+/// The same, for a token of any length.
+#[inline(never)]
+#[tactic(auto, unfolding(crate::specs::Numbers::decimal_number, crate::specs::Operands::first_by))]
+fn long_decimal(line: &[u8]) -> Option<(u64, &[u8])>
+    ensures { option_map (λ found. (found.0, tokens_of found.1.now)) result ≡ first_by decimal_number (tokens_of line.now) }
+{
+    let (token, rest) = first_token(line)?;
+    let value = number(token, 10, 10)?;
+    Some((value, rest))
+}
+
+/// The same, for a token that may have more than one digit.
+#[inline(always)]
+fn longer_decimal(line: &[u8]) -> Option<(u64, &[u8])>
+    ensures { option_map (λ found. (found.0, tokens_of found.1.now)) result ≡ first_by decimal_number (tokens_of line.now) }
+{
+    match line {
+        [tens, ones, b' ', rest @ ..] if digit_of(*tens) < 10 && digit_of(*ones) < 10 => {
+            let value = u64::from(digit_of(*tens)) * 10 + u64::from(digit_of(*ones));
+            Some((value, rest))
         }
         _ => long_decimal(line),
     }
@@ -173,15 +198,4 @@ pub fn number_below(line: &[u8], limit: u64) -> Option<(u64, &[u8])>
     } else {
         None
     }
-}
-
-/// The same, for a token of any length.
-#[inline(never)]
-#[tactic(auto, unfolding(crate::specs::Numbers::decimal_number, crate::specs::Operands::first_by))]
-fn long_decimal(line: &[u8]) -> Option<(u64, &[u8])>
-    ensures { option_map (λ found. (found.0, tokens_of found.1.now)) result ≡ first_by decimal_number (tokens_of line.now) }
-{
-    let (token, rest) = first_token(line)?;
-    let value = number(token, 10, 10)?;
-    Some((value, rest))
 }
