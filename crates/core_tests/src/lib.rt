@@ -22,4 +22,6 @@ mod space_tests;
 #[cfg(test)]
 mod stream_tests;
 #[cfg(test)]
+mod transfer_tests;
+#[cfg(test)]
 mod walk_tests;
