@@ -8,6 +8,8 @@ import pathlib
 import sys
 from dataclasses import dataclass
 
+# What counted runs are told: a frame is zeroed and copied by vectors, as valgrind counts each byte of `rep stosb`.
+BY_VECTORS = {"GLIBC_TUNABLES": "glibc.cpu.x86_rep_stosb_threshold=2147483647:glibc.cpu.x86_rep_movsb_threshold=2147483647"}
 LIMIT = 16_777_216
 FIRST_PAGE = 0x40000
 REGION = 1024
