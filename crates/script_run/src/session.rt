@@ -204,7 +204,7 @@ fn read_some<R: Read>(reader: &mut R, block: &mut [u8], most: usize) -> Result<u
 }
 
 /// The bytes before the first line feed, and those after it; None where there is no line feed.
-fn split_line(bytes: &[u8]) -> Option<(&[u8], &[u8])>
+pub fn split_line(bytes: &[u8]) -> Option<(&[u8], &[u8])>
     ensures { MatchOption result (IsOneLine bytes.now) (λ found. (bytes.now ≡ found.0.now ++ 10 ∷ found.1.now) × IsOneLine found.0.now) }
 {
     match memchr(b'\n', bytes) {

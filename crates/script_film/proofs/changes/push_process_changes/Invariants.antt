@@ -1,0 +1,8 @@
+use Rattle.std.proofs.Common.{◌≡◌, ◌++◌}
+use Rattle.std.specs.List.{flat_map, range_with_len}
+use Rattle.std.specs.Option.{option_map}
+use Rattle.script_film.specs.Changes.{process_change}
+use Rattle.script_film.proofs.changes.push_process_changes.Given as goal
+
+abbrev pub invariant-loop-number : goal.invariant-loop-number
+invariant-loop-number l = l.text.items ≡ l.initial.text.items ++ flat_map (process_change (option_map (λ i. i.now) l.before) l.after) (range_with_len 0 l.number)
