@@ -15,8 +15,11 @@ ghost use Rattle.page_map.specs.Entries.{IsPageMap, IsForeign, IsFreshTable, IsK
 ghost use Rattle.page_map.specs.Laws.{EntriesAreTheWords, EntriesAreUserPages, EntriesReadBack, EntryWordsAreKernelWords, TablesReadBack, LinkWordsAreKernelWords, BlankFramesAreMaps, BlankFramesMapNothing, WalksReadEntries, MarksTouchEntries};
 ghost use Rattle.page_map.specs.Pages.{entries_of, is_mapped, counted, count_range};
 
+mod regions;
+
 use page_words::{DirWord, Frame, Page, TableWord, index_of, slot_of};
 use phys_memory::{FRAME_BYTES, Memory};
+pub use regions::{Listed, Region, next_listed, next_region};
 
 /// The first slot of the user range.
 pub const FIRST_SLOT: u32 = 256;

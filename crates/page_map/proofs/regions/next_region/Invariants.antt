@@ -1,0 +1,7 @@
+use Rattle.std.proofs.Common.{◌≡◌, ℕ, ◌<◌, ◌≤◌, None}
+use Rattle.phys_memory.specs.Bytes.{frame_bytes}
+use Rattle.page_map.specs.Entries.{table_of}
+use Rattle.page_map.proofs.regions.next_region.Given as goal
+
+abbrev pub invariant-loop-slot : goal.invariant-loop-slot
+invariant-loop-slot l = (s : ℕ) → l.fn.first ≤ s → s < l.slot → table_of (frame_bytes l.memory) l.fn.directory s ≡ None

@@ -1,0 +1,57 @@
+//! The tables of a directory, and the entries of a table, one after the other: each word is read once.
+
+ghost use Rattle.std.specs.Prelude.{◌≡◌, ℕ, ◌+◌, ◌*◌, ◌<◌, ◌≤◌, Some, None, IfSome, IfNone, length};
+ghost use Rattle.phys_memory.specs.Bytes.{frame_bytes, word_in};
+ghost use Rattle.page_map.specs.Entries.{IsPageMap, table_of, word_entry};
+
+use crate::{PageEntry, SLOT_END, table, word_entry};
+use page_words::Frame;
+use phys_memory::Memory;
+
+/// A region of 1,024 pages that has a table: the slot of the directory that leads there, and the table.
+#[derive(Clone, Copy, Debug, PartialEq, Eq)]
+pub struct Region {
+    pub slot: u32,
+    pub table: Frame,
+}
+
+/// An entry of a table, and the index of its word.
+#[derive(Clone, Copy, Debug, PartialEq, Eq)]
+pub struct Listed {
+    pub index: u32,
+    pub entry: PageEntry,
+}
+
+/// The first region from a slot on, below the end of the user range, that has a table; None where none has. It reads
+/// each directory word from that slot on once, up to the one that it finds.
+pub fn next_region(memory: &Memory, directory: Frame, first: u32) -> Option<Region>
+    requires { IsPageMap memory.now directory }
+    ensures within { IfSome result (λ region. (first ≤ region.slot) × (region.slot < 960)) }
+    ensures table { IfSome result (λ region. table_of (frame_bytes memory.now) directory region.slot ≡ Some region.table) }
+    ensures least { IfSome result (λ region. (slot : ℕ) → first ≤ slot → slot < region.slot → table_of (frame_bytes memory.now) directory slot ≡ None) }
+    ensures none { IfNone result ((slot : ℕ) → first ≤ slot → slot < 960 → table_of (frame_bytes memory.now) directory slot ≡ None) }
+{
+    for slot in first..SLOT_END {
+        if let Some(table) = table(memory, directory, slot) {
+            return Some(Region { slot, table });
+        }
+    }
+    None
+}
+
+/// The first entry of a table from an index on; None where there is none. It reads each word of the table from that
+/// index on once, up to the one that it finds.
+pub fn next_listed(memory: &Memory, table: Frame, first: u32) -> Option<Listed>
+    requires { 4096 * table + 4096 ≤ length memory.now }
+    ensures within { IfSome result (λ listed. (first ≤ listed.index) × (listed.index < 1024)) }
+    ensures entry { IfSome result (λ listed. word_entry (word_in (frame_bytes memory.now table) listed.index) ≡ Some listed.entry) }
+    ensures least { IfSome result (λ listed. (index : ℕ) → first ≤ index → index < listed.index → word_entry (word_in (frame_bytes memory.now table) index) ≡ None) }
+    ensures none { IfNone result ((index : ℕ) → first ≤ index → index < 1024 → word_entry (word_in (frame_bytes memory.now table) index) ≡ None) }
+{
+    for index in first..1024 {
+        if let Some(entry) = word_entry(memory, table, index) {
+            return Some(Listed { index, entry });
+        }
+    }
+    None
+}
