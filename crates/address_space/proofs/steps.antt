@@ -1,6 +1,7 @@
 -- What each step of the code leaves.
 pub mod Bytes
 pub mod Copies
+pub mod RegionCopies
 pub mod CountSteps
 pub mod Departures
 pub mod DirWords

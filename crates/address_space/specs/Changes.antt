@@ -1,16 +1,16 @@
 -- What each change of directories, memory and roles leaves.
 use Rattle.std.specs.Option.{option_map}
-use Rattle.std.specs.Prelude.{◌≡◌, ◌≢◌, ◌⊎◌, ℕ, ◌+◌, ◌<◌, ◌≤◌, Bool, true, false, not, ◌&&◌, List, length, Option, Some, None, is_some}
+use Rattle.std.specs.Prelude.{◌≡◌, ◌≢◌, ◌⊎◌, ℕ, ◌+◌, ◌*◌, ◌<◌, ◌≤◌, Bool, true, false, not, ◌&&◌, List, length, Option, Some, None, is_some}
 use Rattle.page_words.specs.Addresses.{slot_number}
 use Rattle.page_words.specs.Words.{frame_number}
 use Rattle.phys_memory.specs.Bytes.{frame_bytes}
 use Rattle.alloc_table.specs.declared.Role.{Role}
 use Rattle.alloc_table.specs.Roles.{IsReleased}
 use Rattle.page_map.specs.declared.PageEntry.{PageEntry}
-use Rattle.page_map.specs.Entries.{dir_word, with_entry, is_lazy_entry}
+use Rattle.page_map.specs.Entries.{dir_word, table_of, entry_at, with_entry, is_lazy_entry}
 use Rattle.page_words.specs.FiniteMap as map
 use Rattle.page_words.specs.FiniteSet as set
-use Rattle.address_space.specs.Spaces.{cell_or_fresh, Slot, Spaces, need, fresh, joined, without, is_slot, at_page, copy_of, copied}
+use Rattle.address_space.specs.Spaces.{cell_or_fresh, Slot, Spaces, cost, need, fresh, joined, without, is_slot, at_page, copy_of, copied}
 use Rattle.address_space.specs.Cells.{holders_of}
 use Rattle.address_space.specs.Stays.{PlacesStay, none_goes, of_page, of_lazy}
 use Rattle.address_space.specs.View.{table_in, total_cost, spaces_in, entries_in, entry_in, directory_of}
@@ -117,10 +117,12 @@ pub record SlotRemoved (directories : List (Option ℕ)) (p page : ℕ) (bytes :
   pub stay : PlacesStay (of_page p page) (directory_of directories) (frame_bytes bytes) (directory_of directories) (frame_bytes bytes')
   pub length : length roles' ≡ length roles
 
--- a process has this directory
-pub record IsDirectory (directories : List (Option ℕ)) (directory : ℕ) : Type 0 where
+-- a process has this entry at a page
+pub record IsEntry (directories : List (Option ℕ)) (bytes : List ℕ) (page : ℕ) (e : PageEntry) : Type 0 where
   pub process : ℕ
+  pub directory : ℕ
   pub live : directory_of directories process ≡ Some directory
+  pub entry : entry_at (frame_bytes bytes) directory page ≡ Some e
 
 -- no page of a process is mapped
 abbrev pub IsEmptySpace : Spaces → ℕ → Type 0
@@ -140,6 +142,8 @@ pub record SlotCopied (directories : List (Option ℕ)) (from to page : ℕ) (by
   pub slot : SlotAdded directories to page bytes roles bytes' roles'
   pub spaces : spaces_in directories bytes' ≡ map.insert (spaces_in directories bytes) (at_page to page) (copy_of (at_page to page) (cell_or_fresh (spaces_in directories bytes) (at_page from page)))
   pub entries : (e : PageEntry) × (entries_in (directory_of directories) (frame_bytes bytes') ≡ map.insert (entries_in (directory_of directories) (frame_bytes bytes)) (at_page to page) e) × (e.lazy ≡ is_lazy_entry (entry_in (directory_of directories) (frame_bytes bytes) (at_page from page)))
+  -- each slot of a directory leads to the table that it led to
+  pub linked : (q r : ℕ) → table_in (directory_of directories) (frame_bytes bytes') q r ≡ table_in (directory_of directories) (frame_bytes bytes) q r
 
 -- the same, where the frames and the costs agree again
 pub record PageCopied (directories : List (Option ℕ)) (from to page : ℕ) (bytes : List ℕ) (roles : List Role) (bytes' : List ℕ) (roles' : List Role) : Type 0 where
@@ -147,6 +151,8 @@ pub record PageCopied (directories : List (Option ℕ)) (from to page : ℕ) (by
   pub spaces : spaces_in directories bytes' ≡ map.insert (spaces_in directories bytes) (at_page to page) (copy_of (at_page to page) (cell_or_fresh (spaces_in directories bytes) (at_page from page)))
   pub entries : (e : PageEntry) × (entries_in (directory_of directories) (frame_bytes bytes') ≡ map.insert (entries_in (directory_of directories) (frame_bytes bytes)) (at_page to page) e) × (e.lazy ≡ is_lazy_entry (entry_in (directory_of directories) (frame_bytes bytes) (at_page from page)))
   pub stay : PlacesStay none_goes (directory_of directories) (frame_bytes bytes) (directory_of directories) (frame_bytes bytes')
+  pub tables : (q r t : ℕ) → table_in (directory_of directories) (frame_bytes bytes) q r ≡ Some t
+      → table_in (directory_of directories) (frame_bytes bytes') q r ≡ Some t
   pub length : length roles' ≡ length roles
 
 -- the pages of a process below one have copies at another's, which had none
@@ -161,6 +167,24 @@ pub record CopiedBelow (directories : List (Option ℕ)) (from to next : ℕ) (b
   pub length : length roles' ≡ length roles
   pub low : 0x40000 ≤ next
   pub high : next ≤ 0xf0000
+
+-- a copy has come to an index of a region of the source, whose table this is: it began where the other process had no
+-- page, and where the costs left room for all
+pub record CopyIn (directories : List (Option ℕ)) (from source to slot table index : ℕ) (bytes : List ℕ) (roles : List Role) (bytes' : List ℕ) (roles' : List Role) : Type 0 where
+  pub home : directory_of directories from ≡ Some source
+  pub before : IsSpaces directories bytes roles
+  pub empty : IsEmptySpace (spaces_in directories bytes) to
+  pub room : cost (spaces_in directories bytes) from + total_cost directories (spaces_in directories bytes) ≤ length roles
+  pub so_far : CopiedBelow directories from to (1024 * slot + index) bytes roles bytes' roles'
+  pub there : table_of (frame_bytes bytes') source slot ≡ Some table
+
+-- some copy has come to the first page of a region
+pub record IsCopying (directories : List (Option ℕ)) (to slot table : ℕ) (bytes' : List ℕ) (roles' : List Role) : Type 0 where
+  pub from : ℕ
+  pub source : ℕ
+  pub bytes : List ℕ
+  pub roles : List Role
+  pub begun : CopyIn directories from source to slot table 0 bytes roles bytes' roles'
 
 -- all pages of a process have copies at another's
 pub record PagesCopied (directories : List (Option ℕ)) (from to : ℕ) (bytes : List ℕ) (roles : List Role) (bytes' : List ℕ) (roles' : List Role) : Type 0 where

@@ -1,15 +1,16 @@
 //! All pages of a process are copied to another process.
 
-ghost use Rattle.std.specs.Prelude.{◌≡◌, ◌+◌, ◌*◌, ◌<◌, ◌≤◌, ◌^◌, ℕ, true, false, Some, None, is_some, length};
-ghost use Rattle.page_words.specs.Addresses.{IsUserPage};
+ghost use Rattle.std.specs.Prelude.{◌≡◌, ◌+◌, ◌*◌, ◌<◌, ◌≤◌, ◌^◌, ℕ, true, false, List, Some, None, is_some, length};
+ghost use Rattle.page_words.specs.Addresses.{slot_number, IsUserPage};
 ghost use Rattle.page_words.specs.FiniteMap as map;
 ghost use Rattle.phys_memory.specs.Bytes.{frame_bytes};
 ghost use Rattle.alloc_table.specs.Roles.{free_frames};
-ghost use Rattle.page_map.specs.Entries.{entry_at};
+ghost use Rattle.alloc_table.specs.declared.Role.{Role as RoleValue};
+ghost use Rattle.page_map.specs.Entries.{table_of, entry_at};
 ghost use Rattle.address_space.specs.Spaces.{need, cost, at_page, copied};
 ghost use Rattle.address_space.specs.View.{directory_of, total_cost};
 ghost use Rattle.address_space.specs.Sound.{Inside};
-ghost use Rattle.address_space.specs.Changes.{IsDirectory, PageCopied};
+ghost use Rattle.address_space.specs.Changes.{IsEntry, IsCopying, CopyIn, PageCopied};
 ghost use Rattle.address_space.specs.Image.{image_of, is_lazy_at};
 ghost use Rattle.address_space.specs.Stays.{FramesStay, none_goes};
 ghost use Rattle.address_space.specs.Finds.{EntryCopied};
@@ -19,7 +20,7 @@ use crate::region_counts::count_page;
 use crate::{Spaces, home, take};
 use alloc_table::{FrameTable, Role};
 use page_map::{FIRST_SLOT, PageEntry};
-use page_words::{Frame, Page, Pid, slot_of};
+use page_words::{Frame, Page, Pid};
 use phys_memory::Memory;
 
 /// The entry of a copy on this frame: the same rights, untouched.
@@ -53,29 +54,49 @@ fn copy_of(memory: &mut Memory, frames: &mut FrameTable, entry: PageEntry) -> Pa
 }
 
 impl Spaces {
-    /// Copies a page that a directory maps to the same page of another process, which has none there.
-    fn copy_page(&mut self, source: Frame, to: Pid, target: Frame, page: Page)
-        requires source { IsDirectory self.old.directories source }
-        requires mapped { is_some (entry_at (frame_bytes self.old.bytes) source page) ≡ true }
+    /// Copies a page, which has this entry, to the same page of another process, which has none there. Its region there
+    /// has the linked table, or none yet, and the result is the table that it has then.
+    fn copy_page(
+        &mut self,
+        to: Pid,
+        target: Frame,
+        linked: Option<Frame>,
+        page: Page,
+        entry: PageEntry,
+    ) -> Frame
+        requires entry { IsEntry self.old.directories self.old.bytes page entry }
         requires target { directory_of self.old.directories to ≡ Some target }
+        requires linked { linked ≡ table_of (frame_bytes self.old.bytes) target (slot_number page) }
         requires user { IsUserPage page }
         requires unmapped { map.get self.old.spaces (at_page to page) ≡ None }
         requires room { 1 + total_cost self.old.directories self.old.spaces + need self.old.spaces to page ≤ length self.old.roles }
-        ensures copied { (from : ℕ) → directory_of self.old.directories from ≡ Some source → PageCopied self.old.directories from to page self.old.bytes self.old.roles self.new.bytes self.new.roles }
+        ensures copied { (from source : ℕ) → directory_of self.old.directories from ≡ Some source → entry_at (frame_bytes self.old.bytes) source page ≡ Some entry → PageCopied self.old.directories from to page self.old.bytes self.old.roles self.new.bytes self.new.roles }
+        ensures table { table_of (frame_bytes self.new.bytes) target (slot_number page) ≡ Some result }
         ensures directories { self.new.directories ≡ self.old.directories }
     {
-        let entry = page_map::entry(&self.memory, source, page).unwrap();
-        let table = give_table(
-            page_map::table(&self.memory, target, slot_of(page)),
-            &mut self.memory,
-            &mut self.frames,
-            target,
-            to,
-            page,
-        );
+        let table = give_table(linked, &mut self.memory, &mut self.frames, target, to, page);
         count_page(&mut self.counts, table);
         let copy = copy_of(&mut self.memory, &mut self.frames, entry);
         page_map::put_entry(&mut self.memory, table, page, copy);
+        table
+    }
+
+    /// Copies the pages of a region, by the table that a process has there, to the same pages of another process, which
+    /// has none there. It reads each word of that table once, and one directory word of the other process.
+    fn copy_region(&mut self, to: Pid, target: Frame, slot: u32, table: Frame)
+        requires copying { IsCopying self.old.directories to slot table self.old.bytes self.old.roles }
+        requires target { directory_of self.old.directories to ≡ Some target }
+        requires slot { slot < 960 }
+        ensures copied { (from source : ℕ) (bytes : List ℕ) (roles : List RoleValue) → CopyIn self.old.directories from source to slot table 0 bytes roles self.old.bytes self.old.roles → CopyIn self.old.directories from source to slot table 1024 bytes roles self.new.bytes self.new.roles }
+        ensures directories { self.new.directories ≡ self.old.directories }
+    {
+        let mut linked = page_map::table(&self.memory, target, slot);
+        let mut index = 0;
+        while let Some(listed) = page_map::next_listed(&self.memory, table, index) {
+            let page = Page(1024 * slot + listed.index);
+            linked = Some(self.copy_page(to, target, linked, page, listed.entry));
+            index = listed.index + 1;
+        }
     }
 
     /// Copies each page of a process to the same page of another, whose space is as `fresh` leaves it: equal bytes and
@@ -93,10 +114,10 @@ impl Spaces {
     {
         let source = home(&self.directories, from);
         let target = home(&self.directories, to);
-        let mut next = FIRST_SLOT * 1024;
-        while let Some(page) = page_map::next_page(&self.memory, source, Page(next)) {
-            self.copy_page(source, to, target, page);
-            next = page.0 + 1;
+        let mut first = FIRST_SLOT;
+        while let Some(region) = page_map::next_region(&self.memory, source, first) {
+            self.copy_region(to, target, region.slot, region.table);
+            first = region.slot + 1;
         }
     }
 }

@@ -37,10 +37,10 @@ use Rattle.address_space.proofs.frames.FrameSteps.{loose-tables, loose-entries, 
 use Rattle.address_space.proofs.frames.PageSteps.{same_bytes, pages-fresh, pages-lazy, lazy-more, lazy-real, no_free, no_table, unused}
 use Rattle.address_space.proofs.steps.Steps.{inside, live_small, none_before, table_by_word, role_own, role_other, free_loose, page_loose, holds_inside, MapKept, map_kept}
 use Rattle.address_space.proofs.steps.Stores.{get_user, entry_rules}
-use Rattle.address_space.proofs.steps.Departures.{no_cell_outside, no_cell_unmapped, entry_mapped}
+use Rattle.address_space.proofs.steps.Departures.{no_cell_outside, no_cell_unmapped}
 use Rattle.address_space.proofs.steps.Openings.{empty_cost}
 use Rattle.address_space.proofs.standing.Standing.{same_entry, read_entry}
-use Rattle.page_map.specs.Pages.{is_mapped}
+use Rattle.page_map.proofs.PageLemmas.{get-entries_user}
 use Rattle.std.proofs.lemmas.Bool.{cases_eq, cases_lt}
 use borrow.Author.Tests.{eq-eqb}
 use Rattle.page_words.specs.Addresses.{IsUserPage}
@@ -107,6 +107,8 @@ entry_copied directories bytes one two roles roles' from source p d page t f e s
     let given : Slot = at_page from page in
     let found : map.get E given ≡ Some e = get_user D m from source page e home (live_small directories from source sound.pids home) low high here in
     let cell : Cell = copy_of slot (cell_of E m given e) in
+    let linked : (q r : ℕ) → table_in D (frame_bytes two) q r ≡ table_in D m q r = λ q r.
+    ap (λ x. table_in D x q r) is ∙ tables_kept D m1 R' Tb p d page t (entry_word e') live there_one (entry_word-lt e' ready.small) q r ∙ ready.linked q r in
     record {
       slot = record {
         sound = record {
@@ -125,15 +127,14 @@ entry_copied directories bytes one two roles roles' from source p d page t f e s
             (stay_then none_goes E (map.insert E slot e') (entries_in D (frame_bytes two))
             (stay_new none_goes E slot e' none) (stay_same none_goes (map.insert E slot e')
             (entries_in D (frame_bytes two)) E2))
-            (λ q r g found. ap (λ x. table_in D x q r) is
-            ∙ tables_kept D m1 R' Tb p d page t (entry_word e') live there_one (entry_word-lt e' ready.small) q r
-            ∙ ready.linked q r ∙ found);
+            (λ q r g found. linked q r ∙ found);
       };
       spaces =
           (λ i. spaces_of (E2 i) (is i)) ∙ lone_refines E m2 slot e' none ready.alone ready.apart
           ∙ (λ i. map.insert (same_bytes E m m2 page_kept i) slot (record { write = e.write; may = e.may; accessed = false; dirty = false; bytes = copy i; holders = set.insert set.empty slot }))
           ∙ sym (ap (λ c. map.insert (spaces_of E m) slot (copy_of slot c)) (cell_at E m given e found));
       entries = (e', E2, sym (ap is_lazy_entry (ap (option_and_then (λ x. entry_at m x page)) home ∙ here)));
+      linked = linked;
     }
 
 -- a lazy page was copied
@@ -280,6 +281,7 @@ page_copied directories bytes bytes1 bytes2 roles roles1 roles2 from source to p
           (places_by none_goes D (frame_bytes bytes) D (frame_bytes bytes1)
           (stay_same none_goes (entries_in D (frame_bytes bytes)) (entries_in D (frame_bytes bytes1)) given.entries)
           given.tables) made.slot.stay;
+      tables = λ q r t found. made.linked q r ∙ given.tables q r t found;
       length = made.slot.length ∙ given.length;
     }
 
@@ -315,8 +317,42 @@ copied_at_first directories bytes roles from to s empty = record {
   high = omega arith;
 }
 
-module _ (directories : List (Option ℕ)) (bytes one : List ℕ) (roles roles1 : List Role) (from source to target next page : ℕ) (so_far : CopiedBelow directories from to next bytes roles one roles1)
-    (home : directory_of directories from ≡ Some source) (live : directory_of directories to ≡ Some target) (up : next ≤ page) (user : IsUserPage page) (here : is_mapped (frame_bytes one) source page ≡ true) where
+-- pages that aren't mapped are passed over
+pub copied_past : (directories : List (Option ℕ)) (bytes one : List ℕ) (roles roles1 : List Role) (from source to next beyond : ℕ) → IsEmptySpace (spaces_in directories bytes) to → CopiedBelow directories from to next bytes roles one roles1
+    → directory_of directories from ≡ Some source → next ≤ beyond → beyond ≤ 0xf0000 → ((page : ℕ) → next ≤ page → page < beyond → entry_at (frame_bytes one) source page ≡ None)
+    → CopiedBelow directories from to beyond bytes roles one roles1
+copied_past directories bytes one roles roles1 from source to next beyond empty so_far home up high none =
+    let low = so_far.low in
+    record {
+      after = so_far.after;
+      others = so_far.others;
+      below = λ page l. elim (cases_lt page next) [
+        | inl less ↦ so_far.below page less
+        | inr above ↦ so_far.rest page above ∙ sym (ap (option_map (copy_of (at_page to page))) (unmapped page above l))
+      ];
+      rest = λ page l. so_far.rest page (omega (arith, up, l));
+      other_entries = so_far.other_entries;
+      stay = so_far.stay;
+      lazy = λ page l. elim (cases_lt page next) [
+        | inl less ↦ so_far.lazy page less
+        | inr above ↦ ap is_lazy_entry (no_entry directories one (at_page to page) (so_far.rest page above)) ∙ sym (ap is_lazy_entry (no_entry directories bytes (at_page from page) (unmapped page above l)))
+      ];
+      length = so_far.length;
+      low = omega (arith, low, up);
+      high = high;
+    }
+  where
+    unmapped : (page : ℕ) → next ≤ page → page < beyond → map.get (spaces_in directories bytes) (at_page from page) ≡ None
+    unmapped page above less = elim (cases_eq from to) [
+      | inl same ↦ ap (λ n. map.get (spaces_in directories bytes) (at_page n page)) same ∙ empty page
+      | inr differ ↦
+          let low = so_far.low in
+          let user : IsUserPage page = (omega (arith, low, above), omega (arith, high, less)) in
+          sym (so_far.others (at_page from page) differ) ∙ no_cell_unmapped directories one from source page home user.0 user.1 (ap is_some (get-entries_user (frame_bytes one) source page user ∙ none page above less))
+    ]
+
+module _ (directories : List (Option ℕ)) (bytes one : List ℕ) (roles roles1 : List Role) (from source to target page : ℕ) (so_far : CopiedBelow directories from to page bytes roles one roles1)
+    (home : directory_of directories from ≡ Some source) (live : directory_of directories to ≡ Some target) (user : IsUserPage page) (here : is_some (entry_at (frame_bytes one) source page) ≡ true) where
   abbrev pub S : Spaces
   S = spaces_in directories bytes
 
@@ -328,12 +364,11 @@ module _ (directories : List (Option ℕ)) (bytes one : List ℕ) (roles roles1 
 
   mapped_there : is_some (map.get S1 (at_page from page)) ≡ true
   mapped_there =
-      mapped_read directories one from source page home (live_small directories from source so_far.after.sound.pids home) user.0 user.1
-      ∙ entry_mapped (frame_bytes one) source page user here
+      mapped_read directories one from source page home (live_small directories from source so_far.after.sound.pids home) user.0 user.1 ∙ here
 
   -- a process with a page to copy is another one than that without any
   apart : from ≢ to
-  apart same = let a = mapped_there in let b = so_far.rest page up in let k : map.get S1 (at_page from page) ≡ None = ap (λ n. map.get S1 (at_page n page)) same ∙ b in let l : false ≡ true = sym (ap is_some k) ∙ a in cc
+  apart same = let a = mapped_there in let b = so_far.rest page (omega arith) in let k : map.get S1 (at_page from page) ≡ None = ap (λ n. map.get S1 (at_page n page)) same ∙ b in let l : false ≡ true = sym (ap is_some k) ∙ a in cc
 
   cell : (c : Cell) × (map.get S1 (at_page from page) ≡ Some c)
   cell = some_value (map.get S1 (at_page from page)) mapped_there
@@ -356,7 +391,7 @@ module _ (directories : List (Option ℕ)) (bytes one : List ℕ) (roles roles1 
     | inl same ↦ ap (λ n. map.contains_key S (at_page from n)) same ∙ ap is_some was
     | inr differ ↦
         let old : is_some (map.get S1 (at_page to other)) ≡ true = sym (ap is_some (put_other S1 slot c (at_page to other) (other_page other differ))) ∙ h in
-        elim (cases_lt other next) [
+        elim (cases_lt other page) [
           | inl less ↦ both (map.get S (at_page from other)) (sym (ap is_some (so_far.below other less)) ∙ old)
           | inr least ↦ absurd (let a : false ≡ true = sym (ap is_some (so_far.rest other least)) ∙ old in cc)
         ]
@@ -383,15 +418,14 @@ module _ (directories : List (Option ℕ)) (bytes one : List ℕ) (roles roles1 
   room_for_copy s empty room =
       let c : Cell = cell.0 in
       let few : to < 64 = live_small directories to target s.sound.pids live in
-      let a = total-insert directories S1 slot c target few live (so_far.rest page up) in
+      let a = total-insert directories S1 slot c target few live (so_far.rest page (omega arith)) in
       let b = total_grown empty few c in
       let d = cost-within S (more c) from to (copied_from c) in
       let n = so_far.length in
       omega (arith, a, b, d, n, room)
 
-  pub copied_next : (two : List ℕ) (roles2 : List Role) → ((other : ℕ) → next ≤ other → other < page → is_mapped (frame_bytes one) source other ≡ false) → PageCopied directories from to page one roles1 two roles2
-      → CopiedBelow directories from to (page + 1) bytes roles two roles2
-  copied_next two roles2 least made =
+  pub copied_next : (two : List ℕ) (roles2 : List Role) → PageCopied directories from to page one roles1 two roles2 → CopiedBelow directories from to (page + 1) bytes roles two roles2
+  copied_next two roles2 made =
       let low = so_far.low in
       let high = user.1 in
       record {
@@ -399,12 +433,9 @@ module _ (directories : List (Option ℕ)) (bytes one : List ℕ) (roles roles1 
         others = λ q n. ap (λ x. map.get x q) made.spaces ∙ put_other S1 slot copy q (other_process q n) ∙ so_far.others q n;
         below = λ other l. ap (λ x. map.get x (at_page to other)) made.spaces ∙ elim (cases_eq other page) [
           | inl same ↦ ap (λ n. map.get (more copy) (at_page to n)) same ∙ put_here S1 slot copy ∙ sym (ap (λ n. option_map (copy_of (at_page to n)) (map.get S (at_page from n))) same ∙ ap (option_map (copy_of slot)) was ∙ ap (λ x. Some (copy_of slot x)) (sym there))
-          | inr differ ↦ put_other S1 slot copy (at_page to other) (other_page other differ) ∙ elim (cases_lt other next) [
-            | inl less ↦ so_far.below other less
-            | inr above ↦ so_far.rest other above ∙ sym (ap (option_map (copy_of (at_page to other))) (sym (so_far.others (at_page from other) apart) ∙ unmapped other above (omega (arith, l, differ))))
-          ]
+          | inr differ ↦ put_other S1 slot copy (at_page to other) (other_page other differ) ∙ so_far.below other (omega (arith, l, differ))
         ];
-        rest = λ other l. ap (λ x. map.get x (at_page to other)) made.spaces ∙ put_other S1 slot copy (at_page to other) (other_page other (λ same. omega (arith, l, same))) ∙ so_far.rest other (omega (arith, up, l));
+        rest = λ other l. ap (λ x. map.get x (at_page to other)) made.spaces ∙ put_other S1 slot copy (at_page to other) (other_page other (λ same. omega (arith, l, same))) ∙ so_far.rest other (omega (arith, l));
         other_entries = λ q n. ap (λ x. map.get x q) made.entries.1 ∙ put_other E1 slot made.entries.0 q (other_process q n) ∙ so_far.other_entries q n;
         stay = places_then none_goes (directory_of directories) (frame_bytes bytes) (directory_of directories)
             (frame_bytes one) (directory_of directories) (frame_bytes two) so_far.stay made.stay;
@@ -413,14 +444,10 @@ module _ (directories : List (Option ℕ)) (bytes one : List ℕ) (roles roles1 
               ap (λ n. is_lazy_entry (map.get (map.insert E1 slot made.entries.0) (at_page to n))) same ∙ ap is_lazy_entry (put_here E1 slot made.entries.0) ∙ made.entries.2
               ∙ ap is_lazy_entry (ap (option_and_then (λ x. entry_at (frame_bytes one) x page)) home ∙ sym (seen directories one from source page so_far.after.sound.pids home user.0 user.1) ∙ so_far.other_entries (at_page from page) apart)
               ∙ sym (ap (λ n. is_lazy_entry (map.get E (at_page from n))) same)
-          | inr differ ↦ ap is_lazy_entry (put_other E1 slot made.entries.0 (at_page to other) (other_page other differ)) ∙ elim (cases_lt other next) [
-            | inl less ↦ so_far.lazy other less
-            | inr above ↦ ap is_lazy_entry (no_entry directories one (at_page to other) (so_far.rest other above))
-                ∙ sym (ap is_lazy_entry (sym (so_far.other_entries (at_page from other) apart) ∙ no_entry directories one (at_page from other) (unmapped other above (omega (arith, l, differ)))))
-          ]
+          | inr differ ↦ ap is_lazy_entry (put_other E1 slot made.entries.0 (at_page to other) (other_page other differ)) ∙ so_far.lazy other (omega (arith, l, differ))
         ];
         length = made.length ∙ so_far.length;
-        low = omega (arith, low, up);
+        low = omega (arith, low);
         high = omega (arith, high);
       }
     where
@@ -436,16 +463,9 @@ module _ (directories : List (Option ℕ)) (bytes one : List ℕ) (roles roles1 
       there : cell_or_fresh S1 (at_page from page) ≡ cell.0
       there = ap (λ x. unwrap_or x (fresh (at_page from page) true)) cell.1
 
-      unmapped : (other : ℕ) → next ≤ other → other < page → map.get S1 (at_page from other) ≡ None
-      unmapped other above less =
-          let low = so_far.low in
-          let high = user.1 in
-          no_cell_unmapped directories one from source other home (omega (arith, low, above)) (omega (arith, high, less)) (least other above less)
-
-pub copied_at_last : (directories : List (Option ℕ)) (bytes one : List ℕ) (roles roles1 : List Role) (from source to next : ℕ) → IsSpaces directories bytes roles → IsEmptySpace (spaces_in directories bytes) to
-    → CopiedBelow directories from to next bytes roles one roles1 → directory_of directories from ≡ Some source
-    → ((other : ℕ) → next ≤ other → is_mapped (frame_bytes one) source other ≡ false) → PagesCopied directories from to bytes roles one roles1
-copied_at_last directories bytes one roles roles1 from source to next s empty so_far home none = record {
+pub copied_at_last : (directories : List (Option ℕ)) (bytes one : List ℕ) (roles roles1 : List Role) (from to : ℕ) → IsSpaces directories bytes roles
+    → CopiedBelow directories from to 0xf0000 bytes roles one roles1 → PagesCopied directories from to bytes roles one roles1
+copied_at_last directories bytes one roles roles1 from to s so_far = record {
   after = so_far.after;
   spaces = same_map S1 (copied S from to) (λ q. at q (cases_eq q.pid to) ∙ sym (get-copied S from to q));
   lazy = λ page.
@@ -468,26 +488,20 @@ copied_at_last directories bytes one roles roles1 from source to next s empty so
     E1 : Entries
     E1 = entries_in (directory_of directories) (frame_bytes one)
 
-    -- no page is left to be copied
-    unmapped : (page : ℕ) → next ≤ page → map.get S (at_page from page) ≡ None
-    unmapped page above = elim (cases_eq from to) [
-      | inl same ↦ ap (λ n. map.get S (at_page n page)) same ∙ empty page
-      | inr differ ↦ sym (so_far.others (at_page from page) differ) ∙ elim (cases_lt page 0xf0000) [
-        | inl inside ↦ let low = so_far.low in no_cell_unmapped directories one from source page home (omega (arith, low, above)) inside (none page above)
-        | inr past ↦ no_cell_outside directories one roles1 from page so_far.after.sound (inr past)
-      ]
-    ]
+    -- no page behind the user range is there to be copied
+    unmapped : (page : ℕ) → 0xf0000 ≤ page → map.get S (at_page from page) ≡ None
+    unmapped page past = no_cell_outside directories bytes roles from page s.sound (inr past)
 
     own : (page : ℕ) → map.get S1 (at_page to page) ≡ option_map (copy_of (at_page to page)) (map.get S (at_page from page))
-    own page = elim (cases_lt page next) [
+    own page = elim (cases_lt page 0xf0000) [
       | inl less ↦ so_far.below page less
-      | inr above ↦ so_far.rest page above ∙ sym (ap (option_map (copy_of (at_page to page))) (unmapped page above))
+      | inr past ↦ so_far.rest page past ∙ sym (ap (option_map (copy_of (at_page to page))) (unmapped page past))
     ]
 
     lazy_at : (page : ℕ) → is_lazy_entry (map.get E1 (at_page to page)) ≡ is_lazy_entry (map.get E (at_page from page))
-    lazy_at page = elim (cases_lt page next) [
+    lazy_at page = elim (cases_lt page 0xf0000) [
       | inl less ↦ so_far.lazy page less
-      | inr above ↦ ap is_lazy_entry (no_entry directories one (at_page to page) (so_far.rest page above)) ∙ sym (ap is_lazy_entry (no_entry directories bytes (at_page from page) (unmapped page above)))
+      | inr past ↦ ap is_lazy_entry (no_entry directories one (at_page to page) (so_far.rest page past)) ∙ sym (ap is_lazy_entry (no_entry directories bytes (at_page from page) (unmapped page past)))
     ]
 
     at : (q : Slot) → (q.pid ≡ to) ⊎ (q.pid ≢ to) → map.get S1 q ≡ copied_at S from to q

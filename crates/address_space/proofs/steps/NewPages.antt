@@ -179,6 +179,12 @@ module _ (directories : List (Option ℕ)) (bytes : List ℕ) (roles : List Role
           let slot = at_page p page in
           one_inserted S (spaces_in directories two) slot (copy_of slot (cell_or_fresh S (at_page from page))) (ready_unmapped none) (λ q. ap (λ x. map.contains_key x q) added.spaces)
 
+      -- the table that was given leads to the copy
+      pub copy_linked : SlotCopied directories from p page one roles1 two roles2 → table_of (frame_bytes two) d (slot_number page) ≡ Some t
+      copy_linked added =
+          sym (ap (option_and_then (λ x. table_of (frame_bytes two) x (slot_number page))) live)
+          ∙ added.linked p (slot_number page) ∙ ap (option_and_then (λ x. table_of (frame_bytes one) x (slot_number page))) live ∙ ready_table
+
       pub copy_whole : Room directories (spaces_in directories bytes) roles p page → SlotCopied directories from p page one roles1 two roles2 → PageCopied directories from p page bytes roles two roles2
       copy_whole room added = page_copied directories bytes one two roles roles1 roles2 from source p page before home user.0 user.1 room ready_given added
 

@@ -1,12 +1,8 @@
 use Rattle.std.proofs.Common.{◌+◌, ◌*◌, ◌≤◌, ◌∙◌, sym, subst}
 use Rattle.address_space.proofs.steps.Steps.{page_map_of}
 use Rattle.address_space.proofs.steps.Stores.{named_inside}
-use Rattle.address_space.proofs.steps.NewPages.{table_room, ready_inside, ready_count, ready_fits, ready_lies, ready_free, copy_added, copy_more, copy_alike, copy_whole, added_kept}
+use Rattle.address_space.proofs.steps.NewPages.{table_room, ready_inside, ready_count, ready_fits, ready_lies, ready_free, copy_added, copy_more, copy_alike, copy_whole, copy_linked, added_kept}
 use Rattle.address_space.proofs.Spaces.copy_page.Goals as goal
-
-pub entry-requires-clause-map : goal.entry-requires-clause-map
-entry-requires-clause-map c =
-    page_map_of c.self.inside.directories c.self.inside.memory c.self.inside.frames (rw (← c.self.view_is) at c.requires.source).process c.args.source c.self.invariant.spaces.sound (rw (← c.self.view_is) at c.requires.source).live
 
 pub give_table-table-requires-clause-map : goal.give_table-table-requires-clause-map
 give_table-table-requires-clause-map c =
@@ -29,8 +25,8 @@ count_page-requires-clause-few c =
 pub copy_of-copy-requires-clause-frame : goal.copy_of-copy-requires-clause-frame
 copy_of-copy-requires-clause-frame c =
     ready_lies c.self.inside.directories c.self.inside.memory c.self.inside.frames c.args.to c.args.target c.args.page c.give_table-table.result c.give_table-table.new.memory c.give_table-table.new.frames c.self.invariant.spaces c.requires.user (rw (← c.self.view_is) at c.requires.target)
-    c.give_table-table.ensures c.unwrap-entry.result.frame
-    (named_inside c.self.inside.directories c.self.inside.memory c.self.inside.frames (rw (← c.self.view_is) at c.requires.source).process c.args.source c.args.page c.unwrap-entry.result c.self.invariant.spaces.sound (rw (← c.self.view_is) at c.requires.source).live c.requires.user.0 c.requires.user.1 (sym c.entry.ensures.words ∙ c.unwrap-entry.ensures))
+    c.give_table-table.ensures c.args.entry.frame
+    (named_inside c.self.inside.directories c.self.inside.memory c.self.inside.frames (rw (← c.self.view_is) at c.requires.entry).process (rw (← c.self.view_is) at c.requires.entry).directory c.args.page c.args.entry c.self.invariant.spaces.sound (rw (← c.self.view_is) at c.requires.entry).live c.requires.user.0 c.requires.user.1 (rw (← c.self.view_is) at c.requires.entry).entry)
 
 pub copy_of-copy-requires-clause-free : goal.copy_of-copy-requires-clause-free
 copy_of-copy-requires-clause-free c =
@@ -45,27 +41,33 @@ put_entry-requires-clause-inside c =
 pub returns-clause-copied : goal.returns-clause-copied
 returns-clause-copied c =
     rw (← c.self.view_is)
-    (λ from live.
+    (λ from source live here.
     let added =
     copy_added c.self.inside.directories c.self.inside.memory c.self.inside.frames c.args.to c.args.target c.args.page c.give_table-table.result c.give_table-table.new.memory c.give_table-table.new.frames c.self.invariant.spaces c.requires.user (rw (← c.self.view_is) at c.requires.target)
-    c.give_table-table.ensures from c.args.source c.unwrap-entry.result c.copy_of-copy.result c.copy_of-copy.new.memory c.put_entry.new.memory c.copy_of-copy.new.frames live (sym c.entry.ensures.words ∙ c.unwrap-entry.ensures) (rw (← c.self.view_is) at c.requires.unmapped) c.copy_of-copy.ensures.copied
+    c.give_table-table.ensures from source c.args.entry c.copy_of-copy.result c.copy_of-copy.new.memory c.put_entry.new.memory c.copy_of-copy.new.frames live here (rw (← c.self.view_is) at c.requires.unmapped) c.copy_of-copy.ensures.copied
     c.put_entry.ensures.frames c.put_entry.ensures.length in
     copy_whole c.self.inside.directories c.self.inside.memory c.self.inside.frames c.args.to c.args.target c.args.page c.give_table-table.result c.give_table-table.new.memory c.give_table-table.new.frames c.self.invariant.spaces c.requires.user (rw (← c.self.view_is) at c.requires.target)
-    c.give_table-table.ensures from c.args.source c.unwrap-entry.result c.copy_of-copy.result c.copy_of-copy.new.memory c.put_entry.new.memory c.copy_of-copy.new.frames live (sym c.entry.ensures.words ∙ c.unwrap-entry.ensures) (rw (← c.self.view_is) at c.requires.unmapped) c.copy_of-copy.ensures.copied (rw (← c.self.view_is) at c.requires.room) added)
+    c.give_table-table.ensures from source c.args.entry c.copy_of-copy.result c.copy_of-copy.new.memory c.put_entry.new.memory c.copy_of-copy.new.frames live here (rw (← c.self.view_is) at c.requires.unmapped) c.copy_of-copy.ensures.copied (rw (← c.self.view_is) at c.requires.room) added)
+
+pub returns-clause-table : goal.returns-clause-table
+returns-clause-table c =
+    let added =
+    copy_added c.self.inside.directories c.self.inside.memory c.self.inside.frames c.args.to c.args.target c.args.page c.give_table-table.result c.give_table-table.new.memory c.give_table-table.new.frames c.self.invariant.spaces c.requires.user (rw (← c.self.view_is) at c.requires.target)
+    c.give_table-table.ensures (rw (← c.self.view_is) at c.requires.entry).process (rw (← c.self.view_is) at c.requires.entry).directory c.args.entry c.copy_of-copy.result c.copy_of-copy.new.memory c.put_entry.new.memory c.copy_of-copy.new.frames (rw (← c.self.view_is) at c.requires.entry).live (rw (← c.self.view_is) at c.requires.entry).entry (rw (← c.self.view_is) at c.requires.unmapped) c.copy_of-copy.ensures.copied
+    c.put_entry.ensures.frames c.put_entry.ensures.length in
+    copy_linked c.self.inside.directories c.self.inside.memory c.self.inside.frames c.args.to c.args.target c.args.page c.give_table-table.result c.give_table-table.new.memory c.give_table-table.new.frames c.self.invariant.spaces c.requires.user (rw (← c.self.view_is) at c.requires.target)
+    c.give_table-table.ensures (rw (← c.self.view_is) at c.requires.entry).process (rw (← c.self.view_is) at c.requires.entry).directory c.args.entry c.copy_of-copy.result c.copy_of-copy.new.memory c.put_entry.new.memory c.copy_of-copy.new.frames (rw (← c.self.view_is) at c.requires.entry).live (rw (← c.self.view_is) at c.requires.entry).entry (rw (← c.self.view_is) at c.requires.unmapped) c.copy_of-copy.ensures.copied added
 
 pub invariant_of-self : goal.invariant_of-self
 invariant_of-self c =
     let added =
     copy_added c.self.inside.directories c.self.inside.memory c.self.inside.frames c.args.to c.args.target c.args.page c.give_table-table.result c.give_table-table.new.memory c.give_table-table.new.frames c.self.invariant.spaces c.requires.user (rw (← c.self.view_is) at c.requires.target)
-    c.give_table-table.ensures (rw (← c.self.view_is) at c.requires.source).process c.args.source c.unwrap-entry.result c.copy_of-copy.result c.copy_of-copy.new.memory c.put_entry.new.memory c.copy_of-copy.new.frames (rw (← c.self.view_is) at c.requires.source).live (sym c.entry.ensures.words ∙ c.unwrap-entry.ensures) (rw (← c.self.view_is) at c.requires.unmapped) c.copy_of-copy.ensures.copied
+    c.give_table-table.ensures (rw (← c.self.view_is) at c.requires.entry).process (rw (← c.self.view_is) at c.requires.entry).directory c.args.entry c.copy_of-copy.result c.copy_of-copy.new.memory c.put_entry.new.memory c.copy_of-copy.new.frames (rw (← c.self.view_is) at c.requires.entry).live (rw (← c.self.view_is) at c.requires.entry).entry (rw (← c.self.view_is) at c.requires.unmapped) c.copy_of-copy.ensures.copied
     c.put_entry.ensures.frames c.put_entry.ensures.length in
     added_kept c.self.inside.directories c.self.inside.memory c.self.inside.frames c.args.to c.args.target c.args.page c.give_table-table.result c.give_table-table.new.memory c.give_table-table.new.frames c.self.invariant.spaces c.requires.user (rw (← c.self.view_is) at c.requires.target)
     c.give_table-table.ensures c.self.inside.counts.items c.self.invariant.counted c.put_entry.new.memory c.count_page.new.counts.items c.copy_of-copy.new.frames (rw (← c.self.view_is) at c.requires.room) added.slot
     (copy_more c.self.inside.directories c.self.inside.memory c.self.inside.frames c.args.to c.args.target c.args.page c.give_table-table.result c.give_table-table.new.memory c.give_table-table.new.frames c.self.invariant.spaces c.requires.user (rw (← c.self.view_is) at c.requires.target)
-    c.give_table-table.ensures (rw (← c.self.view_is) at c.requires.source).process c.args.source c.unwrap-entry.result c.copy_of-copy.result c.copy_of-copy.new.memory c.put_entry.new.memory c.copy_of-copy.new.frames (rw (← c.self.view_is) at c.requires.source).live (sym c.entry.ensures.words ∙ c.unwrap-entry.ensures) (rw (← c.self.view_is) at c.requires.unmapped) c.copy_of-copy.ensures.copied added)
+    c.give_table-table.ensures (rw (← c.self.view_is) at c.requires.entry).process (rw (← c.self.view_is) at c.requires.entry).directory c.args.entry c.copy_of-copy.result c.copy_of-copy.new.memory c.put_entry.new.memory c.copy_of-copy.new.frames (rw (← c.self.view_is) at c.requires.entry).live (rw (← c.self.view_is) at c.requires.entry).entry (rw (← c.self.view_is) at c.requires.unmapped) c.copy_of-copy.ensures.copied added)
     (copy_alike c.self.inside.directories c.self.inside.memory c.self.inside.frames c.args.to c.args.target c.args.page c.give_table-table.result c.give_table-table.new.memory c.give_table-table.new.frames c.self.invariant.spaces c.requires.user (rw (← c.self.view_is) at c.requires.target)
-    c.give_table-table.ensures (rw (← c.self.view_is) at c.requires.source).process c.args.source c.unwrap-entry.result c.copy_of-copy.result c.copy_of-copy.new.memory c.put_entry.new.memory c.copy_of-copy.new.frames (rw (← c.self.view_is) at c.requires.source).live (sym c.entry.ensures.words ∙ c.unwrap-entry.ensures) (rw (← c.self.view_is) at c.requires.unmapped) c.copy_of-copy.ensures.copied)
+    c.give_table-table.ensures (rw (← c.self.view_is) at c.requires.entry).process (rw (← c.self.view_is) at c.requires.entry).directory c.args.entry c.copy_of-copy.result c.copy_of-copy.new.memory c.put_entry.new.memory c.copy_of-copy.new.frames (rw (← c.self.view_is) at c.requires.entry).live (rw (← c.self.view_is) at c.requires.entry).entry (rw (← c.self.view_is) at c.requires.unmapped) c.copy_of-copy.ensures.copied)
     c.count_page.ensures
-
-pub table-requires-clause-map : goal.table-requires-clause-map
-table-requires-clause-map c = page_map_of c.self.inside.directories c.self.inside.memory c.self.inside.frames c.args.to c.args.target c.self.invariant.spaces.sound (rw (← c.self.view_is) at c.requires.target)

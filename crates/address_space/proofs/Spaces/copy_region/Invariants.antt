@@ -1,0 +1,18 @@
+use Rattle.std.specs.Prelude.{◌≡◌, ◌≤◌, ◌-◌, ℕ, List}
+use Rattle.phys_memory.specs.Bytes.{frame_bytes}
+use Rattle.alloc_table.specs.declared.Role.{Role}
+use Rattle.page_map.specs.Entries.{table_of}
+use Rattle.address_space.specs.Changes.{CopyIn}
+use Rattle.address_space.proofs.Spaces.copy_region.Given as goal
+
+abbrev pub invariant-loop-listed : goal.invariant-loop-listed
+invariant-loop-listed l = record {
+  so_far : (from source : ℕ) (bytes : List ℕ) (roles : List Role) → CopyIn l.fn.self.directories from source l.to l.slot l.table 0 bytes roles l.fn.self.bytes l.fn.self.roles
+      → CopyIn l.fn.self.directories from source l.to l.slot l.table l.index bytes roles l.self.bytes l.self.roles;
+  same : l.self.directories ≡ l.fn.self.directories;
+  linked : l.linked ≡ table_of (frame_bytes l.self.bytes) l.target l.slot;
+  within : l.index ≤ 1024;
+}
+
+abbrev pub decreases-loop-listed : goal.decreases-loop-listed
+decreases-loop-listed l = 1024 - l.index
