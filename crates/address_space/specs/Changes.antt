@@ -1,12 +1,13 @@
 -- What each change of directories, memory and roles leaves.
 use Rattle.std.specs.Option.{option_map}
-use Rattle.std.specs.Prelude.{◌≡◌, ◌≢◌, ◌⊎◌, ℕ, ◌+◌, ◌*◌, ◌<◌, ◌≤◌, Bool, true, false, not, ◌&&◌, List, length, Option, Some, None, is_some}
+use Rattle.std.specs.Prelude.{◌≡◌, ◌≢◌, ◌⊎◌, ℕ, ◌+◌, ◌-◌, ◌*◌, ◌<◌, ◌≤◌, Bool, true, false, not, ◌&&◌, List, length, Option, Some, None, is_some}
 use Rattle.page_words.specs.Addresses.{slot_number}
-use Rattle.page_words.specs.Words.{frame_number}
-use Rattle.phys_memory.specs.Bytes.{frame_bytes}
+use Rattle.page_words.specs.Words.{frame_number, is_present}
+use Rattle.phys_memory.specs.Bytes.{frame_bytes, word_in}
 use Rattle.alloc_table.specs.declared.Role.{Role}
 use Rattle.alloc_table.specs.Roles.{IsReleased}
 use Rattle.page_map.specs.declared.PageEntry.{PageEntry}
+use Rattle.page_map.specs.Pages.{count_range}
 use Rattle.page_map.specs.Entries.{dir_word, table_of, entry_at, with_entry, is_lazy_entry}
 use Rattle.page_words.specs.FiniteMap as map
 use Rattle.page_words.specs.FiniteSet as set
@@ -177,6 +178,10 @@ pub record CopyIn (directories : List (Option ℕ)) (from source to slot table i
   pub room : cost (spaces_in directories bytes) from + total_cost directories (spaces_in directories bytes) ≤ length roles
   pub so_far : CopiedBelow directories from to (1024 * slot + index) bytes roles bytes' roles'
   pub there : table_of (frame_bytes bytes') source slot ≡ Some table
+
+-- how many words of a table are present from an index on
+abbrev pub words_left : List ℕ → ℕ → ℕ → ℕ
+words_left bytes table index = count_range (λ i. is_present (word_in (frame_bytes bytes table) i)) index (1024 - index)
 
 -- some copy has come to the first page of a region
 pub record IsCopying (directories : List (Option ℕ)) (to slot table : ℕ) (bytes' : List ℕ) (roles' : List Role) : Type 0 where

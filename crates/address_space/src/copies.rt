@@ -1,25 +1,25 @@
 //! All pages of a process are copied to another process.
 
-ghost use Rattle.std.specs.Prelude.{◌≡◌, ◌+◌, ◌*◌, ◌<◌, ◌≤◌, ◌^◌, ℕ, true, false, List, Some, None, is_some, length};
+ghost use Rattle.std.specs.Prelude.{◌≡◌, ◌+◌, ◌*◌, ◌<◌, ◌≤◌, ◌^◌, ℕ, true, false, List, Some, None, IfSome, IfNone, is_some, length};
 ghost use Rattle.page_words.specs.Addresses.{slot_number, IsUserPage};
 ghost use Rattle.page_words.specs.FiniteMap as map;
-ghost use Rattle.phys_memory.specs.Bytes.{frame_bytes};
+ghost use Rattle.phys_memory.specs.Bytes.{frame_bytes, word_in};
 ghost use Rattle.alloc_table.specs.Roles.{free_frames};
 ghost use Rattle.alloc_table.specs.declared.Role.{Role as RoleValue};
-ghost use Rattle.page_map.specs.Entries.{table_of, entry_at};
+ghost use Rattle.page_map.specs.Entries.{table_of, entry_at, word_entry};
 ghost use Rattle.address_space.specs.Spaces.{need, cost, at_page, copied};
 ghost use Rattle.address_space.specs.View.{directory_of, total_cost};
 ghost use Rattle.address_space.specs.Sound.{Inside};
-ghost use Rattle.address_space.specs.Changes.{IsEntry, IsCopying, CopyIn, PageCopied};
+ghost use Rattle.address_space.specs.Changes.{IsEntry, IsCopying, CopyIn, PageCopied, words_left};
 ghost use Rattle.address_space.specs.Image.{image_of, is_lazy_at};
 ghost use Rattle.address_space.specs.Stays.{FramesStay, none_goes};
 ghost use Rattle.address_space.specs.Finds.{EntryCopied};
 
 use crate::new_pages::give_table;
-use crate::region_counts::count_page;
+use crate::region_counts::{count_at, count_page};
 use crate::{Spaces, home, take};
 use alloc_table::{FrameTable, Role};
-use page_map::{FIRST_SLOT, PageEntry};
+use page_map::{FIRST_SLOT, Listed, PageEntry};
 use page_words::{Frame, Page, Pid};
 use phys_memory::Memory;
 
@@ -53,6 +53,23 @@ fn copy_of(memory: &mut Memory, frames: &mut FrameTable, entry: PageEntry) -> Pa
     copied_entry(entry, frame)
 }
 
+/// The first entry of a table from an index on, where so many are left there; None where none is, and then it looks at
+/// no word.
+fn next_left(memory: &Memory, table: Frame, first: u32, left: u32) -> Option<Listed>
+    requires inside { 4096 * table + 4096 ≤ length memory.now }
+    requires left { left ≡ words_left memory.now table first }
+    ensures within { IfSome result (λ listed. (first ≤ listed.index) × (listed.index < 1024)) }
+    ensures entry { IfSome result (λ listed. word_entry (word_in (frame_bytes memory.now table) listed.index) ≡ Some listed.entry) }
+    ensures least { IfSome result (λ listed. (index : ℕ) → first ≤ index → index < listed.index → word_entry (word_in (frame_bytes memory.now table) index) ≡ None) }
+    ensures left { IfSome result (λ listed. left ≡ words_left memory.now table (listed.index + 1) + 1) }
+    ensures none { IfNone result ((index : ℕ) → first ≤ index → index < 1024 → word_entry (word_in (frame_bytes memory.now table) index) ≡ None) }
+{
+    if left == 0 {
+        return None;
+    }
+    page_map::next_listed(memory, table, first)
+}
+
 impl Spaces {
     /// Copies a page, which has this entry, to the same page of another process, which has none there. Its region there
     /// has the linked table, or none yet, and the result is the table that it has then.
@@ -82,7 +99,8 @@ impl Spaces {
     }
 
     /// Copies the pages of a region, by the table that a process has there, to the same pages of another process, which
-    /// has none there. It reads each word of that table once, and one directory word of the other process.
+    /// has none there. It reads each word of that table up to the last that is present once, and one directory word of
+    /// the other process.
     fn copy_region(&mut self, to: Pid, target: Frame, slot: u32, table: Frame)
         requires copying { IsCopying self.old.directories to slot table self.old.bytes self.old.roles }
         requires target { directory_of self.old.directories to ≡ Some target }
@@ -90,12 +108,14 @@ impl Spaces {
         ensures copied { (from source : ℕ) (bytes : List ℕ) (roles : List RoleValue) → CopyIn self.old.directories from source to slot table 0 bytes roles self.old.bytes self.old.roles → CopyIn self.old.directories from source to slot table 1024 bytes roles self.new.bytes self.new.roles }
         ensures directories { self.new.directories ≡ self.old.directories }
     {
+        let mut left = count_at(&self.counts, table);
         let mut linked = page_map::table(&self.memory, target, slot);
         let mut index = 0;
-        while let Some(listed) = page_map::next_listed(&self.memory, table, index) {
+        while let Some(listed) = next_left(&self.memory, table, index, left) {
             let page = Page(1024 * slot + listed.index);
             linked = Some(self.copy_page(to, target, linked, page, listed.entry));
             index = listed.index + 1;
+            left -= 1;
         }
     }
 

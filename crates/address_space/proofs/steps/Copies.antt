@@ -291,7 +291,7 @@ page_copied directories bytes bytes1 bytes2 roles roles1 roles2 from source to p
 put_here : {X : Type 0} (m : Map slot_order X) (slot : Slot) (x : X) → map.get (map.insert m slot x) slot ≡ Some x
 put_here m slot x = get-insert m slot x slot ∙ ap (λ b. cond b (Some x) (map.get m slot)) (same_itself slot_order slot)
 
-put_other : {X : Type 0} (m : Map slot_order X) (slot : Slot) (x : X) (q : Slot) → q ≢ slot → map.get (map.insert m slot x) q ≡ map.get m q
+pub put_other : {X : Type 0} (m : Map slot_order X) (slot : Slot) (x : X) (q : Slot) → q ≢ slot → map.get (map.insert m slot x) q ≡ map.get m q
 put_other m slot x q n = get-insert m slot x q ∙ ap (λ b. cond b (Some x) (map.get m q)) (same_apart slot_order q slot n)
 
 -- a slot that isn't mapped has no entry

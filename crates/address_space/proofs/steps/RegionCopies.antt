@@ -1,19 +1,80 @@
 -- A copy of a process's pages goes from region to region, and through each by its table.
-use Rattle.std.proofs.Common.{◌≡◌, ℕ, ◌+◌, ◌-◌, ◌*◌, ◌<◌, ◌≤◌, true, List, length, refl, ap, sym, ◌∙◌, subst, arith, Option, Some, None}
-use Rattle.std.specs.Prelude.{is_some}
+use Rattle.std.proofs.Common.{◌≡◌, ℕ, suc, ◌+◌, ◌-◌, ◌*◌, ◌<◌, ◌≤◌, Bool, true, false, List, length, refl, ap, sym, ◌∙◌, subst, arith, Option, Some, None}
+use Rattle.std.specs.Prelude.{is_some, slice_get, IfSome, if◌then◌else◌}
 use Rattle.std.specs.Option.{option_and_then}
 use Rattle.page_words.specs.Addresses.{slot_number, index_number, IsUserPage}
+use Rattle.page_words.specs.Words.{is_present}
 use Rattle.page_words.specs.FiniteMap as map
 use Rattle.phys_memory.specs.Bytes.{frame_bytes, word_in}
 use Rattle.alloc_table.specs.declared.Role.{Role}
 use Rattle.page_map.specs.declared.PageEntry.{PageEntry}
-use Rattle.page_map.specs.Entries.{Frames, table_of, entry_at, word_entry}
-use Rattle.address_space.specs.Spaces.{cost, at_page}
+use Rattle.page_map.specs.declared.regions.Listed.{Listed}
+use Rattle.page_map.specs.Entries.{Frames, table_of, entry_at, entry_from, word_entry}
+use Rattle.page_map.specs.Pages.{counted, count_range}
+use Rattle.page_map.proofs.PageLemmas.{count_range-add, count_range-none, count_range-same, count-table, mapped_in_table}
+use Rattle.page_map.proofs.Counting.{count_none}
+use Rattle.address_space.specs.Spaces.{Slot, cost, at_page, cell_or_fresh, copy_of}
 use Rattle.address_space.specs.View.{directory_of, table_in, spaces_in, total_cost}
 use Rattle.address_space.specs.Sound.{IsSpaces}
-use Rattle.address_space.specs.Changes.{IsEmptySpace, PageCopied, CopiedBelow, CopyIn, PagesCopied}
+use Rattle.address_space.specs.Counts.{IsCounted}
+use Rattle.address_space.specs.Changes.{IsEmptySpace, PageCopied, CopiedBelow, CopyIn, PagesCopied, words_left}
 use Rattle.address_space.proofs.costs.Costed.{Room}
-use Rattle.address_space.proofs.steps.Copies.{copied_past, copied_next, copied_at_last, room_for_copy}
+use Rattle.address_space.proofs.entries.Readings.{mapped_read}
+use Rattle.address_space.proofs.steps.Steps.{live_small}
+use Rattle.address_space.proofs.steps.CountSteps.{count_there, count_by_entries}
+use Rattle.address_space.proofs.steps.Copies.{copied_past, copied_next, copied_at_last, room_for_copy, put_other}
+
+-- ---- The words of a table that are left
+
+word_absent : (w : ℕ) → is_present w ≡ false → word_entry w ≡ None
+word_absent w h = ap (λ b. if b then Some (entry_from w) else None) h
+
+word_present : (w : ℕ) (e : PageEntry) → word_entry w ≡ Some e → is_present w ≡ true
+word_present w e h = by (is_present w) refl
+  where
+    by : (b : Bool) → is_present w ≡ b → is_present w ≡ true
+    by true is = is
+    by false is = let none = word_absent w is in cc
+
+no_word : (w : ℕ) → word_entry w ≡ None → is_present w ≡ false
+no_word w h = by (is_present w) refl
+  where
+    by : (b : Bool) → is_present w ≡ b → is_present w ≡ false
+    by false is = is
+    by true is = let some : word_entry w ≡ Some (entry_from w) = ap (λ b. if b then Some (entry_from w) else None) is in cc
+
+-- where none is left, no word has an entry
+pub none_left : (bytes : List ℕ) (table index : ℕ) → words_left bytes table index ≡ 0 → (i : ℕ) → index ≤ i → i < 1024 → word_entry (word_in (frame_bytes bytes table) i) ≡ None
+none_left bytes table index none i low high =
+    word_absent (word_in (frame_bytes bytes table) i) (count_none (λ k. is_present (word_in (frame_bytes bytes table) k)) index (1024 - index) i none low (omega (arith, low, high)))
+
+-- behind the first word with an entry one less is left
+pub one_left : (bytes : List ℕ) (table index found : ℕ) (e : PageEntry) → index ≤ found → found < 1024 → ((i : ℕ) → index ≤ i → i < found → word_entry (word_in (frame_bytes bytes table) i) ≡ None)
+    → word_entry (word_in (frame_bytes bytes table) found) ≡ Some e → words_left bytes table index ≡ words_left bytes table (found + 1) + 1
+unfolding count_range
+one_left bytes table index found e up inside least is =
+    let long : 1024 - index ≡ (found - index) + (1024 - found) = omega (arith, up, inside) in
+    let parts : count_range P index (1024 - index) ≡ count_range P index (found - index) + count_range P (index + (found - index)) (1024 - found) = ap (count_range P index) long ∙ count_range-add P index (found - index) (1024 - found) in
+    let none : count_range P index (found - index) ≡ 0 = count_range-none P index (found - index) (λ i l. no_word (word_in (frame_bytes bytes table) (index + i)) (least (index + i) (omega arith) (omega (arith, l)))) in
+    let here : index + (found - index) ≡ found = omega (arith, up) in
+    let moved : count_range P (index + (found - index)) (1024 - found) ≡ count_range P found (1024 - found) = ap (λ k. count_range P k (1024 - found)) here in
+    let some : 1024 - found ≡ suc (1024 - (found + 1)) = omega (arith, inside) in
+    let rest : count_range P found (1024 - found) ≡ counted (P found) + count_range P (found + 1) (1024 - (found + 1)) = ap (count_range P found) some in
+    let one : counted (P found) ≡ 1 = ap counted (word_present (word_in (frame_bytes bytes table) found) e is) in
+    omega (arith, parts, none, moved, rest, one)
+  where
+    P : ℕ → Bool
+    P i = is_present (word_in (frame_bytes bytes table) i)
+
+-- the same of what was looked for
+pub left_behind : (bytes : List ℕ) (table index left : ℕ) (x : Option Listed) → left ≡ words_left bytes table index → IfSome x (λ listed. (index ≤ listed.index) × (listed.index < 1024))
+    → IfSome x (λ listed. word_entry (word_in (frame_bytes bytes table) listed.index) ≡ Some listed.entry)
+    → IfSome x (λ listed. (i : ℕ) → index ≤ i → i < listed.index → word_entry (word_in (frame_bytes bytes table) i) ≡ None)
+    → IfSome x (λ listed. left ≡ words_left bytes table (listed.index + 1) + 1)
+left_behind bytes table index left None all within entry least = tt
+left_behind bytes table index left (Some listed) all within entry least = all ∙ one_left bytes table index listed.index listed.entry within.0 within.1 least entry
+
+-- ---- Regions
 
 -- no page of a region without a table has an entry
 no_entry_there : (m : Frames) (source page : ℕ) → table_of m source (slot_number page) ≡ None → entry_at m source page ≡ None
@@ -27,6 +88,33 @@ module _ (directories : List (Option ℕ)) (bytes one : List ℕ) (roles roles1 
       let i : index_number (1024 * slot + index) ≡ index = omega arith in
       ap (option_and_then (λ t. word_entry (word_in (m t) (index_number (1024 * slot + index))))) (ap (table_of m source) s ∙ there)
       ∙ ap (λ k. word_entry (word_in (m table) k)) i ∙ is
+
+  -- the word of a page is present where the page is mapped
+  present_mapped : (memory : List ℕ) (index : ℕ) → length directories ≡ 64 → directory_of directories from ≡ Some source → index < 1024 → 256 ≤ slot → slot < 960 → table_of (frame_bytes memory) source slot ≡ Some table
+      → is_present (word_in (frame_bytes memory table) index) ≡ is_some (map.get (spaces_in directories memory) (at_page from (1024 * slot + index)))
+  present_mapped memory index long home inside low high there =
+      let s : slot_number (1024 * slot + index) ≡ slot = omega arith in
+      let i : index ≡ index_number (1024 * slot + index) = omega arith in
+      ap (λ k. is_present (word_in (frame_bytes memory table) k)) i
+      ∙ sym (mapped_in_table (frame_bytes memory) source slot table (1024 * slot + index) s there)
+      ∙ sym (mapped_read directories memory from source (1024 * slot + index) home (live_small directories from source long home) (omega (arith, low)) (omega (arith, high, inside)))
+
+  -- the count of a region's table is how many words are present in it
+  module _ (counts : List ℕ) (copy : CopyIn directories from source to slot table 0 bytes roles one roles1) (few : slot < 960) (C : IsCounted (spaces_in directories one) roles1 counts) where
+    first : slot_number (1024 * slot) ≡ slot
+    first = omega arith
+
+    user : IsUserPage (1024 * slot)
+    user = let low = copy.so_far.low in (omega (arith, low), omega (arith, few))
+
+    pub region_there : table < length counts
+    region_there = count_there directories one roles1 counts from source (1024 * slot) table 0 copy.so_far.after.sound copy.home user (ap (table_of (frame_bytes one) source) first ∙ copy.there) C
+
+    pub region_words : (n : ℕ) → slice_get counts table ≡ Some n → n ≡ words_left one table 0
+    region_words n is =
+        count_by_entries directories one roles1 counts from source (1024 * slot) table n copy.so_far.after.sound copy.home user (ap (table_of (frame_bytes one) source) first ∙ copy.there) C is
+        ∙ ap (λ s. count_range (λ other. is_some (entry_at (frame_bytes one) source other)) (1024 * s) 1024) first
+        ∙ sym (count-table (frame_bytes one) source slot table copy.there)
 
   -- a copy comes to a region over those without a table
   pub region_begun : (first : ℕ) → directory_of directories from ≡ Some source → IsSpaces directories bytes roles → IsEmptySpace (spaces_in directories bytes) to
@@ -97,6 +185,28 @@ module _ (directories : List (Option ℕ)) (bytes one : List ℕ) (roles roles1 
           there = sym (ap (option_and_then (λ d. table_of (frame_bytes two) d slot)) copy.home)
               ∙ made.tables from slot table (ap (option_and_then (λ d. table_of (frame_bytes one) d slot)) copy.home ∙ copy.there);
         }
+
+    -- the words that are left stay as they are
+    pub words_kept : (two : List ℕ) (roles2 : List Role) → PageCopied directories from to (1024 * slot + index) one roles1 two roles2 → CopyIn directories from source to slot table (index + 1) bytes roles two roles2
+        → words_left two table (index + 1) ≡ words_left one table (index + 1)
+    words_kept two roles2 made after =
+        count_range-same (λ i. is_present (word_in (frame_bytes two table) i)) (λ i. is_present (word_in (frame_bytes one table) i)) (index + 1) (index + 1) (1024 - (index + 1))
+        (λ i l. word (index + 1 + i) (omega arith) (omega (arith, l, inside)))
+      where
+        long : length directories ≡ 64
+        long = copy.so_far.after.sound.pids
+
+        -- the slot is one of the user range
+        user : 256 ≤ slot
+        user = let low = copy.so_far.low in omega (arith, low, inside)
+
+        word : (i : ℕ) → index < i → i < 1024 → is_present (word_in (frame_bytes two table) i) ≡ is_present (word_in (frame_bytes one table) i)
+        word i past most =
+            present_mapped two i long copy.home most user few after.there
+            ∙ ap is_some (ap (λ S. map.get S (at_page from (1024 * slot + i))) made.spaces
+            ∙ put_other (spaces_in directories one) (at_page to (1024 * slot + index)) (copy_of (at_page to (1024 * slot + index)) (cell_or_fresh (spaces_in directories one) (at_page from (1024 * slot + index)))) (at_page from (1024 * slot + i))
+            (λ same. let page : 1024 * slot + i ≡ 1024 * slot + index = ap (λ (q : Slot). q.page) same in omega (arith, page, past)))
+            ∙ sym (present_mapped one i long copy.home most user few copy.there)
 
 -- no region is left
 pub regions_copied : (directories : List (Option ℕ)) (bytes one : List ℕ) (roles roles1 : List Role) (from source to first : ℕ) → directory_of directories from ≡ Some source → IsSpaces directories bytes roles

@@ -2,27 +2,55 @@ use Rattle.std.proofs.Common.{◌≡◌, ◌+◌, ◌*◌, ◌<◌, ◌≤◌, �
 use Rattle.page_words.specs.Addresses.{slot_number, IsUserPage}
 use Rattle.page_words.specs.FiniteMap as map
 use Rattle.phys_memory.specs.Bytes.{frame_bytes}
+use Rattle.alloc_table.specs.declared.Role.{Role}
 use Rattle.page_map.specs.Entries.{IsPageMap, table_of, entry_at}
 use Rattle.address_space.specs.Spaces.{Spaces, at_page}
 use Rattle.address_space.specs.View.{View, directory_of, spaces_in}
-use Rattle.address_space.specs.Changes.{IsEntry, PageCopied}
+use Rattle.address_space.specs.Changes.{IsEntry, PageCopied, CopyIn, words_left}
 use Rattle.address_space.proofs.costs.Costed.{Room}
 use Rattle.address_space.proofs.steps.Steps.{page_map_of}
-use Rattle.address_space.proofs.steps.RegionCopies.{copy_passed, copy_entry, copy_user, copy_unmapped, copy_room, copy_stepped}
+use Rattle.address_space.proofs.steps.RegionCopies.{copy_passed, copy_entry, copy_user, copy_unmapped, copy_room, copy_stepped, region_there, region_words, words_kept}
 use Rattle.address_space.proofs.Spaces.copy_region.Goals as goal
 
 pub table-linked-requires-clause-map : goal.table-linked-requires-clause-map
 table-linked-requires-clause-map c =
     page_map_of c.self.inside.directories c.self.inside.memory c.self.inside.frames c.args.to c.args.target c.self.invariant.spaces.sound (rw (← c.self.view_is) at c.requires.target)
 
-pub next_listed-requires : goal.next_listed-requires
-next_listed-requires c =
+pub count_at-left-requires : goal.count_at-left-requires
+count_at-left-requires c =
+    let q = rw (← c.self.view_is) at c.requires.copying in
+    region_there c.self.inside.directories q.bytes c.self.inside.memory q.roles c.self.inside.frames q.from q.source c.args.to c.args.slot c.args.table c.self.inside.counts.items q.begun c.requires.slot c.self.invariant.counted
+
+pub loop-listed-init : goal.loop-listed-init
+loop-listed-init c =
+    let q = rw (← c.self.view_is) at c.requires.copying in
+    let words =
+    region_words c.self.inside.directories q.bytes c.self.inside.memory q.roles c.self.inside.frames q.from q.source c.args.to c.args.slot c.args.table c.self.inside.counts.items q.begun c.requires.slot c.self.invariant.counted c.count_at-left.result
+    c.count_at-left.ensures in
+    record {
+      so_far = λ from source bytes roles begun. begun;
+      same = refl;
+      linked = rw (← c.self.view_is) c.table-linked.ensures;
+      left = rw (← c.self.view_is) words;
+      within = omega arith;
+    }
+
+pub next_left-requires-clause-inside : goal.next_left-requires-clause-inside
+next_left-requires-clause-inside c =
     let q = c.requires.copying in
     let here = c.loop-listed.invariant.so_far q.from q.source q.bytes q.roles q.begun in
     let same : c.self-in-loop-listed.inside.memory ≡ c.loop-listed.self.bytes = ap (λ (v : View). v.bytes) c.self-in-loop-listed.view_is in
     let few : c.args.slot < 1024 = omega (arith, c.requires.slot) in
     subst (λ b. 4096 * c.args.table + 4096 ≤ length b) (sym same)
     ((page_map_of c.args.self.now.directories c.loop-listed.self.bytes c.loop-listed.self.roles q.from q.source here.so_far.after.sound here.home).tables_inside c.args.slot c.args.table few here.there)
+
+pub next_left-requires-clause-left : goal.next_left-requires-clause-left
+next_left-requires-clause-left c =
+    let same : c.self-in-loop-listed.inside.memory ≡ c.loop-listed.self.bytes = ap (λ (v : View). v.bytes) c.self-in-loop-listed.view_is in
+    c.loop-listed.invariant.left ∙ ap (λ b. words_left b c.args.table c.loop-listed.index) (sym same)
+
+pub overflow_sub-left : goal.overflow_sub-left
+overflow_sub-left c = omega (arith, c.in-Some.ensures.left)
 
 pub copy_page-requires-clause-entry : goal.copy_page-requires-clause-entry
 copy_page-requires-clause-entry c =
@@ -71,16 +99,29 @@ loop-listed-preserved c =
     let same : c.self-in-loop-listed.inside.memory ≡ c.loop-listed.self.bytes = ap (λ (v : View). v.bytes) c.self-in-loop-listed.view_is in
     let up = c.in-Some.ensures.within in
     let there : slot_number (1024 * c.args.slot + c.in-Some.listed.index) ≡ c.args.slot = omega (arith, up.1) in
+    let so_far : (from source : ℕ) (bytes : List ℕ) (roles : List Role) → CopyIn c.args.self.now.directories from source c.args.to c.args.slot c.args.table 0 bytes roles c.args.self.now.bytes c.args.self.now.roles → CopyIn c.args.self.now.directories from source c.args.to c.args.slot c.args.table (c.in-Some.listed.index + 1) bytes roles c.copy_page.new.self.bytes c.copy_page.new.self.roles =
+    λ from source bytes roles begun.
+    let here = c.loop-listed.invariant.so_far from source bytes roles begun in
+    let found = copy_passed c.args.self.now.directories bytes c.loop-listed.self.bytes roles c.loop-listed.self.roles from source c.args.to c.args.slot c.args.table c.loop-listed.index c.in-Some.listed.index c.self-in-loop-listed.inside.memory here same up.0 (omega (arith, up.1)) c.requires.slot c.in-Some.ensures.least in
+    let made : PageCopied c.args.self.now.directories from c.args.to (1024 * c.args.slot + c.in-Some.listed.index) c.loop-listed.self.bytes c.loop-listed.self.roles c.copy_page.new.self.bytes c.copy_page.new.self.roles =
+    subst (λ (l : List (Option ℕ)). PageCopied l from c.args.to (1024 * c.args.slot + c.in-Some.listed.index) c.loop-listed.self.bytes c.loop-listed.self.roles c.copy_page.new.self.bytes c.copy_page.new.self.roles) c.loop-listed.invariant.same
+    (c.copy_page.ensures.copied from source (subst (λ (l : List (Option ℕ)). directory_of l from ≡ Some source) (sym c.loop-listed.invariant.same) found.home)
+    (copy_entry c.args.self.now.directories bytes c.loop-listed.self.bytes roles c.loop-listed.self.roles from source c.args.to c.args.slot c.args.table c.in-Some.listed.index c.in-Some.listed.entry c.self-in-loop-listed.inside.memory found same up.1 c.requires.slot c.in-Some.ensures.entry)) in
+    copy_stepped c.args.self.now.directories bytes c.loop-listed.self.bytes roles c.loop-listed.self.roles from source c.args.to c.args.slot c.args.table c.in-Some.listed.index c.in-Some.listed.entry c.self-in-loop-listed.inside.memory found same up.1 c.requires.slot c.in-Some.ensures.entry c.args.target c.copy_page.new.self.bytes c.copy_page.new.self.roles c.requires.target made in
+    let q = c.requires.copying in
+    let here = c.loop-listed.invariant.so_far q.from q.source q.bytes q.roles q.begun in
+    let found = copy_passed c.args.self.now.directories q.bytes c.loop-listed.self.bytes q.roles c.loop-listed.self.roles q.from q.source c.args.to c.args.slot c.args.table c.loop-listed.index c.in-Some.listed.index c.self-in-loop-listed.inside.memory here same up.0 (omega (arith, up.1)) c.requires.slot c.in-Some.ensures.least in
+    let made : PageCopied c.args.self.now.directories q.from c.args.to (1024 * c.args.slot + c.in-Some.listed.index) c.loop-listed.self.bytes c.loop-listed.self.roles c.copy_page.new.self.bytes c.copy_page.new.self.roles =
+    subst (λ (l : List (Option ℕ)). PageCopied l q.from c.args.to (1024 * c.args.slot + c.in-Some.listed.index) c.loop-listed.self.bytes c.loop-listed.self.roles c.copy_page.new.self.bytes c.copy_page.new.self.roles) c.loop-listed.invariant.same
+    (c.copy_page.ensures.copied q.from q.source (subst (λ (l : List (Option ℕ)). directory_of l q.from ≡ Some q.source) (sym c.loop-listed.invariant.same) found.home)
+    (copy_entry c.args.self.now.directories q.bytes c.loop-listed.self.bytes q.roles c.loop-listed.self.roles q.from q.source c.args.to c.args.slot c.args.table c.in-Some.listed.index c.in-Some.listed.entry c.self-in-loop-listed.inside.memory found same up.1 c.requires.slot c.in-Some.ensures.entry)) in
+    let kept = words_kept c.args.self.now.directories q.bytes c.loop-listed.self.bytes q.roles c.loop-listed.self.roles q.from q.source c.args.to c.args.slot c.args.table c.in-Some.listed.index c.in-Some.listed.entry c.self-in-loop-listed.inside.memory found same up.1 c.requires.slot c.in-Some.ensures.entry c.copy_page.new.self.bytes c.copy_page.new.self.roles made (so_far q.from q.source q.bytes q.roles q.begun) in
+    let moved : words_left c.self-in-loop-listed.inside.memory c.args.table (c.in-Some.listed.index + 1) ≡ words_left c.loop-listed.self.bytes c.args.table (c.in-Some.listed.index + 1) = ap (λ b. words_left b c.args.table (c.in-Some.listed.index + 1)) same in
     record {
-      so_far = λ from source bytes roles begun.
-          let here = c.loop-listed.invariant.so_far from source bytes roles begun in
-          let found = copy_passed c.args.self.now.directories bytes c.loop-listed.self.bytes roles c.loop-listed.self.roles from source c.args.to c.args.slot c.args.table c.loop-listed.index c.in-Some.listed.index c.self-in-loop-listed.inside.memory here same up.0 (omega (arith, up.1)) c.requires.slot c.in-Some.ensures.least in
-          copy_stepped c.args.self.now.directories bytes c.loop-listed.self.bytes roles c.loop-listed.self.roles from source c.args.to c.args.slot c.args.table c.in-Some.listed.index c.in-Some.listed.entry c.self-in-loop-listed.inside.memory found same up.1 c.requires.slot c.in-Some.ensures.entry c.args.target c.copy_page.new.self.bytes c.copy_page.new.self.roles c.requires.target
-          (subst (λ (l : List (Option ℕ)). PageCopied l from c.args.to (1024 * c.args.slot + c.in-Some.listed.index) c.loop-listed.self.bytes c.loop-listed.self.roles c.copy_page.new.self.bytes c.copy_page.new.self.roles) c.loop-listed.invariant.same
-          (c.copy_page.ensures.copied from source (subst (λ (l : List (Option ℕ)). directory_of l from ≡ Some source) (sym c.loop-listed.invariant.same) found.home)
-          (copy_entry c.args.self.now.directories bytes c.loop-listed.self.bytes roles c.loop-listed.self.roles from source c.args.to c.args.slot c.args.table c.in-Some.listed.index c.in-Some.listed.entry c.self-in-loop-listed.inside.memory found same up.1 c.requires.slot c.in-Some.ensures.entry)));
+      so_far = so_far;
       same = c.copy_page.ensures.directories ∙ c.loop-listed.invariant.same;
       linked = sym c.copy_page.ensures.table ∙ ap (table_of (frame_bytes c.copy_page.new.self.bytes) c.args.target) there;
+      left = omega (arith, c.in-Some.ensures.left, moved, kept);
       within = omega (arith, up.1);
     }
 

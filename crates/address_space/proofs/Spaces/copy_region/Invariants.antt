@@ -2,7 +2,7 @@ use Rattle.std.specs.Prelude.{◌≡◌, ◌≤◌, ◌-◌, ℕ, List}
 use Rattle.phys_memory.specs.Bytes.{frame_bytes}
 use Rattle.alloc_table.specs.declared.Role.{Role}
 use Rattle.page_map.specs.Entries.{table_of}
-use Rattle.address_space.specs.Changes.{CopyIn}
+use Rattle.address_space.specs.Changes.{CopyIn, words_left}
 use Rattle.address_space.proofs.Spaces.copy_region.Given as goal
 
 abbrev pub invariant-loop-listed : goal.invariant-loop-listed
@@ -11,6 +11,7 @@ invariant-loop-listed l = record {
       → CopyIn l.fn.self.directories from source l.to l.slot l.table l.index bytes roles l.self.bytes l.self.roles;
   same : l.self.directories ≡ l.fn.self.directories;
   linked : l.linked ≡ table_of (frame_bytes l.self.bytes) l.target l.slot;
+  left : l.left ≡ words_left l.self.bytes l.table l.index;
   within : l.index ≤ 1024;
 }
 
