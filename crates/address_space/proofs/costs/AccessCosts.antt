@@ -1,5 +1,5 @@
 -- What accesses cost: nothing where the page is mapped, and what its page needs where it is not.
-use Rattle.std.proofs.Common.{◌≡◌, ℕ, ◌+◌, Bool, true, false, cond, List, refl, ap, sym, ◌∙◌, inl, inr, Option, Some, None}
+use Rattle.std.proofs.Common.{◌≡◌, ℕ, Bool, true, false, cond, List, refl, ap, sym, ◌∙◌, inl, inr, Option, Some, None}
 use Rattle.std.specs.Prelude.{is_some, if◌then◌else◌}
 use Rattle.std.specs.Option.{option_map}
 use Rattle.page_words.specs.FiniteMap as map
@@ -7,8 +7,8 @@ use Rattle.page_words.specs.FiniteMap.{same}
 use Rattle.page_words.specs.FiniteSet as set
 use Rattle.page_words.specs.FiniteSet.{Set}
 use Rattle.page_words.proofs.MapLemmas.{same_or_not, get-insert, get-map_values}
-use Rattle.address_space.specs.Spaces.{Slot, slot_order, Cell, Spaces, cost, cost_of, need, accessed, stored, set_bytes, with_bytes, cell_or_fresh, at_page}
-use Rattle.address_space.proofs.costs.Costs.{same_pages, cost-insert}
+use Rattle.address_space.specs.Spaces.{Slot, slot_order, Cell, Spaces, cost, cost_of, stored, set_bytes, with_bytes, cell_or_fresh, at_page}
+use Rattle.address_space.proofs.costs.Costs.{same_pages}
 
 -- spaces that map the same slots cost the same
 pub cost-same : (S T : Spaces) (p : ℕ) → ((q : Slot) → map.contains_key S q ≡ map.contains_key T q) → cost S p ≡ cost T p
@@ -37,16 +37,3 @@ kept S slot c found q = key-insert S slot c q ∙ elim (same_or_not slot_order q
   | inl h ↦ ap (λ b. cond b true (map.contains_key S q)) h.1 ∙ sym (ap (map.contains_key S) h.0 ∙ found)
   | inr h ↦ ap (λ b. cond b true (map.contains_key S q)) h
 ]
-
-pub cost-accessed_mapped : (S : Spaces) (slot : Slot) → is_some (map.get S slot) ≡ true → cost (accessed S slot) slot.pid ≡ cost S slot.pid
-cost-accessed_mapped S slot found = cost-same (accessed S slot) S slot.pid (kept S slot _ found)
-
-pub cost-accessed_new : (S : Spaces) (slot : Slot) → map.get S slot ≡ None → cost (accessed S slot) slot.pid ≡ cost S slot.pid + need S slot.pid slot.page
-cost-accessed_new S slot none = cost-insert S slot _ none
-
-pub cost-stored_mapped : (S : Spaces) (slot : Slot) (at : ℕ) (new : List ℕ) → is_some (map.get S slot) ≡ true → cost (stored S slot at new) slot.pid ≡ cost S slot.pid
-cost-stored_mapped S slot at new found = cost-same (stored S slot at new) S slot.pid (λ q. key-stored S slot at new (cell_or_fresh S slot) q ∙ kept S slot (cell_or_fresh S slot) found q)
-
-pub cost-stored_new : (S : Spaces) (slot : Slot) (at : ℕ) (new : List ℕ) → map.get S slot ≡ None → cost (stored S slot at new) slot.pid ≡ cost S slot.pid + need S slot.pid slot.page
-cost-stored_new S slot at new none =
-    cost-same (stored S slot at new) (map.insert S slot (cell_or_fresh S slot)) slot.pid (key-stored S slot at new (cell_or_fresh S slot)) ∙ cost-insert S slot (cell_or_fresh S slot) none

@@ -12,12 +12,10 @@ use Rattle.page_map.specs.declared.PageEntry.{PageEntry}
 use Rattle.page_map.specs.Entries.{entry_from}
 use Rattle.address_space.specs.Spaces.{Slot, slot_order, Cell, Spaces, at_page, is_slot}
 use Rattle.address_space.specs.Image.{Image, StandsFor, SlotStands, directory_at, page_word}
-use Rattle.address_space.specs.View.{directory_of, entries_in, spaces_in}
+use Rattle.address_space.specs.View.{directory_of, entries_in}
 use Rattle.address_space.specs.Sound.{IsSound}
 use Rattle.address_space.specs.Stays.{way_of, Gone, FramesStay, none_goes, of_lazy, entry_frame, PlacesStay}
-use Rattle.address_space.proofs.entries.Refinement.{get-spaces_of}
 use Rattle.address_space.proofs.standing.Standing.{image_of, read_entry, same_table}
-use Rattle.address_space.proofs.steps.Steps.{none_before}
 
 -- the frame of a slot's word is that of its entry
 pub frame_read : (directories : List (Option ℕ)) (bytes : List ℕ) (roles : List Role) → IsSound directories bytes roles
@@ -145,26 +143,6 @@ stays_from_none p page old new none stay = record {
       | inl h ↦ absurd (let k : None ≡ Some (d, f) = sym (ap (way_of old) (sym h.0) ∙ none) ∙ way in cc)
       | inr h ↦ ap (λ b. b && (f == 0)) h
     ]
-
--- a slot that isn't mapped has no way
-pub no_way : (directories : List (Option ℕ)) (bytes : List ℕ) (roles : List Role) (slot : Slot)
-    → IsSound directories bytes roles → map.get (spaces_in directories bytes) slot ≡ None
-    → way_of (image_of directories bytes roles) slot ≡ None
-unfolding spaces_in
-no_way directories bytes roles slot sound none =
-    let E = entries_in (directory_of directories) (frame_bytes bytes) in
-    let names : option_map frame_number (page_word (image_of directories bytes roles) slot) ≡ None =
-    sym (frame_read directories bytes roles sound slot)
-    ∙ ap (option_map (λ (x : PageEntry). x.frame))
-    (none_before E (frame_bytes bytes) slot (map.get E slot)
-    (sym (get-spaces_of E (frame_bytes bytes) slot) ∙ none)) in
-    by (directory_of directories slot.pid) (page_word (image_of directories bytes roles) slot) names
-  where
-    by : (x y : Option ℕ) → option_map frame_number y ≡ None
-        → option_and_then {U = ℕ × ℕ} (λ d. option_map (λ word. (d, frame_number word)) y) x ≡ None
-    by None y h = refl
-    by (Some d) None h = refl
-    by (Some d) (Some w) h = cc
 
 -- the same, by what the image stands for
 pub no_way_stands : (image : Image) (spaces : Spaces) (slot : Slot) → StandsFor image spaces → map.get spaces slot ≡ None → way_of image slot ≡ None

@@ -285,13 +285,6 @@ counted_freed S roles last counts freed C none went = by freed refl
         let zero : pages_by S rel.role ≡ 0 = cc in
         counted_roles S roles last counts (alike_released S roles last t rel.role rel rel.was zero) C
 
--- a page that has an entry is mapped
-pub mapped_there : (directories : List (Option ℕ)) (bytes : List ℕ) (roles : List Role) (p d page : ℕ) (e : PageEntry) → IsSound directories bytes roles → directory_of directories p ≡ Some d → IsUserPage page
-    → entry_at (frame_bytes bytes) d page ≡ Some e → is_some (map.get (spaces_in directories bytes) (at_page p page)) ≡ true
-mapped_there directories bytes roles p d page e sound live user is =
-    let cell = cell_of (entries_in (directory_of directories) (frame_bytes bytes)) (frame_bytes bytes) (at_page p page) in
-    ap is_some (get-spaces_in directories bytes p page (live_small directories p d sound.pids live) user.0 user.1 ∙ ap (λ x. option_map cell (option_and_then (λ d. entry_at (frame_bytes bytes) d page) x)) live ∙ ap (option_map cell) is)
-
 -- a table that was freed was the page's
 pub table_freed : (m m' : ℕ → List ℕ) (d page t : ℕ) (e : PageEntry) (freed : Option ℕ) → entry_at m d page ≡ Some e → IsCleared m d page freed m' → freed ≡ Some t → table_of m d (slot_number page) ≡ Some t
 table_freed m m' d page t e freed is cleared came =

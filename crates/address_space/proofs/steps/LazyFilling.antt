@@ -1,6 +1,6 @@
 -- What a lazy page that got a frame of its own leaves.
-use Rattle.std.proofs.Common.{◌≡◌, ◌≢◌, ℕ, ◌+◌, ◌*◌, ◌^◌, ◌<◌, ◌≤◌, true, false, List, length, replicate, refl, ap, sym, ◌∙◌, subst, arith, inr, Option, Some, None, length-set}
-use Rattle.std.specs.Prelude.{slice_get, is_some}
+use Rattle.std.proofs.Common.{◌≡◌, ◌≢◌, ℕ, ◌+◌, ◌*◌, ◌^◌, ◌<◌, ◌≤◌, true, false, List, length, replicate, refl, ap, sym, ◌∙◌, subst, arith, inr, Option, Some, length-set}
+use Rattle.std.specs.Prelude.{slice_get}
 use Rattle.std.specs.Option.{option_and_then}
 use Rattle.std.proofs.lemmas.List.{length-replicate}
 use Rattle.page_words.specs.Addresses.{slot_number}
@@ -14,7 +14,7 @@ use Rattle.alloc_table.specs.declared.Role.TheVariants.{Reserved, Free, Table, P
 use Rattle.alloc_table.specs.Roles.{free_frames, frames_weight, IsTaken}
 use Rattle.alloc_table.proofs.RoleLemmas.{weight-taken}
 use Rattle.page_map.specs.declared.PageEntry.{PageEntry}
-use Rattle.page_map.specs.Entries.{Frames, dir_word, table_of, entry_at, with_entry, entry_word, is_lazy_entry, IsKernelEntry}
+use Rattle.page_map.specs.Entries.{Frames, dir_word, table_of, entry_at, with_entry, entry_word, IsKernelEntry}
 use Rattle.page_map.proofs.WordLaws.{entry_word-names, entry_word-lt, entry_word-present, word_entry-entry_word}
 use Rattle.address_space.specs.Spaces.{Slot, at_page}
 use Rattle.address_space.specs.Cells.{Entries, names, lazy_count, spaces_of, holders_of}
@@ -127,8 +127,3 @@ page_filled directories bytes one two roles roles' p d page f e s live low high 
   where
     above : Tables (directory_of directories) (frame_bytes bytes) (slice_get roles) → slice_get roles f ≡ Some Free → 1 ≤ f
     above T free = let n : f ≢ 0 = (λ is. let a = T.zero_role in let k : slice_get roles 0 ≡ slice_get roles f = ap (slice_get roles) (sym is) in cc) in omega arith
-
--- a lazy entry is one
-pub lazy_there : (x : Option PageEntry) → is_lazy_entry x ≡ true → is_some x ≡ true
-lazy_there None h = cc
-lazy_there (Some e) h = refl

@@ -9,8 +9,7 @@ use Rattle.page_map.specs.Entries.{Frames, table_of, word_entry}
 use Rattle.page_map.specs.declared.PageEntry.{PageEntry}
 use Rattle.address_space.specs.declared.Spaces.TheInside.{Inside as Inner}
 use Rattle.address_space.specs.declared.lookup.Found.{Found}
-use Rattle.address_space.specs.declared.lookup.Place.{Place}
-use Rattle.address_space.specs.declared.lookup.Place.TheVariants.{Bare, Open, Mapped}
+use Rattle.address_space.specs.declared.lookup.Place.TheVariants.{Mapped}
 use Rattle.address_space.specs.Changes.{takes_stores_through}
 use Rattle.address_space.specs.Spaces.{need, at_page}
 use Rattle.address_space.specs.View.{directory_of, table_in}
@@ -88,9 +87,3 @@ place_mapped directories bytes p page f h = by (table_in (directory_of directori
     by : (x : Option ℕ) → option_and_then (found_by (frame_bytes bytes) page) x ≡ Some f → place_by (frame_bytes bytes) page x ≡ Mapped f
     by None h = cc
     by (Some t) h = there_mapped t (found_by (frame_bytes bytes) page t) f h
-
--- a place at which this was found
-pub mapped_place : (place : Place) (f : Found) → found_of place ≡ Some f → place ≡ Mapped f
-mapped_place Bare f h = cc
-mapped_place (Open t) f h = cc
-mapped_place (Mapped g) f h = let e : Some g ≡ Some f = h in let same : g ≡ f = cc in ap Mapped same

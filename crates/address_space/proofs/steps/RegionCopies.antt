@@ -80,25 +80,25 @@ left_behind bytes table index left (Some listed) all within entry least = all �
 no_entry_there : (m : Frames) (source page : ℕ) → table_of m source (slot_number page) ≡ None → entry_at m source page ≡ None
 no_entry_there m source page none = ap (option_and_then (λ t. word_entry (word_in (m t) (index_number page)))) none
 
-module _ (directories : List (Option ℕ)) (bytes one : List ℕ) (roles roles1 : List Role) (from source to slot table : ℕ) where
-  -- the entry of a page is that of its word
-  pub listed_entry : (m : Frames) (index : ℕ) (x : Option PageEntry) → index < 1024 → table_of m source slot ≡ Some table → word_entry (word_in (m table) index) ≡ x → entry_at m source (1024 * slot + index) ≡ x
-  listed_entry m index x few there is =
-      let s : slot_number (1024 * slot + index) ≡ slot = omega arith in
-      let i : index_number (1024 * slot + index) ≡ index = omega arith in
-      ap (option_and_then (λ t. word_entry (word_in (m t) (index_number (1024 * slot + index))))) (ap (table_of m source) s ∙ there)
-      ∙ ap (λ k. word_entry (word_in (m table) k)) i ∙ is
+-- the entry of a page is that of its word
+listed_entry : (m : Frames) (source slot table index : ℕ) (x : Option PageEntry) → index < 1024 → table_of m source slot ≡ Some table → word_entry (word_in (m table) index) ≡ x → entry_at m source (1024 * slot + index) ≡ x
+listed_entry m source slot table index x few there is =
+    let s : slot_number (1024 * slot + index) ≡ slot = omega arith in
+    let i : index_number (1024 * slot + index) ≡ index = omega arith in
+    ap (option_and_then (λ t. word_entry (word_in (m t) (index_number (1024 * slot + index))))) (ap (table_of m source) s ∙ there)
+    ∙ ap (λ k. word_entry (word_in (m table) k)) i ∙ is
 
-  -- the word of a page is present where the page is mapped
-  present_mapped : (memory : List ℕ) (index : ℕ) → length directories ≡ 64 → directory_of directories from ≡ Some source → index < 1024 → 256 ≤ slot → slot < 960 → table_of (frame_bytes memory) source slot ≡ Some table
-      → is_present (word_in (frame_bytes memory table) index) ≡ is_some (map.get (spaces_in directories memory) (at_page from (1024 * slot + index)))
-  present_mapped memory index long home inside low high there =
-      let s : slot_number (1024 * slot + index) ≡ slot = omega arith in
-      let i : index ≡ index_number (1024 * slot + index) = omega arith in
-      ap (λ k. is_present (word_in (frame_bytes memory table) k)) i
-      ∙ sym (mapped_in_table (frame_bytes memory) source slot table (1024 * slot + index) s there)
-      ∙ sym (mapped_read directories memory from source (1024 * slot + index) home (live_small directories from source long home) (omega (arith, low)) (omega (arith, high, inside)))
+-- the word of a page is present where the page is mapped
+present_mapped : (directories : List (Option ℕ)) (memory : List ℕ) (from source slot table index : ℕ) → length directories ≡ 64 → directory_of directories from ≡ Some source → index < 1024 → 256 ≤ slot → slot < 960
+    → table_of (frame_bytes memory) source slot ≡ Some table → is_present (word_in (frame_bytes memory table) index) ≡ is_some (map.get (spaces_in directories memory) (at_page from (1024 * slot + index)))
+present_mapped directories memory from source slot table index long home inside low high there =
+    let s : slot_number (1024 * slot + index) ≡ slot = omega arith in
+    let i : index ≡ index_number (1024 * slot + index) = omega arith in
+    ap (λ k. is_present (word_in (frame_bytes memory table) k)) i
+    ∙ sym (mapped_in_table (frame_bytes memory) source slot table (1024 * slot + index) s there)
+    ∙ sym (mapped_read directories memory from source (1024 * slot + index) home (live_small directories from source long home) (omega (arith, low)) (omega (arith, high, inside)))
 
+module _ {directories : List (Option ℕ)} {bytes one : List ℕ} {roles roles1 : List Role} {from source to slot table : ℕ} where
   -- the count of a region's table is how many words are present in it
   module _ (counts : List ℕ) (copy : CopyIn directories from source to slot table 0 bytes roles one roles1) (few : slot < 960) (C : IsCounted (spaces_in directories one) roles1 counts) where
     first : slot_number (1024 * slot) ≡ slot
@@ -117,11 +117,11 @@ module _ (directories : List (Option ℕ)) (bytes one : List ℕ) (roles roles1 
         ∙ sym (count-table (frame_bytes one) source slot table copy.there)
 
   -- a copy comes to a region over those without a table
-  pub region_begun : (first : ℕ) → directory_of directories from ≡ Some source → IsSpaces directories bytes roles → IsEmptySpace (spaces_in directories bytes) to
+  pub region_begun : {first : ℕ} → directory_of directories from ≡ Some source → IsSpaces directories bytes roles → IsEmptySpace (spaces_in directories bytes) to
       → cost (spaces_in directories bytes) from + total_cost directories (spaces_in directories bytes) ≤ length roles → CopiedBelow directories from to (1024 * first) bytes roles one roles1
       → first ≤ slot → slot < 960 → ((s : ℕ) → first ≤ s → s < slot → table_of (frame_bytes one) source s ≡ None) → table_of (frame_bytes one) source slot ≡ Some table
       → CopyIn directories from source to slot table 0 bytes roles one roles1
-  region_begun first home before empty room so_far up few least there =
+  region_begun {first} home before empty room so_far up few least there =
       let here : 1024 * slot ≡ 1024 * slot + 0 = omega arith in
       record {
         home = home;
@@ -135,9 +135,9 @@ module _ (directories : List (Option ℕ)) (bytes one : List ℕ) (roles roles1 
       }
 
   -- and through it over the words without an entry
-  pub copy_passed : (index beyond : ℕ) (memory : List ℕ) → CopyIn directories from source to slot table index bytes roles one roles1 → memory ≡ one → index ≤ beyond → beyond ≤ 1024 → slot < 960
+  pub copy_passed : {index : ℕ} (beyond : ℕ) {memory : List ℕ} → CopyIn directories from source to slot table index bytes roles one roles1 → memory ≡ one → index ≤ beyond → beyond ≤ 1024 → slot < 960
       → ((i : ℕ) → index ≤ i → i < beyond → word_entry (word_in (frame_bytes memory table) i) ≡ None) → CopyIn directories from source to slot table beyond bytes roles one roles1
-  copy_passed index beyond memory copy same up most few none = record {
+  copy_passed {index} beyond {memory} copy same up most few none = record {
     home = copy.home;
     before = copy.before;
     empty = copy.empty;
@@ -150,16 +150,16 @@ module _ (directories : List (Option ℕ)) (bytes one : List ℕ) (roles roles1 
       absent page low high =
           let is : 1024 * slot + (page - 1024 * slot) ≡ page = omega (arith, low) in
           subst (λ n. entry_at (frame_bytes one) source n ≡ None) is
-          (listed_entry (frame_bytes one) (page - 1024 * slot) None (omega (arith, low, high, most)) copy.there
+          (listed_entry (frame_bytes one) source slot table (page - 1024 * slot) None (omega (arith, low, high, most)) copy.there
           (ap (λ b. word_entry (word_in (frame_bytes b table) (page - 1024 * slot))) (sym same) ∙ none (page - 1024 * slot) (omega (arith, low)) (omega (arith, low, high))))
 
   pub region_ended : CopyIn directories from source to slot table 1024 bytes roles one roles1 → CopiedBelow directories from to (1024 * (slot + 1)) bytes roles one roles1
   region_ended copy = let e : 1024 * slot + 1024 ≡ 1024 * (slot + 1) = omega arith in subst (λ n. CopiedBelow directories from to n bytes roles one roles1) e copy.so_far
 
-  module _ (index : ℕ) (e : PageEntry) (memory : List ℕ) (copy : CopyIn directories from source to slot table index bytes roles one roles1) (same : memory ≡ one) (inside : index < 1024) (few : slot < 960)
+  module _ {index : ℕ} {e : PageEntry} {memory : List ℕ} (copy : CopyIn directories from source to slot table index bytes roles one roles1) (same : memory ≡ one) (inside : index < 1024) (few : slot < 960)
       (is : word_entry (word_in (frame_bytes memory table) index) ≡ Some e) where
     pub copy_entry : entry_at (frame_bytes one) source (1024 * slot + index) ≡ Some e
-    copy_entry = listed_entry (frame_bytes one) index (Some e) inside copy.there (ap (λ b. word_entry (word_in (frame_bytes b table) index)) (sym same) ∙ is)
+    copy_entry = listed_entry (frame_bytes one) source slot table index (Some e) inside copy.there (ap (λ b. word_entry (word_in (frame_bytes b table) index)) (sym same) ∙ is)
 
     pub copy_user : IsUserPage (1024 * slot + index)
     copy_user = (copy.so_far.low, omega (arith, inside, few))
@@ -167,13 +167,13 @@ module _ (directories : List (Option ℕ)) (bytes one : List ℕ) (roles roles1 
     pub copy_unmapped : map.get (spaces_in directories one) (at_page to (1024 * slot + index)) ≡ None
     copy_unmapped = copy.so_far.rest (1024 * slot + index) (omega arith)
 
-    pub copy_room : (target : ℕ) → directory_of directories to ≡ Some target → Room directories (spaces_in directories one) roles1 to (1024 * slot + index)
-    copy_room target live =
+    pub copy_room : {target : ℕ} → directory_of directories to ≡ Some target → Room directories (spaces_in directories one) roles1 to (1024 * slot + index)
+    copy_room {target} live =
         room_for_copy directories bytes one roles roles1 from source to target (1024 * slot + index) copy.so_far copy.home live copy_user (ap is_some copy_entry) copy.before copy.empty copy.room
 
-    pub copy_stepped : (target : ℕ) (two : List ℕ) (roles2 : List Role) → directory_of directories to ≡ Some target → PageCopied directories from to (1024 * slot + index) one roles1 two roles2
+    pub copy_stepped : {target : ℕ} {two : List ℕ} {roles2 : List Role} → directory_of directories to ≡ Some target → PageCopied directories from to (1024 * slot + index) one roles1 two roles2
         → CopyIn directories from source to slot table (index + 1) bytes roles two roles2
-    copy_stepped target two roles2 live made =
+    copy_stepped {target} {two} {roles2} live made =
         let next : 1024 * slot + index + 1 ≡ 1024 * slot + (index + 1) = omega arith in
         record {
           home = copy.home;
@@ -187,9 +187,9 @@ module _ (directories : List (Option ℕ)) (bytes one : List ℕ) (roles roles1 
         }
 
     -- the words that are left stay as they are
-    pub words_kept : (two : List ℕ) (roles2 : List Role) → PageCopied directories from to (1024 * slot + index) one roles1 two roles2 → CopyIn directories from source to slot table (index + 1) bytes roles two roles2
+    pub words_kept : {two : List ℕ} {roles2 : List Role} → PageCopied directories from to (1024 * slot + index) one roles1 two roles2 → CopyIn directories from source to slot table (index + 1) bytes roles two roles2
         → words_left two table (index + 1) ≡ words_left one table (index + 1)
-    words_kept two roles2 made after =
+    words_kept {two} {roles2} made after =
         count_range-same (λ i. is_present (word_in (frame_bytes two table) i)) (λ i. is_present (word_in (frame_bytes one table) i)) (index + 1) (index + 1) (1024 - (index + 1))
         (λ i l. word (index + 1 + i) (omega arith) (omega (arith, l, inside)))
       where
@@ -202,17 +202,17 @@ module _ (directories : List (Option ℕ)) (bytes one : List ℕ) (roles roles1 
 
         word : (i : ℕ) → index < i → i < 1024 → is_present (word_in (frame_bytes two table) i) ≡ is_present (word_in (frame_bytes one table) i)
         word i past most =
-            present_mapped two i long copy.home most user few after.there
+            present_mapped directories two from source slot table i long copy.home most user few after.there
             ∙ ap is_some (ap (λ S. map.get S (at_page from (1024 * slot + i))) made.spaces
             ∙ put_other (spaces_in directories one) (at_page to (1024 * slot + index)) (copy_of (at_page to (1024 * slot + index)) (cell_or_fresh (spaces_in directories one) (at_page from (1024 * slot + index)))) (at_page from (1024 * slot + i))
             (λ same. let page : 1024 * slot + i ≡ 1024 * slot + index = ap (λ (q : Slot). q.page) same in omega (arith, page, past)))
-            ∙ sym (present_mapped one i long copy.home most user few copy.there)
+            ∙ sym (present_mapped directories one from source slot table i long copy.home most user few copy.there)
 
 -- no region is left
-pub regions_copied : (directories : List (Option ℕ)) (bytes one : List ℕ) (roles roles1 : List Role) (from source to first : ℕ) → directory_of directories from ≡ Some source → IsSpaces directories bytes roles
+pub regions_copied : {directories : List (Option ℕ)} {bytes one : List ℕ} {roles roles1 : List Role} {from source to : ℕ} (first : ℕ) → directory_of directories from ≡ Some source → IsSpaces directories bytes roles
     → IsEmptySpace (spaces_in directories bytes) to → CopiedBelow directories from to (1024 * first) bytes roles one roles1 → ((s : ℕ) → first ≤ s → s < 960 → table_of (frame_bytes one) source s ≡ None)
     → PagesCopied directories from to bytes roles one roles1
-regions_copied directories bytes one roles roles1 from source to first home before empty so_far none =
+regions_copied {directories} {bytes} {one} {roles} {roles1} {from} {source} {to} first home before empty so_far none =
     let high = so_far.high in
     copied_at_last directories bytes one roles roles1 from to before
     (copied_past directories bytes one roles roles1 from source to (1024 * first) 0xf0000 empty so_far home high (omega arith)

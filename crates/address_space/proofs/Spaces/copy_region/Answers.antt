@@ -1,15 +1,15 @@
 use Rattle.std.proofs.Common.{◌≡◌, ◌+◌, ◌*◌, ◌<◌, ◌≤◌, ◌∙◌, ℕ, List, length, Option, Some, ap, sym, subst, refl, arith}
-use Rattle.page_words.specs.Addresses.{slot_number, IsUserPage}
+use Rattle.page_words.specs.Addresses.{slot_number}
 use Rattle.page_words.specs.FiniteMap as map
 use Rattle.phys_memory.specs.Bytes.{frame_bytes}
 use Rattle.alloc_table.specs.declared.Role.{Role}
-use Rattle.page_map.specs.Entries.{IsPageMap, table_of, entry_at}
+use Rattle.page_map.specs.Entries.{table_of}
 use Rattle.address_space.specs.Spaces.{Spaces, at_page}
 use Rattle.address_space.specs.View.{View, directory_of, spaces_in}
-use Rattle.address_space.specs.Changes.{IsEntry, PageCopied, CopyIn, words_left}
+use Rattle.address_space.specs.Changes.{PageCopied, CopyIn, words_left}
 use Rattle.address_space.proofs.costs.Costed.{Room}
 use Rattle.address_space.proofs.steps.Steps.{page_map_of}
-use Rattle.address_space.proofs.steps.RegionCopies.{copy_passed, copy_entry, copy_user, copy_unmapped, copy_room, copy_stepped, region_there, region_words, words_kept}
+use Rattle.address_space.proofs.steps.RegionCopies.{region_there, region_words, copy_passed, copy_entry, copy_unmapped, copy_room, copy_stepped, words_kept}
 use Rattle.address_space.proofs.Spaces.copy_region.Goals as goal
 
 pub table-linked-requires-clause-map : goal.table-linked-requires-clause-map
@@ -17,23 +17,16 @@ table-linked-requires-clause-map c =
     page_map_of c.self.inside.directories c.self.inside.memory c.self.inside.frames c.args.to c.args.target c.self.invariant.spaces.sound (rw (← c.self.view_is) at c.requires.target)
 
 pub count_at-left-requires : goal.count_at-left-requires
-count_at-left-requires c =
-    let q = rw (← c.self.view_is) at c.requires.copying in
-    region_there c.self.inside.directories q.bytes c.self.inside.memory q.roles c.self.inside.frames q.from q.source c.args.to c.args.slot c.args.table c.self.inside.counts.items q.begun c.requires.slot c.self.invariant.counted
+count_at-left-requires c = region_there c.self.inside.counts.items (rw (← c.self.view_is) at c.requires.copying).begun c.requires.slot c.self.invariant.counted
 
 pub loop-listed-init : goal.loop-listed-init
-loop-listed-init c =
-    let q = rw (← c.self.view_is) at c.requires.copying in
-    let words =
-    region_words c.self.inside.directories q.bytes c.self.inside.memory q.roles c.self.inside.frames q.from q.source c.args.to c.args.slot c.args.table c.self.inside.counts.items q.begun c.requires.slot c.self.invariant.counted c.count_at-left.result
-    c.count_at-left.ensures in
-    record {
-      so_far = λ from source bytes roles begun. begun;
-      same = refl;
-      linked = rw (← c.self.view_is) c.table-linked.ensures;
-      left = rw (← c.self.view_is) words;
-      within = omega arith;
-    }
+loop-listed-init c = record {
+  so_far = λ from source bytes roles begun. begun;
+  same = refl;
+  linked = rw (← c.self.view_is) c.table-linked.ensures;
+  left = rw (← c.self.view_is) (region_words c.self.inside.counts.items (rw (← c.self.view_is) at c.requires.copying).begun c.requires.slot c.self.invariant.counted c.count_at-left.result c.count_at-left.ensures);
+  within = omega arith;
+}
 
 pub next_left-requires-clause-inside : goal.next_left-requires-clause-inside
 next_left-requires-clause-inside c =
@@ -58,12 +51,12 @@ copy_page-requires-clause-entry c =
     let here = c.loop-listed.invariant.so_far q.from q.source q.bytes q.roles q.begun in
     let same : c.self-in-loop-listed.inside.memory ≡ c.loop-listed.self.bytes = ap (λ (v : View). v.bytes) c.self-in-loop-listed.view_is in
     let up = c.in-Some.ensures.within in
-    let found = copy_passed c.args.self.now.directories q.bytes c.loop-listed.self.bytes q.roles c.loop-listed.self.roles q.from q.source c.args.to c.args.slot c.args.table c.loop-listed.index c.in-Some.listed.index c.self-in-loop-listed.inside.memory here same up.0 (omega (arith, up.1)) c.requires.slot c.in-Some.ensures.least in
+    let found = copy_passed c.in-Some.listed.index here same up.0 (omega (arith, up.1)) c.requires.slot c.in-Some.ensures.least in
     record {
       process = q.from;
       directory = q.source;
       live = subst (λ (l : List (Option ℕ)). directory_of l q.from ≡ Some q.source) (sym c.loop-listed.invariant.same) found.home;
-      entry = copy_entry c.args.self.now.directories q.bytes c.loop-listed.self.bytes q.roles c.loop-listed.self.roles q.from q.source c.args.to c.args.slot c.args.table c.in-Some.listed.index c.in-Some.listed.entry c.self-in-loop-listed.inside.memory found same up.1 c.requires.slot c.in-Some.ensures.entry;
+      entry = copy_entry found same up.1 c.requires.slot c.in-Some.ensures.entry;
     }
 
 pub copy_page-requires-clause-linked : goal.copy_page-requires-clause-linked
@@ -78,9 +71,9 @@ copy_page-requires-clause-unmapped c =
     let here = c.loop-listed.invariant.so_far q.from q.source q.bytes q.roles q.begun in
     let same : c.self-in-loop-listed.inside.memory ≡ c.loop-listed.self.bytes = ap (λ (v : View). v.bytes) c.self-in-loop-listed.view_is in
     let up = c.in-Some.ensures.within in
-    let found = copy_passed c.args.self.now.directories q.bytes c.loop-listed.self.bytes q.roles c.loop-listed.self.roles q.from q.source c.args.to c.args.slot c.args.table c.loop-listed.index c.in-Some.listed.index c.self-in-loop-listed.inside.memory here same up.0 (omega (arith, up.1)) c.requires.slot c.in-Some.ensures.least in
+    let found = copy_passed c.in-Some.listed.index here same up.0 (omega (arith, up.1)) c.requires.slot c.in-Some.ensures.least in
     let now : c.loop-listed.self.spaces ≡ spaces_in c.args.self.now.directories c.loop-listed.self.bytes = subst (λ (v : View). v.spaces ≡ spaces_in v.directories v.bytes) c.self-in-loop-listed.view_is refl ∙ ap (λ (l : List (Option ℕ)). spaces_in l c.loop-listed.self.bytes) c.loop-listed.invariant.same in
-    ap (λ (s : Spaces). map.get s (at_page c.args.to (1024 * c.args.slot + c.in-Some.listed.index))) now ∙ copy_unmapped c.args.self.now.directories q.bytes c.loop-listed.self.bytes q.roles c.loop-listed.self.roles q.from q.source c.args.to c.args.slot c.args.table c.in-Some.listed.index c.in-Some.listed.entry c.self-in-loop-listed.inside.memory found same up.1 c.requires.slot c.in-Some.ensures.entry
+    ap (λ (s : Spaces). map.get s (at_page c.args.to (1024 * c.args.slot + c.in-Some.listed.index))) now ∙ copy_unmapped found same up.1 c.requires.slot c.in-Some.ensures.entry
 
 pub copy_page-requires-clause-room : goal.copy_page-requires-clause-room
 copy_page-requires-clause-room c =
@@ -88,11 +81,10 @@ copy_page-requires-clause-room c =
     let here = c.loop-listed.invariant.so_far q.from q.source q.bytes q.roles q.begun in
     let same : c.self-in-loop-listed.inside.memory ≡ c.loop-listed.self.bytes = ap (λ (v : View). v.bytes) c.self-in-loop-listed.view_is in
     let up = c.in-Some.ensures.within in
-    let found = copy_passed c.args.self.now.directories q.bytes c.loop-listed.self.bytes q.roles c.loop-listed.self.roles q.from q.source c.args.to c.args.slot c.args.table c.loop-listed.index c.in-Some.listed.index c.self-in-loop-listed.inside.memory here same up.0 (omega (arith, up.1)) c.requires.slot c.in-Some.ensures.least in
+    let found = copy_passed c.in-Some.listed.index here same up.0 (omega (arith, up.1)) c.requires.slot c.in-Some.ensures.least in
     let now : c.loop-listed.self.spaces ≡ spaces_in c.args.self.now.directories c.loop-listed.self.bytes = subst (λ (v : View). v.spaces ≡ spaces_in v.directories v.bytes) c.self-in-loop-listed.view_is refl ∙ ap (λ (l : List (Option ℕ)). spaces_in l c.loop-listed.self.bytes) c.loop-listed.invariant.same in
     subst (λ (s : Spaces). Room c.loop-listed.self.directories s c.loop-listed.self.roles c.args.to (1024 * c.args.slot + c.in-Some.listed.index)) (sym now)
-    (subst (λ (l : List (Option ℕ)). Room l (spaces_in c.args.self.now.directories c.loop-listed.self.bytes) c.loop-listed.self.roles c.args.to (1024 * c.args.slot + c.in-Some.listed.index)) (sym c.loop-listed.invariant.same)
-    (copy_room c.args.self.now.directories q.bytes c.loop-listed.self.bytes q.roles c.loop-listed.self.roles q.from q.source c.args.to c.args.slot c.args.table c.in-Some.listed.index c.in-Some.listed.entry c.self-in-loop-listed.inside.memory found same up.1 c.requires.slot c.in-Some.ensures.entry c.args.target c.requires.target))
+    (subst (λ (l : List (Option ℕ)). Room l (spaces_in c.args.self.now.directories c.loop-listed.self.bytes) c.loop-listed.self.roles c.args.to (1024 * c.args.slot + c.in-Some.listed.index)) (sym c.loop-listed.invariant.same) (copy_room found same up.1 c.requires.slot c.in-Some.ensures.entry c.requires.target))
 
 pub loop-listed-preserved : goal.loop-listed-preserved
 loop-listed-preserved c =
@@ -102,20 +94,18 @@ loop-listed-preserved c =
     let so_far : (from source : ℕ) (bytes : List ℕ) (roles : List Role) → CopyIn c.args.self.now.directories from source c.args.to c.args.slot c.args.table 0 bytes roles c.args.self.now.bytes c.args.self.now.roles → CopyIn c.args.self.now.directories from source c.args.to c.args.slot c.args.table (c.in-Some.listed.index + 1) bytes roles c.copy_page.new.self.bytes c.copy_page.new.self.roles =
     λ from source bytes roles begun.
     let here = c.loop-listed.invariant.so_far from source bytes roles begun in
-    let found = copy_passed c.args.self.now.directories bytes c.loop-listed.self.bytes roles c.loop-listed.self.roles from source c.args.to c.args.slot c.args.table c.loop-listed.index c.in-Some.listed.index c.self-in-loop-listed.inside.memory here same up.0 (omega (arith, up.1)) c.requires.slot c.in-Some.ensures.least in
+    let found = copy_passed c.in-Some.listed.index here same up.0 (omega (arith, up.1)) c.requires.slot c.in-Some.ensures.least in
     let made : PageCopied c.args.self.now.directories from c.args.to (1024 * c.args.slot + c.in-Some.listed.index) c.loop-listed.self.bytes c.loop-listed.self.roles c.copy_page.new.self.bytes c.copy_page.new.self.roles =
     subst (λ (l : List (Option ℕ)). PageCopied l from c.args.to (1024 * c.args.slot + c.in-Some.listed.index) c.loop-listed.self.bytes c.loop-listed.self.roles c.copy_page.new.self.bytes c.copy_page.new.self.roles) c.loop-listed.invariant.same
-    (c.copy_page.ensures.copied from source (subst (λ (l : List (Option ℕ)). directory_of l from ≡ Some source) (sym c.loop-listed.invariant.same) found.home)
-    (copy_entry c.args.self.now.directories bytes c.loop-listed.self.bytes roles c.loop-listed.self.roles from source c.args.to c.args.slot c.args.table c.in-Some.listed.index c.in-Some.listed.entry c.self-in-loop-listed.inside.memory found same up.1 c.requires.slot c.in-Some.ensures.entry)) in
-    copy_stepped c.args.self.now.directories bytes c.loop-listed.self.bytes roles c.loop-listed.self.roles from source c.args.to c.args.slot c.args.table c.in-Some.listed.index c.in-Some.listed.entry c.self-in-loop-listed.inside.memory found same up.1 c.requires.slot c.in-Some.ensures.entry c.args.target c.copy_page.new.self.bytes c.copy_page.new.self.roles c.requires.target made in
+    (c.copy_page.ensures.copied from source (subst (λ (l : List (Option ℕ)). directory_of l from ≡ Some source) (sym c.loop-listed.invariant.same) found.home) (copy_entry found same up.1 c.requires.slot c.in-Some.ensures.entry)) in
+    copy_stepped found same up.1 c.requires.slot c.in-Some.ensures.entry c.requires.target made in
     let q = c.requires.copying in
     let here = c.loop-listed.invariant.so_far q.from q.source q.bytes q.roles q.begun in
-    let found = copy_passed c.args.self.now.directories q.bytes c.loop-listed.self.bytes q.roles c.loop-listed.self.roles q.from q.source c.args.to c.args.slot c.args.table c.loop-listed.index c.in-Some.listed.index c.self-in-loop-listed.inside.memory here same up.0 (omega (arith, up.1)) c.requires.slot c.in-Some.ensures.least in
+    let found = copy_passed c.in-Some.listed.index here same up.0 (omega (arith, up.1)) c.requires.slot c.in-Some.ensures.least in
     let made : PageCopied c.args.self.now.directories q.from c.args.to (1024 * c.args.slot + c.in-Some.listed.index) c.loop-listed.self.bytes c.loop-listed.self.roles c.copy_page.new.self.bytes c.copy_page.new.self.roles =
     subst (λ (l : List (Option ℕ)). PageCopied l q.from c.args.to (1024 * c.args.slot + c.in-Some.listed.index) c.loop-listed.self.bytes c.loop-listed.self.roles c.copy_page.new.self.bytes c.copy_page.new.self.roles) c.loop-listed.invariant.same
-    (c.copy_page.ensures.copied q.from q.source (subst (λ (l : List (Option ℕ)). directory_of l q.from ≡ Some q.source) (sym c.loop-listed.invariant.same) found.home)
-    (copy_entry c.args.self.now.directories q.bytes c.loop-listed.self.bytes q.roles c.loop-listed.self.roles q.from q.source c.args.to c.args.slot c.args.table c.in-Some.listed.index c.in-Some.listed.entry c.self-in-loop-listed.inside.memory found same up.1 c.requires.slot c.in-Some.ensures.entry)) in
-    let kept = words_kept c.args.self.now.directories q.bytes c.loop-listed.self.bytes q.roles c.loop-listed.self.roles q.from q.source c.args.to c.args.slot c.args.table c.in-Some.listed.index c.in-Some.listed.entry c.self-in-loop-listed.inside.memory found same up.1 c.requires.slot c.in-Some.ensures.entry c.copy_page.new.self.bytes c.copy_page.new.self.roles made (so_far q.from q.source q.bytes q.roles q.begun) in
+    (c.copy_page.ensures.copied q.from q.source (subst (λ (l : List (Option ℕ)). directory_of l q.from ≡ Some q.source) (sym c.loop-listed.invariant.same) found.home) (copy_entry found same up.1 c.requires.slot c.in-Some.ensures.entry)) in
+    let kept = words_kept found same up.1 c.requires.slot c.in-Some.ensures.entry made (so_far q.from q.source q.bytes q.roles q.begun) in
     let moved : words_left c.self-in-loop-listed.inside.memory c.args.table (c.in-Some.listed.index + 1) ≡ words_left c.loop-listed.self.bytes c.args.table (c.in-Some.listed.index + 1) = ap (λ b. words_left b c.args.table (c.in-Some.listed.index + 1)) same in
     record {
       so_far = so_far;
@@ -128,4 +118,4 @@ loop-listed-preserved c =
 pub returns-clause-copied : goal.returns-clause-copied
 returns-clause-copied c from source bytes roles begun =
     let same : c.self-in-loop-listed.inside.memory ≡ c.loop-listed.self.bytes = ap (λ (v : View). v.bytes) c.self-in-loop-listed.view_is in
-    copy_passed c.args.self.now.directories bytes c.loop-listed.self.bytes roles c.loop-listed.self.roles from source c.args.to c.args.slot c.args.table c.loop-listed.index 1024 c.self-in-loop-listed.inside.memory (c.loop-listed.invariant.so_far from source bytes roles begun) same c.loop-listed.invariant.within (omega arith) c.requires.slot c.in_default.ensures.none
+    copy_passed 1024 (c.loop-listed.invariant.so_far from source bytes roles begun) same c.loop-listed.invariant.within (omega arith) c.requires.slot c.in_default.ensures.none
