@@ -239,17 +239,6 @@ pub free_from-opening : (frames : ℕ) → free_from 1 frames ≡ opening frames
 unfolding opening
 free_from-opening frames = refl
 
-pub free_from-all_in_use : (frames : ℕ) → free_from frames frames ≡ all_in_use frames
-free_from-all_in_use frames =
-    let none : frames - frames ≡ 0 = omega arith in
-    λ i. record { free = set.from_list (range_with_len frames (none i)); frames = frames }
-
--- one frame more, from the front
-pub with_free-free_from : (frame frames : ℕ) → frame < frames → with_free (free_from (frame + 1) frames) frame ≡ free_from frame frames
-with_free-free_from frame frames h =
-    let one_more : suc (frames - (frame + 1)) ≡ frames - frame = omega arith in
-    λ i. record { free = set.from_list (range_with_len frame (one_more i)); frames = frames }
-
 below_range : (q first count : ℕ) → q < first → set.contains (members (range_with_len first count)) q ≡ false
 below_range q first zero h = refl
 below_range q first (suc count) h =

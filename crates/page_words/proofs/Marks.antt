@@ -1,18 +1,15 @@
 -- Which numbers a list of truth values marks, and how many.
-use Rattle.std.proofs.Common.{◌≡◌, ◌≢◌, ℕ, zero, suc, ◌+◌, ◌<◌, ◌≤◌, inl, inr, Bool, true, false, cond, ◌&&◌, ◌||◌, not, List, [], ◌∷◌, length, replicate, get_or, refl, sym, ap, ◌∙◌, arith, count_by, Some, None}
-use Rattle.std.specs.Prelude.{position, slice_set, nat_lt}
-use Rattle.std.specs.List.{position_or_len, range_with_len}
+use Rattle.std.proofs.Common.{◌≡◌, ◌≢◌, ℕ, zero, suc, ◌+◌, ◌<◌, ◌≤◌, inl, inr, Bool, true, false, cond, ◌&&◌, ◌||◌, not, List, [], ◌∷◌, length, replicate, get_or, refl, sym, ap, ◌∙◌, arith, count_by}
+use Rattle.std.specs.Prelude.{slice_set}
+use Rattle.std.specs.List.{range_with_len}
 use Rattle.std.proofs.lemmas.List.{get_or-set_same, get_or-set_other}
 use Rattle.std.proofs.lemmas.List.Sums.{sum_by-cons}
-use Rattle.std.proofs.lemmas.List.Quantifiers.{position-Some}
-use Rattle.std.proofs.lemmas.Bool.{cases_lt}
-use Rattle.std.proofs.lemmas.Bool.Decides.{nat_tests}
 use Rattle.page_words.specs.FiniteMap.{nat_order, same}
 use Rattle.page_words.specs.FiniteSet as set
 use Rattle.page_words.specs.FiniteSet.{Set}
 use Rattle.page_words.specs.Marked.{marked_from, marked}
 use Rattle.page_words.proofs.MapLemmas.{contains-insert, len-insert, same_itself, same_set}
-use Rattle.page_words.proofs.SetLemmas.{contains-remove, same_cases, contains-no_members}
+use Rattle.page_words.proofs.SetLemmas.{contains-remove, same_cases}
 use Rattle.std.proofs.Math.Bool.{and-false, and-true, or-false}
 use Rattle.page_words.proofs.SetLemmas.{same_apart}
 
@@ -95,28 +92,6 @@ marked-set_false marks f h = same_set (marked (slice_set marks f false)) (set.re
           | inr other ↦ get_or-set_other marks f q false false other.0 ∙ sym (contains-marked marks q) ∙ ap (λ b. not b && set.contains (marked marks) q) (sym other.1)
         ]
         ∙ sym (contains-remove (marked marks) f q)
-
-none_marked : (marks : List Bool) → length marks ≤ position_or_len (λ mark. mark) marks → count_by (λ mark. mark) marks ≡ 0
-none_marked [] h = refl
-none_marked (true ∷ marks) h = absurd (omega arith)
-none_marked (false ∷ marks) h = let rest = none_marked marks (omega arith) in omega (arith, sum_by-cons (λ b. cond b 1 0) false marks)
-
--- where no mark is found, no number is marked
-pub len-position_None : (marks : List Bool) → position (λ mark. mark) marks ≡ None → set.len (marked marks) ≡ 0
-len-position_None marks h = elim (cases_lt (position_or_len (λ mark. mark) marks) (length marks)) [
-  | inl below ↦ absurd (let t : nat_lt (position_or_len (λ mark. mark) marks) (length marks) ≡ true = grind (arith, nat_tests) in let e : Some (position_or_len (λ mark. mark) marks) ≡ None = ap (λ b. cond b (Some (position_or_len (λ mark. mark) marks)) None) (sym t) ∙ h in cc)
-  | inr rest ↦ len-marked marks ∙ none_marked marks (omega arith)
-]
-
--- where a mark is found, it is marked
-pub contains-position_Some : (marks : List Bool) (f : ℕ) → position (λ mark. mark) marks ≡ Some f → set.contains (marked marks) f ≡ true
-contains-position_Some marks f h = contains-marked marks f ∙ (position-Some (λ mark. mark) marks f false h).1
-
-pub len-contains : (marks : List Bool) (f : ℕ) → set.contains (marked marks) f ≡ true → set.len (marked marks) ≢ 0
-len-contains marks f h none = let e : true ≡ false = sym h ∙ contains-no_members (marked marks) none f in cc
-
-pub within-position_Some : (marks : List Bool) (f : ℕ) → position (λ mark. mark) marks ≡ Some f → f < length marks
-within-position_Some marks f h = (position-Some (λ mark. mark) marks f false h).0
 
 -- a list that isn't true at 0 marks numbers from 1 to its length less 1
 pub contains-within : (marks : List Bool) (f : ℕ) → get_or marks 0 false ≡ false → set.contains (marked marks) f ≡ true → (1 ≤ f) × (f < length marks)

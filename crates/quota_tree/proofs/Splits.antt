@@ -4,9 +4,9 @@ use Rattle.std.specs.Prelude.{slice_set, nat_lt, Ok, Err}
 use Rattle.std.specs.Option.{option_map}
 use Rattle.std.proofs.lemmas.Bool.Decides.{nat_tests}
 use Rattle.page_words.specs.FiniteMap as map
-use Rattle.page_words.specs.FiniteMap.{Map, nat_order, same}
+use Rattle.page_words.specs.FiniteMap.{same}
 use Rattle.quota_tree.specs.declared.Container.{Container}
-use Rattle.quota_tree.specs.declared.QuotaFault.TheVariants.{BadQuota, TableFull, NoRoom}
+use Rattle.quota_tree.specs.declared.QuotaFault.TheVariants.{BadQuota, NoRoom}
 use Rattle.quota_tree.specs.Book.{Book, is_child, given, number_of_children, next_number}
 use Rattle.quota_tree.specs.Collected.{collected}
 use Rattle.quota_tree.specs.Containers.{Containers, giver_after_split, room_of, opened_container, split_answer, fitting, after_split}
@@ -26,23 +26,6 @@ pub record CanSplit (c : Containers) (parent quota child : ℕ) : Type 0 where
   pub room : quota ≤ room_of c parent
 
 module _ (c : Containers) (parent quota : ℕ) where
-  pub split_answer-full : 1 ≤ quota → next_number c.book ≡ None → split_answer c parent quota ≡ Err TableFull
-  split_answer-full some full = let no : (quota == 0) ≡ false = grind (arith, nat_tests) in rw (no, full) refl
-
-  pub split_answer-no_room : (child : ℕ) → 1 ≤ quota → next_number c.book ≡ Some child → room_of c parent < quota → split_answer c parent quota ≡ Err NoRoom
-  split_answer-no_room child some next more =
-      let no : (quota == 0) ≡ false = grind (arith, nat_tests) in
-      let over : nat_lt (room_of c parent) quota ≡ true = grind (arith, nat_tests) in
-      rw (no, next, over) refl
-
-  pub split_answer-ok : (child : ℕ) → CanSplit c parent quota child → split_answer c parent quota ≡ Ok child
-  split_answer-ok child can =
-      let some = can.some in
-      let room = can.room in
-      let no : (quota == 0) ≡ false = grind (arith, nat_tests) in
-      let within : nat_lt (room_of c parent) quota ≡ false = grind (arith, nat_tests) in
-      rw (no, can.next, within) refl
-
   pub can_split-of_answer : (child : ℕ) → split_answer c parent quota ≡ Ok child → CanSplit c parent quota child
   can_split-of_answer child h = by (quota == 0) (next_number c.book) refl refl h
     where

@@ -1,10 +1,10 @@
 -- Pieces of a text that are written one behind another.
-use Rattle.std.proofs.Common.{◌≡◌, ℕ, ◌+◌, ◌-◌, ◌<◌, ◌≤◌, List, [], ◌++◌, Option, length, take, drop, subst, sym, ap, ◌∙◌, append_assoc, take-append-drop, get_or, drop-cons, add-one, append-nil, length-append, arith, Result, Ok, Err}
+use Rattle.std.proofs.Common.{◌≡◌, ℕ, ◌+◌, ◌-◌, ◌<◌, List, [], ◌++◌, Option, length, take, drop, subst, sym, ap, ◌∙◌, append_assoc, take-append-drop, get_or, drop-cons, add-one, append-nil, length-append, arith, Result, Ok, Err}
 use Rattle.std.specs.Prelude.{OnOk, OnErr}
 use Rattle.std.specs.List.{flat_map}
 use Rattle.std.specs.Io.KnownBytes.{Appends}
 use Rattle.std.proofs.KnownBytes.{Appends-trans}
-use Rattle.std.proofs.lemmas.List.{take_rest, drop_all}
+use Rattle.std.proofs.lemmas.List.{take_rest}
 use Rattle.text_output.specs.Output.{AppendsFront, LeavesUnwritten}
 
 -- a write after a write that left a rest
@@ -53,10 +53,6 @@ module _ {X : Type 0} (f : X → List ℕ) (xs : List X) where
   cut_next a b c n x within is before front =
       cut_piece a b c (flat_map f xs) (f x) (flat_map f (drop (n + 1) xs))
       (subst (LeavesUnwritten a b (flat_map f xs)) (pieces_step n x within ∙ ap (λ y. f y ++ flat_map f (drop (n + 1) xs)) (sym is)) before) front
-
-  -- where none is left, all are written
-  pub wrote_all : (a b : Option (List ℕ)) (n : ℕ) → length xs ≤ n → LeavesUnwritten a b (flat_map f xs) (flat_map f (drop n xs)) → Appends a b (flat_map f xs)
-  wrote_all a b n all before = subst (Appends a b) (sym (before.whole ∙ ap (λ l. before.written ++ flat_map f l) (drop_all n xs all) ∙ append-nil before.written)) before.grown
 
 -- ---- Four parts of a text
 
