@@ -218,14 +218,6 @@ images_stand v image of S =
 
 -- ---- The fields of the image of a machine
 
-dead-past : {X : Type 0} (x : Option X) → is_some x ≡ false → x ≡ None
-dead-past None h = refl
-dead-past (Some a) h = cc
-
-not-live : (b : Bool) → (b ≡ true → ⊥) → b ≡ false
-not-live true h = absurd (h refl)
-not-live false h = refl
-
 module _ (v : View) (W : IsWellFormed v.state) where
   member-there : (p : ℕ) (c : Container) → container_of v.state p ≡ Some c → (m : Member) × (map.get v.state.book p ≡ Some m) × (as_container v.state p m ≡ c)
   member-there p c h = from_map (λ m. as_container v.state p m) (map.get v.state.book p) c h

@@ -41,9 +41,6 @@ record AreZero (l q a u g d : ℕ) : Type 0 where
   given : g ≡ 0
   directory : d ≡ 0
 
-same-eq : (a b : ℕ) → a ≡ b → (a == b) ≡ true
-same-eq a b e = eq-eqb a b e
-
 process_kept : (n p place live parent quota used given directory : ℕ) → first_failing (process_tests n p place live parent quota used given directory) ≡ None
     → AreLive n p live parent directory ⊎ AreZero live parent quota used given directory
 process_kept n p place live parent quota used given directory h = by (live == 1) refl h

@@ -3,7 +3,7 @@ use Rattle.std.proofs.Common.{◌≡◌, ℕ, ◌+◌, ◌<◌, ◌≤◌, true,
 use Rattle.std.specs.Result.{IsErrOf, OnOk, IfErr}
 use Rattle.std.specs.Io.KnownBytes.{Appends, Keeps, Consumes, IsAtEnd}
 use Rattle.std.specs.List.{list_all}
-use Rattle.std.proofs.KnownBytes.{Consumes-trans, Consumes-kept, Appends-nil, Appends-trans}
+use Rattle.std.proofs.KnownBytes.{Consumes-trans, Consumes-kept, Appends-nil}
 use Rattle.std.proofs.lemmas.Bool.{le-ltb}
 use Rattle.process_table.specs.State.{open_with}
 use Rattle.kernel_calls.specs.Machine.{answers, end_of}
@@ -169,36 +169,11 @@ if_some_map : {P Q : List ℕ → Type 0} (o : Option (List ℕ)) → ((xs : Lis
 if_some_map None f p = tt
 if_some_map (Some xs) f p = f xs p
 
-wrote_all : (a b c : Option (List ℕ)) (text waits : List ℕ) → LeavesUnwritten a b text waits → Appends b c waits → Appends a c text
-wrote_all a b c text waits before after = subst (Appends a c) (sym before.whole) (Appends-trans a b c before.written waits before.grown after)
-
--- nothing waited after a front of the text was written
-nothing_more : (a b c : Option (List ℕ)) (text waits : List ℕ) → AppendsFront a b text → waits ≡ [] → Appends b c waits → AppendsFront a c text
-nothing_more a b c text waits front none after = (
-  front.0,
-  front.1,
-  record {
-    written = front.2.written;
-    whole = front.2.whole;
-    grown = subst (Appends a c) (ap (λ bs. front.2.written ++ bs) none ∙ append-nil front.2.written) (Appends-trans a b c front.2.written waits front.2.grown after);
-  },
-)
-
 -- no write fails where nothing waits
 nothing_cut : (b c : Option (List ℕ)) (waits : List ℕ) → waits ≡ [] → AppendsFront b c waits → ⊥
 nothing_cut b c waits none front =
     let parts : length front.2.written + length front.0 ≡ 0 = sym (length-append front.2.written front.0) ∙ ap length (sym front.2.whole ∙ none) in
     omega (arith, front.1)
-
-pub ends_by : (frames : ℕ) (fault : ScriptFault) (remained remains : Option (List ℕ)) (waits : List ℕ) (start now last : Option (List ℕ)) → RanInto frames fault remained remains waits start now → Appends now last waits
-    → (IsBeforeReading fault → ⊥) × EndsBy frames fault remained remains start last
-ends_by frames (Malformed line) remained remains waits start now last run written = (λ early. early, if_some_map remained (λ input parts. (parts.0, wrote_all start now last _ waits parts.1 written)) run)
-ends_by frames TooLong remained remains waits start now last run written = (λ early. early, if_some_map remained (λ input parts. (parts.0, wrote_all start now last _ waits parts.1 written)) run)
-ends_by frames ReadFailed remained remains waits start now last run written = (λ early. early, record { read = run.read; within = run.within; taken = run.taken; sound = run.sound; short = run.short; text = wrote_all start now last _ waits run.text written })
-ends_by frames WriteFailed remained remains waits start now last run written =
-    (λ early. early, if_some_map remained (λ input front. nothing_more start now last _ waits front run.0 written) run.1)
-ends_by frames BadSize remained remains waits start now last run written = absurd run
-ends_by frames NoMemory remained remains waits start now last run written = absurd run
 
 pub ends_whole_cut : (frames : ℕ) (remained remains : Option (List ℕ)) (ran : Session) (start now last : Option (List ℕ)) → Ran frames remained ran start now → AppendsFront now last ran.output
     → (IsBeforeReading WriteFailed → ⊥) × EndsBy frames WriteFailed remained remains start last
