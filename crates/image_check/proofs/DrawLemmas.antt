@@ -1,5 +1,5 @@
 -- What is counted for each drawn number adds up to what is counted for all.
-use Rattle.std.proofs.Common.{◌≡◌, ℕ, zero, suc, ◌+◌, ◌*◌, ◌<◌, ◌≤◌, Bool, true, false, List, [], ◌∷◌, refl, sym, ap, ◌∙◌, arith, inl, inr, sum_by}
+use Rattle.std.proofs.Common.{◌≡◌, ℕ, zero, suc, ◌+◌, ◌*◌, ◌<◌, ◌≤◌, List, [], ◌∷◌, refl, sym, ap, ◌∙◌, arith, inl, inr, sum_by}
 use Rattle.std.specs.Prelude.{◌==◌}
 use Rattle.std.proofs.lemmas.Bool.{cases_lt, eq-eqb, ne_eqb}
 use Rattle.std.proofs.lemmas.List.Sums.{sum_by-cons}
@@ -20,10 +20,6 @@ sum-le f g first (suc count) h =
     let a = h first (omega arith) (omega arith) in
     let b = sum-le f g (first + 1) count (λ k low high. h k (omega arith) (omega arith)) in
     omega (arith, a, b)
-
-counted-le : (b : Bool) → counted b ≤ 1
-counted-le true = omega arith
-counted-le false = omega arith
 
 head-there : (x : ℕ) (xs : List ℕ) → 1 ≤ times x (x ∷ xs)
 head-there x xs = let a : counted (x == x) ≡ 1 = ap counted (eq-eqb x x refl) in omega (arith, a)

@@ -1,9 +1,9 @@
 -- What an image's tables and pages are by its words.
 use Rattle.std.proofs.Common.{◌≡◌, ℕ, ◌+◌, ◌*◌, ◌<◌, ◌≤◌, Bool, true, false, ◌&&◌, length, refl, ap, subst, ◌∙◌, arith, Some, None, is_some}
-use Rattle.std.specs.Prelude.{if◌then◌else◌, nat_lt, nat_le, IsTrue}
+use Rattle.std.specs.Prelude.{if◌then◌else◌, nat_lt, IsTrue}
 use Rattle.std.specs.Option.{option_and_then}
 use Rattle.std.specs.List.{list_any}
-use Rattle.std.proofs.lemmas.Bool.{and_parts, and_from, ltb-true, lt-ltb, le-leb}
+use Rattle.std.proofs.lemmas.Bool.{and_parts, ltb-true, lt-ltb}
 use Rattle.page_words.specs.Addresses.{slot_number, index_number}
 use Rattle.page_words.specs.Words.{is_present, frame_number}
 use Rattle.page_words.specs.FiniteMap.{same}
@@ -37,9 +37,6 @@ real_own version word e = λ i. if e i then None else Some (frame_number word)
 pub false_from : (b : Bool) → (b ≡ true → ⊥) → b ≡ false
 false_from true h = absurd (h refl)
 false_from false h = refl
-
-pub user_from : (s : ℕ) → 256 ≤ s → s < 960 → is_user_slot s ≡ true
-user_from s low high = and_from (nat_le 256 s) (nat_lt s 960) (le-leb 256 s low) (lt-ltb s 960 high)
 
 module _ (image : Image) where
   abbrev pub M : memory.Image

@@ -119,10 +119,6 @@ term_room g xs ys n k low room a f inside =
     ap (sum_range (g f) 0) (let e : n ≡ k + 1 + (n - (k + 1)) = omega arith in e) ∙ sum-add (g f) 0 (k + 1) (n - (k + 1)) in
     omega (arith, room f i, a.each f i, more, whole)
 
--- no time adds nothing
-pub no_times : (xs : List ℕ) (times : ℕ) (g : ℕ → ℕ) → times ≡ 0 → Adds xs xs (λ f. times * g f)
-no_times xs times g none = adds_nothing xs (λ f. times * g f) (λ f. ap (λ n. n * g f) none ∙ zero-mul (g f))
-
 -- ---- What was counted from zeros
 
 module _ (image : Image) (p : ℕ) (named : List ℕ) (size : length image.bytes ≡ 4096 * frames image) (few : frames image ≤ 4096) (counts : Counts named 4096 (λ t. names_by image p t)) where

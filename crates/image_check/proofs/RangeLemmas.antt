@@ -30,15 +30,6 @@ sum-none f first (suc count) h =
     let b = sum-none f (first + 1) count (λ k low high. h k (omega arith) (omega arith)) in
     omega (arith, a, b)
 
--- each term of a sum that is 0 is 0
-pub sum-zero_at : (f : ℕ → ℕ) (first count : ℕ) → sum_range f first count ≡ 0 → (k : ℕ) → first ≤ k → k < first + count → f k ≡ 0
-unfolding sum_range
-sum-zero_at f first zero h k low high = absurd (omega arith)
-sum-zero_at f first (suc count) h k low high = elim (cases_eq k first) [
-  | inl same ↦ ap f same ∙ (omega arith)
-  | inr differ ↦ sum-zero_at f (first + 1) count (omega arith) k (omega arith) (omega arith)
-]
-
 pub sum-same : (f g : ℕ → ℕ) (first count : ℕ) → ((k : ℕ) → first ≤ k → k < first + count → f k ≡ g k) → sum_range f first count ≡ sum_range g first count
 unfolding sum_range
 sum-same f g first zero h = refl
@@ -57,18 +48,6 @@ sum-one f first (suc count) k low high others = elim (cases_eq k first) [
       let none = others first (λ e. differ (sym e)) in
       let rest = sum-one f (first + 1) count k (omega arith) (omega arith) others in
       omega (arith, none, rest)
-]
-
-counted-one : (b : Bool) → b ≡ true → counted b ≡ 1
-counted-one b h = ap counted h
-
--- a count of 0: none passes
-pub count-zero_at : (p : ℕ → Bool) (first count : ℕ) → count_range p first count ≡ 0 → (k : ℕ) → first ≤ k → k < first + count → p k ≡ false
-unfolding count_range
-count-zero_at p first zero h k low high = absurd (omega arith)
-count-zero_at p first (suc count) h k low high = elim (cases_eq k first) [
-  | inl same ↦ ap p same ∙ elim (cases_Bool (p first)) [ inl t ↦ absurd (let c = counted-one (p first) t in omega arith) | inr f ↦ f ]
-  | inr differ ↦ count-zero_at p (first + 1) count (omega arith) k (omega arith) (omega arith)
 ]
 
 pub count-none : (p : ℕ → Bool) (first count : ℕ) → ((k : ℕ) → first ≤ k → k < first + count → p k ≡ false) → count_range p first count ≡ 0
@@ -155,10 +134,6 @@ sum-more f count =
 pub all_begins : (p : ℕ → Bool) (first : ℕ) → all_range p first (first - first) ≡ true
 all_begins p first = all-from p first (first - first) (λ k low high. absurd (omega arith))
 
--- one number more
-pub count_more : (p : ℕ → Bool) (first count : ℕ) → count_range p first (count + 1) ≡ count_range p first count + counted (p (first + count))
-count_more p first count = count_range-more p first count
-
 pub count_begins : (p : ℕ → Bool) (first : ℕ) → 0 ≡ count_range p first (first - first)
 count_begins p first = sym (ap (count_range p first) (let e : first - first ≡ 0 = omega arith in e) ∙ count_range-zero p first)
 
@@ -218,17 +193,3 @@ all_grows p first k so_far own low a b =
 
 pub all_ends : (p : ℕ → Bool) (first count k : ℕ) (so_far : Bool) → k ≡ first + count → so_far ≡ all_range p first (k - first) → so_far ≡ all_range p first count
 all_ends p first count k so_far end a = a ∙ ap (all_range p first) (let e : k - first ≡ count = omega arith in e)
-
--- a range in three parts
-pub all_parts : (p : ℕ → Bool) (a b c : ℕ) → all_range p 0 (a + b + c) ≡ (all_range p 0 a && all_range p a b && all_range p (a + b) c)
-all_parts p a b c =
-    let z : 0 + (a + b) ≡ a + b = omega arith in
-    let y : 0 + a ≡ a = omega arith in
-    all-add p 0 (a + b) c
-    ∙ (λ i. all-add p 0 a b i && all_range p (z i) c)
-    ∙ ap (λ j. (all_range p 0 a && all_range p j b) && all_range p (a + b) c) y
-    ∙ flat (all_range p 0 a) (all_range p a b) (all_range p (a + b) c)
-  where
-    flat : (a b c : Bool) → ((a && b) && c) ≡ (a && b && c)
-    flat true b c = refl
-    flat false b c = refl

@@ -1,7 +1,6 @@
 -- A line for each of several, written one behind another.
-use Rattle.std.proofs.Common.{◌≡◌, ℕ, ◌+◌, ◌<◌, ◌≤◌, List, ◌++◌, Option, length, drop, subst, sym, ap, ◌∙◌, get_or, drop-cons, add-one, append-nil}
+use Rattle.std.proofs.Common.{◌≡◌, ℕ, ◌+◌, ◌<◌, List, ◌++◌, Option, length, drop, subst, sym, ap, ◌∙◌, get_or, drop-cons, add-one}
 use Rattle.std.specs.Io.KnownBytes.{Appends}
-use Rattle.std.proofs.lemmas.List.{drop_all}
 use Rattle.text_output.specs.Output.{AppendsFront, LeavesUnwritten}
 use Rattle.text_output.proofs.OutputLemmas.{wrote_piece, cut_piece}
 use Rattle.image_check.specs.Text.{lines_from}
@@ -21,7 +20,3 @@ module _ {C : Type 0} (line : ℕ → C → List ℕ) (cs : List C) where
   pub cut_line : (a b e : Option (List ℕ)) (text : List ℕ) (n : ℕ) (d : C) → n < length cs → LeavesUnwritten a b text (lines_from line n (drop n cs))
       → AppendsFront b e (line n (get_or cs n d)) → AppendsFront a e text
   cut_line a b e text n d within before front = cut_piece a b e text (line n (get_or cs n d)) (lines_from line (n + 1) (drop (n + 1) cs)) (at_next a b text n d within before) front
-
-  -- where none is left, all are written
-  pub wrote_lines : (a b : Option (List ℕ)) (text : List ℕ) (n : ℕ) → length cs ≤ n → LeavesUnwritten a b text (lines_from line n (drop n cs)) → Appends a b text
-  wrote_lines a b text n all before = subst (Appends a b) (sym (before.whole ∙ ap (λ l. before.written ++ lines_from line n l) (drop_all n cs all) ∙ append-nil before.written)) before.grown

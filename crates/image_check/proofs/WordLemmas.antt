@@ -6,9 +6,6 @@ use Rattle.page_words.specs.Words.{flag, frame_number, is_present, is_writable, 
 use Rattle.memory_image.specs.Words.{NamesRealPage, NamesPageIn}
 use Rattle.image_check.specs.WordTests.{are_clear, only_with, are_equal, is_lazy_or_real, names_table, names_real_page, names_any_page, names_page, TestsDecide}
 
-clear : (b : Bool) → b ≡ false → not b ≡ true
-clear b h = ap not h
-
 only : (a b : Bool) → only_with a b ≡ true → a ≡ true → b ≡ true
 only true b h e = h
 only false b h e = cc
