@@ -57,10 +57,6 @@ names_room image drawn counts some has = room_for (λ f p. names_by image p f) c
 pub maps_room : (image : Image) (drawn : List ℕ) (counts : List ℕ) → AreSomeDrawn drawn 64 → Counts counts (frames image) (λ f. sum_by (λ p. maps_by image p f) drawn) → HaveRoom counts 720896
 maps_room image drawn counts some has = room_for (λ f p. maps_by image p f) counts (frames image) 720896 drawn (omega arith) (most_maps image drawn some) has
 
--- no number was drawn
-pub none_drawn : AreSomeDrawn [] 64
-none_drawn = record { below = λ x low. omega arith; above = λ x high. refl }
-
 -- one more that was not there
 pub one_more : (drawn : List ℕ) (p : ℕ) → AreSomeDrawn drawn 64 → p < 64 → times p drawn ≡ 0 → AreSomeDrawn (drawn ++ p ∷ []) 64
 one_more drawn p some low new = record {
@@ -115,9 +111,6 @@ counts_both g n drawn also old other new has had adds = record {
 -- the clause of a number by how often it stands there
 abbrev clause_by : ℕ → Option ProcessClause → Option ProcessClause
 clause_by n c = cond (n == 0) None c
-
-clause-none : (n : ℕ) (c : Option ProcessClause) → n ≡ 0 → clause_by n c ≡ None
-clause-none n c e = ap (λ b. cond b None c) (eq-eqb n 0 e)
 
 clause-some : (n : ℕ) (c : Option ProcessClause) → n ≢ 0 → clause_by n c ≡ c
 clause-some n c e = ap (λ b. cond b None c) (ne_eqb n 0 e)
