@@ -31,7 +31,9 @@ pub fn next_region(memory: &Memory, directory: Frame, first: u32) -> Option<Regi
     ensures least { IfSome result (λ region. (slot : ℕ) → first ≤ slot → slot < region.slot → table_of (frame_bytes memory.now) directory slot ≡ None) }
     ensures none { IfNone result ((slot : ℕ) → first ≤ slot → slot < 960 → table_of (frame_bytes memory.now) directory slot ≡ None) }
 {
-    for slot in first..SLOT_END {
+    // Over places of the machine's width, so that no turn widens one.
+    for place in first as usize..SLOT_END as usize {
+        let slot = place as u32;
         if let Some(table) = table(memory, directory, slot) {
             return Some(Region { slot, table });
         }
@@ -48,7 +50,8 @@ pub fn next_listed(memory: &Memory, table: Frame, first: u32) -> Option<Listed>
     ensures least { IfSome result (λ listed. (index : ℕ) → first ≤ index → index < listed.index → word_entry (word_in (frame_bytes memory.now table) index) ≡ None) }
     ensures none { IfNone result ((index : ℕ) → first ≤ index → index < 1024 → word_entry (word_in (frame_bytes memory.now table) index) ≡ None) }
 {
-    for index in first..1024 {
+    for place in first as usize..1024 {
+        let index = place as u32;
         if let Some(entry) = word_entry(memory, table, index) {
             return Some(Listed { index, entry });
         }

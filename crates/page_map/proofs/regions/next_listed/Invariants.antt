@@ -3,5 +3,5 @@ use Rattle.phys_memory.specs.Bytes.{frame_bytes, word_in}
 use Rattle.page_map.specs.Entries.{word_entry}
 use Rattle.page_map.proofs.regions.next_listed.Given as goal
 
-abbrev pub invariant-loop-index : goal.invariant-loop-index
-invariant-loop-index l = (i : ℕ) → l.fn.first ≤ i → i < l.index → word_entry (word_in (frame_bytes l.memory l.fn.table) i) ≡ None
+abbrev pub invariant-loop-place : goal.invariant-loop-place
+invariant-loop-place l = (i : ℕ) → l.fn.first ≤ i → i < l.place → word_entry (word_in (frame_bytes l.memory l.fn.table) i) ≡ None

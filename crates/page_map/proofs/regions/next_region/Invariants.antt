@@ -3,5 +3,5 @@ use Rattle.phys_memory.specs.Bytes.{frame_bytes}
 use Rattle.page_map.specs.Entries.{table_of}
 use Rattle.page_map.proofs.regions.next_region.Given as goal
 
-abbrev pub invariant-loop-slot : goal.invariant-loop-slot
-invariant-loop-slot l = (s : ℕ) → l.fn.first ≤ s → s < l.slot → table_of (frame_bytes l.memory) l.fn.directory s ≡ None
+abbrev pub invariant-loop-place : goal.invariant-loop-place
+invariant-loop-place l = (s : ℕ) → l.fn.first ≤ s → s < l.place → table_of (frame_bytes l.memory) l.fn.directory s ≡ None
