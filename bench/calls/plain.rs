@@ -4,7 +4,7 @@
 //!     rustc -O --edition 2021 bench/calls/plain.rs -o plain && ./plain
 //!
 //! It makes the calls of program/main.rt.in, and prints the same lines: of each measurement the best of RUNS, in
-//! nanoseconds for 400,000 calls. Nothing of it is proved.
+//! nanoseconds for 40,000 calls. Nothing of it is proved.
 #![allow(dead_code)]
 use std::cell::UnsafeCell;
 use std::sync::atomic::{AtomicBool, AtomicU64, AtomicUsize, Ordering::SeqCst};
@@ -12,8 +12,8 @@ use std::sync::Mutex;
 use std::thread;
 use std::time::Instant;
 
-const CALLS: usize = 400_000;
-const RUNS: usize = 3;
+const CALLS: usize = 40_000;
+const RUNS: usize = 15;
 const FRAMES: usize = 64;
 const WORDS: usize = 1024;
 const PAGE: u32 = 0x4000_0000;
