@@ -6,7 +6,7 @@ use Rattle.kernel_calls.specs.declared.calls.Event.{Event}
 use Rattle.locked_core.proofs.CatchingUp.{lags_more}
 use Rattle.locked_core.proofs.Entries.{Stands, judged, logged}
 use Rattle.locked_core.specs.Held.{Held}
-use Rattle.locked_core.specs.Pages.{Page, LagsBehind, page}
+use Rattle.locked_core.specs.Pages.{LagsBehind, page}
 use Rattle.memory_report.specs.Histories.{Legal}
 use Rattle.memory_report.specs.declared.entries.LogEntry.{LogEntry}
 use Rattle.locked_core.proofs.locked.Locked.carry_out.Goals as goal
