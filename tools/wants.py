@@ -9,6 +9,7 @@ HINTS = {
     "libtower_c.a": "the proved archive ('make -C c' makes it)",
     "valgrind": "'valgrind' on PATH",
     "gcc": "'gcc' on PATH",
+    "rustc": "'rustc' on PATH",
     "cc": "a C compiler, 'cc' on PATH",
 }
 

@@ -1,7 +1,7 @@
 -- A report that takes in a log from a place on, and the side that is not published.
-use Rattle.std.proofs.Common.{◌≡◌, ℕ, ◌+◌, ◌<◌, List, [], ◌∷◌, ◌++◌, take, drop, length, refl, sym, ap, ◌∙◌, subst}
+use Rattle.std.proofs.Common.{◌≡◌, ℕ, ◌+◌, ◌<◌, List, [], ◌∷◌, ◌++◌, take, drop, length, refl, sym, ap, ◌∙◌, subst, append_assoc}
 use Rattle.std.proofs.Math.ListN.{get_or}
-use Rattle.std.proofs.lemmas.List.{take_more, take-append-drop}
+use Rattle.std.proofs.lemmas.List.{append-nil, take_more, take-append-drop}
 use Rattle.logbook.specs.Pages.{Book}
 use Rattle.locked_core.specs.Pages.{Page, LagsBehind, page}
 use Rattle.memory_report.proofs.HistoryLemmas.{begins_legal}
@@ -21,3 +21,15 @@ takes_next log place e before now inside is took frames legal at =
 -- the page that was published before one entry more
 pub lags_by_one : (frames : ℕ) (book : Book) (log new : List LogEntry) (e : LogEntry) (p : Page) → p ≡ page frames book log → new ≡ log ++ e ∷ [] → LagsBehind p (page frames book new)
 lags_by_one frames book log new e p is grown = subst (λ (q : Page). LagsBehind q (page frames book new)) (sym is) (record { frames = refl; book = refl; begins = (e ∷ [], grown) })
+
+-- a page that was behind, before one entry more
+pub lags_more : (frames : ℕ) (book : Book) (log new : List LogEntry) (e : LogEntry) (p : Page) → LagsBehind p (page frames book log) → new ≡ log ++ e ∷ [] → LagsBehind p (page frames book new)
+lags_more frames book log new e p behind grown = record {
+  frames = behind.frames;
+  book = behind.book;
+  begins = (behind.begins.0 ++ e ∷ [], grown ∙ ap (λ l. l ++ e ∷ []) behind.begins.1 ∙ append_assoc p.log behind.begins.0 (e ∷ []));
+}
+
+-- a page of the same entries
+pub lags_by_none : (whole p : Page) → p ≡ whole → LagsBehind p whole
+lags_by_none whole p is = subst (λ (q : Page). LagsBehind q whole) (sym is) (record { frames = refl; book = refl; begins = ([], sym (append-nil whole.log)) })

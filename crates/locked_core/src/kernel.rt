@@ -202,7 +202,7 @@ impl<G: Gate + Drop> Blank<G> {
             writer.take(rt);
             return Err(BootFault::NoMemory);
         };
-        let locked = Locked::new(core, CallLog::new(alloc), opened, writer);
+        let locked = Locked::new(core, CallLog::new(alloc), opened, writer, watchers > 0);
         Ok(Boot {
             kernel: Kernel {
                 state: Mutex::new(locked),

@@ -18,7 +18,7 @@ use crate::closing::{History, are_all};
 use crate::cpu::Cpu;
 use crate::faults::Fault;
 use crate::head::Head;
-use crate::publish::publish;
+use crate::publish::keep_up;
 use crate::rule::LogWriter;
 use kernel_calls::{Call, Core, Ended, Event, Reply};
 use memory_image::Image;
@@ -36,16 +36,19 @@ pub struct Ready {
 
 /// The core, the log of all calls, the history that it is, and what publishes it. Contracts see the core
 /// and the log, which is a legal history: the core is in the state after it, it is all that was added to the
-/// kernel's history, what is published reports on it, and the side that is not published on a beginning of it.
+/// kernel's history, what is published reports on it where a monitor is to read it, and else on a beginning of it, as
+/// the side that is not published does.
 pub struct Locked<N: Name> {
     core: Core,
     log: CallLog,
     head: Head<N>,
     writer: LogWriter,
+    /// Whether there is a monitor, which reads what is published.
+    is_watched: bool,
 }
 
 impl<N: Name> Model for Locked<N> {
-    ghost use Rattle.std.specs.Prelude.{◌≡◌};
+    ghost use Rattle.std.specs.Prelude.{◌≡◌, true};
     ghost use Rattle.locked_core.specs.Held.{Held};
     ghost use Rattle.locked_core.specs.Pages.{LagsBehind, page};
     ghost use Rattle.locked_core.specs.Published.{view_of};
@@ -55,12 +58,18 @@ impl<N: Name> Model for Locked<N> {
 
     ghost view = { λ l. record { core = l.core; log = l.log.entries } };
 
-    ghost invariant = { λ l. Legal N.frames l.log.entries × (l.core.state ≡ state_after N.frames l.log.entries) × (l.writer.desk.shown.value ≡ page N.frames N.book l.log.entries) × (l.writer.desk.place.me.0.client ≡ view_of N.frames N.book) × LagsBehind l.writer.desk.spare.value (page N.frames N.book l.log.entries) × (l.head ≡ l.log.entries) };
+    ghost invariant = { λ l. Legal N.frames l.log.entries × (l.core.state ≡ state_after N.frames l.log.entries) × (l.is_watched ≡ true → l.writer.desk.shown.value ≡ page N.frames N.book l.log.entries) × (l.writer.desk.place.me.0.client ≡ view_of N.frames N.book) × LagsBehind l.writer.desk.spare.value (page N.frames N.book l.log.entries) × (l.head ≡ l.log.entries) × LagsBehind l.writer.desk.shown.value (page N.frames N.book l.log.entries) };
 }
 
 impl<N: Name> Locked<N> {
-    /// The core in its opening state, and no entry.
-    pub(crate) fn new(core: Core, log: CallLog, opened: Opened, writer: LogWriter) -> Locked<N>
+    /// The core in its opening state, and no entry. What is published is kept up with the log where a monitor reads it.
+    pub(crate) fn new(
+        core: Core,
+        log: CallLog,
+        opened: Opened,
+        writer: LogWriter,
+        is_watched: bool,
+    ) -> Locked<N>
         requires size { (16 ≤ N.frames) × (N.frames ≤ 4096) }
         requires log { log.entries ≡ [] }
         requires core { core.state ≡ open_with N.frames }
@@ -75,6 +84,7 @@ impl<N: Name> Locked<N> {
             log,
             head: Head::new(opened),
             writer,
+            is_watched,
         }
     }
 
@@ -87,13 +97,12 @@ impl<N: Name> Locked<N> {
         ensures fits { IfOk result (λ _. StartsWith self.now.log cpu.now.seen × (calls_of cpu.now.number self.now.log ≡ calls_of cpu.now.number cpu.now.seen)) }
         ensures refused { IfErr result (IsRefused N.frames self.now.log cpu.now) }
     {
-        let published = self.writer.published();
-        if self.head.length() != published.count() as u64 {
+        let count = self.log.len();
+        if self.head.length() != count as u64 {
             return Err(Fault::Unread);
         }
-        if !cpu.agrees(&self.log, &published.front::<N>()) {
-            let front = self.log.len();
-            return Err(Fault::Stale { front });
+        if !cpu.agrees(&self.log, &front_of(&self.log, &self.head)) {
+            return Err(Fault::Stale { front: count });
         }
         Ok(())
     }
@@ -171,6 +180,7 @@ impl<N: Name> Locked<N> {
             log,
             head,
             writer,
+            is_watched,
         } = self;
         let Ready { nth, event } = ready;
         if log.reserve().is_err() {
@@ -182,8 +192,8 @@ impl<N: Name> Locked<N> {
         let decision = core.carry_out(&event);
         let entry = entry_of(&event, nth, &decision);
         log.push(&entry);
-        publish(rt, writer, log.entries(), &head.all());
-        Ok((entry.reply, writer.published().front::<N>()))
+        keep_up(rt, writer, *is_watched, log.entries(), &head.all());
+        Ok((entry.reply, front_of(log, head)))
     }
 
     /// Hands out the history, where these CPUs are all of so many, and agree with the log.
@@ -199,10 +209,11 @@ impl<N: Name> Locked<N> {
         let Locked {
             core,
             log,
-            head: _head,
+            head,
             writer,
+            is_watched: _,
         } = self;
-        let front = writer.published().front::<N>();
+        let front = front_of(&log, &head);
         writer.take(rt);
         if !are_all(cpus, count, &log, &front) {
             return Err(Fault::Disagree);
@@ -212,4 +223,13 @@ impl<N: Name> Locked<N> {
             core,
         })
     }
+}
+
+/// The log, as the beginning of the history that was seen.
+fn front_of<N: Name>(log: &CallLog, head: &Head<N>) -> Front<N>
+    requires all { head.now ≡ log.now.entries }
+    requires legal { Legal N.frames log.now.entries }
+    ensures { result ≡ log.now.entries }
+{
+    Front::new(log.len(), head.all())
 }

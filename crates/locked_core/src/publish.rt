@@ -2,7 +2,7 @@
 //!
 //! The side that no reader has any more is brought up to the log, in place, and is shown then. So no page is
 //! copied, and the writer's queue of operations stays empty.
-ghost use Rattle.std.specs.Prelude.{◌≡◌, ◌<◌, ◌≤◌, ◌^◌, [], IfOk, IfSome};
+ghost use Rattle.std.specs.Prelude.{◌≡◌, ◌<◌, ◌≤◌, ◌^◌, [], true, IfOk, IfSome};
 ghost use Rattle.crossbeam_utils.specs.Register.{TurnsAt};
 ghost use Rattle.left_right.specs.Sides.{view};
 ghost use Rattle.locked_core.specs.Pages.{LagsBehind, page};
@@ -105,4 +105,28 @@ pub fn publish<R: Wait>(rt: &R, writer: &mut LogWriter, log: &[LogEntry], seen: 
             (open.show_as::<Later>(spare), ())
         },
     )
+}
+
+/// The same, where a monitor reads what is published; else nothing changes.
+pub fn keep_up<R: Wait>(
+    rt: &R,
+    writer: &mut LogWriter,
+    is_watched: bool,
+    log: &[LogEntry],
+    seen: &Beginning,
+)
+    requires kernel { view writer.old.desk.place ≡ view_of writer.old.desk.spare.value.frames seen.now.book }
+    requires seen { seen.now.log ≡ log.now }
+    requires behind { LagsBehind writer.old.desk.spare.value (page writer.old.desk.spare.value.frames seen.now.book log.now) }
+    requires shown { LagsBehind writer.old.desk.shown.value (page writer.old.desk.spare.value.frames seen.now.book log.now) }
+    requires legal { Legal writer.old.desk.spare.value.frames log.now }
+    ensures view { view writer.new.desk.place ≡ view writer.old.desk.place }
+    ensures watched { is_watched ≡ true → writer.new.desk.shown.value ≡ page writer.old.desk.spare.value.frames seen.now.book log.now }
+    ensures shown { LagsBehind writer.new.desk.shown.value (page writer.old.desk.spare.value.frames seen.now.book log.now) }
+    ensures spare { LagsBehind writer.new.desk.spare.value (page writer.old.desk.spare.value.frames seen.now.book log.now) }
+{
+    if !is_watched {
+        return;
+    }
+    publish(rt, writer, log, seen);
 }

@@ -1,21 +1,23 @@
 -- The number that the first token of a line writes.
-use Rattle.std.proofs.Common.{◌≡◌, ℕ, ◌+◌, ◌*◌, ◌^◌, ◌<◌, ◌≤◌, Bool, true, false, not, ◌&&◌, cond, ◌⊎◌, List, [], ◌∷◌, length, get_or, take, drop, Option, Some, None, refl, sym, ap, subst, ◌∙◌, add-one, arith, inl, inr}
+use Rattle.std.proofs.Common.{◌≡◌, ℕ, zero, suc, ◌+◌, ◌*◌, ◌^◌, ◌<◌, ◌≤◌, Bool, true, false, not, ◌&&◌, cond, ◌⊎◌, List, [], ◌∷◌, length, get_or, take, drop, Option, Some, None, refl, sym, ap, subst, ◌∙◌, add-one, arith, inl, inr}
 use Rattle.std.specs.Prelude.{nat_le, MatchBool, codes}
 use Rattle.std.specs.Char.{digit_value, is_digit}
 use Rattle.std.specs.List.{position_or_len}
 use Rattle.std.specs.Str.Parse.{digits_value}
-use Rattle.std.proofs.lemmas.Bool.{lt-ltb, le-leb, lt-leb, eqb-true, cases_Bool, cases_eq}
+use Rattle.std.proofs.lemmas.Bool.{lt-ltb, le-leb, lt-leb, eqb-true, cases_Bool, cases_eq, false≢true}
+use Rattle.std.proofs.lemmas.List.{get_or-take, length-take-le}
 use Rattle.std.proofs.lemmas.Int.Digits.{digits_value_more}
-use Rattle.std.proofs.lemmas.List.Folds.{length-prefix_len}
+use Rattle.std.proofs.lemmas.List.Folds.{length-prefix_len, list_all_at}
 use Rattle.std.proofs.Math.Bool.{and-false}
 use Rattle.std.proofs.Math.Nat.{pow-le-pow_right, pow-suc}
-use Rattle.script_run.specs.Lines.{◌>>=◌, right_of}
+use Rattle.page_words.specs.declared.addresses.Size.{Size}
+use Rattle.script_run.specs.Lines.{◌>>=◌, right_of, size_of}
 use Rattle.script_run.specs.Numbers.{are_digits, decimal_number, hexadecimal_number}
 use Rattle.script_run.specs.Operands.{IsWorth, caller_by, first_by, is_trimmed, worth}
 use Rattle.script_run.specs.Tokens.{is_space, tokens_of}
 use Rattle.script_run.proofs.NumberLemmas.{digits_bound, digits_step}
 use Rattle.script_run.proofs.OperandLemmas.{first_below, with_cpu, with_pid, with_rest}
-use Rattle.script_run.proofs.TokenLemmas.{front_token, no_front, past_space}
+use Rattle.script_run.proofs.TokenLemmas.{front_token, no_front, past_space, token_ends}
 
 -- ---- Hexadecimal digits, and what is none
 
@@ -149,6 +151,46 @@ two_decimals d e cpu pid xs is_cpu few is_pid small =
     let second = first_below decimal_number 64 (tokens_of (e ∷ 32 ∷ xs)) pid (tokens_of xs) (one_decimal e pid xs is_pid small) (omega (arith, small)) in
     ap (λ o. o >>= with_pid cpu) second ∙ ap (λ o. o >>= with_cpu) first
 
-pub last_right : Some (true, tokens_of []) ≡ first_by right_of (tokens_of (codes " rw"))
+-- ---- Numbers of just so many digits
+
+-- no space is among them
+digits_apart : (xs : List ℕ) (n v : ℕ) → n ≤ length xs → IsWorth (take n xs) v → v < 2 ^ 32 → (k : ℕ) → k < n → get_or xs k 0 ≡ 32 → ⊥
+digits_apart xs n v within worths small k before space = at (are_digits 16 (take n xs)) refl where
+  at : (b : Bool) → are_digits 16 (take n xs) ≡ b → ⊥
+  at true digits =
+      let here : get_or (take n xs) k 0 ≡ 32 = get_or-take n xs k 0 before ∙ space in
+      let other : is_digit (get_or (take n xs) k 0) 16 ≡ false = ap (λ byte. is_digit byte 16) here in
+      let inside : k < length (take n xs) = subst (λ (m : ℕ). k < m) (sym (length-take-le n xs within)) before in
+      false≢true (sym (list_all_at (λ byte. is_digit byte 16) (take n xs) k 0 inside other) ∙ digits)
+  at false digits = let large : 2 ^ 32 ≤ v = at_worth v (take n xs) _ false digits worths in omega (arith, small, large)
+
+pub hexadecimal_in_front : (xs : List ℕ) (n v : ℕ) → n ≤ length xs → 0 < n → n ≤ 8 → (n < length xs → get_or xs n 0 ≡ 32) → IsWorth (take n xs) v → v < 2 ^ 32 → Some (v, tokens_of (drop n xs)) ≡ first_by hexadecimal_number (tokens_of xs)
+hexadecimal_in_front xs n v within some few ends worths small = hexadecimal_some xs n v (token_ends xs n within (digits_apart xs n v within worths small) ends) some few worths small
+
+-- ---- Sizes and rights
+
+pub size_in_front : (xs : List ℕ) (size : Size) → 2 ≤ length xs → get_or xs 0 0 ≡ 32 → (2 < length xs → get_or xs 2 0 ≡ 32) → Some size ≡ size_of (get_or xs 1 0 ∷ []) → Some (size, tokens_of (drop 2 xs)) ≡ first_by size_of (tokens_of xs)
+unfolding first_by
+size_in_front [] size enough space ends is = absurd (omega (arith, enough))
+size_in_front (a ∷ []) size enough space ends is = absurd (omega (arith, enough))
+size_in_front (a ∷ b ∷ rest) size enough space ends is = at where
+  apart : (k : ℕ) → k < 1 → get_or (b ∷ rest) k 0 ≡ 32 → ⊥
+  apart zero before here = let none : Some size ≡ None = is ∙ ap (λ byte. size_of (byte ∷ [])) here in cc
+  apart (suc k) before here = omega (arith, before)
+
+  place : 1 ≡ position_or_len is_space (b ∷ rest)
+  place = token_ends (b ∷ rest) 1 (omega arith) apart (λ more. ends (omega (arith, more)))
+
+  tokens : tokens_of (a ∷ b ∷ rest) ≡ (b ∷ []) ∷ tokens_of rest
+  tokens = ap (λ byte. tokens_of (byte ∷ b ∷ rest)) space ∙ past_space (b ∷ rest) ∙ front_token (b ∷ rest) 1 place (omega arith)
+
+  at : Some (size, tokens_of rest) ≡ first_by size_of (tokens_of (a ∷ b ∷ rest))
+  at = ap (λ o. o >>= with_rest (tokens_of rest)) is ∙ sym (ap (first_by size_of) tokens)
+
+pub last_to_write : Some (true, []) ≡ first_by right_of (tokens_of (codes " rw"))
 unfolding first_by tokens_of
-last_right = refl
+last_to_write = refl
+
+pub last_to_read : Some (false, []) ≡ first_by right_of (tokens_of (codes " ro"))
+unfolding first_by tokens_of
+last_to_read = refl

@@ -65,6 +65,24 @@ threes f g h k (a ∷ b ∷ c ∷ d ∷ ts) =
     ∙ same_rest (f a) _ (λ v. None) (λ v. first g b (c ∷ d ∷ ts) (λ q. first_by h q.1 >>= λ r. alone (k v q.0 r.0) r.1)
     ∙ same_rest (g b) _ (λ w. None) (λ w. first h c (d ∷ ts) (λ r. alone (k v w r.0) r.1) ∙ ends_so (h c)) ∙ ends_so (g b)) ∙ ends_so (f a)
 
+-- ---- Operands that were read, and none behind them
+
+pub one_last : {A : Type 0} (f : List ℕ → Option A) (k : A → Call) (ts : List (List ℕ)) (a : A) → Some (a, []) ≡ first_by f ts → Some (k a) ≡ one_by f k ts
+unfolding one_by alone
+one_last f k ts a is = ap (λ o. o >>= λ p. alone (k p.0) p.1) is
+
+pub two_last : {A B : Type 0} (f : List ℕ → Option A) (g : List ℕ → Option B) (k : A → B → Call) (ts us : List (List ℕ)) (a : A) (b : B) → Some (a, us) ≡ first_by f ts → Some (b, []) ≡ first_by g us → Some (k a b) ≡ two_by f g k ts
+unfolding two_by alone
+two_last f g k ts us a b is next =
+    ap (λ o. o >>= λ q. alone (k a q.0) q.1) next ∙ ap (λ o. o >>= λ p. first_by g p.1 >>= λ q. alone (k p.0 q.0) q.1) is
+
+pub three_last : {A B C : Type 0} (f : List ℕ → Option A) (g : List ℕ → Option B) (h : List ℕ → Option C) (k : A → B → C → Call) (ts us vs : List (List ℕ)) (a : A) (b : B) (c : C)
+    → Some (a, us) ≡ first_by f ts → Some (b, vs) ≡ first_by g us → Some (c, []) ≡ first_by h vs → Some (k a b c) ≡ three_by f g h k ts
+unfolding three_by alone
+three_last f g h k ts us vs a b c is next last =
+    ap (λ o. o >>= λ r. alone (k a b r.0) r.1) last ∙ ap (λ o. o >>= λ q. first_by h q.1 >>= λ r. alone (k a q.0 r.0) r.1) next
+    ∙ ap (λ o. o >>= λ p. first_by g p.1 >>= λ q. first_by h q.1 >>= λ r. alone (k p.0 q.0 r.0) r.1) is
+
 -- ---- Each call
 
 pub load_read : (ts : List (List ℕ)) → two_by hexadecimal_number size_of call.Load ts ≡ load_of ts

@@ -9,6 +9,7 @@
 mod faults;
 mod lines;
 mod numbers;
+mod often;
 mod output;
 mod replies;
 mod script;

@@ -6,6 +6,7 @@ ghost use Rattle.std.specs.Str.{bytes_eq};
 ghost use Rattle.script_run.specs.Tokens.{tokens_of};
 
 use super::numbers::{digit_of, hexadecimal, number_below};
+use super::often::often_call_of;
 use super::tokens::{first_token, is_blank};
 use kernel_calls::{Call, Event};
 use page_words::{Page, Pid, Size, Vaddr};
@@ -143,25 +144,14 @@ fn size_of(line: &[u8]) -> Option<(Size, &[u8])>
 }
 
 /// A right, and the bytes after it.
-#[inline(never)]
+#[inline(always)]
 #[tactic(auto, unfolding(crate::specs::Operands::first_by))]
-fn any_right_of(line: &[u8]) -> Option<(bool, &[u8])>
+fn right_of(line: &[u8]) -> Option<(bool, &[u8])>
     ensures { option_map (λ found. (found.0, tokens_of found.1.now)) result ≡ first_by right_of (tokens_of line.now) }
 {
     let (token, rest) = first_token(line)?;
     let write = right_named(token)?;
     Some((write, rest))
-}
-
-/// The same: `rw` at the line's end is told at once.
-#[inline(always)]
-fn right_of(line: &[u8]) -> Option<(bool, &[u8])>
-    ensures { option_map (λ found. (found.0, tokens_of found.1.now)) result ≡ first_by right_of (tokens_of line.now) }
-{
-    match line {
-        b" rw" => Some((true, &[])),
-        _ => any_right_of(line),
-    }
 }
 
 /// A call with all its operands, where no token is left.
@@ -382,86 +372,14 @@ fn any_call_of(line: &[u8]) -> Option<Call>
     }
 }
 
-/// The operands of `load`, where the bytes begin with it and a space.
-fn after_load(line: &[u8]) -> Option<&[u8]>
-    ensures { IfSome result (λ operands. tokens_of line.now ≡ codes "load" ∷ tokens_of operands.now) }
-{
-    match line {
-        [b'l', b'o', b'a', b'd', b' ', operands @ ..] => Some(operands),
-        _ => None,
-    }
-}
-
-/// The operands of `store`, where the bytes begin with it and a space.
-fn after_store(line: &[u8]) -> Option<&[u8]>
-    ensures { IfSome result (λ operands. tokens_of line.now ≡ codes "store" ∷ tokens_of operands.now) }
-{
-    match line {
-        [b's', b't', b'o', b'r', b'e', b' ', operands @ ..] => Some(operands),
-        _ => None,
-    }
-}
-
-/// The operands of `map`, where the bytes begin with it and a space.
-fn after_map(line: &[u8]) -> Option<&[u8]>
-    ensures { IfSome result (λ operands. tokens_of line.now ≡ codes "map" ∷ tokens_of operands.now) }
-{
-    match line {
-        [b'm', b'a', b'p', b' ', operands @ ..] => Some(operands),
-        _ => None,
-    }
-}
-
-/// The operands of `unmap`, where the bytes begin with it and a space.
-fn after_unmap(line: &[u8]) -> Option<&[u8]>
-    ensures { IfSome result (λ operands. tokens_of line.now ≡ codes "unmap" ∷ tokens_of operands.now) }
-{
-    match line {
-        [b'u', b'n', b'm', b'a', b'p', b' ', operands @ ..] => Some(operands),
-        _ => None,
-    }
-}
-
-/// The operands of `offer`, where the bytes begin with it and a space.
-fn after_offer(line: &[u8]) -> Option<&[u8]>
-    ensures { IfSome result (λ operands. tokens_of line.now ≡ codes "offer" ∷ tokens_of operands.now) }
-{
-    match line {
-        [b'o', b'f', b'f', b'e', b'r', b' ', operands @ ..] => Some(operands),
-        _ => None,
-    }
-}
-
-/// The operands of `accept`, where the bytes begin with it and a space.
-fn after_accept(line: &[u8]) -> Option<&[u8]>
-    ensures { IfSome result (λ operands. tokens_of line.now ≡ codes "accept" ∷ tokens_of operands.now) }
-{
-    match line {
-        [b'a', b'c', b'c', b'e', b'p', b't', b' ', operands @ ..] => Some(operands),
-        _ => None,
-    }
-}
-
-/// The same; a call that is often made is told by the bytes in front.
+/// The same; a line as scripts mostly write it is read at once.
 #[inline(always)]
-#[tactic(auto, unfolding(crate::specs::Lines::call_of, crate::specs::Lines::sharing_call_of), using(crate::proofs::OperandLemmas::often))]
 fn call_of(line: &[u8]) -> Option<Call>
     ensures { result ≡ named_by (tokens_of line.now) }
 {
-    if let Some(operands) = after_load(line) {
-        load_of(operands)
-    } else if let Some(operands) = after_store(line) {
-        store_of(operands)
-    } else if let Some(operands) = after_map(line) {
-        map_of(operands)
-    } else if let Some(operands) = after_unmap(line) {
-        unmap_of(operands)
-    } else if let Some(operands) = after_offer(line) {
-        offer_of(operands)
-    } else if let Some(operands) = after_accept(line) {
-        accept_of(operands)
-    } else {
-        any_call_of(line)
+    match often_call_of(line) {
+        Some(call) => Some(call),
+        None => any_call_of(line),
     }
 }
 

@@ -101,7 +101,7 @@ fn worth_of(byte: u8) -> u64
 
 /// Whether the token in front ends at this place: a space stands there, or nothing.
 #[inline(always)]
-fn ends_at(line: &[u8], place: usize) -> bool
+pub fn ends_at(line: &[u8], place: usize) -> bool
     requires { place ≤ length line.now }
     ensures ends { result ≡ true → place < length line.now → slice_index line.now place ≡ 32 }
     ensures goes_on { result ≡ false → (place < length line.now) × (slice_index line.now place ≡ 32 → ⊥) }
@@ -144,6 +144,36 @@ pub fn hexadecimal(line: &[u8]) -> Option<(u32, &[u8])>
         return None;
     }
     Some((value as u32, &line[end..]))
+}
+
+/// What so many bytes in front are worth as hexadecimal digits.
+#[inline(always)]
+fn worth_in_front(line: &[u8], digits: usize) -> u64
+    requires { (digits ≤ 8) × (digits ≤ length line.now) }
+    ensures { IsWorth (take digits line.now) result }
+{
+    let mut value: u64 = 0;
+    for place in 0..digits {
+        value = value * 16 + worth_of(line[place]);
+    }
+    value
+}
+
+/// The number of a token in front of just so many hexadecimal digits, and the bytes after it; None where the
+/// token in front is another.
+#[inline(always)]
+pub fn hexadecimal_of(line: &[u8], digits: usize) -> Option<(u32, &[u8])>
+    requires { (0 < digits) × (digits ≤ 8) }
+    ensures { IfSome result (λ found. Some (found.0, tokens_of found.1.now) ≡ first_by hexadecimal_number (tokens_of line.now)) }
+{
+    if line.len() < digits || !ends_at(line, digits) {
+        return None;
+    }
+    let value = worth_in_front(line, digits);
+    if value >= NONE {
+        return None;
+    }
+    Some((value as u32, &line[digits..]))
 }
 
 /// The number that the first token writes in one to ten decimal digits, and the bytes after it. One or two

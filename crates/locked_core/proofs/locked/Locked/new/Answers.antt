@@ -12,8 +12,9 @@ invariant_of-result g c =
     let empty : LagsBehind (page g.N.Name.frames g.N.Name.book []) whole = record { frames = refl; book = refl; begins = (c.args.log.entries, refl) } in (
       begun.0,
       begun.1,
-      w.0 ∙ ap (page g.N.Name.frames g.N.Name.book) (sym none),
+      λ watched. w.0 ∙ ap (page g.N.Name.frames g.N.Name.book) (sym none),
       w.1,
       subst (λ (p : Page). LagsBehind p whole) (sym c.requires.spare) empty,
       c.new.ensures ∙ sym none,
+      subst (λ (p : Page). LagsBehind p whole) (sym w.0) empty,
     )

@@ -3,7 +3,7 @@ use Rattle.std.specs.Prelude.{codes}
 use Rattle.std.proofs.lemmas.List.{take_rest}
 use Rattle.script_run.specs.Tokens.{tokens_of}
 use Rattle.script_run.proofs.TokenLemmas.{front_token, known_front, past_space}
-use Rattle.script_run.proofs.lines.after_accept.Goals as goal
+use Rattle.script_run.proofs.often.after_accept.Goals as goal
 
 pub returns-in-97 : goal.returns-in-97
 returns-in-97 c =

@@ -3,7 +3,7 @@ use Rattle.std.specs.Prelude.{codes}
 use Rattle.std.proofs.lemmas.List.{take_rest}
 use Rattle.script_run.specs.Tokens.{tokens_of}
 use Rattle.script_run.proofs.TokenLemmas.{front_token, known_front, past_space}
-use Rattle.script_run.proofs.lines.after_load.Goals as goal
+use Rattle.script_run.proofs.often.after_load.Goals as goal
 
 pub returns-in-108 : goal.returns-in-108
 returns-in-108 c =
