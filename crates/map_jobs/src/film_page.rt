@@ -33,9 +33,9 @@ button { font: inherit; min-width: 2.4rem; padding: .2rem .6rem; color: inherit;
 main { display: grid; grid-template-columns: minmax(20rem, 30rem) 1fr; gap: 1.2rem; padding: 0 1rem 2rem; }
 @media (max-width: 60rem) { main { grid-template-columns: 1fr; } }
 #script { position: sticky; top: 3.6rem; max-height: calc(100vh - 4.2rem); overflow: auto; }
-@media (max-width: 60rem) { #script { position: static; max-height: 40vh; } }
+@media (max-width: 60rem) { #script { position: relative; top: 0; max-height: 40vh; } }
 #lines { list-style: none; margin: 0; padding: 0; font-size: .8rem; }
-#lines li { display: flex; gap: .6rem; padding: .08rem .4rem; border-left: 4px solid transparent; scroll-margin: 6rem; }
+#lines li { display: flex; gap: .6rem; padding: .08rem .4rem; border-left: 4px solid transparent; }
 #lines .number { flex: none; width: 2.6rem; text-align: right; color: var(--faint); }
 #lines .text { flex: 1; white-space: pre-wrap; overflow-wrap: anywhere; }
 #lines .reply { flex: none; color: var(--faint); }
@@ -386,6 +386,11 @@ function drawProcesses(lazy) {
   });
   find("processes").innerHTML = text;
 }
+// Scrolls the script alone, and only where the line is out of sight.
+function scrollTo(item) {
+  const box = find("script"), top = item.offsetTop, bottom = top + item.offsetHeight;
+  if (top < box.scrollTop || bottom > box.scrollTop + box.clientHeight) box.scrollTop = top - box.clientHeight / 2;
+}
 function drawLines() {
   for (const line of document.querySelectorAll("#lines [aria-current]")) line.removeAttribute("aria-current");
   lines.forEach((line, number) => {
@@ -393,7 +398,7 @@ function drawLines() {
     if (line.step > 0) item.classList.toggle("later", line.step > at);
     if (line.step === at && at > 0) {
       item.setAttribute("aria-current", "step");
-      item.scrollIntoView({ block: "nearest" });
+      scrollTo(item);
     }
   });
 }
