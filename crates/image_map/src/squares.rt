@@ -242,7 +242,8 @@ pub(crate) fn draw_ticks<W: Write>(
     requires { (corner.0 ≤ 4096) × (corner.1 ≤ 262192) × (step ≤ 3) × (count ≤ 12) }
 {
     for place in 0..count {
-        draw_tick(writer, corner.0 + 2 + step * place, corner.1, ink)?;
+        let behind = step.saturating_mul(place);
+        draw_tick(writer, (corner.0 + 2).saturating_add(behind), corner.1, ink)?;
     }
     Ok(())
 }
