@@ -391,16 +391,18 @@ function scrollTo(item) {
   const box = find("script"), top = item.offsetTop, bottom = top + item.offsetHeight;
   if (top < box.scrollTop || bottom > box.scrollTop + box.clientHeight) box.scrollTop = top - box.clientHeight / 2;
 }
+let told = 0;
+// Shows the replies up to the step, and marks its line: only what lies between the last step and this one changes.
 function drawLines() {
-  for (const line of document.querySelectorAll("#lines [aria-current]")) line.removeAttribute("aria-current");
-  lines.forEach((line, number) => {
-    const item = find("lines").children[number];
-    if (line.step > 0) item.classList.toggle("later", line.step > at);
-    if (line.step === at && at > 0) {
-      item.setAttribute("aria-current", "step");
-      scrollTo(item);
-    }
-  });
+  for (let step = Math.min(told, at) + 1; step <= Math.max(told, at); step++) {
+    find("lines").children[steps[step].line].classList.toggle("later", step > at);
+  }
+  if (told > 0) find("lines").children[steps[told].line].removeAttribute("aria-current");
+  told = at;
+  if (at === 0) return;
+  const item = find("lines").children[steps[at].line];
+  item.setAttribute("aria-current", "step");
+  scrollTo(item);
 }
 function draw() {
   const { owners, lazy } = mapped(), marked = marks(owners);

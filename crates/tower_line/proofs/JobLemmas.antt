@@ -19,7 +19,7 @@ use Rattle.clap.proofs.WalkLemmas.{both, raw_values-rows}
 use Rattle.clap.specs.declared.parser.matches.Found.{Found}
 use Rattle.clap.specs.declared.parser.matches.MatchedArg.{MatchedArg}
 use Rattle.std.specs.Borrow.{Bor}
-use Rattle.tower_line.specs.Jobs.{tower_app, number_named, number_in}
+use Rattle.tower_line.specs.Jobs.{tower_app}
 
 pub tower_is_simple : is_simple tower_app ≡ true
 unfolding clap_on_literals
