@@ -420,10 +420,13 @@ function draw() {
 
 // ---- Steps
 let timer = 0;
+// The page's address follows behind the last of quick steps, since browsers refuse to change it too often.
+let linking = 0;
 function go(step) {
   move(Math.max(0, Math.min(steps.length - 1, step)));
   draw();
-  history.replaceState(null, "", "#" + at);
+  clearTimeout(linking);
+  linking = setTimeout(() => history.replaceState(null, "", "#" + at), 200);
 }
 function play(on) {
   clearInterval(timer);
