@@ -92,7 +92,7 @@ run_unproved() {
     wait "$child" || status=$?
     [ "$status" -ne 6 ] || refuse "an unproved run $limits"
     if ! cat "$work/output" 2>/dev/null; then
-        echo "tower: write failed" >&2
+        echo "$name: write failed" >&2
         exit 1
     fi
     grep -a -v -e "^checked: ended " -e "^run=" -e "^races: not looked for" "$work/messages" |

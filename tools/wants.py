@@ -7,6 +7,8 @@ HINTS = {
     "rt": "'rt' of the Rattle kit on PATH (README.md)",
     "tower": "the proved program ('./tower prove' makes it)",
     "libtower_c.a": "the proved archive ('make -C c' makes it)",
+    "memory_map": "the proved program ('./memory_map prove' makes it)",
+    "chromium": "'chromium' on PATH",
     "valgrind": "'valgrind' on PATH",
     "gcc": "'gcc' on PATH",
     "rustc": "'rustc' on PATH",

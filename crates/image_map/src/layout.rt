@@ -8,10 +8,10 @@ const LEFT: u32 = 64;
 pub(crate) const TOP: u32 = 56;
 
 /// How wide the legend and the bars are.
-pub(crate) const PANEL: u32 = 430;
+pub(crate) const PANEL: u32 = 510;
 
 /// The height of the legend.
-pub(crate) const LEGEND: u32 = 215;
+pub(crate) const LEGEND: u32 = 265;
 
 /// The height of a process's bar, with its texts.
 pub(crate) const BAR: u32 = 44;
@@ -38,6 +38,8 @@ pub(crate) struct Look {
     pub upper: u32,
     /// The base line of the clause that it fails.
     pub clause: u32,
+    /// How far a tick is from the next.
+    pub tick: u32,
 }
 
 impl Scale {
@@ -78,7 +80,7 @@ impl Scale {
     }
 
     pub(crate) fn look(self) -> Look
-        ensures { (result.side ≤ 48) × (result.label ≤ 48) × (result.upper ≤ 48) × (result.clause ≤ 48) }
+        ensures { (result.side ≤ 48) × (result.label ≤ 48) × (result.upper ≤ 48) × (result.clause ≤ 48) × (result.tick ≤ 3) }
     {
         match self {
             Scale::Large => Look {
@@ -87,6 +89,7 @@ impl Scale {
                 label: 28,
                 upper: 21,
                 clause: 39,
+                tick: 3,
             },
             Scale::Medium => Look {
                 side: 40,
@@ -94,6 +97,7 @@ impl Scale {
                 label: 25,
                 upper: 18,
                 clause: 34,
+                tick: 3,
             },
             Scale::Small => Look {
                 side: 24,
@@ -101,6 +105,7 @@ impl Scale {
                 label: 15,
                 upper: 11,
                 clause: 21,
+                tick: 2,
             },
             Scale::Tiny => Look {
                 side: 14,
@@ -108,6 +113,7 @@ impl Scale {
                 label: 9,
                 upper: 6,
                 clause: 12,
+                tick: 1,
             },
         }
     }

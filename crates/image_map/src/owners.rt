@@ -19,6 +19,26 @@ pub(crate) enum Owners {
 }
 
 impl Owners {
+    /// The first of them.
+    pub(crate) fn first(self) -> Option<Pid> {
+        match self {
+            Owners::Nobody => None,
+            Owners::One(first) => Some(first),
+            Owners::Two(first, _) => Some(first),
+            Owners::More(first, _) => Some(first),
+        }
+    }
+
+    /// The second of them.
+    pub(crate) fn second(self) -> Option<Pid> {
+        match self {
+            Owners::Nobody => None,
+            Owners::One(_) => None,
+            Owners::Two(_, second) => Some(second),
+            Owners::More(_, second) => Some(second),
+        }
+    }
+
     /// With a process that is none of them, or is the last of them.
     fn with(self, pid: Pid) -> Owners {
         match self {

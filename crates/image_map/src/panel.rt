@@ -5,11 +5,11 @@ ghost use Rattle.std.specs.Prelude.{◌≤◌, ◌<◌};
 use crate::layout::{BAR, LEGEND, Scale, TOP};
 use crate::lines::{given_marks, used_marks};
 use crate::owners::Mapped;
-use crate::squares::{draw_half, light, middle};
+use crate::squares::{draw_half, draw_ticks, light, middle, ticks};
 use image_check::{Image, Process, ProcessClause, Verdict, pid_of};
 use page_words::Pid;
-use std::io;
 use std::io::Write;
+use std::{fmt, io};
 
 /// 1 where a process is live, and else 0.
 fn count_live(image: &Image, number: u8) -> u32
@@ -44,16 +44,22 @@ struct Sample {
     half: &'static str,
     ink: &'static str,
     edge: &'static str,
+    /// The dashes of its edge.
+    dash: &'static str,
+    /// How many ticks it has.
+    ticks: u32,
     says: &'static str,
 }
 
-const SAMPLES: [Sample; 8] = [
+const SAMPLES: [Sample; 10] = [
     Sample {
         label: "#",
         ground: "#222222",
         half: "#222222",
         ink: "#ffffff",
         edge: "#9a9a94",
+        dash: "none",
+        ticks: 0,
         says: "reserved frame, which lazy pages read",
     },
     Sample {
@@ -62,6 +68,8 @@ const SAMPLES: [Sample; 8] = [
         half: "#ffffff",
         ink: "#888888",
         edge: "#9a9a94",
+        dash: "none",
+        ticks: 0,
         says: "free frame",
     },
     Sample {
@@ -70,6 +78,8 @@ const SAMPLES: [Sample; 8] = [
         half: "#214141",
         ink: "#ffffff",
         edge: "#9a9a94",
+        dash: "none",
+        ticks: 0,
         says: "directory of process 0; the hue is the process",
     },
     Sample {
@@ -78,6 +88,8 @@ const SAMPLES: [Sample; 8] = [
         half: "#448888",
         ink: "#000000",
         edge: "#9a9a94",
+        dash: "none",
+        ticks: 0,
         says: "table of process 0",
     },
     Sample {
@@ -86,7 +98,19 @@ const SAMPLES: [Sample; 8] = [
         half: "#b0cdcd",
         ink: "#000000",
         edge: "#9a9a94",
+        dash: "none",
+        ticks: 0,
         says: "page of process 0",
+    },
+    Sample {
+        label: "P5",
+        ground: "#b0cdcd",
+        half: "#b0cdcd",
+        ink: "#000000",
+        edge: "#9a9a94",
+        dash: "none",
+        ticks: 1,
+        says: "of process 5: a tick for each five before it",
     },
     Sample {
         label: "S2",
@@ -94,6 +118,8 @@ const SAMPLES: [Sample; 8] = [
         half: "#dbcda9",
         ink: "#000000",
         edge: "#9a9a94",
+        dash: "none",
+        ticks: 0,
         says: "page with 2 holders, the first two in colour",
     },
     Sample {
@@ -102,7 +128,19 @@ const SAMPLES: [Sample; 8] = [
         half: "#ffffff",
         ink: "#d40000",
         edge: "#d40000",
+        dash: "none",
+        ticks: 0,
         says: "red edge: fails the clause of the check",
+    },
+    Sample {
+        label: "",
+        ground: "#ffffff",
+        half: "#ffffff",
+        ink: "#000000",
+        edge: "#222222",
+        dash: "3 2",
+        ticks: 0,
+        says: "beside a bar: lazy page, which has no frame",
     },
     Sample {
         label: "",
@@ -110,25 +148,41 @@ const SAMPLES: [Sample; 8] = [
         half: "#b0cdcd",
         ink: "#000000",
         edge: "#9a9a94",
+        dash: "none",
+        ticks: 0,
         says: "in a bar: used dark, given light, room white",
     },
 ];
+
+/// Draws the square of one line of the legend, but for its letters.
+fn draw_sample_ground<W: Write>(
+    writer: &mut W,
+    sample: &Sample,
+    left: u32,
+    top: u32,
+) -> io::Result<()>
+    requires { (left ≤ 4096) × (top ≤ 4096) }
+{
+    let ground = sample.ground;
+    let edge = sample.edge;
+    let dash = sample.dash;
+    write!(
+        writer,
+        "<rect x=\"{left}\" y=\"{top}\" width=\"20\" height=\"20\" fill=\"{ground}\" stroke=\"{edge}\" stroke-dasharray=\"{dash}\"/>"
+    )?;
+    draw_half(writer, (left, top), 20, sample.half)?;
+    draw_ticks(writer, (left, top), 3, sample.ticks.min(12), sample.ink)
+}
 
 /// Draws one line of the legend.
 fn draw_sample<W: Write>(writer: &mut W, sample: &Sample, left: u32, top: u32) -> io::Result<()>
     requires { (left ≤ 4096) × (top ≤ 4096) }
 {
     let label = sample.label;
-    let ground = sample.ground;
     let ink = sample.ink;
-    let edge = sample.edge;
     let says = sample.says;
     let (middle, base, text) = (left + 10, top + 14, left + 30);
-    write!(
-        writer,
-        "<rect x=\"{left}\" y=\"{top}\" width=\"20\" height=\"20\" fill=\"{ground}\" stroke=\"{edge}\"/>"
-    )?;
-    draw_half(writer, (left, top), 20, sample.half)?;
+    draw_sample_ground(writer, sample, left, top)?;
     write!(
         writer,
         "<text x=\"{middle}\" y=\"{base}\" font-size=\"10\" text-anchor=\"middle\" fill=\"{ink}\">{label}</text>"
@@ -171,7 +225,7 @@ fn draw_failing<W: Write>(
 ) -> io::Result<()>
     requires { (corner.0 ≤ 4096) × (corner.1 ≤ 262144) }
 {
-    let (left, top) = (corner.0 + 330, corner.1);
+    let (left, top) = (corner.0 + 410, corner.1);
     let (text, base) = (left + 40, top + 14);
     let number = clause.number();
     write!(
@@ -184,7 +238,64 @@ fn draw_failing<W: Write>(
     )
 }
 
-/// Draws a live process: what it has, a bar of used, given and room, and the number of its lazy pages.
+/// A process's number, with its parent's.
+#[derive(Clone, Copy)]
+struct Named {
+    pid: Pid,
+    parent: Pid,
+}
+
+impl fmt::Display for Named {
+    fn fmt<W: fmt::Write>(&self, f: &mut fmt::Formatter<W>) -> fmt::Result {
+        let (number, parent) = (self.pid.number(), self.parent.number());
+        if number == parent {
+            write!(f, "process {number}")
+        } else {
+            write!(f, "process {number}, child of {parent}")
+        }
+    }
+}
+
+/// The most lazy pages of a process that are drawn.
+const MOST_LAZY: u32 = 14;
+
+/// Draws a dashed square for each lazy page, of so many at most, behind their number.
+fn draw_lazy<W: Write>(writer: &mut W, lazy: u32, left: u32, top: u32) -> io::Result<()>
+    requires { (left ≤ 8192) × (top ≤ 262144) }
+{
+    let base = top + 12;
+    write!(writer, "<text x=\"{left}\" y=\"{base}\">lazy {lazy}</text>")?;
+    for place in 0..lazy.min(MOST_LAZY) {
+        draw_dashed(writer, left + 70 + 13 * place, top + 2)?;
+    }
+    write!(writer, "\n")
+}
+
+/// Draws a small dashed square.
+fn draw_dashed<W: Write>(writer: &mut W, left: u32, top: u32) -> io::Result<()> {
+    write!(
+        writer,
+        "<rect x=\"{left}\" y=\"{top}\" width=\"10\" height=\"10\" fill=\"none\" stroke=\"#222222\" stroke-dasharray=\"3 2\"/>"
+    )
+}
+
+/// Draws the bar of a process: used, given and room, with the ticks of its number.
+fn draw_bar<W: Write>(
+    writer: &mut W,
+    pid: Pid,
+    process: &Process,
+    corner: (u32, u32),
+) -> io::Result<()>
+    requires { (corner.0 ≤ 4096) × (corner.1 ≤ 262144) }
+{
+    let (used, given) = (used_marks(process), given_marks(process));
+    draw_part(writer, corner, 0, 40, "#ffffff")?;
+    draw_part(writer, corner, 0, used, middle(pid))?;
+    draw_part(writer, corner, used, given, light(pid))?;
+    draw_ticks(writer, corner, 3, ticks(pid), "#000000")
+}
+
+/// Draws a live process: what it has, a bar of used, given and room, and its lazy pages.
 fn draw_process<W: Write>(
     writer: &mut W,
     pid: Pid,
@@ -195,22 +306,18 @@ fn draw_process<W: Write>(
     requires { (corner.0 ≤ 4096) × (corner.1 ≤ 131072) }
 {
     let (left, top) = corner;
-    let (base, bar, beside) = (top + 11, top + 17, left + 250);
-    let (number, parent) = (pid.number(), process.parent.number());
+    let (base, bar) = (top + 11, top + 17);
+    let name = Named {
+        pid,
+        parent: process.parent,
+    };
     let (used, given, quota) = (process.used, process.given, process.quota);
     write!(
         writer,
-        "<text x=\"{left}\" y=\"{base}\">process {number} of {parent}: used {used}, given {given}, quota {quota}</text>"
+        "<text x=\"{left}\" y=\"{base}\">{name}: used {used}, given {given}, quota {quota}</text>"
     )?;
-    let (used, given) = (used_marks(process), given_marks(process));
-    draw_part(writer, (left, bar), 0, 40, "#ffffff")?;
-    draw_part(writer, (left, bar), 0, used, middle(pid))?;
-    draw_part(writer, (left, bar), used, given, light(pid))?;
-    let base = bar + 12;
-    write!(
-        writer,
-        "<text x=\"{beside}\" y=\"{base}\">lazy {lazy}</text>\n"
-    )
+    draw_bar(writer, pid, process, (left, bar))?;
+    draw_lazy(writer, lazy, left + 250, bar)
 }
 
 /// Draws a process, where it is live, and the mark of a clause that it fails.

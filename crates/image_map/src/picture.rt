@@ -6,7 +6,7 @@ ghost use Rattle.image_check.specs.Told.{verdict_on};
 use crate::layout::{BAR, LEGEND, Look, PANEL, Scale, TOP};
 use crate::owners::Mapped;
 use crate::panel::{draw_bars, draw_legend, live_processes};
-use crate::squares::{Label, Square, Title, draw_half, square_of};
+use crate::squares::{Label, Square, Title, draw_half, draw_ticks, light, square_of, ticks};
 use image_check::{Image, Verdict, WriteFailed};
 use page_words::Frame;
 use std::io;
@@ -101,8 +101,28 @@ fn draw_ground<W: Write>(
         writer,
         "</title><rect x=\"{left}\" y=\"{top}\" width=\"{side}\" height=\"{side}\" fill=\"{ground}\" stroke=\"#9a9a94\"/>"
     )?;
-    if let Some(color) = square.lower_half() {
-        draw_half(writer, corner, side, color)?;
+    if let Some(second) = square.second() {
+        draw_half(writer, corner, side, light(second))?;
+    }
+    Ok(())
+}
+
+/// Draws the ticks of a square's process at its upper edge, and those of a second one at its lower edge.
+fn draw_square_ticks<W: Write>(
+    writer: &mut W,
+    square: &Square,
+    corner: (u32, u32),
+    look: &Look,
+) -> io::Result<()>
+    requires { (corner.0 ≤ 4096) × (corner.1 ≤ 262144) × (look.now.side ≤ 48) × (look.now.tick ≤ 3) }
+{
+    let ink = square.ink();
+    if let Some(first) = square.process() {
+        draw_ticks(writer, corner, look.tick, ticks(first), ink)?;
+    }
+    if let Some(second) = square.second() {
+        let lower = (corner.0, corner.1 + look.side.saturating_sub(8));
+        draw_ticks(writer, lower, look.tick, ticks(second), ink)?;
     }
     Ok(())
 }
@@ -131,6 +151,7 @@ fn draw_square<W: Write>(writer: &mut W, square: &Square, scale: Scale) -> io::R
     let ink = square.ink();
     write!(writer, "<g>")?;
     draw_ground(writer, square, corner, look.side)?;
+    draw_square_ticks(writer, square, corner, &look)?;
     write!(
         writer,
         "<text x=\"{middle}\" y=\"{base}\" font-size=\"{font}\" text-anchor=\"middle\" fill=\"{ink}\">{}</text>",
@@ -183,8 +204,8 @@ fn draw<W: Write>(writer: &mut W, image: &Image, verdict: &Verdict) -> io::Resul
 }
 
 /// Writes the picture of an image as SVG: a square for each frame, with a title that says what it is and who
-/// holds it; a legend; and for each live process what it has, a bar of used, given and room, and the number
-/// of its lazy pages. A frame that fails a clause has a red edge, a process a red mark, each with the clause.
+/// holds it, in the hue of its process and with ticks that tell it from others of that hue; a legend; and for each
+/// live process what it has, a bar of used, given and room, and its lazy pages as dashed squares with their number. A frame that fails a clause has a red edge, a process a red mark, each with the clause.
 ///
 /// WriteFailed where a write fails.
 pub fn write_picture<W: Write>(

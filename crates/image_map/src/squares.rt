@@ -62,32 +62,47 @@ pub(crate) fn light(pid: Pid) -> &'static str {
     color(&LIGHT, pid)
 }
 
+/// How many ticks tell a process from those of its hue: one for each five numbers below its own.
+pub(crate) fn ticks(pid: Pid) -> u32
+    ensures { result ≤ 12 }
+{
+    u32::from(pid.number()) / 5
+}
+
 impl Square {
+    /// The process whose hue and ticks it has, and of a page that two map the first of them.
+    pub(crate) fn process(&self) -> Option<Pid> {
+        match self.role {
+            Some(Role::Directory { pid }) => Some(pid),
+            Some(Role::Table { pid, .. }) => Some(pid),
+            Some(Role::Page { .. }) => self.owners.first(),
+            Some(Role::Reserved) => None,
+            Some(Role::Free) => None,
+            None => None,
+        }
+    }
+
+    /// The second process that maps it, where it is a page that two map.
+    pub(crate) fn second(&self) -> Option<Pid> {
+        match self.role {
+            Some(Role::Page { .. }) => self.owners.second(),
+            _ => None,
+        }
+    }
+
     /// The colour of its ground: black for the reserved frame, white for a free one, and else the hue of its
     /// process, dark for a directory, middle for a table, light for a page.
     pub(crate) fn ground(&self) -> &'static str {
         match self.role {
             Some(Role::Directory { pid }) => color(&DARK, pid),
             Some(Role::Table { pid, .. }) => color(&MIDDLE, pid),
-            Some(Role::Page { .. }) => match self.owners {
-                Owners::Nobody => "#ffffff",
-                Owners::One(pid) => light(pid),
-                Owners::Two(pid, _) => light(pid),
-                Owners::More(pid, _) => light(pid),
+            Some(Role::Page { .. }) => match self.owners.first() {
+                Some(pid) => light(pid),
+                None => "#ffffff",
             },
             Some(Role::Reserved) => "#222222",
             Some(Role::Free) => "#ffffff",
             None => "#ffffff",
-        }
-    }
-
-    /// The colour of its lower half, where two processes map it.
-    pub(crate) fn lower_half(&self) -> Option<&'static str> {
-        match self.owners {
-            Owners::Two(_, second) => Some(light(second)),
-            Owners::More(_, second) => Some(light(second)),
-            Owners::Nobody => None,
-            Owners::One(_) => None,
         }
     }
 
@@ -104,8 +119,23 @@ impl Square {
     }
 }
 
-/// What is written in a square: the letter, with its process, or with the number of its holders where it has
-/// more than one.
+/// What is written in a page's square: the number of its holders, or its process where one slot holds it. Where
+/// more processes map it than its role counts, it is told by these, and where none does, by a dash.
+fn write_page<W: fmt::Write>(f: &mut fmt::Formatter<W>, count: u32, owners: Owners) -> fmt::Result {
+    match owners {
+        Owners::Nobody => write!(f, "P-"),
+        Owners::One(pid) if count <= 1 => write!(f, "P{}", pid.number()),
+        Owners::Two(first, second) if count <= 1 => {
+            write!(f, "P{}+{}", first.number(), second.number())
+        }
+        Owners::More(first, second) if count <= 2 => {
+            write!(f, "P{}+{}+", first.number(), second.number())
+        }
+        _ => write!(f, "S{count}"),
+    }
+}
+
+/// What is written in a square: the letter, with its process, or of a page as `write_page` says.
 #[derive(Clone, Copy)]
 pub(crate) struct Label<'a>(pub &'a Square);
 
@@ -116,10 +146,7 @@ impl fmt::Display for Label<'_> {
         match square.role {
             Some(Role::Directory { pid }) => write!(f, "{letter}{}", pid.number()),
             Some(Role::Table { pid, .. }) => write!(f, "{letter}{}", pid.number()),
-            Some(Role::Page { count }) => match square.owners {
-                Owners::One(pid) if count == 1 => write!(f, "{letter}{}", pid.number()),
-                _ => write!(f, "{letter}{count}"),
-            },
+            Some(Role::Page { count }) => write_page(f, count, square.owners),
             _ => write!(f, "{letter}"),
         }
     }
@@ -191,4 +218,32 @@ pub(crate) fn draw_half<W: Write>(
         writer,
         "<path d=\"M{left} {bottom}L{right} {bottom}L{right} {top}Z\" fill=\"{color}\"/>"
     )
+}
+
+/// Draws one tick.
+fn draw_tick<W: Write>(writer: &mut W, left: u32, top: u32, ink: &'static str) -> io::Result<()>
+    requires { top ≤ 262192 }
+{
+    let bottom = top + 8;
+    write!(
+        writer,
+        "<path d=\"M{left} {top}L{left} {bottom}\" stroke=\"{ink}\" stroke-width=\"2\"/>"
+    )
+}
+
+/// Draws so many ticks behind one another, from a corner on.
+pub(crate) fn draw_ticks<W: Write>(
+    writer: &mut W,
+    corner: (u32, u32),
+    step: u32,
+    count: u32,
+    ink: &'static str,
+) -> io::Result<()>
+    requires { (corner.0 ≤ 4096) × (corner.1 ≤ 262192) × (step ≤ 3) × (count ≤ 12) }
+{
+    for place in 0..count {
+        let behind = step.saturating_mul(place);
+        draw_tick(writer, (corner.0 + 2).saturating_add(behind), corner.1, ink)?;
+    }
+    Ok(())
 }

@@ -1,4 +1,4 @@
-//! Tests of images, their check, maps, audits and the words of the programs' command lines, by their public calls.
+//! Tests of images, their check, maps, films, audits and the words of the programs' command lines, by their public calls.
 //! They stand here and not beside what they test, so that each of those crates is proved once.
 #![tactic(auto)]
 
@@ -20,6 +20,8 @@ mod common;
 mod comparing;
 #[cfg(test)]
 mod damaged_tests;
+#[cfg(test)]
+mod film_tests;
 #[cfg(test)]
 mod images;
 #[cfg(test)]

@@ -2,9 +2,11 @@
 
 ghost use Rattle.std.specs.Prelude.{◌≡◌, None, map};
 ghost use Rattle.map_jobs.specs.Drawings.{AnswersWords, DrawsFile};
+ghost use Rattle.map_jobs.specs.Films.{AnswersAll, AnswersFilm};
 
 use crate::drawing::{Form, draw_bytes};
-use crate::jobs::request_of;
+use crate::films::film_script;
+use crate::jobs::{asks_film, frames_of, request_of};
 use std::alloc::Global;
 use std::convert::AsStr;
 use std::fs;
@@ -57,5 +59,40 @@ pub fn draw<R: AllocGlobal + Files, S: AsStr, O: Write>(
     match request_of(rt.alloc(), words) {
         Ok(request) => draw_named(rt, request.form, request.file, output),
         Err(error) => refuse(error),
+    }
+}
+
+/// Films the script that `input` has, as the words ask, of which the first is the program's name.
+fn film<S: AsStr, I: Read + Drop, O: Write>(
+    alloc: Global,
+    words: &[S],
+    input: I,
+    output: &mut O,
+) -> Answer
+    ensures { AnswersFilm (map S.text words.now) result (I.remaining input) (O.contents output.old) (O.contents output.new) }
+{
+    match frames_of(alloc, words) {
+        Ok(frames) => film_script(alloc, frames, input, output),
+        Err(refused) => refuse(refused),
+    }
+}
+
+/// Does what the words ask for, of which the first is the program's name: with `--film` the script that `input`
+/// has is filmed, and else the image in a file is drawn.
+///
+/// Done where a film was written or the image is sound, NotSound where it isn't. Of a film the faults are those
+/// of `film_script`, of a drawing those of `draw`.
+pub fn answer<R: AllocGlobal + Files, S: AsStr, I: Read + Drop, O: Write>(
+    rt: &R,
+    words: &[S],
+    input: I,
+    output: &mut O,
+) -> Answer
+    ensures { AnswersAll (map S.text words.now) result (I.remaining input) (O.contents output.old) (O.contents output.new) }
+{
+    if asks_film(words) {
+        film(rt.alloc(), words, input, output)
+    } else {
+        draw(rt, words, output)
     }
 }

@@ -5,12 +5,13 @@ ghost use Rattle.std.specs.Str.{bytes_eq};
 ghost use Rattle.clap.specs.Words.{app_of, fault_of, found_of, kind_of, rows_of, rule_of, FailsBy};
 ghost use Rattle.clap.specs.declared.builder.command.Command.TheViews.{out-Command as fields_of};
 ghost use Rattle.map_jobs.specs.Drawings.{svg_flag, map_app, form_of, form_in, request_asked, as_asked};
+ghost use Rattle.map_jobs.specs.Films.{film_flag, film_app, is_film, asks_film, frames_asked};
 
 use crate::drawing::Form;
 use clap::{Arg, ArgAction, ArgMatches, Command, Error};
 use std::alloc::{AllocError, Global};
 use std::convert::AsStr;
-use tool_answers::{file_argument, file_in};
+use tool_answers::{file_argument, file_in, frames_in, frames_option};
 
 /// What the command line asks for.
 #[derive(Clone, Copy, Debug, PartialEq, Eq)]
@@ -77,4 +78,57 @@ pub fn request_of<'a, S: AsStr>(alloc: Global, words: &'a [S]) -> Result<Request
         form: form_in(&matches),
         file: file_in(&matches),
     })
+}
+
+/// Whether a word is `--film`.
+fn is_film(word: &str) -> bool
+    ensures { result ≡ is_film word.now }
+{
+    word == "--film"
+}
+
+/// Whether the words ask for a film: `--film` is one of them.
+pub fn asks_film<S: AsStr>(words: &[S]) -> bool
+    ensures { result ≡ asks_film (map S.text words.now) }
+{
+    let mut asks = false;
+    for place in 0..words.len() {
+        asks = asks | is_film(words[place].as_str());
+    }
+    asks
+}
+
+/// `--film`.
+fn film_flag<'a>(alloc: Global) -> Arg<'a>
+    ensures rule { rule_of result ≡ film_flag }
+    ensures local { result.global ≡ false }
+{
+    Arg::new(alloc, "film")
+        .long("film")
+        .action(ArgAction::SetTrue)
+        .help("Films a script from standard input, step by step, as a page")
+}
+
+/// `memory_map --film [--frames N]`.
+fn film_command<'a>(alloc: Global) -> Result<Command<'a>, AllocError>
+    ensures app { IfOk result (λ command. app_of command ≡ film_app) }
+    ensures globals { IfOk result (λ command. (fields_of command).has_globals ≡ false) }
+{
+    Command::new(alloc, "memory_map")
+        .about("Films a script: each line with its reply, and what it changes in memory")
+        .arg(film_flag(alloc))?
+        .arg(frames_option(alloc))
+}
+
+/// The number of frames of the film that the words ask for, of which the first is the program's name; 16 where
+/// they give none. What they do not spell is refused by `clap`, with its own text; a call for help is refused so
+/// too.
+pub fn frames_of<S: AsStr>(alloc: Global, words: &[S]) -> Result<u32, Error>
+    // An Ok comes only where `clap` finds no fault in the words, and an error is want of memory or of
+    // a kind that `clap` finds.
+    ensures fails { FailsBy (fault_of film_app (map S.text words.now)) result }
+    ensures frames { IfOk result (λ frames. frames ≡ frames_asked (map S.text words.now)) }
+{
+    let matches = film_command(alloc)?.try_get_matches_from(words)?;
+    Ok(frames_in(&matches).unwrap_or(16))
 }

@@ -1,12 +1,16 @@
-//! The command of `memory_map`: its command line, and the drawing that it asks for. What comes of it is an answer, as
-//! of a command of `tower`.
+//! The command of `memory_map`: its command line, and the drawing or the film that it asks for. What comes of it is an
+//! answer, as of a command of `tower`.
 #![tactic(auto)]
 
 mod commands;
 mod drawing;
+mod film_page;
+mod films;
 mod jobs;
 
-pub use commands::draw;
+pub use commands::{answer, draw};
 pub use drawing::{Form, draw_bytes};
-pub use jobs::{Request, request_of};
+pub use films::{film_script, write_film};
+pub use jobs::{Request, asks_film, frames_of, request_of};
+pub use script_film::End;
 pub use tool_answers::{Answer, ToolFault};

@@ -1,7 +1,7 @@
 -- What comes of a command line: the answer, its exit status, and what is told on standard error.
 --     status_of answer      0 done; 1 want of memory, a device's fault or a failed race; 2 a refused command line, size, script or image; 3 an image that isn't sound
---     Tells answer held holds      what standard error holds afterwards
-use Rattle.std.specs.Prelude.{◌≡◌, ◌⊎◌, ℕ, List, [], ◌∷◌, ◌++◌, Option}
+--     Tells program answer held holds      what standard error holds afterwards, where the program has that name
+use Rattle.std.specs.Prelude.{◌≡◌, ◌⊎◌, ℕ, List, [], ◌∷◌, ◌++◌, Option, codes}
 use Rattle.std.specs.Io.KnownBytes.{Appends, Keeps}
 use Rattle.clap.specs.Words.{kind_of}
 use Rattle.clap.specs.declared.error.Error.{Error}
@@ -22,13 +22,17 @@ status_of (Failed fault) = status_of_tool fault
 status_of NotText = 2
 status_of (Refused error) = 2
 
+-- a fault's text behind the program's name
+unfoldable pub told_line : List ℕ → List ℕ → List ℕ
+told_line program text = program ++ (codes ": " ++ (text ++ 10 ∷ []))
+
 -- nothing, or a line with the fault's text; what `clap` says of words that it refuses is its own
-abbrev pub Tells : Answer → Option (List ℕ) → Option (List ℕ) → Type 0
-Tells Done held holds = Keeps held holds
-Tells NotSound held holds = Keeps held holds
-Tells (Failed fault) held holds = Appends held holds (tool_text fault ++ 10 ∷ [])
-Tells NotText held holds = Appends held holds (words_text words.NotText ++ 10 ∷ [])
-Tells (Refused error) held holds = Unit {0}
+abbrev pub Tells : List ℕ → Answer → Option (List ℕ) → Option (List ℕ) → Type 0
+Tells program Done held holds = Keeps held holds
+Tells program NotSound held holds = Keeps held holds
+Tells program (Failed fault) held holds = Appends held holds (told_line program (tool_text fault))
+Tells program NotText held holds = Appends held holds (told_line program (words_text words.NotText))
+Tells program (Refused error) held holds = Unit {0}
 
 -- what words that were not read come to
 abbrev pub answer_of_words : WordsFault → Answer

@@ -10,18 +10,18 @@ use Rattle.tool_answers.specs.declared.given_words.WordsFault.TheVariants as wor
 use Rattle.script_run.specs.declared.faults.ScriptFault.TheVariants as script
 
 abbrev pub tool_text : ToolFault → List ℕ
-tool_text tool.BadSize = codes "tower: frames must be 16 to 4096"
-tool_text tool.NoMemory = codes "tower: out of memory"
-tool_text (tool.Malformed line) = codes "tower: line " ++ (decimal line ++ codes " is malformed")
-tool_text tool.TooLong = codes "tower: script is too long"
-tool_text tool.ReadFailed = codes "tower: read failed"
-tool_text tool.WriteFailed = codes "tower: write failed"
-tool_text tool.NotImage = codes "tower: not an image"
-tool_text tool.BadVersion = codes "tower: unknown image version"
-tool_text tool.BadLength = codes "tower: wrong image length"
-tool_text (tool.BadField offset) = codes "tower: bad field at byte " ++ decimal offset
-tool_text tool.RaceTurns = codes "tower: race ran out of turns"
-tool_text tool.RaceFailed = codes "tower: race failed"
+tool_text tool.BadSize = codes "frames must be 16 to 4096"
+tool_text tool.NoMemory = codes "out of memory"
+tool_text (tool.Malformed line) = codes "line " ++ (decimal line ++ codes " is malformed")
+tool_text tool.TooLong = codes "script is too long"
+tool_text tool.ReadFailed = codes "read failed"
+tool_text tool.WriteFailed = codes "write failed"
+tool_text tool.NotImage = codes "not an image"
+tool_text tool.BadVersion = codes "unknown image version"
+tool_text tool.BadLength = codes "wrong image length"
+tool_text (tool.BadField offset) = codes "bad field at byte " ++ decimal offset
+tool_text tool.RaceTurns = codes "race ran out of turns"
+tool_text tool.RaceFailed = codes "race failed"
 
 -- what refuses an image
 abbrev pub tool_of_image : ImageFault → ToolFault
@@ -58,5 +58,5 @@ status_of_tool tool.RaceFailed = 1
 -- ---- Words of the command line
 
 abbrev pub words_text : WordsFault → List ℕ
-words_text words.NoMemory = codes "tower: out of memory"
-words_text words.NotText = codes "tower: a word of the command line is not text"
+words_text words.NoMemory = codes "out of memory"
+words_text words.NotText = codes "a word of the command line is not text"

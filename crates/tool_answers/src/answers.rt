@@ -1,8 +1,9 @@
 //! What comes of a command line: the exit status, and what is told on standard error.
 
 ghost use Rattle.std.specs.Prelude.{◌≡◌, OnOk};
-ghost use Rattle.tool_answers.specs.Answers.{Refuses, Tells, answer_of_words, status_of};
-ghost use Rattle.tool_answers.specs.Faults.{status_of_tool};
+ghost use Rattle.std.specs.Io.KnownBytes.{Appends};
+ghost use Rattle.tool_answers.specs.Answers.{Refuses, Tells, answer_of_words, status_of, told_line};
+ghost use Rattle.tool_answers.specs.Faults.{status_of_tool, tool_text, words_text};
 
 use crate::faults::ToolFault;
 use crate::given_words::WordsFault;
@@ -59,19 +60,35 @@ pub fn status_of(answer: &Answer) -> u8
     }
 }
 
-/// Tells on standard error what ended a command line early: a line with the text of its fault, or what
-/// `clap` says of words that it refuses. Of a job that was done it tells nothing, whether an image is sound
-/// or not.
+/// Tells a fault of a program's job, in a line behind the program's name.
+#[tactic(auto, unfolding(crate::specs::Answers::told_line))]
+fn tell_fault<E: Write>(program: &str, fault: ToolFault, errors: &mut E) -> io::Result<()>
+    ensures { OnOk result (Appends (E.contents errors.old) (E.contents errors.new) (told_line program.now (tool_text fault))) }
+{
+    write!(errors, "{program}: {fault}\n")
+}
+
+/// Tells why the words of a command line were not read, in such a line.
+#[tactic(auto, unfolding(crate::specs::Answers::told_line))]
+fn tell_words<E: Write>(program: &str, fault: WordsFault, errors: &mut E) -> io::Result<()>
+    ensures { OnOk result (Appends (E.contents errors.old) (E.contents errors.new) (told_line program.now (words_text fault))) }
+{
+    write!(errors, "{program}: {fault}\n")
+}
+
+/// Tells on standard error what ended a command line of a program early: a line with the program's name and
+/// the text of its fault, or what `clap` says of words that it refuses. Of a job that was done it tells
+/// nothing, whether an image is sound or not.
 ///
 /// An error is that of a write.
-pub fn tell<E: Write>(answer: &Answer, errors: &mut E) -> io::Result<()>
-    ensures { OnOk result (Tells answer.now (E.contents errors.old) (E.contents errors.new)) }
+pub fn tell<E: Write>(program: &str, answer: &Answer, errors: &mut E) -> io::Result<()>
+    ensures { OnOk result (Tells program.now answer.now (E.contents errors.old) (E.contents errors.new)) }
 {
     match answer {
         Answer::Done => Ok(()),
         Answer::NotSound => Ok(()),
-        Answer::Failed(fault) => errors.writeln(*fault),
-        Answer::NotText => errors.writeln(WordsFault::NotText),
+        Answer::Failed(fault) => tell_fault(program, *fault, errors),
+        Answer::NotText => tell_words(program, WordsFault::NotText, errors),
         Answer::Refused(error) => errors.write_fmt(error),
     }
 }

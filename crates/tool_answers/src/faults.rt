@@ -50,18 +50,18 @@ impl fmt::Display for ToolFault {
 
     fn fmt<W: fmt::Write>(&self, f: &mut fmt::Formatter<W>) -> fmt::Result {
         match self {
-            ToolFault::BadSize => write!(f, "tower: frames must be 16 to 4096"),
-            ToolFault::NoMemory => write!(f, "tower: out of memory"),
-            ToolFault::Malformed { line } => write!(f, "tower: line {line} is malformed"),
-            ToolFault::TooLong => write!(f, "tower: script is too long"),
-            ToolFault::ReadFailed => write!(f, "tower: read failed"),
-            ToolFault::WriteFailed => write!(f, "tower: write failed"),
-            ToolFault::NotImage => write!(f, "tower: not an image"),
-            ToolFault::BadVersion => write!(f, "tower: unknown image version"),
-            ToolFault::BadLength => write!(f, "tower: wrong image length"),
-            ToolFault::BadField { offset } => write!(f, "tower: bad field at byte {offset}"),
-            ToolFault::RaceTurns => write!(f, "tower: race ran out of turns"),
-            ToolFault::RaceFailed => write!(f, "tower: race failed"),
+            ToolFault::BadSize => write!(f, "frames must be 16 to 4096"),
+            ToolFault::NoMemory => write!(f, "out of memory"),
+            ToolFault::Malformed { line } => write!(f, "line {line} is malformed"),
+            ToolFault::TooLong => write!(f, "script is too long"),
+            ToolFault::ReadFailed => write!(f, "read failed"),
+            ToolFault::WriteFailed => write!(f, "write failed"),
+            ToolFault::NotImage => write!(f, "not an image"),
+            ToolFault::BadVersion => write!(f, "unknown image version"),
+            ToolFault::BadLength => write!(f, "wrong image length"),
+            ToolFault::BadField { offset } => write!(f, "bad field at byte {offset}"),
+            ToolFault::RaceTurns => write!(f, "race ran out of turns"),
+            ToolFault::RaceFailed => write!(f, "race failed"),
         }
     }
 }

@@ -22,8 +22,8 @@ impl fmt::Display for WordsFault {
 
     fn fmt<W: fmt::Write>(&self, f: &mut fmt::Formatter<W>) -> fmt::Result {
         match self {
-            WordsFault::NoMemory => write!(f, "tower: out of memory"),
-            WordsFault::NotText => write!(f, "tower: a word of the command line is not text"),
+            WordsFault::NoMemory => write!(f, "out of memory"),
+            WordsFault::NotText => write!(f, "a word of the command line is not text"),
         }
     }
 }

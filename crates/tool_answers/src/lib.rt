@@ -7,9 +7,11 @@ mod faults;
 mod file_words;
 mod files;
 mod given_words;
+mod options;
 
 pub use answers::{Answer, answer_of_words, refuse, status_of, tell};
 pub use faults::ToolFault;
 pub use file_words::{file_argument, file_in};
 pub use files::bytes_of;
 pub use given_words::{WordsFault, words};
+pub use options::{frames_in, frames_option, number_in};

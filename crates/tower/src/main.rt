@@ -20,6 +20,6 @@ fn main(rt: HostRuntime) -> ExitCode {
         ),
         Err(fault) => answer_of_words(fault),
     };
-    let _ = tell(&answer, &mut io::writer(&rt.stderr()));
+    let _ = tell("tower", &answer, &mut io::writer(&rt.stderr()));
     ExitCode::from(status_of(&answer))
 }

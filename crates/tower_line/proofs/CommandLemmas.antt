@@ -15,7 +15,8 @@ use Rattle.clap.specs.declared.parser.matches.ArgMatches.{ArgMatches}
 use Rattle.clap.specs.declared.parser.matches.ArgMatches.TheViews.{out-ArgMatches, out-SubCommand}
 use Rattle.clap.specs.declared.parser.matches.SubCommand.{SubCommand}
 use Rattle.clap.proofs.OnLiterals.{clap_on_literals}
-use Rattle.tower_line.specs.Jobs.{tower_app, run_app, race_app, image_app, check_app, frames_option, rounds_option, number_named, job_named}
+use Rattle.tool_answers.specs.Options.{frames_option, number_named}
+use Rattle.tower_line.specs.Jobs.{tower_app, run_app, race_app, image_app, check_app, rounds_option, job_named}
 use Rattle.tower_line.proofs.JobLemmas.{first_none, second_none}
 use Rattle.tower_line.proofs.ValueLemmas.{IsHelp, IsNumbered, IsOption, RaceNumbered, run_is_named, race_is_named}
 

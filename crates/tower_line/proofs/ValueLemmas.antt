@@ -27,8 +27,9 @@ use Rattle.clap.specs.declared.builder.action.ArgAction.TheVariants.{Help, Set}
 use Rattle.clap.proofs.CallerReads.{signed_reads}
 use Rattle.clap.proofs.ValueTestLemmas.{accepts-Accepts}
 use Rattle.clap.proofs.WalkLemmas.{both}
-use Rattle.tower_line.specs.Jobs.{number_named}
-use Rattle.tower_line.proofs.JobLemmas.{digits_are, digits_pass, first_none, second_none}
+use Rattle.tool_answers.specs.Options.{number_named}
+use Rattle.tool_answers.proofs.OptionLemmas.{digits_are, digits_pass}
+use Rattle.tower_line.proofs.JobLemmas.{first_none, second_none}
 
 -- ---- A value
 

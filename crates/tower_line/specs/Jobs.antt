@@ -9,16 +9,9 @@ use Rattle.clap.specs.ValueTests.{is_numeral}
 use Rattle.clap.specs.Words.{App, Row, Rule, Text, new_app, new_rule, all_of, one_of, with_rule, with_subcommand}
 use Rattle.clap.specs.declared.builder.value_parser.ValueParser.TheVariants as parser
 use Rattle.tool_answers.specs.Files.{file_argument, file_in}
+use Rattle.tool_answers.specs.Options.{frames_option, frames_in, number_in}
 use Rattle.tower_line.specs.declared.jobs.Job.{Job}
 use Rattle.tower_line.specs.declared.jobs.Job.TheVariants.{Run, Race, Image, Check}
-
--- --frames N, a number of 32 bits
-abbrev pub frames_option : Rule
-frames_option = record (new_rule (codes "frames")) {
-  long = Some (codes "frames");
-  value_names = 1;
-  parser = Some (parser.Signed (pos 0) (pos 4294967295));
-}
 
 -- tower run [--frames N]
 abbrev pub run_app : App
@@ -46,19 +39,6 @@ race_app = with_rule (with_rule (new_app (codes "race")) frames_option) rounds_o
 
 abbrev pub tower_app : App
 tower_app = let app = with_subcommand (with_subcommand (with_subcommand (with_subcommand (new_app (codes "tower")) run_app.top) race_app.top) image_app.top) check_app.top in record app { top = record app.top { subcommand_required = true } }
-
--- the number of 32 bits that the text writes in decimal digits, behind a plus or not
-abbrev pub number_named : Text → Option ℕ
-number_named text =
-    let digits = without_leading_plus text in
-    if is_numeral digits && nat_lt (digits_value 10 digits) (2 ^ 32) then Some (digits_value 10 digits) else None
-
--- the number of an option, by its text as it is read (`-0` is read as `0`), and another number where it is absent
-abbrev pub number_in : Text → ℕ → List Row → Option ℕ
-number_in id absent rows = option_map_or number_named (one_of id rows) (Some absent)
-
-abbrev pub frames_in : List Row → Option ℕ
-frames_in rows = number_in (codes "frames") 16 rows
 
 -- a number of rounds that may be played
 abbrev pub playable : ℕ → Option ℕ

@@ -3,16 +3,14 @@
 ghost use Rattle.std.specs.Prelude.{◌≡◌, ◌≤◌, true, false, map, option_map, codes, Some, IfOk, IfErr, IfSome};
 ghost use Rattle.clap.specs.Words.{app_of, fault_of, found_of, kind_of, rows_of, rule_of, subcommand_of, takes, with_subcommand, FailsBy};
 ghost use Rattle.clap.specs.declared.builder.command.Command.TheViews.{out-Command as fields_of};
-ghost use Rattle.tower_line.specs.Jobs.{tower_app, run_app, race_app, image_app, check_app, frames_option, rounds_option, number_in, playable, rounds_in, race_in, job_named, job_asked, as_asked, HasRounds};
+ghost use Rattle.tool_answers.specs.Options.{frames_option, frames_in, number_in};
+ghost use Rattle.tower_line.specs.Jobs.{tower_app, run_app, race_app, image_app, check_app, rounds_option, playable, rounds_in, race_in, job_named, job_asked, as_asked, HasRounds};
 
 use clap::error::ErrorKind;
 use clap::{Arg, ArgMatches, Command, Error};
 use std::alloc::{AllocError, Global};
 use std::convert::AsStr;
-use tool_answers::{file_argument, file_in};
-
-/// How many frames a machine has where the command line does not say.
-const FRAMES: u32 = 16;
+use tool_answers::{file_argument, file_in, frames_in, frames_option, number_in};
 
 /// How many rounds a race has where the command line does not say.
 const ROUNDS: u32 = 100;
@@ -28,18 +26,6 @@ pub enum Job<'a> {
     Check { file: &'a str },
     /// To play so many rounds of a race, 1 to 1000, each on a machine of so many frames.
     Race { frames: u32, rounds: u32 },
-}
-
-/// `--frames N`.
-fn frames_option<'a>(alloc: Global) -> Arg<'a>
-    ensures rule { rule_of result ≡ frames_option }
-    ensures local { result.global ≡ false }
-{
-    Arg::new(alloc, "frames")
-        .long("frames")
-        .value_name("N")
-        .value_parser(clap::value_parser!(u32))
-        .help("The frames of a machine's memory, 16 to 4096; 16 where it is absent")
 }
 
 /// `--rounds N`.
@@ -119,18 +105,6 @@ fn tower_command<'a>(alloc: Global) -> Result<Command<'a>, AllocError>
     Ok(tower.subcommand_required(true))
 }
 
-/// The number that was asked for by the option of that name, or the other one where it was not; None
-/// where what stands there is no number.
-fn number_in(matches: &ArgMatches<'_>, name: &str, absent: u32) -> Option<u32>
-    ensures { result ≡ number_in name.now absent (rows_of (found_of matches.now)) }
-{
-    match matches.try_get_one::<u32>(name) {
-        Ok(Some(number)) => Some(number),
-        Ok(None) => Some(absent),
-        Err(_) => None,
-    }
-}
-
 /// A number of rounds that may be played; None for any other.
 fn playable(rounds: u32) -> Option<u32>
     ensures value { result ≡ playable rounds }
@@ -148,7 +122,7 @@ fn race_in<'a>(matches: &ArgMatches<'a>) -> Option<Job<'a>>
     ensures job { option_map as_asked result ≡ race_in (rows_of (found_of matches.now)) }
     ensures rounds { IfSome result HasRounds }
 {
-    let frames = number_in(matches, "frames", FRAMES)?;
+    let frames = frames_in(matches)?;
     let rounds = playable(number_in(matches, "rounds", ROUNDS)?)?;
     Some(Job::Race { frames, rounds })
 }
@@ -160,12 +134,12 @@ fn job_named<'a>(name: &str, matches: &ArgMatches<'a>) -> Option<Job<'a>>
 {
     match name {
         "run" => {
-            let frames = number_in(matches, "frames", FRAMES)?;
+            let frames = frames_in(matches)?;
             Some(Job::Run { frames })
         }
         "race" => race_in(matches),
         "image" => {
-            let frames = number_in(matches, "frames", FRAMES)?;
+            let frames = frames_in(matches)?;
             Some(Job::Image { frames })
         }
         "check" => {

@@ -12,31 +12,39 @@ pub(crate) struct Ended {
     pub(crate) errors: Vec<u8>,
 }
 
-/// What is told of an answer on standard error.
-fn told<R: AllocGlobal + Abort>(rt: &R, answer: &Answer) -> Vec<u8> {
+/// What a program tells of an answer on standard error.
+fn told<R: AllocGlobal + Abort>(rt: &R, program: &str, answer: &Answer) -> Vec<u8> {
     let mut errors = Vec::new(rt.alloc());
-    tell(answer, &mut errors).ok().expect(rt, "what is told");
+    tell(program, answer, &mut errors)
+        .ok()
+        .expect(rt, "what is told");
     errors
 }
 
-/// What an answer comes to, with what was written before.
-pub(crate) fn end_of<R: AllocGlobal + Abort>(rt: &R, answer: &Answer, output: Vec<u8>) -> Ended {
+/// What a program's answer comes to, with what was written before.
+pub(crate) fn end_of<R: AllocGlobal + Abort>(
+    rt: &R,
+    program: &str,
+    answer: &Answer,
+    output: Vec<u8>,
+) -> Ended {
     Ended {
         status: status_of(answer),
         output,
-        errors: told(rt, answer),
+        errors: told(rt, program, answer),
     }
 }
 
-/// An answer has this status, and this text on standard error.
+/// A program's answer has this status, and this text on standard error.
 pub(crate) fn check_answer<R: AllocGlobal + Abort>(
     rt: &R,
+    program: &str,
     answer: &Answer,
     status: u8,
     errors: &str,
 ) {
     same(rt, &status_of(answer), &status);
-    same_bytes(rt, &told(rt, answer), errors.as_bytes());
+    same_bytes(rt, &told(rt, program, answer), errors.as_bytes());
 }
 
 /// Words came to this status, with nothing on standard output and something on standard error.

@@ -4,16 +4,24 @@ use crate::command_lines::{Ended, check_answer, check_nothing_done, end_of};
 use crate::comparing::{same, same_bytes};
 use crate::images::opening_with_quota;
 use base_tests::streams::FullWriter;
-use map_jobs::draw;
+use map_jobs::{answer, draw};
 use std::fs;
 use std::fs::Files;
 use std::process::Abort;
+
+const PROGRAM: &str = "memory_map";
+
+const MAP: &str = "0 0 map 40000 rw\n";
+
+const MALFORMED: &str = "0 0 map 40000 rw\n0 0 map\n";
+
+const BAD_SIZE: &str = "memory_map: frames must be 16 to 4096\n";
 
 /// What comes of words.
 fn drawn<R: AllocGlobal + Files + Abort>(rt: &R, words: &[&str]) -> Ended {
     let mut output = Vec::new(rt.alloc());
     let answer = draw(rt, words, &mut output);
-    end_of(rt, &answer, output)
+    end_of(rt, PROGRAM, &answer, output)
 }
 
 fn put_file<R: Files + Abort>(rt: &R, name: &str, bytes: &[u8]) {
@@ -57,7 +65,7 @@ fn files_are_drawn_by_their_names(rt: HostRuntime) {
     let unsound = opening_with_quota(&rt, 16);
     check_file(&rt, &sound, 0, "sound\n", "");
     check_file(&rt, &unsound, 3, "process 0 P1\n", "");
-    check_file(&rt, b"mC2", 2, "", "tower: not an image\n");
+    check_file(&rt, b"mC2", 2, "", "memory_map: not an image\n");
 }
 
 /// What comes of drawing a file of these bytes as a picture.
@@ -105,7 +113,7 @@ fn a_map_that_is_not_drawn_has_its_status(rt: HostRuntime) {
 /// Words end with status 1 where no byte can be written.
 fn check_unwritten<R: AllocGlobal + Files + Abort>(rt: &R, words: &[&str]) {
     let answer = draw(rt, words, &mut FullWriter::new(0));
-    check_answer(rt, &answer, 1, "tower: write failed\n");
+    check_answer(rt, PROGRAM, &answer, 1, "memory_map: write failed\n");
 }
 
 #[test]
@@ -114,5 +122,54 @@ fn a_map_that_can_not_be_written_ends_with_status_1(rt: HostRuntime) {
     put_file(&rt, name, &opening_with_quota(&rt, 15));
     check_unwritten(&rt, &["memory_map", name]);
     check_unwritten(&rt, &["memory_map", "--svg", name]);
+    remove_file(&rt, name);
+}
+
+/// What comes of words and a script on standard input.
+fn answered<R: AllocGlobal + Files + Abort>(rt: &R, words: &[&str], script: &str) -> Ended {
+    let mut output = Vec::new(rt.alloc());
+    let answer = answer(rt, words, script.as_bytes(), &mut output);
+    end_of(rt, PROGRAM, &answer, output)
+}
+
+/// Words and a script come to this status, to this at the end of standard output, and to this on standard error.
+fn check_film<R: AllocGlobal + Files + Abort>(
+    rt: &R,
+    words: &[&str],
+    script: &str,
+    status: u8,
+    last: &str,
+    errors: &str,
+) {
+    check_ended(rt, &answered(rt, words, script), status, last, errors);
+}
+
+#[test]
+fn films_are_written_of_scripts(rt: HostRuntime) {
+    let film = [PROGRAM, "--film"];
+    let few = [PROGRAM, "--frames", "15", "--film"];
+    let malformed = "memory_map: line 2 is malformed\n";
+    check_film(&rt, &film, MAP, 0, "</html>\n", "");
+    check_film(&rt, &film, MALFORMED, 2, "</html>\n", malformed);
+    check_film(&rt, &few, MAP, 2, "", BAD_SIZE);
+}
+
+/// Words with `--film` that ask for something else too are refused.
+fn check_no_film<R: AllocGlobal + Files + Abort>(rt: &R, words: &[&str]) {
+    check_nothing_done(rt, &answered(rt, words, MAP), 2, words);
+}
+
+#[test]
+fn a_film_of_a_file_is_refused(rt: HostRuntime) {
+    check_no_film(&rt, &[PROGRAM, "--film", "an.image"]);
+    check_no_film(&rt, &[PROGRAM, "--film", "--svg"]);
+    check_no_film(&rt, &[PROGRAM, "--film", "--frames", "many"]);
+}
+
+#[test]
+fn words_without_a_film_draw_a_file(rt: HostRuntime) {
+    let name = "answered.by.a.test.image";
+    put_file(&rt, name, &opening_with_quota(&rt, 16));
+    check_film(&rt, &[PROGRAM, name], MAP, 3, "process 0 P1\n", "");
     remove_file(&rt, name);
 }

@@ -29,7 +29,7 @@ fn run<R: AllocGlobal + Files + Threads + Wait + Abort + Sync>(
 ) -> Ended {
     let mut output = Vec::new(rt.alloc());
     let answer = answer(rt, words, &mut script.as_bytes(), &mut output);
-    end_of(rt, &answer, output)
+    end_of(rt, "tower", &answer, output)
 }
 
 /// A command line came to this status, and these texts.
@@ -114,7 +114,7 @@ fn files_are_checked_by_their_names(rt: HostRuntime) {
 /// Words end with status 1 where no byte can be written.
 fn check_unwritten<R: AllocGlobal + Files + Threads + Wait + Abort + Sync>(rt: &R, words: &[&str]) {
     let answer = answer(rt, words, &mut MAP.as_bytes(), &mut FullWriter::new(0));
-    check_answer(rt, &answer, 1, "tower: write failed\n");
+    check_answer(rt, "tower", &answer, 1, "tower: write failed\n");
 }
 
 #[test]
@@ -126,7 +126,7 @@ fn a_write_that_fails_ends_with_status_1(rt: HostRuntime) {
 
 /// A fault ends with this status, and this line on standard error.
 fn check_fault<R: AllocGlobal + Abort>(rt: &R, fault: ToolFault, status: u8, line: &str) {
-    check_answer(rt, &Answer::Failed(fault), status, line);
+    check_answer(rt, "tower", &Answer::Failed(fault), status, line);
 }
 
 #[test]

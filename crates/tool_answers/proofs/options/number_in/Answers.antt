@@ -2,8 +2,8 @@ use Rattle.std.proofs.Common.{◌∙◌, sym}
 use Rattle.std.specs.Str.Parse.{ParsesUnsigned, ExplainsUnsignedError, HasUnsignedDigitsIfOk}
 use Rattle.clap.specs.Words.{found_of, one_text, rows_of}
 use Rattle.clap.proofs.WalkLemmas.{one_text-rows}
-use Rattle.tower_line.proofs.JobLemmas.{option_read, found_some, found_none, found_other}
-use Rattle.tower_line.proofs.jobs.number_in.Goals as goal
+use Rattle.tool_answers.proofs.OptionLemmas.{option_read, found_some, found_none, found_other}
+use Rattle.tool_answers.proofs.options.number_in.Goals as goal
 
 pub returns-in-Ok-Some : goal.returns-in-Ok-Some
 returns-in-Ok-Some c =

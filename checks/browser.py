@@ -1,0 +1,95 @@
+"""A headless Chromium, told by pipe what to open, and asked for what stands in the page."""
+import base64
+import json
+import os
+import shutil
+import subprocess
+import tempfile
+
+WORDS = ["chromium", "--headless=new", "--no-sandbox", "--disable-gpu", "--remote-debugging-pipe", "--window-size=1400,1000"]
+
+
+class Browser:
+    """One tab of a browser of its own, with a profile that goes with it."""
+
+    def __init__(self):
+        self.profile = tempfile.mkdtemp()
+        read, self.to = os.pipe()
+        self.back, write = os.pipe()
+        self.run = subprocess.Popen([*WORDS, f"--user-data-dir={self.profile}", "about:blank"], close_fds=False,
+                                    preexec_fn=lambda: to_3_and_4(read, write), stdout=subprocess.DEVNULL,
+                                    stderr=subprocess.DEVNULL)
+        os.close(read)
+        os.close(write)
+        self.asked, self.rest, self.session = 0, b"", {}
+        tab = self.ask("Target.createTarget", url="about:blank")["targetId"]
+        self.session = {"sessionId": self.ask("Target.attachToTarget", targetId=tab, flatten=True)["sessionId"]}
+        self.ask("Page.enable")
+
+    def __enter__(self):
+        return self
+
+    def __exit__(self, *_):
+        self.run.terminate()
+        self.run.wait(20)
+        os.close(self.to)
+        os.close(self.back)
+        shutil.rmtree(self.profile, ignore_errors=True)
+
+    def told(self):
+        """The next message of the browser."""
+        while b"\0" not in self.rest:
+            more = os.read(self.back, 1 << 20)
+            if not more:
+                raise ConnectionError("the browser has ended")
+            self.rest += more
+        message, self.rest = self.rest.split(b"\0", 1)
+        return json.loads(message)
+
+    def ask(self, method, **params):
+        """The answer to a request; what the browser says before it counts for nothing."""
+        self.asked += 1
+        request = json.dumps({"id": self.asked, "method": method, "params": params, **self.session}).encode() + b"\0"
+        while request:
+            request = request[os.write(self.to, request):]
+        while (answer := self.told()).get("id") != self.asked:
+            pass
+        if "error" in answer:
+            raise ValueError(f"{method}: {answer['error']}")
+        return answer["result"]
+
+    def open(self, file, step=0):
+        """Opens a film at a step, and waits until its script has run."""
+        self.ask("Page.navigate", url="about:blank")
+        self.ask("Page.navigate", url=f"file://{file}#{step}")
+        while self.value("document.readyState + location.protocol") != "completefile:":
+            pass
+
+    def value(self, expression):
+        """What an expression is in the page."""
+        answer = self.ask("Runtime.evaluate", expression=expression, returnByValue=True, awaitPromise=True)
+        if "exceptionDetails" in answer:
+            raise ValueError(f"{expression}: {answer['exceptionDetails']}")
+        return answer["result"].get("value")
+
+    def press(self, key):
+        for kind in ("keyDown", "keyUp"):
+            self.ask("Input.dispatchKeyEvent", type=kind, key=key, code=key)
+
+    def dark(self, on):
+        self.ask("Emulation.setEmulatedMedia", features=[{"name": "prefers-color-scheme", "value": "dark" if on else "light"}])
+
+    def shot(self):
+        """What the page looks like, as PNG."""
+        return base64.b64decode(self.ask("Page.captureScreenshot", format="png")["data"])
+
+    def names(self, role):
+        """The names that a screen reader finds of what has this role."""
+        nodes = self.ask("Accessibility.getFullAXTree")["nodes"]
+        return [node.get("name", {}).get("value", "") for node in nodes if node.get("role", {}).get("value") == role]
+
+
+def to_3_and_4(read, write):
+    """In the browser's process: it reads from 3, and writes to 4."""
+    for end, place in ((read, 103), (write, 104), (103, 3), (104, 4)):
+        os.dup2(end, place, inheritable=True)
