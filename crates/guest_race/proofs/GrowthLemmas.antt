@@ -39,10 +39,6 @@ by_first : (n : ℕ) (xs ys : List Event) → AllBy n (xs ++ ys) → AllBy n xs
 by_first n [] ys all = tt
 by_first n (x ∷ xs) ys all = (all.0, by_first n xs ys all.1)
 
-by_second : (n : ℕ) (xs ys : List Event) → AllBy n (xs ++ ys) → AllBy n ys
-by_second n [] ys all = all
-by_second n (x ∷ xs) ys all = by_second n xs ys all.1
-
 abbrev IsReply : Answer → Type 0
 IsReply (Ok reply) = ⊤
 IsReply (Err fault) = ⊥

@@ -1,31 +1,18 @@
 -- Lists that begin one list.
-use Rattle.std.proofs.Common.{◌≡◌, ℕ, ◌+◌, ◌<◌, ◌≤◌, ◌==◌, List, [], ◌∷◌, ◌++◌, length, Bool, true, false, cond, refl, sym, ap, ◌∙◌, arith, append_assoc, append-nil, length-append}
-use Rattle.std.specs.Prelude.{nat_lt, take, MatchBool}
+use Rattle.std.proofs.Common.{◌≡◌, ℕ, ◌+◌, ◌<◌, ◌≤◌, ◌==◌, List, [], ◌∷◌, ◌++◌, length, Bool, true, false, refl, sym, ap, ◌∙◌, arith, append-nil, length-append}
+use Rattle.std.specs.Prelude.{MatchBool}
 use lib.Dec.{leb}
 use Rattle.std.proofs.lemmas.Bool.Decides.{nat_tests}
-use Rattle.std.proofs.Math.Seq.{take-append_seam}
 use Rattle.std.proofs.lemmas.List.Elements.{filter-append}
 use Rattle.memory_report.specs.declared.entries.LogEntry.{LogEntry}
-use Rattle.memory_report.specs.Histories.{StartsWith, entries_of, calls_of, longer}
+use Rattle.memory_report.specs.Histories.{StartsWith, entries_of, calls_of}
 
 pub starts_itself : (xs : List LogEntry) → StartsWith xs xs
 starts_itself xs = ([], sym (append-nil xs))
 
-pub starts_nil : (xs : List LogEntry) → StartsWith xs []
-starts_nil xs = (xs, refl)
-
-pub starts_grown : (log seen more : List LogEntry) → StartsWith log seen → StartsWith (log ++ more) seen
-starts_grown log seen more h = (h.0 ++ more, ap (λ l. l ++ more) h.1 ∙ append_assoc seen h.0 more)
-
-pub starts_trans : (a b c : List LogEntry) → StartsWith a b → StartsWith b c → StartsWith a c
-starts_trans a b c h k = (k.0 ++ h.0, h.1 ∙ (ap (λ l. l ++ h.0) k.1 ∙ append_assoc c k.0 h.0))
-
 none_left : (xs : List LogEntry) → length xs ≡ 0 → xs ≡ []
 none_left [] e = refl
 none_left (x ∷ xs) e = absurd (omega arith)
-
-pub starts_length : (log seen : List LogEntry) → StartsWith log seen → length seen ≤ length log
-starts_length log seen h = let a : length log ≡ length seen + length h.0 = ap length h.1 ∙ length-append seen h.0 in omega arith
 
 -- a beginning of the same length is the whole
 pub starts_whole : (log seen : List LogEntry) → StartsWith log seen → length log ≤ length seen → log ≡ seen
@@ -61,17 +48,6 @@ same_entries cpu log seen h same =
     let b : length (entries_of cpu log) ≡ length (entries_of cpu seen) + length (entries_of cpu h.0) = ap length a ∙ length-append (entries_of cpu seen) (entries_of cpu h.0) in
     let none : entries_of cpu h.0 ≡ [] = none_left (entries_of cpu h.0) (omega arith) in
     a ∙ (ap (λ l. entries_of cpu seen ++ l) none ∙ append-nil (entries_of cpu seen))
-
--- the longer of two beginnings is a beginning
-pub starts_longer : (log a b : List LogEntry) → StartsWith log a → StartsWith log b → StartsWith log (longer a b)
-starts_longer log a b h k = by_case (nat_lt (length a) (length b))
-  where
-    by_case : (t : Bool) → StartsWith log (cond t b a)
-    by_case true = k
-    by_case false = h
-
-pub starts_take : (log seen : List LogEntry) → StartsWith log seen → take (length seen) log ≡ seen
-starts_take log seen h = ap (take (length seen)) h.1 ∙ take-append_seam seen h.0
 
 -- of two beginnings of one list, told apart by their lengths, the shorter begins the longer
 pub starts_either : (log a b : List LogEntry) (m n : ℕ) → m ≡ length a → n ≡ length b → StartsWith log a → StartsWith log b
