@@ -18,10 +18,6 @@ takes_next log place e before now inside is took frames legal at =
     let begun : Legal frames (take (place + 1) log) = begins_legal frames (take (place + 1) log) (drop (place + 1) log) (subst (Legal frames) (sym (take-append-drop (place + 1) log)) legal) in
     took frames (take place log) (subst (Legal frames) more begun) at ∙ ap (λ l. report_of (state_after frames l)) (sym more)
 
--- the page that was published before one entry more
-pub lags_by_one : (frames : ℕ) (book : Book) (log new : List LogEntry) (e : LogEntry) (p : Page) → p ≡ page frames book log → new ≡ log ++ e ∷ [] → LagsBehind p (page frames book new)
-lags_by_one frames book log new e p is grown = subst (λ (q : Page). LagsBehind q (page frames book new)) (sym is) (record { frames = refl; book = refl; begins = (e ∷ [], grown) })
-
 -- a page that was behind, before one entry more
 pub lags_more : (frames : ℕ) (book : Book) (log new : List LogEntry) (e : LogEntry) (p : Page) → LagsBehind p (page frames book log) → new ≡ log ++ e ∷ [] → LagsBehind p (page frames book new)
 lags_more frames book log new e p behind grown = record {
