@@ -2,7 +2,7 @@
 --     page_text rows      the page of a film with these rows
 --     FilmsScript frames answer ..      what was read and written by a film that came to that answer
 --     AnswersAll words answer ..      the same of any command line
-use Rattle.std.specs.Prelude.{◌≡◌, ◌⊎◌, ℕ, Bool, true, false, List, [], ◌++◌, Option, Some, None, unwrap_or, codes}
+use Rattle.std.specs.Prelude.{◌≡◌, ◌⊎◌, ℕ, Bool, true, false, List, [], ◌++◌, Option, Some, unwrap_or, codes}
 use Rattle.std.specs.List.{list_any}
 use Rattle.std.specs.Str.{bytes_eq}
 use Rattle.std.specs.Io.KnownBytes.{Appends, Keeps}
@@ -19,7 +19,7 @@ use Rattle.tool_answers.specs.Faults.{tool_of_script}
 use Rattle.tool_answers.specs.Files.{IsRead}
 use Rattle.tool_answers.specs.Options.{frames_option, frames_in}
 use Rattle.tool_answers.specs.declared.answers.Answer.{Answer}
-use Rattle.tool_answers.specs.declared.answers.Answer.TheVariants.{Done, NotSound, Failed, NotText, Refused}
+use Rattle.tool_answers.specs.declared.answers.Answer.TheVariants.{Done, Failed}
 use Rattle.tool_answers.specs.declared.faults.ToolFault.{ToolFault}
 use Rattle.tool_answers.specs.declared.faults.ToolFault.TheVariants as tool
 use Rattle.map_jobs.specs.Drawings.{AnswersWords}

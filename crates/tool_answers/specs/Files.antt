@@ -1,5 +1,5 @@
 -- The word of a command line that names a file, and what is read of that file.
-use Rattle.std.specs.Prelude.{◌≡◌, ℕ, true, List, [], take, Option, Some, IfSome, unwrap_or, slice_get, codes, option_map, option_and_then}
+use Rattle.std.specs.Prelude.{◌≡◌, ℕ, true, List, [], take, Option, IfSome, unwrap_or, slice_get, codes, option_map, option_and_then}
 use Rattle.clap.specs.Words.{Row, Rule, Text, new_rule, all_of}
 
 -- FILE, which must be there

@@ -1,12 +1,9 @@
 -- What a command line asks for.
 --     tower_app      the program's commands, as `clap` reads them
 --     job_asked found      the job of the subcommand that the words name, and of what was found behind it
-use Rattle.std.specs.Prelude.{ℕ, ◌^◌, ◌&&◌, ◌≤◌, true, nat_le, nat_lt, List, [], Option, Some, None, unwrap_or, slice_get, pos, codes, option_map, option_and_then, if◌then◌else◌}
-use Rattle.std.specs.Option.{option_map_or}
+use Rattle.std.specs.Prelude.{ℕ, ◌&&◌, ◌≤◌, true, nat_le, List, Option, Some, None, pos, codes, option_map, option_and_then, if◌then◌else◌}
 use Rattle.std.specs.Str.{bytes_eq}
-use Rattle.std.specs.Str.Parse.{digits_value, without_leading_plus}
-use Rattle.clap.specs.ValueTests.{is_numeral}
-use Rattle.clap.specs.Words.{App, Row, Rule, Text, new_app, new_rule, all_of, one_of, with_rule, with_subcommand}
+use Rattle.clap.specs.Words.{App, Row, Rule, Text, new_app, new_rule, with_rule, with_subcommand}
 use Rattle.clap.specs.declared.builder.value_parser.ValueParser.TheVariants as parser
 use Rattle.tool_answers.specs.Files.{file_argument, file_in}
 use Rattle.tool_answers.specs.Options.{frames_option, frames_in, number_in}

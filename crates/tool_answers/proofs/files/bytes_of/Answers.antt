@@ -1,6 +1,5 @@
-use Rattle.std.proofs.Common.{◌≡◌, ◌++◌, [], ℕ, List, Option, Some, None, subst, sym, ap}
+use Rattle.std.proofs.Common.{◌≡◌, ◌++◌, [], ℕ, List, Option, Some, None, subst}
 use Rattle.std.specs.Prelude.{take, option_map, IfSome}
-use Rattle.std.specs.Io.Take.{take_remaining}
 use Rattle.tool_answers.specs.Files.{IsRead}
 use Rattle.tool_answers.proofs.files.bytes_of.Goals as goal
 
