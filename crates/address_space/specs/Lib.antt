@@ -7,7 +7,6 @@ pub mod Finds
 pub mod Image
 pub mod Kept
 pub mod Places
-pub mod Seen
 pub mod Shown
 pub mod Slots
 pub mod Sound

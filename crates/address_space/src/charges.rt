@@ -80,14 +80,4 @@ impl Spaces {
         let mapped = count_at(counts, found.table);
         if mapped == 1 { 2 } else { 1 }
     }
-
-    /// What a process's cost falls by when a mapped page goes.
-    pub fn relief(&self, pid: Pid, page: Page) -> u32
-        requires mapped { is_some (map.get self.now.spaces (at_page pid page)) ≡ true }
-        requires user { IsUserPage page }
-        ensures { cost (without self.now.spaces (is_slot pid page)) pid + result ≡ cost self.now.spaces pid }
-    {
-        let place = self.place(pid, page);
-        self.relief_at(pid, page, &place)
-    }
 }

@@ -1,11 +1,12 @@
 //! Where a page is: it is looked up once, and what was found is handed over.
 
-ghost use Rattle.std.specs.Prelude.{◌≡◌, ◌≤◌, Some, is_some, true};
+ghost use Rattle.std.specs.Prelude.{◌≡◌, ◌≤◌, ◌==◌, ◌&&◌, not, Some, is_some, if◌then◌else◌};
+ghost use Rattle.page_words.specs.Addresses.{slot_number};
 ghost use Rattle.address_space.specs.Changes.{takes_stores_through};
 ghost use Rattle.address_space.specs.Places.{found_of, table_of_place, lazy_place, need_of, takes_place};
 
 use page_map::PageEntry;
-use page_words::{Frame, Page};
+use page_words::{Frame, Page, slot_of};
 
 /// A mapped page: its table, and the entry that the table has for it.
 #[derive(Clone, Copy, Debug, PartialEq, Eq)]
@@ -97,6 +98,30 @@ impl Place {
             Place::Bare => 2,
             Place::Open { .. } => 1,
             Place::Mapped(_) => 1,
+        }
+    }
+
+    /// What the process needs for the page: nothing where it is mapped.
+    pub fn page_need(&self) -> u32
+        ensures value { result ≡ (if is_some (found_of self.now) then 0 else need_of self.now) }
+        ensures most { result ≤ 2 }
+    {
+        if self.is_mapped() { 0 } else { self.need() }
+    }
+
+    /// What the process needs for the page once it has mapped another, whose place was found before: where that was
+    /// not mapped and lies in the same region of 1,024 pages, the region has a table by then.
+    pub fn need_behind(&self, page: Page, first: &Place, first_page: Page) -> u32
+        ensures value { result ≡ (if is_some (found_of self.now) then 0 else (if not (is_some (found_of first.now)) && (slot_number first_page == slot_number page) then 1 else need_of self.now)) }
+        ensures most { result ≤ 2 }
+    {
+        if self.is_mapped() {
+            return 0;
+        }
+        if !first.is_mapped() && slot_of(first_page) == slot_of(page) {
+            1
+        } else {
+            self.need()
         }
     }
 }

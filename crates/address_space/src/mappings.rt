@@ -61,45 +61,6 @@ impl Spaces {
         self.map_at(pid, page, write, &place);
     }
 
-    /// Maps a page of zeros that may be written, as `map_zero` does, and stores bytes that lie in it, as `write` does. It
-    /// takes a frame for the page, and one for its table, where that is missing. The place is the page's.
-    pub fn map_stored_at(&mut self, pid: Pid, address: Vaddr, size: Size, value: u32, place: &Place)
-        requires within { second_page address size ≡ None }
-        requires live { is_some (directory_of self.old.directories pid) ≡ true }
-        requires user { IsUserPage (page_number address) }
-        requires unmapped { map.get self.old.spaces (slot_at pid address) ≡ None }
-        requires room { 1 + total_cost self.old.directories self.old.spaces + need self.old.spaces pid (page_number address) ≤ length self.old.roles }
-        requires place { place.now ≡ place_in self.old.directories self.old.bytes pid (page_number address) }
-        ensures spaces { self.new.spaces ≡ stored (map.insert self.old.spaces (slot_at pid address) (fresh (slot_at pid address) true)) (slot_at pid address) (offset_number address) (bytes_of (byte_count size) value) }
-        ensures stay { FramesStay none_goes (image_of self.old) (image_of self.new) }
-        ensures real { is_lazy_at (image_of self.new) (slot_at pid address) ≡ false }
-        ensures directories { self.new.directories ≡ self.old.directories }
-        ensures frames { length self.new.roles ≡ length self.old.roles }
-    {
-        self.stands();
-        let page = page_of(address);
-        let mapped = self.map_at(pid, page, true, place);
-        let filled = self.fill_at(pid, page, &mapped);
-        self.store_at(pid, address, size, value, &filled);
-    }
-
-    /// Maps a page of zeros that may be written, and stores bytes that lie in it; the page is looked up once.
-    pub fn map_stored(&mut self, pid: Pid, address: Vaddr, size: Size, value: u32)
-        requires within { second_page address size ≡ None }
-        requires live { is_some (directory_of self.old.directories pid) ≡ true }
-        requires user { IsUserPage (page_number address) }
-        requires unmapped { map.get self.old.spaces (slot_at pid address) ≡ None }
-        requires room { 1 + total_cost self.old.directories self.old.spaces + need self.old.spaces pid (page_number address) ≤ length self.old.roles }
-        ensures spaces { self.new.spaces ≡ stored (map.insert self.old.spaces (slot_at pid address) (fresh (slot_at pid address) true)) (slot_at pid address) (offset_number address) (bytes_of (byte_count size) value) }
-        ensures stay { FramesStay none_goes (image_of self.old) (image_of self.new) }
-        ensures real { is_lazy_at (image_of self.new) (slot_at pid address) ≡ false }
-        ensures directories { self.new.directories ≡ self.old.directories }
-        ensures frames { length self.new.roles ≡ length self.old.roles }
-    {
-        let place = self.place(pid, page_of(address));
-        self.map_stored_at(pid, address, size, value, &place);
-    }
-
     /// Lets a slot join the group of another, as `join` does, whose places these are.
     pub fn join_at(
         &mut self,

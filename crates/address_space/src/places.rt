@@ -1,13 +1,12 @@
 //! What stands at a page, looked up once, and what goes through it.
 
-ghost use Rattle.std.specs.Prelude.{◌≡◌, ◌+◌, ◌*◌, ◌<◌, ◌≤◌, length, slice_get, Some, IfSome, IsSome, IsNone, is_some, true, false};
+ghost use Rattle.std.specs.Prelude.{◌≡◌, ◌≢◌, ℕ, ◌+◌, ◌*◌, ◌<◌, ◌≤◌, length, slice_get, Some, IfSome, is_some, true, false};
 ghost use Rattle.page_words.specs.Addresses.{page_number, offset_number, byte_count, covered, second_page, EachTouched, IsUserPage};
 ghost use Rattle.page_words.specs.FiniteMap as map;
 ghost use Rattle.std.specs.Option.{option_map};
 ghost use Rattle.phys_memory.specs.Bytes.{frame_bytes};
 ghost use Rattle.alloc_table.specs.Roles.{IsPageBelow};
 ghost use Rattle.address_space.specs.Shown.{shown};
-ghost use Rattle.address_space.specs.Seen.{cell_seen, lazy_seen, need_seen};
 ghost use Rattle.address_space.specs.Spaces.{Slot, need, access_need, stored, bytes_of, byte_at, number_of, cell_or_fresh, accessed, protected, at_page, slot_at};
 ghost use Rattle.address_space.specs.Image.{image_of, is_lazy_at, takes_stores};
 ghost use Rattle.address_space.specs.Stays.{FramesStay, none_goes, of_lazy};
@@ -17,7 +16,6 @@ ghost use Rattle.address_space.specs.Finds.{table_at};
 
 use crate::group_sizes::group_size;
 use crate::lookup::{Found, Place};
-use crate::seen_pages::{Seen, mapped, need_behind};
 use crate::{Cell, Spaces, accesses, fills, space_of};
 use alloc_table::{FrameTable, Role};
 use page_map::PageEntry;
@@ -85,6 +83,7 @@ impl Spaces {
         ensures stay { FramesStay none_goes (image_of self.old) (image_of self.new) }
         ensures directories { self.new.directories ≡ self.old.directories }
         ensures roles { self.new.roles ≡ self.old.roles }
+        ensures beside { (other : ℕ) → other ≢ page_number address → place_in self.new.directories self.new.bytes pid other ≡ place_in self.old.directories self.old.bytes pid other }
     {
         let memory = &mut self.memory;
         let found = place.found().unwrap();
@@ -104,6 +103,7 @@ impl Spaces {
         ensures directories { self.new.directories ≡ self.old.directories }
         ensures roles { self.new.roles ≡ self.old.roles }
         ensures lazy { (slot : Slot) → is_lazy_at (image_of self.new) slot ≡ is_lazy_at (image_of self.old) slot }
+        ensures beside { (other : ℕ) → other ≢ page_number address → place_in self.new.directories self.new.bytes pid other ≡ place_in self.old.directories self.old.bytes pid other }
     {
         let memory = &mut self.memory;
         let found = place.found().unwrap();
@@ -118,32 +118,13 @@ impl Spaces {
         self.place(pid, page).found()
     }
 
-    /// What a process has at a page, by one look: its cell, whether it is lazy, and what one more page costs there.
-    pub fn seen(&self, pid: Pid, page: Page) -> Seen
-        requires user { IsUserPage page }
-        ensures cell { cell_seen result ≡ option_map shown (map.get self.now.spaces (at_page pid page)) }
-        ensures lazy { lazy_seen result ≡ is_lazy_at (image_of self.now) (at_page pid page) }
-        ensures need { need_seen result ≡ need self.now.spaces pid page }
-        ensures most { need_seen result ≤ 2 }
-    {
-        let memory = &self.memory;
-        let Some(table) = self.table(pid, page) else {
-            return Seen::Absent { need: 2 };
-        };
-        let Some(entry) = page_map::entry_in(memory, table, page) else {
-            return Seen::Absent { need: 1 };
-        };
-        let lazy = entry.lazy;
-        let cell = cell_of(&self.frames, &entry);
-        mapped(cell, lazy)
-    }
-
     /// Whether a slot has a lazy page, which has no frame of its own yet.
     pub fn is_lazy(&self, pid: Pid, page: Page) -> bool
         requires user { IsUserPage page }
         ensures { result ≡ is_lazy_at (image_of self.now) (at_page pid page) }
     {
-        self.seen(pid, page).is_lazy()
+        self.stands();
+        self.place(pid, page).is_lazy()
     }
 
     /// The flags of a slot and the size of its group; None where the page is not mapped.
@@ -151,17 +132,19 @@ impl Spaces {
         requires user { IsUserPage page }
         ensures { result ≡ option_map shown (map.get self.now.spaces (at_page pid page)) }
     {
-        self.seen(pid, page).cell()
+        let place = self.place(pid, page);
+        self.cell_at(pid, page, &place)
     }
 
-    /// What one more page costs a process: 1 where it has a page in that region of 1,024 pages, else 2.
-    pub fn need(&self, pid: Pid, page: Page) -> u32
-        requires live { is_some (directory_of self.now.directories pid) ≡ true }
+    /// The flags of a slot and the size of its group, as `cell` gives them. The place is the page's.
+    pub fn cell_at(&self, pid: Pid, page: Page, place: &Place) -> Option<Cell>
         requires user { IsUserPage page }
-        ensures value { result ≡ need self.now.spaces pid page }
-        ensures most { result ≤ 2 }
+        requires place { place.now ≡ place_in self.now.directories self.now.bytes pid page }
+        ensures { result ≡ option_map shown (map.get self.now.spaces (at_page pid page)) }
     {
-        self.seen(pid, page).need()
+        let frames = &self.frames;
+        let found = place.found()?;
+        Some(cell_of(frames, &found.entry))
     }
 
     /// What a process needs for an access: 1 for each page that it touches and that is not mapped, and 1 for each of
@@ -172,140 +155,46 @@ impl Spaces {
         ensures value { result ≡ access_need self.now.spaces pid address size }
         ensures most { result ≤ 4 }
     {
+        self.stands();
         let page = page_of(address);
-        let first = self.seen(pid, page);
+        let first = self.place(pid, page);
         let Some(second) = second_page(address, size) else {
             return first.page_need();
         };
-        let other = self.seen(pid, second);
-        first.page_need() + need_behind(&first, page, &other, second)
+        let other = self.place(pid, second);
+        first.page_need() + other.need_behind(second, &first, page)
     }
 
-    /// The byte at an address, 0 where no page is mapped. It sets no flag.
-    pub(crate) fn byte(&self, pid: Pid, address: Vaddr) -> u8
-        requires { IsUserPage (page_number address) }
+    /// The byte at an address of a page with this place, 0 where it is not mapped. It sets no flag.
+    pub(crate) fn byte_at(&self, pid: Pid, address: Vaddr, place: &Place) -> u8
+        requires user { IsUserPage (page_number address) }
+        requires place { place.now ≡ place_in self.now.directories self.now.bytes pid (page_number address) }
         ensures { result ≡ byte_at self.now.spaces pid address }
     {
-        match self.find(pid, page_of(address)) {
+        let _ = &self.memory;
+        match place.found() {
             Some(found) => accesses::byte_of(&self.memory, found.entry.frame, offset_of(address)),
             None => 0,
         }
     }
 
-    /// The number at an address, where its bytes lie in one page and it is mapped.
-    pub(crate) fn look(&self, pid: Pid, address: Vaddr, size: Size) -> Option<u32>
-        requires { IsUserPage (page_number address) }
-        ensures { IfSome result (λ value. value ≡ number_of self.now.spaces pid (covered address size)) }
-    {
-        if second_page(address, size).is_some() {
-            return None;
-        }
-        let found = self.find(pid, page_of(address))?;
-        Some(accesses::number_at(&self.memory, found.entry.frame, offset_of(address), size))
-    }
-
-    /// The number at an address, as `read` gives it, where the bytes lie in one page and it is mapped. None where it
-    /// isn't, and nothing changes.
-    pub fn try_read_at(
-        &mut self,
+    /// The number at an address, where its bytes lie in one page, whose place this is, and it is mapped.
+    pub(crate) fn number_at(
+        &self,
         pid: Pid,
         address: Vaddr,
         size: Size,
         place: &Place,
     ) -> Option<u32>
-        requires within { second_page address size ≡ None }
         requires user { IsUserPage (page_number address) }
-        requires place { place.now ≡ place_in self.old.directories self.old.bytes pid (page_number address) }
-        ensures mapped { is_some result ≡ map.contains_key self.old.spaces (slot_at pid address) }
-        ensures value { IfSome result (λ value. value ≡ number_of self.old.spaces pid (covered address size)) }
-        ensures spaces { IsSome result → self.new.spaces ≡ accessed self.old.spaces (slot_at pid address) }
-        ensures stay { FramesStay none_goes (image_of self.old) (image_of self.new) }
-        ensures directories { self.new.directories ≡ self.old.directories }
-        ensures roles { self.new.roles ≡ self.old.roles }
-        ensures none { IsNone result → self.new ≡ self.old }
+        requires place { place.now ≡ place_in self.now.directories self.now.bytes pid (page_number address) }
+        ensures { IfSome result (λ value. value ≡ number_of self.now.spaces pid (covered address size)) }
     {
-        self.stands();
-        if !place.is_mapped() {
+        if second_page(address, size).is_some() {
             return None;
         }
-        Some(self.load_at(pid, address, size, place))
-    }
-
-    /// The number at an address, as `read` gives it, where the bytes lie in one page and it is mapped. None where it
-    /// isn't, and nothing changes.
-    pub fn try_read(&mut self, pid: Pid, address: Vaddr, size: Size) -> Option<u32>
-        requires within { second_page address size ≡ None }
-        requires user { IsUserPage (page_number address) }
-        ensures mapped { is_some result ≡ map.contains_key self.old.spaces (slot_at pid address) }
-        ensures value { IfSome result (λ value. value ≡ number_of self.old.spaces pid (covered address size)) }
-        ensures spaces { IsSome result → self.new.spaces ≡ accessed self.old.spaces (slot_at pid address) }
-        ensures stay { FramesStay none_goes (image_of self.old) (image_of self.new) }
-        ensures directories { self.new.directories ≡ self.old.directories }
-        ensures roles { self.new.roles ≡ self.old.roles }
-        ensures none { IsNone result → self.new ≡ self.old }
-    {
-        let place = self.place(pid, page_of(address));
-        self.try_read_at(pid, address, size, &place)
-    }
-
-    /// Stores bytes that lie in one page, which is mapped and isn't lazy, and sets accessed and dirty in its slot.
-    pub(crate) fn write_in_page(&mut self, pid: Pid, address: Vaddr, size: Size, value: u32)
-        requires within { second_page address size ≡ None }
-        requires mapped { is_some (map.get self.old.spaces (slot_at pid address)) ≡ true }
-        requires user { IsUserPage (page_number address) }
-        requires real { is_lazy_at (image_of self.old) (slot_at pid address) ≡ false }
-        ensures spaces { self.new.spaces ≡ stored self.old.spaces (slot_at pid address) (offset_number address) (bytes_of (byte_count size) value) }
-        ensures stay { FramesStay none_goes (image_of self.old) (image_of self.new) }
-        ensures directories { self.new.directories ≡ self.old.directories }
-        ensures roles { self.new.roles ≡ self.old.roles }
-        ensures lazy { (slot : Slot) → is_lazy_at (image_of self.new) slot ≡ is_lazy_at (image_of self.old) slot }
-    {
-        let place = self.place(pid, page_of(address));
-        self.store_at(pid, address, size, value, &place);
-    }
-
-    /// Stores bytes that lie in one page, as `write` does, where the slot takes a store as memory stands: it is
-    /// mapped, with the right to write, and isn't lazy. Whether it is so; where it isn't, nothing changes.
-    pub fn try_write_at(
-        &mut self,
-        pid: Pid,
-        address: Vaddr,
-        size: Size,
-        value: u32,
-        place: &Place,
-    ) -> bool
-        requires user { IsUserPage (page_number address) }
-        requires within { second_page address size ≡ None }
-        requires place { place.now ≡ place_in self.old.directories self.old.bytes pid (page_number address) }
-        ensures done { result ≡ takes_stores self.old.spaces (image_of self.old) (slot_at pid address) }
-        ensures spaces { result ≡ true → self.new.spaces ≡ stored self.old.spaces (slot_at pid address) (offset_number address) (bytes_of (byte_count size) value) }
-        ensures stay { FramesStay none_goes (image_of self.old) (image_of self.new) }
-        ensures directories { self.new.directories ≡ self.old.directories }
-        ensures roles { self.new.roles ≡ self.old.roles }
-        ensures none { result ≡ false → self.new ≡ self.old }
-    {
-        self.stands();
-        if !place.takes_stores() {
-            return false;
-        }
-        self.store_at(pid, address, size, value, place);
-        true
-    }
-
-    /// Stores bytes that lie in one page, as `write` does, where the slot takes a store as memory stands: it is
-    /// mapped, with the right to write, and isn't lazy. Whether it is so; where it isn't, nothing changes.
-    pub fn try_write(&mut self, pid: Pid, address: Vaddr, size: Size, value: u32) -> bool
-        requires user { IsUserPage (page_number address) }
-        requires within { second_page address size ≡ None }
-        ensures done { result ≡ takes_stores self.old.spaces (image_of self.old) (slot_at pid address) }
-        ensures spaces { result ≡ true → self.new.spaces ≡ stored self.old.spaces (slot_at pid address) (offset_number address) (bytes_of (byte_count size) value) }
-        ensures stay { FramesStay none_goes (image_of self.old) (image_of self.new) }
-        ensures directories { self.new.directories ≡ self.old.directories }
-        ensures roles { self.new.roles ≡ self.old.roles }
-        ensures none { result ≡ false → self.new ≡ self.old }
-    {
-        let place = self.place(pid, page_of(address));
-        self.try_write_at(pid, address, size, value, &place)
+        let found = place.found()?;
+        Some(accesses::number_at(&self.memory, found.entry.frame, offset_of(address), size))
     }
 
     /// Gives a lazy page a frame of its own; any other stays as it is, and none becomes lazy. What is mapped stays

@@ -1,6 +1,6 @@
 //! Accesses, planned and settled.
 use crate::common::same;
-use fault_handler::{PageStep, Plan, plan, settle, try_load, try_store};
+use fault_handler::{PageStep, Plan, plan, settle, try_access};
 use page_words::{Page, Pid, Size, Vaddr};
 use process_table::{Cause, Processes};
 use std::process::Abort;
@@ -115,7 +115,17 @@ fn settles_with_the_value_read(rt: HostRuntime) -> Result<(), Fail> {
 }
 
 fn load_at_once(rt: &impl Abort, processes: &mut Processes, address: Vaddr, value: Option<u32>) {
-    let read = try_load(processes, root(rt), address, Size::Four);
+    let pid = root(rt);
+    let places = processes.access_places(pid, address, Size::Four);
+    let read = try_access(
+        processes,
+        pid,
+        address,
+        Size::Four,
+        Access::Read,
+        0,
+        &places,
+    );
     same(rt, &read, &value);
 }
 
@@ -126,8 +136,18 @@ fn store_at_once(
     value: u32,
     done: bool,
 ) {
-    let stored = try_store(processes, root(rt), address, Size::Four, value);
-    same(rt, &stored, &done);
+    let pid = root(rt);
+    let places = processes.access_places(pid, address, Size::Four);
+    let stored = try_access(
+        processes,
+        pid,
+        address,
+        Size::Four,
+        Access::Write,
+        value,
+        &places,
+    );
+    same(rt, &stored.is_some(), &done);
 }
 
 #[test]

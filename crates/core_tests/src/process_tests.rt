@@ -326,7 +326,6 @@ fn check_charge(rt: &impl Abort, processes: &Processes, address: Vaddr, size: Si
         }
     );
     same(rt, &processes.access_charge(root, address, size), &charge);
-    assert!(rt; !processes.lacks_room(root, address, size));
 }
 
 #[test]

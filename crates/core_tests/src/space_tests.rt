@@ -50,7 +50,7 @@ fn map_page(rt: &impl Abort, spaces: &mut Spaces, pid: Pid, page: Page, need: u3
     assert!(rt; pid.number() < 64);
     assert!(rt; spaces.directory(pid).is_some());
     assert!(rt; spaces.cell(pid, page).is_none());
-    same(rt, &spaces.need(pid, page), &need);
+    same(rt, &spaces.place(pid, page).need(), &need);
     spaces.map_zero(pid, page, true);
 }
 
@@ -71,7 +71,8 @@ fn unmap_page(rt: &impl Abort, spaces: &mut Spaces, pid: Pid, page: Page, relief
     requires user { IsUserPage page }
 {
     assert!(rt; spaces.cell(pid, page).is_some());
-    same(rt, &spaces.relief(pid, page), &relief);
+    let place = spaces.place(pid, page);
+    same(rt, &spaces.relief_at(pid, page, &place), &relief);
     spaces.unmap(pid, page);
     assert!(rt; spaces.cell(pid, page).is_none());
 }
@@ -262,20 +263,30 @@ fn load_at_once(
     address: Vaddr,
     value: Option<u32>,
 ) {
-    assert!(rt; in_user_range(page_of(address)));
+    let page = page_of(address);
+    assert!(rt; in_user_range(page));
     assert!(rt; second_page(address, Size::Two).is_none());
-    same(rt, &spaces.try_read(pid, address, Size::Two), &value);
+    let place = spaces.place(pid, page);
+    let read = match spaces.cell_at(pid, page, &place) {
+        Some(_) => Some(spaces.load_at(pid, address, Size::Two, &place)),
+        None => None,
+    };
+    same(rt, &read, &value);
+    same(rt, &place.is_mapped(), &value.is_some());
 }
 
 /// Stores beef at once, to one page of the user range, and says whether it is done.
 fn store_at_once(rt: &impl Abort, spaces: &mut Spaces, pid: Pid, address: Vaddr, done: bool) {
-    assert!(rt; in_user_range(page_of(address)));
+    let page = page_of(address);
+    assert!(rt; in_user_range(page));
     assert!(rt; second_page(address, Size::Two).is_none());
-    same(
-        rt,
-        &spaces.try_write(pid, address, Size::Two, 0xbeef),
-        &done,
-    );
+    let place = spaces.place(pid, page);
+    same(rt, &place.takes_stores(), &done);
+    if done {
+        assert!(rt; spaces.cell(pid, page).is_some());
+        assert!(rt; !spaces.is_lazy(pid, page));
+        spaces.store_at(pid, address, Size::Two, 0xbeef, &place);
+    }
 }
 
 #[test]

@@ -22,6 +22,7 @@ ghost use Rattle.kernel_calls.specs.Authority.{HearTheirOwn, KeepsBorders};
 ghost use Rattle.kernel_calls.specs.Families.{IsUnreached};
 ghost use Rattle.kernel_calls.specs.Isolation.{IsIsolated};
 ghost use Rattle.kernel_calls.specs.Pages.{page_in};
+ghost use Rattle.kernel_calls.specs.Places.{no_places, places_of};
 ghost use Rattle.kernel_calls.specs.Machine.{answer, after, next, answers, end_of, completes, none_completes};
 ghost use Rattle.kernel_calls.specs.Decisions.{decision_of, charge_in, charge_after, plan_of_event};
 ghost use Rattle.kernel_calls.specs.declared.translations.Ended.TheVariants as end;
@@ -32,15 +33,16 @@ ghost use Rattle.kernel_calls.specs.Kept.{ServesEvent, StoresMarked, bytes_kept}
 ghost use Rattle.kernel_calls.specs.declared.calls.Reply.TheVariants as reply;
 
 use crate::calls::{Call, Decision, Event, Reply};
-use crate::decisions::{answered, decide_on};
+use crate::decisions::{answered, decided, judge};
 use crate::pages::{self, PageState};
+use crate::places::{is_access, look, none};
 use crate::translations::{self, Ended};
 use crate::walked;
 use alloc_table::Role;
-use fault_handler::{Plan, settle, try_load, try_store};
+use fault_handler::{Plan, settle_at, try_access, try_access_at};
 use page_words::{Frame, Page, Pid, Vaddr, in_user_range, page_of};
 use phys_memory::Memory;
-use process_table::{Processes, ProcessesFault};
+use process_table::{Places, Processes, ProcessesFault};
 use quota_tree::Container;
 use std::alloc::Global;
 use std::marker::Model;
@@ -71,29 +73,24 @@ impl Model for Core {
     ghost view = { λ c. c.processes };
 }
 
-/// Carries out a call that is neither refused nor a fault.
+/// Carries out a call that is neither refused nor a fault; an access by what stands at its pages.
 #[inline(always)]
-fn complete(processes: &mut Processes, decision: &Decision)
-    requires decided { decision.now ≡ decision_of processes.old decision.now.event }
-    requires completes { goes_on decision.now.plan ≡ true }
-    ensures state { processes.new.state ≡ after processes.old.state decision.now.event.pid decision.now.event.call }
-    ensures stay { FramesStay (gone_of_call decision.now.event.pid decision.now.event.call) (memory_of processes.old) (memory_of processes.new) }
+fn complete(processes: &mut Processes, event: &Event, plan: &Plan, places: &Places)
+    requires decided { plan.now ≡ plan_of_event processes.old event.now }
+    requires completes { goes_on plan.now ≡ true }
+    requires places { places.now ≡ places_of processes.old event.now }
+    ensures state { processes.new.state ≡ after processes.old.state event.now.pid event.now.call }
+    ensures stay { FramesStay (gone_of_call event.now.pid event.now.call) (memory_of processes.old) (memory_of processes.new) }
 {
-    let pid = decision.event.pid;
-    match decision.event.call {
+    let pid = event.pid;
+    match event.call {
         Call::Load { addr, size } => {
-            settle(processes, decision.plan, pid, addr, size, Access::Read, 0);
+            let read = Access::Read;
+            settle_at(processes, plan, pid, addr, size, read, 0, places);
         }
         Call::Store { addr, size, value } => {
-            settle(
-                processes,
-                decision.plan,
-                pid,
-                addr,
-                size,
-                Access::Write,
-                value,
-            );
+            let write = Access::Write;
+            settle_at(processes, plan, pid, addr, size, write, value, places);
         }
         Call::Map { page, write } => processes.map(pid, page, write),
         Call::Unmap { page } => processes.unmap(pid, page),
@@ -131,17 +128,40 @@ fn at_once(processes: &mut Processes, event: &Event) -> Option<Reply>
     ensures stay { FramesStay none_goes (memory_of processes.old) (memory_of processes.new) }
     ensures none { IsNone result → processes.new ≡ processes.old }
 {
+    let pid = event.pid;
     match event.call {
         Call::Load { addr, size } => {
-            let value = try_load(processes, event.pid, addr, size)?;
+            let value = try_access(processes, pid, addr, size, Access::Read, 0)?;
             Some(Reply::Value(value))
         }
         Call::Store { addr, size, value } => {
-            if try_store(processes, event.pid, addr, size, value) {
-                Some(Reply::Done)
-            } else {
-                None
-            }
+            try_access(processes, pid, addr, size, Access::Write, value)?;
+            Some(Reply::Done)
+        }
+        _ => None,
+    }
+}
+
+/// The same, by what stands at the event's pages.
+#[inline(always)]
+fn at_once_at(processes: &mut Processes, event: &Event, places: &Places) -> Option<Reply>
+    requires { places.now ≡ places_of processes.old event.now }
+    ensures reply { IfSome result (λ reply. reply ≡ answer processes.old.state event.now) }
+    ensures completes { IfSome result (λ reply. completes reply ≡ true) }
+    ensures plan { IsSome result → plan_of_event processes.old event.now ≡ at_once }
+    ensures state { IsSome result → processes.new.state ≡ next processes.old.state event.now }
+    ensures stay { FramesStay none_goes (memory_of processes.old) (memory_of processes.new) }
+    ensures none { IsNone result → processes.new ≡ processes.old }
+{
+    let pid = event.pid;
+    match event.call {
+        Call::Load { addr, size } => {
+            let value = try_access_at(processes, pid, addr, size, Access::Read, 0, places)?;
+            Some(Reply::Value(value))
+        }
+        Call::Store { addr, size, value } => {
+            try_access_at(processes, pid, addr, size, Access::Write, value, places)?;
+            Some(Reply::Done)
         }
         _ => None,
     }
@@ -157,18 +177,19 @@ fn charge_now(processes: &Processes, pid: Pid) -> u32
     }
 }
 
-/// Carries out what was decided.
+/// Carries out an event by its plan, and by what stands at its pages.
 #[inline(always)]
-fn carry_out(processes: &mut Processes, decision: &Decision)
-    requires decided { decision.now ≡ decision_of processes.old decision.now.event }
-    ensures state { processes.new.state ≡ next processes.old.state decision.now.event }
-    ensures stay { FramesStay (gone_by processes.old.state decision.now.event) (memory_of processes.old) (memory_of processes.new) }
-    ensures kept { completes decision.now.reply ≡ false → processes.new ≡ processes.old }
+fn carry(processes: &mut Processes, event: &Event, plan: &Plan, places: &Places)
+    requires decided { plan.now ≡ plan_of_event processes.old event.now }
+    requires places { places.now ≡ places_of processes.old event.now }
+    ensures state { processes.new.state ≡ next processes.old.state event.now }
+    ensures stay { FramesStay (gone_by processes.old.state event.now) (memory_of processes.old) (memory_of processes.new) }
+    ensures kept { completes (answer processes.old.state event.now) ≡ false → processes.new ≡ processes.old }
 {
-    match decision.plan {
+    match plan {
         Plan::Refused(_) => {}
         Plan::Fault(_) => {}
-        Plan::Ready { .. } => complete(processes, decision),
+        Plan::Ready { .. } => complete(processes, event, plan, places),
     }
 }
 
@@ -198,7 +219,9 @@ impl Core {
         ensures reply { result.reply ≡ answer self.now.state event.now }
         ensures charge { result.used_after ≡ charge_after self.now.state event.now }
     {
-        decide_on(&self.processes, event)
+        let places = look(&self.processes, event);
+        let judged = judge(&self.processes, event, &places);
+        decided(event, &judged, &places)
     }
 
     /// Which cached translations an event ends: a processor that keeps what its walks gave has to invalidate these
@@ -234,14 +257,19 @@ impl Core {
         ensures kept { completes decision.now.reply ≡ false → self.new ≡ self.old }
     {
         self.stands();
-        carry_out(&mut self.processes, decision);
+        carry(
+            &mut self.processes,
+            &decision.event,
+            &decision.plan,
+            &decision.places,
+        );
         self.stands();
     }
 
-    /// The reply to an event that is decided first. It stands apart from `step`, which keeps no decision where none is
-    /// made, and it hands none out, so that what is decided need not be put together.
-    #[inline(never)]
-    pub(crate) fn reply_planned(&mut self, event: &Event) -> Reply
+    /// The reply to an event that is decided first, by what stands at the pages of an access.
+    #[inline(always)]
+    fn reply_by(&mut self, event: &Event, places: &Places) -> Reply
+        requires { places.now ≡ places_of self.old event.now }
         ensures reply { result ≡ answer self.old.state event.now }
         ensures state { self.new.state ≡ next self.old.state event.now }
         ensures stay { FramesStay (gone_by self.old.state event.now) (memory_of self.old) (memory_of self.new) }
@@ -250,14 +278,60 @@ impl Core {
         ensures kept { completes result ≡ false → self.new ≡ self.old }
     {
         self.stands();
-        let decision = decide_on(&self.processes, event);
-        carry_out(&mut self.processes, &decision);
+        let judged = judge(&self.processes, event, places);
+        carry(&mut self.processes, event, &judged.plan, places);
         self.stands();
-        decision.reply
+        judged.reply
+    }
+
+    /// The same of an access, whose pages are looked up.
+    #[inline(never)]
+    fn reply_access(&mut self, event: &Event) -> Reply
+        ensures reply { result ≡ answer self.old.state event.now }
+        ensures state { self.new.state ≡ next self.old.state event.now }
+        ensures stay { FramesStay (gone_by self.old.state event.now) (memory_of self.old) (memory_of self.new) }
+        ensures stands { StandsFor (image_of self.new) self.new.state }
+        ensures ends { Ends (ended_by self.old event.now) self.old self.new }
+        ensures kept { completes result ≡ false → self.new ≡ self.old }
+    {
+        let places = look(&self.processes, event);
+        self.reply_by(event, &places)
+    }
+
+    /// The same of any other call, which looks where it is tested and where it is carried out.
+    #[inline(never)]
+    fn reply_call(&mut self, event: &Event) -> Reply
+        requires { places_of self.old event.now ≡ no_places }
+        ensures reply { result ≡ answer self.old.state event.now }
+        ensures state { self.new.state ≡ next self.old.state event.now }
+        ensures stay { FramesStay (gone_by self.old.state event.now) (memory_of self.old) (memory_of self.new) }
+        ensures stands { StandsFor (image_of self.new) self.new.state }
+        ensures ends { Ends (ended_by self.old event.now) self.old self.new }
+        ensures kept { completes result ≡ false → self.new ≡ self.old }
+    {
+        let places = none();
+        self.reply_by(event, &places)
+    }
+
+    /// The reply to an event that is decided first. It stands apart from `step`, which keeps no decision where none is
+    /// made, and it hands none out, so that what is decided need not be put together.
+    pub(crate) fn reply_planned(&mut self, event: &Event) -> Reply
+        ensures reply { result ≡ answer self.old.state event.now }
+        ensures state { self.new.state ≡ next self.old.state event.now }
+        ensures stay { FramesStay (gone_by self.old.state event.now) (memory_of self.old) (memory_of self.new) }
+        ensures stands { StandsFor (image_of self.new) self.new.state }
+        ensures ends { Ends (ended_by self.old event.now) self.old self.new }
+        ensures kept { completes result ≡ false → self.new ≡ self.old }
+    {
+        if is_access(event) {
+            self.reply_access(event)
+        } else {
+            self.reply_call(event)
+        }
     }
 
     /// Decides an event and carries it out, and gives what was decided: what `decide` says of the state before.
-    pub fn carry_out(&mut self, event: &Event) -> Decision
+    pub fn perform(&mut self, event: &Event) -> Decision
         ensures decision { result ≡ decision_of self.old event.now }
         ensures reply { result.reply ≡ answer self.old.state event.now }
         ensures charge { result.used_after ≡ charge_after self.old.state event.now }
@@ -267,11 +341,14 @@ impl Core {
         ensures kept { completes result.reply ≡ false → self.new ≡ self.old }
     {
         self.stands();
-        if let Some(reply) = at_once(&mut self.processes, event) {
+        let places = look(&self.processes, event);
+        if let Some(reply) = at_once_at(&mut self.processes, event, &places) {
             self.stands();
-            return answered(event, reply, charge_now(&self.processes, event.pid));
+            let charge = charge_now(&self.processes, event.pid);
+            return decided(event, &answered(reply, charge), &places);
         }
-        let decision = self.decide(event);
+        let judged = judge(&self.processes, event, &places);
+        let decision = decided(event, &judged, &places);
         self.follow(&decision);
         decision
     }

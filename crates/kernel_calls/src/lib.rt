@@ -10,6 +10,7 @@ mod cores;
 mod decisions;
 mod laws;
 mod pages;
+mod places;
 mod transfers;
 mod translations;
 mod walked;

@@ -189,7 +189,7 @@ impl<N: Name> Locked<N> {
         if !head.add(log, &event) {
             return Err(Fault::Unread);
         }
-        let decision = core.carry_out(&event);
+        let decision = core.perform(&event);
         let entry = entry_of(&event, nth, &decision);
         log.push(&entry);
         keep_up(rt, writer, *is_watched, log.entries(), &head.all());

@@ -70,10 +70,6 @@ keeps-access s p address size access value w there = by access
 pub alone : (address : ℕ) (size : Size) (P : ℕ → Type 0) → second_page address size ≡ None → P (page_number address) → EachTouched address size P
 alone address size P none h = (h, subst (λ x. IfSome x P) (sym none) tt)
 
--- a slot is mapped once it is inserted
-pub there_now : (S : Spaces) (slot : Slot) (c : Cell) → map.contains_key (map.insert S slot c) slot ≡ true
-there_now S slot c = key-insert S slot c slot ∙ ap (λ b. cond b true (map.contains_key S slot)) (same_itself slot_order slot)
-
 pub keeps-store_in_page : (s : State) (p address : ℕ) (size : Size) (value : ℕ) → IsWellFormed s → second_page address size ≡ None → IsThere s.spaces p (page_number address)
     → IsWellFormed (record s { spaces = stored s.spaces (slot_at p address) (offset_number address) (bytes_of (byte_count size) value) })
 keeps-store_in_page s p address size value w none there =

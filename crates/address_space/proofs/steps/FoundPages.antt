@@ -1,11 +1,10 @@
 -- A page that was found: what is known of it, and what an access through it leaves.
-use Rattle.std.proofs.Common.{◌≡◌, ℕ, ◌+◌, ◌^◌, ◌<◌, ◌≤◌, Bool, true, false, not, List, length, refl, ap, sym, ◌∙◌, subst, arith, inl, inr, Option, Some, None}
+use Rattle.std.proofs.Common.{◌≡◌, ℕ, ◌+◌, ◌^◌, ◌<◌, ◌≤◌, Bool, true, false, List, length, refl, ap, sym, ◌∙◌, subst, arith, inl, inr, Option, Some, None}
 use Rattle.std.specs.Prelude.{is_some, slice_get, replicate}
 use Rattle.std.specs.Option.{option_and_then, option_map}
 use Rattle.page_words.specs.Addresses.{slot_number, index_number, byte_count, IsUserPage}
 use Rattle.page_words.specs.declared.addresses.Size.{Size}
 use Rattle.page_words.specs.FiniteMap as map
-use Rattle.std.proofs.lemmas.Bool.{and_parts}
 use Rattle.phys_memory.specs.Bytes.{frame_bytes, word_in, with_word_in}
 use Rattle.phys_memory.proofs.Frames.{with_frame-same, word_in_same, length-frame}
 use Rattle.page_map.specs.declared.PageEntry.{PageEntry}
@@ -116,13 +115,6 @@ found_mapped inner p page before user =
 pub found_takes : (inner : Inner) (p page : ℕ) → IsKeptInside inner → IsUserPage page
     → takes_stores_through (option_map (λ (f : Found). f.entry) (found_at inner p page)) ≡ takes_stores (spaces_at inner) (image_at inner) (at_page p page)
 found_takes inner p page before user = ap takes_stores_through (found_entry (directory_of inner.directories) (frame_bytes inner.memory) p page) ∙ stores_read inner.directories inner.memory inner.frames p page before.spaces.sound user.0 user.1
-
-pub takes_real : (e : PageEntry) → takes_stores_through (Some e) ≡ true → e.lazy ≡ false
-takes_real e h = by e.lazy (and_parts e.write (not e.lazy) h).1
-  where
-    by : (b : Bool) → not b ≡ true → b ≡ false
-    by false h = refl
-    by true h = cc
 
 -- what an access left
 pub record Left (inner : Inner) (S : Spaces) (bytes' : List ℕ) : Type 0 where

@@ -1,25 +1,24 @@
 use Rattle.std.proofs.Common.{ap, refl, sym, ◌∙◌}
 use Rattle.fault_handler.specs.Plans.{goes_on}
-use Rattle.kernel_calls.specs.declared.calls.Decision.{Decision}
 use Rattle.kernel_calls.proofs.Decided.{spawn-ok, fork-goes}
 use Rattle.address_space.proofs.standing.FramesStand.{stays_more, stays_most}
 use Rattle.kernel_calls.proofs.cores.complete.Goals as goal
 
 pub spawn-requires : goal.spawn-requires
 spawn-requires c =
-    spawn-ok c.args.processes.now c.args.decision.now.event c.in-Spawn.quota c.in-Spawn.is
-    (sym (ap (λ (d : Decision). goes_on d.plan) c.requires.decided) ∙ c.requires.completes)
+    spawn-ok c.args.processes.now c.args.event.now c.in-Spawn.quota c.in-Spawn.is
+    (sym (ap goes_on c.requires.decided) ∙ c.requires.completes)
 
 pub fork-requires : goal.fork-requires
 fork-requires c =
-    fork-goes c.args.processes.now c.args.decision.now.event c.in-Fork.quota c.in-Fork.is
-    (sym (ap (λ (d : Decision). goes_on d.plan) c.requires.decided) ∙ c.requires.completes)
+    fork-goes c.args.processes.now c.args.event.now c.in-Fork.quota c.in-Fork.is
+    (sym (ap goes_on c.requires.decided) ∙ c.requires.completes)
 
 pub returns-in-Load-clause-stay : goal.returns-in-Load-clause-stay
-returns-in-Load-clause-stay c = rw c.in-Load.is (stays_more (λ slot f stays. refl) c.settle.ensures.stay)
+returns-in-Load-clause-stay c = rw c.in-Load.is (stays_more (λ slot f stays. refl) c.settle_at.ensures.stay)
 
 pub returns-in-Store-clause-stay : goal.returns-in-Store-clause-stay
-returns-in-Store-clause-stay c = rw c.in-Store.is (stays_more (λ slot f stays. stays) c.settle-in-Store.ensures.stay)
+returns-in-Store-clause-stay c = rw c.in-Store.is (stays_more (λ slot f stays. stays) c.settle_at-in-Store.ensures.stay)
 
 pub returns-in-Map-clause-stay : goal.returns-in-Map-clause-stay
 returns-in-Map-clause-stay c = rw c.in-Map.is (stays_most c.map.ensures.stay)

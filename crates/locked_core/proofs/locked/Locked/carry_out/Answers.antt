@@ -18,7 +18,7 @@ keep_up-requires-clause-legal g c =
     let event : Event = c.args.ready.event in
     let e : LogEntry = c.entry_of-entry.result in
     let stands = subst (Stands g.N.Name.frames) c.self.view_is (c.self.invariant.0, c.self.invariant.1) in
-    let ends = judged g.N.Name.frames h c.args.ready.nth event c.carry_out-decision.result.reply c.carry_out-decision.result.used_after e stands c.requires.nth.1 (c.carry_out-decision.ensures.reply ∙ ap (λ (k : Held). answer k.core.state event) c.self.view_is) (c.carry_out-decision.ensures.charge ∙ ap (λ (k : Held). charge_after k.core.state event) c.self.view_is) c.entry_of-entry.ensures in
+    let ends = judged g.N.Name.frames h c.args.ready.nth event c.perform-decision.result.reply c.perform-decision.result.used_after e stands c.requires.nth.1 (c.perform-decision.ensures.reply ∙ ap (λ (k : Held). answer k.core.state event) c.self.view_is) (c.perform-decision.ensures.charge ∙ ap (λ (k : Held). charge_after k.core.state event) c.self.view_is) c.entry_of-entry.ensures in
     let grown : c.entries.result.now ≡ h.log ++ e ∷ [] = c.entries.ensures ∙ (c.push.ensures.entries ∙ ap (λ l. l ++ e ∷ []) (c.reserve.ensures.entries ∙ ap (λ (k : Held). k.log) c.self.view_is)) in
     let legal : Legal g.N.Name.frames c.entries.result.now = subst (Legal g.N.Name.frames) (sym grown) ends.1 in
     rw (c.self.invariant.4.frames) legal
@@ -40,11 +40,11 @@ invariant_of-self-2 g c =
     let e : LogEntry = c.entry_of-entry.result in
     let new : List LogEntry = c.push.new.self.entries in
     let stands = subst (Stands g.N.Name.frames) c.self.view_is (c.self.invariant.0, c.self.invariant.1) in
-    let ends = judged g.N.Name.frames h c.args.ready.nth event c.carry_out-decision.result.reply c.carry_out-decision.result.used_after e stands c.requires.nth.1 (c.carry_out-decision.ensures.reply ∙ ap (λ (k : Held). answer k.core.state event) c.self.view_is) (c.carry_out-decision.ensures.charge ∙ ap (λ (k : Held). charge_after k.core.state event) c.self.view_is) c.entry_of-entry.ensures in
+    let ends = judged g.N.Name.frames h c.args.ready.nth event c.perform-decision.result.reply c.perform-decision.result.used_after e stands c.requires.nth.1 (c.perform-decision.ensures.reply ∙ ap (λ (k : Held). answer k.core.state event) c.self.view_is) (c.perform-decision.ensures.charge ∙ ap (λ (k : Held). charge_after k.core.state event) c.self.view_is) c.entry_of-entry.ensures in
     let longer : new ≡ c.self.inside.log.entries ++ e ∷ [] = c.push.ensures.entries ∙ ap (λ l. l ++ e ∷ []) c.reserve.ensures.entries in
     let grown : new ≡ h.log ++ e ∷ [] = longer ∙ ap (λ (k : Held). k.log ++ e ∷ []) c.self.view_is in
-    let moved : c.carry_out-decision.new.self.state ≡ next h.core.state event = c.carry_out-decision.ensures.state ∙ ap (λ (k : Held). next k.core.state event) c.self.view_is in
-    let all = logged g.N.Name.frames h.log new h.core.state c.carry_out-decision.new.self.state event.cpu event.pid event.call e stands.0 stands.1 ends.0 grown moved in
+    let moved : c.perform-decision.new.self.state ≡ next h.core.state event = c.perform-decision.ensures.state ∙ ap (λ (k : Held). next k.core.state event) c.self.view_is in
+    let all = logged g.N.Name.frames h.log new h.core.state c.perform-decision.new.self.state event.cpu event.pid event.call e stands.0 stands.1 ends.0 grown moved in
     let book_is : c.all.result.book ≡ g.N.Name.book = c.all.ensures.1 in
     let page_is : page c.self.inside.writer.desk.spare.value.frames c.all.result.book c.entries.result.now ≡ page g.N.Name.frames g.N.Name.book new = λ i. page (c.self.invariant.4.frames i) (book_is i) (c.entries.ensures i) in
     let added : c.add.new.self ≡ new = search rules in (
@@ -77,7 +77,7 @@ returns-clause-state g c =
     let e : LogEntry = c.entry_of-entry.result in
     let new : List LogEntry = c.push.new.self.entries in
     let stands = subst (Stands g.N.Name.frames) c.self.view_is (c.self.invariant.0, c.self.invariant.1) in
-    let ends = judged g.N.Name.frames h c.args.ready.nth event c.carry_out-decision.result.reply c.carry_out-decision.result.used_after e stands c.requires.nth.1 (c.carry_out-decision.ensures.reply ∙ ap (λ (k : Held). answer k.core.state event) c.self.view_is) (c.carry_out-decision.ensures.charge ∙ ap (λ (k : Held). charge_after k.core.state event) c.self.view_is) c.entry_of-entry.ensures in
+    let ends = judged g.N.Name.frames h c.args.ready.nth event c.perform-decision.result.reply c.perform-decision.result.used_after e stands c.requires.nth.1 (c.perform-decision.ensures.reply ∙ ap (λ (k : Held). answer k.core.state event) c.self.view_is) (c.perform-decision.ensures.charge ∙ ap (λ (k : Held). charge_after k.core.state event) c.self.view_is) c.entry_of-entry.ensures in
     let grown : new ≡ h.log ++ e ∷ [] = c.push.ensures.entries ∙ ap (λ l. l ++ e ∷ []) c.reserve.ensures.entries ∙ ap (λ (k : Held). k.log ++ e ∷ []) c.self.view_is in
-    let moved : c.carry_out-decision.new.self.state ≡ next h.core.state event = c.carry_out-decision.ensures.state ∙ ap (λ (k : Held). next k.core.state event) c.self.view_is in
-    (logged g.N.Name.frames h.log new h.core.state c.carry_out-decision.new.self.state event.cpu event.pid event.call e stands.0 stands.1 ends.0 grown moved).stands
+    let moved : c.perform-decision.new.self.state ≡ next h.core.state event = c.perform-decision.ensures.state ∙ ap (λ (k : Held). next k.core.state event) c.self.view_is in
+    (logged g.N.Name.frames h.log new h.core.state c.perform-decision.new.self.state event.cpu event.pid event.call e stands.0 stands.1 ends.0 grown moved).stands

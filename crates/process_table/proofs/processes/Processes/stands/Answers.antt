@@ -8,6 +8,7 @@ use Rattle.process_table.specs.WellFormed.{IsWellFormed, total}
 use Rattle.process_table.proofs.ImageStanding.{image_stands}
 use Rattle.process_table.proofs.Ranges.{total-book}
 use Rattle.process_table.proofs.processes.Processes.stands.Goals as goal
+use Rattle.address_space.specs.Places.{PlacesTell}
 use Rattle.address_space.specs.Stays.{WaysAgree}
 
 pub returns-clause-image : goal.returns-clause-image
@@ -39,3 +40,7 @@ returns-clause-used c =
 pub returns-clause-ways : goal.returns-clause-ways
 returns-clause-ways c = subst (λ (v : View). WaysAgree
     (record { directories = v.directories; bytes = v.bytes; roles = v.roles })) c.self.view_is c.stands.ensures.ways
+
+pub returns-clause-places : goal.returns-clause-places
+returns-clause-places c = subst (λ (v : View). PlacesTell
+    (record { directories = v.directories; bytes = v.bytes; roles = v.roles }) v.state.spaces) c.self.view_is c.stands.ensures.places

@@ -1,0 +1,20 @@
+-- What stands at the pages of an access, each found by one look.
+use Rattle.std.proofs.Common.{ℕ, None}
+use Rattle.process_table.specs.Places.{access_places}
+use Rattle.process_table.specs.View.{View}
+use Rattle.process_table.specs.declared.places.Places.{Places}
+use Rattle.kernel_calls.specs.declared.calls.Call.{Call}
+use Rattle.kernel_calls.specs.declared.calls.Call.TheVariants as call
+use Rattle.kernel_calls.specs.declared.calls.Event.{Event}
+
+abbrev pub no_places : Places
+no_places = record { first = None; second = None }
+
+-- of an access those that it touches; any other call looks where it is tested, and where it is carried out
+abbrev pub places_of_call : View → ℕ → Call → Places
+places_of_call v p (call.Load addr size) = access_places v p addr size
+places_of_call v p (call.Store addr size value) = access_places v p addr size
+places_of_call v p _ = no_places
+
+abbrev pub places_of : View → Event → Places
+places_of v e = places_of_call v e.pid e.call
