@@ -97,9 +97,13 @@ fn films_of_other_sizes_are_refused(rt: HostRuntime) {
 
 /// At how many places a page has these rows.
 fn times(page: &[u8], rows: &[u8]) -> usize {
-    page.windows(rows.len())
-        .filter(|part| *part == rows)
-        .count()
+    let mut found: usize = 0;
+    for place in 0..page.len() {
+        if page[place..].starts_with(rows) {
+            found = found.saturating_add(1);
+        }
+    }
+    found
 }
 
 #[test]
