@@ -3,9 +3,9 @@ use Rattle.std.proofs.Common.{ℕ, Option}
 use Rattle.page_words.specs.Addresses.{slot_number}
 use Rattle.phys_memory.specs.Bytes.{frame_bytes}
 use Rattle.address_space.specs.declared.Spaces.TheInside.{Inside}
-use Rattle.address_space.specs.declared.lookup.Found.{Found}
+use Rattle.address_space.specs.declared.place.Found.{Found}
 use Rattle.address_space.specs.Spaces.{Spaces}
-use Rattle.address_space.specs.Image.{Image}
+use Rattle.address_space.specs.Image.{Image, image_from}
 use Rattle.address_space.specs.View.{View, directory_of, table_in, spaces_in}
 use Rattle.address_space.specs.Counts.{IsKept}
 use Rattle.address_space.specs.Finds.{found_in}
@@ -18,7 +18,7 @@ abbrev pub spaces_at : Inside → Spaces
 spaces_at inner = spaces_in inner.directories inner.memory
 
 abbrev pub image_at : Inside → Image
-image_at inner = record { directories = inner.directories; bytes = inner.memory; roles = inner.frames }
+image_at inner = image_from inner.directories inner.memory inner.frames
 
 abbrev pub table_at : Inside → ℕ → ℕ → Option ℕ
 table_at inner p page = table_in (directory_of inner.directories) (frame_bytes inner.memory) p (slot_number page)

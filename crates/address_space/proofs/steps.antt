@@ -12,6 +12,7 @@ pub mod Joins
 pub mod LazyFilling
 pub mod Leaves
 pub mod Looks
+pub mod Neighbours
 pub mod NewPages
 pub mod NextPages
 pub mod Openings

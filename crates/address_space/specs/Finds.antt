@@ -8,7 +8,7 @@ use Rattle.alloc_table.specs.declared.Role.TheVariants.{Page, Table}
 use Rattle.alloc_table.specs.Roles.{IsTaken}
 use Rattle.page_map.specs.Entries.{Frames, table_of, word_entry, with_entry, with_table}
 use Rattle.page_map.specs.declared.PageEntry.{PageEntry}
-use Rattle.address_space.specs.declared.lookup.Found.{Found}
+use Rattle.address_space.specs.declared.place.Found.{Found}
 use Rattle.address_space.specs.Spaces.{write_at}
 use Rattle.address_space.specs.View.{View, Directories, directory_of, table_in}
 use Rattle.address_space.specs.Sound.{Inside}

@@ -3,7 +3,7 @@
 use Rattle.std.specs.Prelude.{◌≡◌, ℕ, ◌+◌, ◌*◌, ◌<◌, ◌≤◌, ◌↔◌, Bool, true, false, not, ◌&&◌, nat_lt, nat_le, if◌then◌else◌, IsTrue, MatchBool, List, length, Option, Some, None, slice_get}
 use Rattle.std.specs.Option.{option_and_then, option_map, unwrap_or}
 use Rattle.page_words.specs.Addresses.{slot_number, index_number}
-use Rattle.page_words.specs.Words.{frame_number, is_present, is_accessed, is_dirty, has_may, is_lazy, is_granted, IsKernelDirWord, IsKernelTableWord}
+use Rattle.page_words.specs.Words.{frame_number, is_present, is_accessed, is_dirty, has_may, IsKernelDirWord}
 use Rattle.alloc_table.specs.Roles.{frames_in_use}
 use Rattle.page_words.specs.FiniteMap as map
 use Rattle.page_words.specs.FiniteMap.{Order}
@@ -13,25 +13,32 @@ use Rattle.phys_memory.specs.Bytes.{frame_bytes, word_in}
 use Rattle.alloc_table.specs.declared.Role.{Role}
 use Rattle.alloc_table.specs.declared.Role.TheVariants.{Reserved, Directory, Table, Page}
 use Rattle.address_space.specs.Spaces.{Slot, slot_order, Cell, Spaces, cell_or_fresh, zeros}
-use Rattle.address_space.specs.View.{View}
+use Rattle.address_space.specs.View.{View, Directories, directory_of}
+use Rattle.address_space.specs.ImageWords.{is_lazy_word, lets_write, own_frame, IsTableWord}
 
 -- what there is of address spaces outside the abstract machine
 pub record Image : Type 0 where
+  -- which words its tables hold: 1, or 2 where pages can be lazy
+  pub version : ℕ
   -- each process's directory, where it has one
-  pub directories : List (Option ℕ)
+  pub directories : Directories
   -- 4,096 bytes for each frame
   pub bytes : List ℕ
   -- one for each frame
   pub roles : List Role
 
+-- today's words, with these directories, memory and roles
+abbrev pub image_from : List (Option ℕ) → List ℕ → List Role → Image
+image_from directories bytes roles = record { version = 2; directories = directory_of directories; bytes = bytes; roles = roles }
+
 -- what the address spaces keep outside the abstract machine
 abbrev pub image_of : View → Image
-image_of v = record { directories = v.directories; bytes = v.bytes; roles = v.roles }
+image_of v = image_from v.directories v.bytes v.roles
 
 -- ---- What an image names
 
 abbrev pub directory_at : Image → ℕ → Option ℕ
-directory_at image p = unwrap_or (slice_get image.directories p) None
+directory_at image p = image.directories p
 
 -- the word of an index of a frame
 abbrev pub word_of : Image → ℕ → ℕ → ℕ
@@ -58,26 +65,22 @@ page_word image slot = option_and_then (λ t. present_word image t (word_of imag
 
 -- whether a slot has a lazy page
 abbrev pub is_lazy_at : Image → Slot → Bool
-is_lazy_at image slot = unwrap_or (option_map is_lazy (page_word image slot)) false
+is_lazy_at image slot = unwrap_or (option_map (is_lazy_word image.version) (page_word image slot)) false
 
 -- whether a store to a slot goes through as memory stands: it is mapped, with the right to write, and not lazy
 abbrev pub takes_stores : Spaces → Image → Slot → Bool
 takes_stores spaces image slot = map.contains_key spaces slot && ((cell_or_fresh spaces slot).write && not (is_lazy_at image slot))
 
--- the frame of its own that a word names
-abbrev pub own_frame : ℕ → Option ℕ
-own_frame word = if is_lazy word then None else Some (frame_number word)
-
 -- the frame of a slot's page, where it isn't lazy
 abbrev pub page_frame : Image → Slot → Option ℕ
-page_frame image slot = option_and_then own_frame (page_word image slot)
+page_frame image slot = option_and_then (own_frame image.version) (page_word image slot)
 
 -- ---- When an image is sound
 
--- n is the number of slots that have P
-pub record IsCount (n : ℕ) (P : Slot → Type 0) : Type 0 where
-  pub members : Set slot_order
-  pub are : (slot : Slot) → IsTrue (set.contains members slot) ↔ P slot
+-- n is the number of keys that have P
+pub record IsCount {K : Type 0} (order : Order K) (n : ℕ) (P : K → Type 0) : Type 0 where
+  pub members : Set order
+  pub are : (key : K) → IsTrue (set.contains members key) ↔ P key
   pub count : n ≡ set.len members
 
 -- frames, roles and words agree
@@ -92,29 +95,29 @@ pub record IsSoundImage (image : Image) : Type 0 where
   pub tables : (f p s : ℕ) → (slice_get image.roles f ≡ Some (Table p s)) ↔ (table_at image p s ≡ Some f)
   -- each frame that a slot names is a page, and its count is the number of slots that name it, which is not 0
   pub pages : (slot : Slot) (f : ℕ) → page_frame image slot ≡ Some f → (c : ℕ) × (slice_get image.roles f ≡ Some (Page c))
-  pub counts : (f c : ℕ) → slice_get image.roles f ≡ Some (Page c) → (0 < c) × IsCount c (λ slot. page_frame image slot ≡ Some f)
+  pub counts : (f c : ℕ) → slice_get image.roles f ≡ Some (Page c) → (0 < c) × IsCount slot_order c (λ slot. page_frame image slot ≡ Some f)
   -- directories and tables hold words that the kernel writes, directories none outside the user range
   pub directory_words : (p d s : ℕ) → directory_at image p ≡ Some d → s < 1024 → IsKernelDirWord (word_of image d s)
   pub no_more : (p d s : ℕ) → directory_at image p ≡ Some d → s < 1024 → is_user_slot s ≡ false → word_of image d s ≡ 0
-  pub table_words : (p s t i : ℕ) → table_at image p s ≡ Some t → i < 1024 → IsKernelTableWord (word_of image t i)
+  pub table_words : (p s t i : ℕ) → table_at image p s ≡ Some t → i < 1024 → IsTableWord image.version (word_of image t i)
   -- each table has a present word
   pub in_use : (p s t : ℕ) → table_at image p s ≡ Some t → (i : ℕ) × (i < 1024) × (is_present (word_of image t i) ≡ true)
 
 -- the frames in use and the lazy pages are together at most this many
 pub record LeavesRoom (image : Image) (total : ℕ) : Type 0 where
   pub lazy : ℕ
-  pub counted : IsCount lazy (λ slot. IsTrue (is_lazy_at image slot))
+  pub counted : IsCount slot_order lazy (λ slot. IsTrue (is_lazy_at image slot))
   pub fit : frames_in_use image.roles + lazy ≤ total
 
 -- ---- What an image stands for
 
 -- the slots of one group: those that name one frame, and a lazy one by itself
 abbrev pub IsOneGroup : Image → Slot → ℕ → Slot → Type 0
-IsOneGroup image slot word other = MatchBool (is_lazy word) (other ≡ slot) (page_frame image other ≡ Some (frame_number word))
+IsOneGroup image slot word other = MatchBool (is_lazy_word image.version word) (other ≡ slot) (page_frame image other ≡ Some (frame_number word))
 
 -- a cell by its word, the bytes of its frame, which for a lazy one is frame 0, and its group
 pub record CellStands (image : Image) (slot : Slot) (word : ℕ) (cell : Cell) : Type 0 where
-  pub write : cell.write ≡ is_granted word
+  pub write : cell.write ≡ lets_write image.version word
   pub may : cell.may ≡ has_may word
   pub accessed : cell.accessed ≡ is_accessed word
   pub dirty : cell.dirty ≡ is_dirty word

@@ -5,9 +5,9 @@ pub mod Codes
 pub mod Counts
 pub mod Finds
 pub mod Image
+pub mod ImageWords
 pub mod Kept
 pub mod Places
-pub mod Seen
 pub mod Shown
 pub mod Slots
 pub mod Sound

@@ -6,9 +6,9 @@ use Rattle.page_words.specs.FiniteMap as map
 use Rattle.phys_memory.specs.Bytes.{frame_bytes}
 use Rattle.page_map.specs.Entries.{Frames}
 use Rattle.page_map.specs.declared.PageEntry.{PageEntry}
-use Rattle.address_space.specs.declared.lookup.Found.{Found}
-use Rattle.address_space.specs.declared.lookup.Place.{Place}
-use Rattle.address_space.specs.declared.lookup.Place.TheVariants.{Bare, Open, Mapped}
+use Rattle.address_space.specs.declared.place.Found.{Found}
+use Rattle.address_space.specs.declared.place.Place.{Place}
+use Rattle.address_space.specs.declared.place.Place.TheVariants.{Bare, Open, Mapped}
 use Rattle.address_space.specs.Changes.{takes_stores_through}
 use Rattle.address_space.specs.Spaces.{Cell, Spaces, need, at_page}
 use Rattle.address_space.specs.Image.{Image, is_lazy_at, takes_stores}
@@ -28,6 +28,10 @@ place_by m page (Some t) = place_there t (found_by m page t)
 -- the place of a page of a process, by directories and memory
 abbrev pub place_in : List (Option ℕ) → List ℕ → ℕ → ℕ → Place
 place_in directories bytes p page = place_by (frame_bytes bytes) page (table_in (directory_of directories) (frame_bytes bytes) p (slot_number page))
+
+-- the place of a page of a process in an image
+abbrev pub image_place : Image → ℕ → ℕ → Place
+image_place image p page = place_by (frame_bytes image.bytes) page (table_in image.directories (frame_bytes image.bytes) p (slot_number page))
 
 -- ---- What a place tells
 
@@ -72,8 +76,8 @@ cell_flags c = record { write = c.write; may = c.may; accessed = c.accessed; dir
 
 -- what the places of pages tell is what the spaces have there
 pub record PlacesTell (image : Image) (spaces : Spaces) : Type 0 where
-  pub mapped : (p page : ℕ) → IsUserPage page → is_some (found_of (place_in image.directories image.bytes p page)) ≡ map.contains_key spaces (at_page p page)
-  pub flags : (p page : ℕ) → IsUserPage page → option_map entry_flags (entry_found (found_of (place_in image.directories image.bytes p page))) ≡ option_map cell_flags (map.get spaces (at_page p page))
-  pub lazy : (p page : ℕ) → IsUserPage page → lazy_place (place_in image.directories image.bytes p page) ≡ is_lazy_at image (at_page p page)
-  pub takes : (p page : ℕ) → IsUserPage page → takes_place (place_in image.directories image.bytes p page) ≡ takes_stores spaces image (at_page p page)
-  pub need : (p page : ℕ) → IsUserPage page → need_of (place_in image.directories image.bytes p page) ≡ need spaces p page
+  pub mapped : (p page : ℕ) → IsUserPage page → is_some (found_of (image_place image p page)) ≡ map.contains_key spaces (at_page p page)
+  pub flags : (p page : ℕ) → IsUserPage page → option_map entry_flags (entry_found (found_of (image_place image p page))) ≡ option_map cell_flags (map.get spaces (at_page p page))
+  pub lazy : (p page : ℕ) → IsUserPage page → lazy_place (image_place image p page) ≡ is_lazy_at image (at_page p page)
+  pub takes : (p page : ℕ) → IsUserPage page → takes_place (image_place image p page) ≡ takes_stores spaces image (at_page p page)
+  pub need : (p page : ℕ) → IsUserPage page → need_of (image_place image p page) ≡ need spaces p page

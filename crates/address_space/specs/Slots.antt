@@ -1,15 +1,12 @@
 -- Every slot of the user range.
 use Rattle.std.proofs.Common.{ℕ, zero, suc, List, [], ◌++◌, map}
 use Rattle.std.specs.List.{range_with_len}
-use Rattle.address_space.specs.Spaces.{Slot}
-
-abbrev pub at_pid : ℕ → ℕ → Slot
-at_pid p page = record { pid = p; page = page }
+use Rattle.address_space.specs.Spaces.{Slot, at_page}
 
 -- the slots of the processes below n at these pages
 abbrev pub slots_below : ℕ → List ℕ → List Slot
 slots_below zero pages = []
-slots_below (suc n) pages = map (at_pid n) pages ++ slots_below n pages
+slots_below (suc n) pages = map (at_page n) pages ++ slots_below n pages
 
 -- every slot of the user range
 unfoldable pub user_slots : List Slot

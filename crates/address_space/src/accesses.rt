@@ -1,15 +1,21 @@
-//! What goes through a page that was found: loads and stores, and changes of the right to write.
+//! Loads and stores through pages that were found, one page or two.
 
-ghost use Rattle.std.specs.Prelude.{◌≡◌, ◌+◌, ◌<◌, ◌≤◌, ◌^◌, [], ◌∷◌, length, slice_index, true};
-ghost use Rattle.page_words.specs.Addresses.{byte_count};
+ghost use Rattle.std.specs.Prelude.{◌≡◌, ◌+◌, ◌<◌, ◌≤◌, ◌^◌, [], ◌∷◌, length, slice_index, true, Some, ◌*◌, ◌≢◌, false, is_some, map};
+ghost use Rattle.page_words.specs.Addresses.{byte_count, page_number, offset_number, covered, second_page, touched, EachTouched, IsUserPage};
 ghost use Rattle.phys_memory.specs.Bytes.{frame_bytes, with_frame};
-ghost use Rattle.address_space.specs.Spaces.{write_at, bytes_of, value_of, bytes_at};
+ghost use Rattle.address_space.specs.Spaces.{write_at, bytes_of, value_of, bytes_at, at_page, byte_at, number_of, all_accessed, all_stored, accessed};
 ghost use Rattle.address_space.specs.Sound.{Inside};
 ghost use Rattle.address_space.specs.Finds.{LiesIn, EntryIs, BytesStored};
+ghost use Rattle.std.specs.Option.{option_map};
+ghost use Rattle.address_space.specs.Image.{image_of, is_lazy_at};
+ghost use Rattle.address_space.specs.Stays.{FramesStay, none_goes};
+ghost use Rattle.address_space.specs.Places.{place_in};
+ghost use Rattle.page_words.specs.FiniteMap as map;
 
-use crate::lookup::Found;
+use crate::Spaces;
+use crate::place::{Found, Place};
 use page_map::{PageEntry, place_of};
-use page_words::{Frame, Size};
+use page_words::{Frame, Page, Pid, Size, Vaddr, offset_of, page_of, second_page, start_of};
 use phys_memory::Memory;
 
 /// The number of two bytes, the lowest first.
@@ -21,6 +27,7 @@ pub fn of_two(first: u8, second: u8) -> u32
 }
 
 /// The number in some bytes that lie in one page.
+#[inline(always)]
 pub fn number_at(memory: &Memory, frame: Frame, at: u32, size: Size) -> u32
     requires frame { Inside memory.now frame }
     requires inside { at + byte_count size ≤ 4096 }
@@ -62,6 +69,7 @@ pub fn set_flags(memory: &mut Memory, found: &Found, write: bool, accessed: bool
 }
 
 /// The number that a page has at a place; accessed is set in its entry.
+#[inline(always)]
 pub fn load(memory: &mut Memory, found: &Found, at: u32, size: Size) -> u32
     requires lies { LiesIn memory.old found.now }
     requires inside { at + byte_count size ≤ 4096 }
@@ -134,4 +142,268 @@ pub fn set_right(memory: &mut Memory, found: &Found, write: bool)
         found.entry.accessed,
         found.entry.dirty,
     );
+}
+
+/// The four bytes of a number, the lowest first.
+fn four_bytes(value: u32) -> [u8; 4]
+    ensures { result ≡ bytes_of 4 value }
+{
+    [
+        (value % 256) as u8,
+        (value / 256 % 256) as u8,
+        (value / 65536 % 256) as u8,
+        (value / 16_777_216 % 256) as u8,
+    ]
+}
+
+impl Spaces {
+    /// The byte at an address, which lies in a page or in the one behind it. Each has its place.
+    fn byte_over(&self, pid: Pid, address: Vaddr, page: Page, first: &Place, second: &Place) -> u8
+        requires user { IsUserPage (page_number address) }
+        requires least { page ≤ page_number address }
+        requires most { page_number address ≤ page + 1 }
+        requires first { first.now ≡ place_in self.now.directories self.now.bytes pid page }
+        requires second { page_number address ≢ page → second.now ≡ place_in self.now.directories self.now.bytes pid (page + 1) }
+        ensures { result ≡ byte_at self.now.spaces pid address }
+    {
+        if page_of(address) == page {
+            self.byte_at(pid, address, first)
+        } else {
+            self.byte_at(pid, address, second)
+        }
+    }
+
+    /// The number in the two bytes from an address on.
+    fn two_over(&self, pid: Pid, address: Vaddr, page: Page, first: &Place, second: &Place) -> u32
+        requires user { IsUserPage (page_number address) }
+        requires behind { IsUserPage (page_number (address + 1)) }
+        requires least { page ≤ page_number address }
+        requires most { page_number (address + 1) ≤ page + 1 }
+        requires first { first.now ≡ place_in self.now.directories self.now.bytes pid page }
+        requires second { page_number (address + 1) ≢ page → second.now ≡ place_in self.now.directories self.now.bytes pid (page + 1) }
+        ensures value { result ≡ byte_at self.now.spaces pid address + 256 * byte_at self.now.spaces pid (address + 1) }
+        ensures bound { result < 2 ^ 16 }
+    {
+        of_two(
+            self.byte_over(pid, address, page, first, second),
+            self.byte_over(pid, Vaddr(address.0 + 1), page, first, second),
+        )
+    }
+
+    /// The number at an address, byte by byte: 0 for each byte whose page is not mapped. The places are those of the
+    /// page that the address lies in, and of the one behind it, where the bytes reach into that.
+    fn number_over(
+        &self,
+        pid: Pid,
+        address: Vaddr,
+        size: Size,
+        first: &Place,
+        second: &Place,
+    ) -> u32
+        requires user { EachTouched address size IsUserPage }
+        requires first { first.now ≡ place_in self.now.directories self.now.bytes pid (page_number address) }
+        requires second { 4096 < offset_number address + byte_count size → second.now ≡ place_in self.now.directories self.now.bytes pid (page_number address + 1) }
+        ensures { result ≡ number_of self.now.spaces pid (covered address size) }
+    {
+        let page = page_of(address);
+        match size {
+            Size::One => u32::from(self.byte_over(pid, address, page, first, second)),
+            Size::Two => self.two_over(pid, address, page, first, second),
+            Size::Four => {
+                let low = self.two_over(pid, address, page, first, second);
+                let high = self.two_over(pid, Vaddr(address.0 + 2), page, first, second);
+                low + 65536 * high
+            }
+        }
+    }
+
+    /// What stands at the second page of an access, where there is one.
+    fn place_behind(&self, pid: Pid, address: Vaddr, size: Size) -> Option<Place>
+        requires { EachTouched address size IsUserPage }
+        ensures { result ≡ option_map (place_in self.now.directories self.now.bytes pid) (second_page address size) }
+    {
+        match second_page(address, size) {
+            Some(page) => Some(self.place(pid, page)),
+            None => None,
+        }
+    }
+
+    /// The number at an address, the lowest byte first: 0 for each byte whose page isn't mapped. The bytes may lie
+    /// in two pages. It sets no flag.
+    pub fn peek(&self, pid: Pid, address: Vaddr, size: Size) -> u32
+        requires { EachTouched address size IsUserPage }
+        ensures { result ≡ number_of self.now.spaces pid (covered address size) }
+    {
+        let first = self.place(pid, page_of(address));
+        let second = self.place_behind(pid, address, size);
+        self.peek_at(pid, address, size, &first, &second)
+    }
+
+    /// The number at an address, as `peek` gives it. The places are those of the pages that its bytes lie in.
+    pub fn peek_at(
+        &self,
+        pid: Pid,
+        address: Vaddr,
+        size: Size,
+        first: &Place,
+        second: &Option<Place>,
+    ) -> u32
+        requires user { EachTouched address size IsUserPage }
+        requires first { first.now ≡ place_in self.now.directories self.now.bytes pid (page_number address) }
+        requires second { second.now ≡ option_map (place_in self.now.directories self.now.bytes pid) (second_page address size) }
+        ensures { result ≡ number_of self.now.spaces pid (covered address size) }
+    {
+        if let Some(value) = self.number_at(pid, address, size, first) {
+            return value;
+        }
+        match second {
+            Some(second) => self.number_over(pid, address, size, first, second),
+            None => self.number_over(pid, address, size, first, first),
+        }
+    }
+
+    /// The number at an address of mapped pages, one or two by where the bytes lie; accessed is set in the slot of
+    /// each.
+    pub fn read(&mut self, pid: Pid, address: Vaddr, size: Size) -> u32
+        requires mapped { EachTouched address size (λ page. is_some (map.get self.old.spaces (at_page pid page)) ≡ true) }
+        requires user { EachTouched address size IsUserPage }
+        ensures value { result ≡ number_of self.old.spaces pid (covered address size) }
+        ensures spaces { self.new.spaces ≡ all_accessed self.old.spaces pid (touched address size) }
+        ensures stay { FramesStay none_goes (image_of self.old) (image_of self.new) }
+        ensures directories { self.new.directories ≡ self.old.directories }
+        ensures roles { self.new.roles ≡ self.old.roles }
+    {
+        let first = self.place(pid, page_of(address));
+        let second = self.place_behind(pid, address, size);
+        self.read_at(pid, address, size, &first, &second)
+    }
+
+    /// The number at an address, as `read` gives it. The places are those of the pages that its bytes lie in.
+    pub fn read_at(
+        &mut self,
+        pid: Pid,
+        address: Vaddr,
+        size: Size,
+        first: &Place,
+        second: &Option<Place>,
+    ) -> u32
+        requires mapped { EachTouched address size (λ page. is_some (map.get self.old.spaces (at_page pid page)) ≡ true) }
+        requires user { EachTouched address size IsUserPage }
+        requires first { first.now ≡ place_in self.old.directories self.old.bytes pid (page_number address) }
+        requires second { second.now ≡ option_map (place_in self.old.directories self.old.bytes pid) (second_page address size) }
+        ensures value { result ≡ number_of self.old.spaces pid (covered address size) }
+        ensures spaces { self.new.spaces ≡ all_accessed self.old.spaces pid (touched address size) }
+        ensures stay { FramesStay none_goes (image_of self.old) (image_of self.new) }
+        ensures directories { self.new.directories ≡ self.old.directories }
+        ensures roles { self.new.roles ≡ self.old.roles }
+    {
+        match second_page(address, size) {
+            None => self.load_at(pid, address, size, first),
+            Some(behind) => {
+                let second = second.unwrap();
+                self.load_over(pid, address, size, behind, first, &second)
+            }
+        }
+    }
+
+    /// The number whose bytes lie in two mapped pages; accessed is set in the slot of each.
+    fn load_over(
+        &mut self,
+        pid: Pid,
+        address: Vaddr,
+        size: Size,
+        behind: Page,
+        first: &Place,
+        second: &Place,
+    ) -> u32
+        requires mapped { EachTouched address size (λ page. is_some (map.get self.old.spaces (at_page pid page)) ≡ true) }
+        requires user { EachTouched address size IsUserPage }
+        requires first { first.now ≡ place_in self.old.directories self.old.bytes pid (page_number address) }
+        requires behind { second_page address size ≡ Some behind }
+        requires second { second.now ≡ place_in self.old.directories self.old.bytes pid behind }
+        ensures value { result ≡ number_of self.old.spaces pid (covered address size) }
+        ensures spaces { self.new.spaces ≡ all_accessed self.old.spaces pid (touched address size) }
+        ensures stay { FramesStay none_goes (image_of self.old) (image_of self.new) }
+        ensures directories { self.new.directories ≡ self.old.directories }
+        ensures roles { self.new.roles ≡ self.old.roles }
+    {
+        let value = self.number_over(pid, address, size, first, second);
+        self.load_at(pid, address, Size::One, first);
+        self.load_at(pid, start_of(behind), Size::One, second);
+        value
+    }
+
+    /// Stores through mapped slots that aren't lazy, one or two by where the bytes lie, and sets accessed and
+    /// dirty in each.
+    pub fn write(&mut self, pid: Pid, address: Vaddr, size: Size, value: u32)
+        requires mapped { EachTouched address size (λ page. is_some (map.get self.old.spaces (at_page pid page)) ≡ true) }
+        requires user { EachTouched address size IsUserPage }
+        requires real { EachTouched address size (λ page. is_lazy_at (image_of self.old) (at_page pid page) ≡ false) }
+        ensures spaces { self.new.spaces ≡ all_stored self.old.spaces pid address (bytes_of (byte_count size) value) }
+        ensures stay { FramesStay none_goes (image_of self.old) (image_of self.new) }
+        ensures directories { self.new.directories ≡ self.old.directories }
+        ensures roles { self.new.roles ≡ self.old.roles }
+    {
+        let first = self.place(pid, page_of(address));
+        let second = self.place_behind(pid, address, size);
+        self.write_at(pid, address, size, value, &first, &second);
+    }
+
+    /// Stores, as `write` does. The places are those of the pages that the bytes lie in.
+    pub fn write_at(
+        &mut self,
+        pid: Pid,
+        address: Vaddr,
+        size: Size,
+        value: u32,
+        first: &Place,
+        second: &Option<Place>,
+    )
+        requires mapped { EachTouched address size (λ page. is_some (map.get self.old.spaces (at_page pid page)) ≡ true) }
+        requires user { EachTouched address size IsUserPage }
+        requires real { EachTouched address size (λ page. is_lazy_at (image_of self.old) (at_page pid page) ≡ false) }
+        requires first { first.now ≡ place_in self.old.directories self.old.bytes pid (page_number address) }
+        requires second { second.now ≡ option_map (place_in self.old.directories self.old.bytes pid) (second_page address size) }
+        ensures spaces { self.new.spaces ≡ all_stored self.old.spaces pid address (bytes_of (byte_count size) value) }
+        ensures stay { FramesStay none_goes (image_of self.old) (image_of self.new) }
+        ensures directories { self.new.directories ≡ self.old.directories }
+        ensures roles { self.new.roles ≡ self.old.roles }
+    {
+        match second_page(address, size) {
+            None => self.store_at(pid, address, size, value, first),
+            Some(behind) => {
+                let second = second.unwrap();
+                self.store_over(pid, address, size, value, behind, first, &second);
+            }
+        }
+    }
+
+    /// Stores bytes that lie in two pages, in each as one part.
+    fn store_over(
+        &mut self,
+        pid: Pid,
+        address: Vaddr,
+        size: Size,
+        value: u32,
+        behind: Page,
+        first: &Place,
+        second: &Place,
+    )
+        requires mapped { EachTouched address size (λ page. is_some (map.get self.old.spaces (at_page pid page)) ≡ true) }
+        requires user { EachTouched address size IsUserPage }
+        requires real { EachTouched address size (λ page. is_lazy_at (image_of self.old) (at_page pid page) ≡ false) }
+        requires first { first.now ≡ place_in self.old.directories self.old.bytes pid (page_number address) }
+        requires behind { second_page address size ≡ Some behind }
+        requires second { second.now ≡ place_in self.old.directories self.old.bytes pid behind }
+        ensures spaces { self.new.spaces ≡ all_stored self.old.spaces pid address (bytes_of (byte_count size) value) }
+        ensures stay { FramesStay none_goes (image_of self.old) (image_of self.new) }
+        ensures directories { self.new.directories ≡ self.old.directories }
+        ensures roles { self.new.roles ≡ self.old.roles }
+    {
+        let bytes = four_bytes(value);
+        let cut = (4096 - offset_of(address)) as usize;
+        let end = size.bytes() as usize;
+        self.store_part_at(pid, address, &bytes[..cut], first);
+        self.store_part_at(pid, start_of(behind), &bytes[cut..end], second);
+    }
 }

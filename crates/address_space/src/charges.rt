@@ -13,8 +13,8 @@ ghost use Rattle.address_space.specs.View.{directory_of, spaces_in};
 ghost use Rattle.address_space.specs.Places.{place_in};
 ghost use Rattle.address_space.specs.Sound.{IsSpaces};
 
-use crate::lookup::Place;
-use crate::region_counts::count_at;
+use crate::mapping::count_at;
+use crate::place::Place;
 use crate::{Spaces, home};
 use page_map::{FIRST_SLOT, SLOT_END};
 use page_words::{Frame, Page, Pid};
@@ -79,15 +79,5 @@ impl Spaces {
         let found = place.found().unwrap();
         let mapped = count_at(counts, found.table);
         if mapped == 1 { 2 } else { 1 }
-    }
-
-    /// What a process's cost falls by when a mapped page goes.
-    pub fn relief(&self, pid: Pid, page: Page) -> u32
-        requires mapped { is_some (map.get self.now.spaces (at_page pid page)) ≡ true }
-        requires user { IsUserPage page }
-        ensures { cost (without self.now.spaces (is_slot pid page)) pid + result ≡ cost self.now.spaces pid }
-    {
-        let place = self.place(pid, page);
-        self.relief_at(pid, page, &place)
     }
 }

@@ -15,8 +15,7 @@ ghost use Rattle.address_space.specs.Image.{image_of, is_lazy_at};
 ghost use Rattle.address_space.specs.Stays.{FramesStay, none_goes};
 ghost use Rattle.address_space.specs.Finds.{EntryCopied};
 
-use crate::new_pages::give_table;
-use crate::region_counts::{count_at, count_page};
+use crate::mapping::{count_at, count_page, give_table};
 use crate::{Spaces, home, take};
 use alloc_table::{FrameTable, Role};
 use page_map::{FIRST_SLOT, Listed, PageEntry};

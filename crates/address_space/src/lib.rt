@@ -6,42 +6,30 @@
 //! costs allows.
 #![tactic(auto)]
 
-ghost use Rattle.std.specs.Prelude.{◌≡◌, ◌↔◌, IfOk, IsErrOf, replicate, ℕ, ◌+◌, ◌*◌, ◌/◌, ◌%◌, ◌^◌, ◌<◌, ◌≤◌, [], ◌∷◌, Some, None, length, slice_get, is_some, true, false, not};
-ghost use Rattle.page_words.specs.Addresses.{page_number, offset_number, byte_count, covered, second_page, touched, EachTouched, IsUserPage};
+ghost use Rattle.std.specs.Prelude.{◌≡◌, ◌↔◌, IfOk, IsErrOf, replicate, ℕ, ◌+◌, ◌*◌, ◌<◌, ◌≤◌, Some, None, length, slice_get, is_some, true};
 ghost use Rattle.phys_memory.specs.Bytes.{blank_bytes};
 ghost use Rattle.alloc_table.specs.Roles.{free_frames, CanBeTaken, IsTaken, opening_roles};
 ghost use Rattle.page_words.specs.FiniteMap as map;
-ghost use Rattle.address_space.specs.Spaces.{Slot, byte_at, number_of, all_accessed, all_stored, stored, bytes_of, without, slot_at, accessed, cost, at_page};
-ghost use Rattle.address_space.specs.Image.{StandsFor, StandsForOne, LeavesRoom, image_of, is_lazy_at};
-ghost use Rattle.address_space.specs.Stays.{FramesStay, WaysAgree, none_goes};
+ghost use Rattle.address_space.specs.Spaces.{accessed, cost};
+ghost use Rattle.address_space.specs.Image.{StandsFor, StandsForOne, LeavesRoom, image_of};
+ghost use Rattle.address_space.specs.Stays.{WaysAgree};
 ghost use Rattle.address_space.specs.Places.{PlacesTell};
 ghost use Rattle.address_space.specs.Walks.{WalksAgree};
 ghost use Rattle.address_space.specs.View.{directory_of, spaces_in, total_cost};
 
 mod accesses;
-mod by_walk;
 mod charges;
 mod copies;
-mod drops;
-mod fills;
-mod group_sizes;
-mod kept;
-mod links;
-mod lookup;
-mod mappings;
-mod new_pages;
-mod next_pages;
+mod mapping;
 mod parts;
-mod places;
-mod region_counts;
-mod seen_pages;
-mod walked;
+mod place;
+mod processor;
+mod unmapping;
 
 use alloc_table::{FrameTable, Role};
-pub use lookup::{Found, Place};
-use page_words::{Frame, MAX_FRAMES, MIN_FRAMES, Pid, Size, Vaddr, second_page, start_of};
+use page_words::{Frame, MachineFault, Pid, Size, Vaddr, page_of, second_page, start_of};
 use phys_memory::Memory;
-pub use seen_pages::Seen;
+pub use place::{Found, Place};
 use std::alloc::Global;
 use std::marker::Model;
 
@@ -131,163 +119,25 @@ pub struct Cell {
     pub holders: u32,
 }
 
-/// Why there are no address spaces.
-#[derive(Clone, Copy, Debug, PartialEq, Eq)]
-pub enum SpacesFault {
-    /// The number of frames is not 16 to 4,096.
-    BadSize,
-    /// There was no memory for the frames, for their roles or for the counts of their pages.
-    NoMemory,
-}
-
 impl Spaces {
     /// Address spaces over that many frames of zeros, 16 to 4,096, without any space.
-    pub fn new(alloc: Global, frames: u32) -> Result<Spaces, SpacesFault>
+    ///
+    /// BadSize for another number of frames, else NoMemory where there is none for the frames, for their
+    /// roles or for the counts of their pages.
+    pub fn new(alloc: Global, frames: u32) -> Result<Spaces, MachineFault>
         ensures spaces { IfOk result (λ new. new.spaces ≡ map.empty) }
         ensures directories { IfOk result (λ new. new.directories ≡ replicate 64 None) }
         ensures roles { IfOk result (λ new. new.roles ≡ opening_roles frames) }
         ensures frames { IfOk result (λ new. length new.roles ≡ frames) }
         ensures costs { IfOk result (λ new. total_cost new.directories new.spaces ≡ 0) }
-        ensures size { IsErrOf result SpacesFault.BadSize ↔ (16 ≤ frames → frames ≤ 4096 → ⊥) }
+        ensures size { IsErrOf result MachineFault.BadSize ↔ (16 ≤ frames → frames ≤ 4096 → ⊥) }
     {
-        if frames < MIN_FRAMES || frames > MAX_FRAMES {
-            return Err(SpacesFault::BadSize);
-        }
-        let Ok(memory) = Memory::new(alloc, frames) else {
-            return Err(SpacesFault::NoMemory);
-        };
-        let Ok(table) = FrameTable::new(alloc, frames) else {
-            return Err(SpacesFault::NoMemory);
-        };
+        let memory = Memory::new(alloc, frames)?;
+        let table = FrameTable::new(alloc, frames)?;
         let Ok(counts) = vec![in alloc; 0u32; frames as usize] else {
-            return Err(SpacesFault::NoMemory);
+            return Err(MachineFault::NoMemory);
         };
         Ok(opened(memory, table, counts, frames))
-    }
-
-    /// Stores the lowest byte of a number, and gives the number without it and the address behind it.
-    fn write_byte(&mut self, pid: Pid, address: Vaddr, value: u32) -> (Vaddr, u32)
-        requires mapped { is_some (map.get self.old.spaces (slot_at pid address)) ≡ true }
-        requires user { IsUserPage (page_number address) }
-        requires real { is_lazy_at (image_of self.old) (slot_at pid address) ≡ false }
-        ensures address { result.0 ≡ address + 1 }
-        ensures value { result.1 ≡ value / 256 }
-        ensures spaces { self.new.spaces ≡ stored self.old.spaces (slot_at pid address) (offset_number address) (value % 256 ∷ []) }
-        ensures stay { FramesStay none_goes (image_of self.old) (image_of self.new) }
-        ensures directories { self.new.directories ≡ self.old.directories }
-        ensures roles { self.new.roles ≡ self.old.roles }
-        ensures mapped { (slot : Slot) → map.contains_key self.new.spaces slot ≡ map.contains_key self.old.spaces slot }
-        ensures lazy { (slot : Slot) → is_lazy_at (image_of self.new) slot ≡ is_lazy_at (image_of self.old) slot }
-    {
-        self.write_in_page(pid, address, Size::One, value);
-        (Vaddr(address.0 + 1), value / 256)
-    }
-
-    /// Stores through mapped slots that aren't lazy, one or two by where the bytes lie, and sets accessed and
-    /// dirty in each.
-    pub fn write(&mut self, pid: Pid, address: Vaddr, size: Size, value: u32)
-        requires mapped { EachTouched address size (λ page. is_some (map.get self.old.spaces (at_page pid page)) ≡ true) }
-        requires user { EachTouched address size IsUserPage }
-        requires real { EachTouched address size (λ page. is_lazy_at (image_of self.old) (at_page pid page) ≡ false) }
-        ensures spaces { self.new.spaces ≡ all_stored self.old.spaces pid address (bytes_of (byte_count size) value) }
-        ensures stay { FramesStay none_goes (image_of self.old) (image_of self.new) }
-        ensures directories { self.new.directories ≡ self.old.directories }
-        ensures roles { self.new.roles ≡ self.old.roles }
-    {
-        match second_page(address, size) {
-            None => self.write_in_page(pid, address, size, value),
-            Some(_) => self.write_by_bytes(pid, address, size, value),
-        }
-    }
-
-    /// Stores byte by byte.
-    fn write_by_bytes(&mut self, pid: Pid, address: Vaddr, size: Size, value: u32)
-        requires mapped { EachTouched address size (λ page. is_some (map.get self.old.spaces (at_page pid page)) ≡ true) }
-        requires user { EachTouched address size IsUserPage }
-        requires real { EachTouched address size (λ page. is_lazy_at (image_of self.old) (at_page pid page) ≡ false) }
-        ensures spaces { self.new.spaces ≡ all_stored self.old.spaces pid address (bytes_of (byte_count size) value) }
-        ensures stay { FramesStay none_goes (image_of self.old) (image_of self.new) }
-        ensures directories { self.new.directories ≡ self.old.directories }
-        ensures roles { self.new.roles ≡ self.old.roles }
-    {
-        match size {
-            Size::One => {
-                self.write_byte(pid, address, value);
-            }
-            Size::Two => {
-                let (second, rest) = self.write_byte(pid, address, value);
-                self.write_byte(pid, second, rest);
-            }
-            Size::Four => {
-                let (second, rest) = self.write_byte(pid, address, value);
-                let (third, rest) = self.write_byte(pid, second, rest);
-                let (fourth, rest) = self.write_byte(pid, third, rest);
-                self.write_byte(pid, fourth, rest);
-            }
-        }
-    }
-
-    /// The number at an address, byte by byte.
-    fn by_bytes(&self, pid: Pid, address: Vaddr, size: Size) -> u32
-        requires { EachTouched address size IsUserPage }
-        ensures { result ≡ number_of self.now.spaces pid (covered address size) }
-    {
-        match size {
-            Size::One => u32::from(self.byte(pid, address)),
-            Size::Two => self.two_bytes(pid, address),
-            Size::Four => {
-                let low = self.two_bytes(pid, address);
-                let high = self.two_bytes(pid, Vaddr(address.0 + 2));
-                low + 65536 * high
-            }
-        }
-    }
-
-    /// The number in the two bytes from an address on.
-    fn two_bytes(&self, pid: Pid, address: Vaddr) -> u32
-        requires first { IsUserPage (page_number address) }
-        requires second { IsUserPage (page_number (address + 1)) }
-        ensures value { result ≡ byte_at self.now.spaces pid address + 256 * byte_at self.now.spaces pid (address + 1) }
-        ensures bound { result < 2 ^ 16 }
-    {
-        accesses::of_two(
-            self.byte(pid, address),
-            self.byte(pid, Vaddr(address.0 + 1)),
-        )
-    }
-
-    /// The number at an address, the lowest byte first: 0 for each byte whose page isn't mapped. The bytes may lie
-    /// in two pages. It sets no flag.
-    pub fn peek(&self, pid: Pid, address: Vaddr, size: Size) -> u32
-        requires { EachTouched address size IsUserPage }
-        ensures { result ≡ number_of self.now.spaces pid (covered address size) }
-    {
-        match self.look(pid, address, size) {
-            Some(value) => value,
-            None => self.by_bytes(pid, address, size),
-        }
-    }
-
-    /// The number at an address of mapped pages, one or two by where the bytes lie; accessed is set in the slot of
-    /// each.
-    pub fn read(&mut self, pid: Pid, address: Vaddr, size: Size) -> u32
-        requires mapped { EachTouched address size (λ page. is_some (map.get self.old.spaces (at_page pid page)) ≡ true) }
-        requires user { EachTouched address size IsUserPage }
-        ensures value { result ≡ number_of self.old.spaces pid (covered address size) }
-        ensures spaces { self.new.spaces ≡ all_accessed self.old.spaces pid (touched address size) }
-        ensures stay { FramesStay none_goes (image_of self.old) (image_of self.new) }
-        ensures directories { self.new.directories ≡ self.old.directories }
-        ensures roles { self.new.roles ≡ self.old.roles }
-    {
-        match second_page(address, size) {
-            None => self.try_read(pid, address, size).unwrap(),
-            Some(second) => {
-                let value = self.by_bytes(pid, address, size);
-                self.try_read(pid, address, Size::One).unwrap();
-                self.try_read(pid, start_of(second), Size::One).unwrap();
-                value
-            }
-        }
     }
 
     /// The memory: 4,096 bytes for each frame.

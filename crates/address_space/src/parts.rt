@@ -1,19 +1,20 @@
 //! Parts of a page: bytes that are read or written as one slice, as a load or a store of each would do it.
 
-ghost use Rattle.std.specs.Prelude.{◌≡◌, ◌+◌, ◌<◌, ◌≤◌, length, map, slice_index, is_some, true, false};
+ghost use Rattle.std.specs.Prelude.{◌≡◌, ◌≢◌, ℕ, ◌+◌, ◌<◌, ◌≤◌, length, map, is_some, true, false};
 ghost use Rattle.std.specs.List.{range_with_len};
 ghost use Rattle.page_words.specs.Addresses.{page_number, offset_number, IsUserPage};
 ghost use Rattle.page_words.specs.FiniteMap as finite_map;
 ghost use Rattle.phys_memory.specs.Bytes.{frame_bytes, with_frame};
-ghost use Rattle.address_space.specs.Spaces.{at_page, slot_at, cell_or_fresh, accessed, stored, bytes_at, byte_at, write_at};
-ghost use Rattle.address_space.specs.Image.{image_of, takes_stores};
+ghost use Rattle.address_space.specs.Spaces.{Slot, slot_at, accessed, stored, bytes_at, byte_at, write_at};
+ghost use Rattle.address_space.specs.Image.{image_of, is_lazy_at, takes_stores};
+ghost use Rattle.address_space.specs.Places.{place_in};
 ghost use Rattle.address_space.specs.Sound.{Inside};
 ghost use Rattle.address_space.specs.Stays.{FramesStay, none_goes};
 ghost use Rattle.address_space.specs.Finds.{LiesIn, EntryIs, BytesStored};
 
 use crate::Spaces;
 use crate::accesses::set_flags;
-use crate::lookup::Found;
+use crate::place::{Found, Place};
 use page_map::place_of;
 use page_words::{Frame, Pid, Vaddr, offset_of, page_of};
 use phys_memory::Memory;
@@ -43,6 +44,7 @@ fn read_part(memory: &mut Memory, found: &Found, at: u32, out: &mut [u8])
 }
 
 /// Writes bytes into a frame.
+#[inline(never)]
 fn put_part(memory: &mut Memory, frame: Frame, at: u32, part: &[u8])
     requires frame { Inside memory.old frame }
     requires place { at < 4096 }
@@ -79,7 +81,8 @@ impl Spaces {
         ensures none { result ≡ false → (self.new ≡ self.old) × (out.new ≡ out.old) }
     {
         self.stands();
-        let Some(found) = self.find(pid, page_of(address)) else {
+        let place = self.place(pid, page_of(address));
+        let Some(found) = place.found() else {
             return false;
         };
         read_part(&mut self.memory, &found, offset_of(address), out);
@@ -100,13 +103,32 @@ impl Spaces {
         ensures none { result ≡ false → self.new ≡ self.old }
     {
         self.stands();
-        let Some(found) = self.find(pid, page_of(address)) else {
-            return false;
-        };
-        if !found.takes_stores() {
+        let place = self.place(pid, page_of(address));
+        if !place.takes_stores() {
             return false;
         }
-        write_part(&mut self.memory, &found, offset_of(address), part);
+        self.store_part_at(pid, address, part, &place);
         true
+    }
+
+    /// Writes bytes from an address on, which lie in one page, which is mapped and isn't lazy; accessed and dirty are
+    /// set. The place is the page's.
+    pub(crate) fn store_part_at(&mut self, pid: Pid, address: Vaddr, part: &[u8], place: &Place)
+        requires within { offset_number address + length part.now ≤ 4096 }
+        requires user { IsUserPage (page_number address) }
+        requires mapped { is_some (finite_map.get self.old.spaces (slot_at pid address)) ≡ true }
+        requires real { is_lazy_at (image_of self.old) (slot_at pid address) ≡ false }
+        requires place { place.now ≡ place_in self.old.directories self.old.bytes pid (page_number address) }
+        ensures spaces { self.new.spaces ≡ stored self.old.spaces (slot_at pid address) (offset_number address) part.now }
+        ensures stay { FramesStay none_goes (image_of self.old) (image_of self.new) }
+        ensures directories { self.new.directories ≡ self.old.directories }
+        ensures roles { self.new.roles ≡ self.old.roles }
+        ensures mapped { (slot : Slot) → finite_map.contains_key self.new.spaces slot ≡ finite_map.contains_key self.old.spaces slot }
+        ensures lazy { (slot : Slot) → is_lazy_at (image_of self.new) slot ≡ is_lazy_at (image_of self.old) slot }
+        ensures beside { (other : ℕ) → other ≢ page_number address → place_in self.new.directories self.new.bytes pid other ≡ place_in self.old.directories self.old.bytes pid other }
+    {
+        let memory = &mut self.memory;
+        let found = place.found().unwrap();
+        write_part(memory, &found, offset_of(address), part);
     }
 }

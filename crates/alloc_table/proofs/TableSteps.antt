@@ -8,7 +8,7 @@ use Rattle.std.proofs.lemmas.Option.{slice_get_within}
 use Rattle.std.proofs.lemmas.Bool.Decides.{nat_tests}
 use Rattle.page_words.specs.FiniteMap.{nat_order}
 use Rattle.page_words.specs.FiniteSet as set
-use Rattle.page_words.specs.Marked.{marked}
+use Rattle.page_words.specs.Marked.{marked_numbers}
 use Rattle.page_words.proofs.SetLemmas.{same_cases}
 use Rattle.page_words.proofs.Marks.{contains-marked, len-marked, marked_from-replicate, marked-set_true, marked-set_false}
 use Rattle.frame_ledger.specs.FreeFrames.{FreeFrames, opening, with_free, without_free}
@@ -89,13 +89,13 @@ all_free zero = refl
 all_free (suc n) = ap (λ marks. true ∷ marks) (all_free n)
 
 pub table-opening : (frames : ℕ) → 16 ≤ frames → IsFrameTable (opening frames) (opening_roles frames)
-unfolding opening opening_roles marked
+unfolding opening opening_roles marked_numbers
 table-opening zero h = absurd (omega arith)
 table-opening (suc n) h = record {
   frames = sym (length-set (replicate (suc n) Free) 0 Reserved ∙ length-replicate (suc n) Free);
   free =
       let e : suc n - 1 ≡ n = omega arith in
-      ap (λ k. set.from_list (range_with_len 1 k)) e ∙ sym (marked_from-replicate 1 n) ∙ ap (λ marks. marked (false ∷ marks)) (sym (all_free n));
+      ap (λ k. set.from_list (range_with_len 1 k)) e ∙ sym (marked_from-replicate 1 n) ∙ ap (λ marks. marked_numbers (false ∷ marks)) (sym (all_free n));
   reserved = refl;
   held = each;
 }
@@ -134,7 +134,7 @@ module _ (l : FreeFrames) (roles : List Role) (kept : IsFrameTable l roles) wher
 
   module _ (f : ℕ) (was role : Role) (h : slice_get roles f ≡ Some was) (n : was ≢ Reserved) (own : (count : ℕ) → role ≡ Page count → 0 < count) where
     -- the table with a role changed, beside the ledger whose free frames follow
-    after : (new : FreeFrames) → new.frames ≡ l.frames → new.free ≡ marked (map is_free (slice_set roles f role)) → IsFrameTable new (slice_set roles f role)
+    after : (new : FreeFrames) → new.frames ≡ l.frames → new.free ≡ marked_numbers (map is_free (slice_set roles f role)) → IsFrameTable new (slice_set roles f role)
     after new frames free = record {
       frames = frames ∙ kept.frames ∙ sym (length-set roles f role);
       free = free;
@@ -149,12 +149,12 @@ module _ (l : FreeFrames) (roles : List Role) (kept : IsFrameTable l roles) wher
   pub table-kept : (f : ℕ) (was role : Role) → slice_get roles f ≡ Some was → is_in_use was ≡ true → is_free role ≡ false
       → ((count : ℕ) → role ≡ Page count → 0 < count) → IsFrameTable l (slice_set roles f role)
   table-kept f was role h used other own = after f was role h (not_Reserved was used) own l refl
-      (kept.free ∙ ap marked (sym (set-get_or (map is_free roles) f false) ∙ ap (λ b. slice_set (map is_free roles) f b) (free_at roles f was h ∙ in_use_not_free was used ∙ sym other) ∙ sym (map-set is_free roles f role)))
+      (kept.free ∙ ap marked_numbers (sym (set-get_or (map is_free roles) f false) ∙ ap (λ b. slice_set (map is_free roles) f b) (free_at roles f was h ∙ in_use_not_free was used ∙ sym other) ∙ sym (map-set is_free roles f role)))
 
   -- a frame in use is free
   pub table-freed : (f : ℕ) (was : Role) → slice_get roles f ≡ Some was → is_in_use was ≡ true → IsFrameTable (with_free l f) (slice_set roles f Free)
   table-freed f was h used = after f was Free h (not_Reserved was used) (λ count e. cc) (with_free l f) refl
-      (ap (λ s. set.insert s f) kept.free ∙ sym (marked-set_true (map is_free roles) f (within_marks f was h)) ∙ ap marked (sym (map-set is_free roles f Free)))
+      (ap (λ s. set.insert s f) kept.free ∙ sym (marked-set_true (map is_free roles) f (within_marks f was h)) ∙ ap marked_numbers (sym (map-set is_free roles f Free)))
 
   -- a frame in use may be put back
   pub put_back-may : (f : ℕ) (was : Role) → slice_get roles f ≡ Some was → is_in_use was ≡ true → (1 ≤ f) × (f < l.frames) × (set.contains l.free f ≡ false)
@@ -169,4 +169,4 @@ module _ (l : FreeFrames) (roles : List Role) (kept : IsFrameTable l roles) wher
   table-taken f role h can =
       let was = role-free f h in
       after f Free role was (λ e. cc) (taken_held role can) (without_free l f) refl
-      (ap (λ s. set.remove s f) kept.free ∙ sym (marked-set_false (map is_free roles) f (within_marks f Free was)) ∙ ap marked (ap (λ b. slice_set (map is_free roles) f b) (sym (taken_not_free role can)) ∙ sym (map-set is_free roles f role)))
+      (ap (λ s. set.remove s f) kept.free ∙ sym (marked-set_false (map is_free roles) f (within_marks f Free was)) ∙ ap marked_numbers (ap (λ b. slice_set (map is_free roles) f b) (sym (taken_not_free role can)) ∙ sym (map-set is_free roles f role)))

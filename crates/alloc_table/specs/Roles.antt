@@ -1,16 +1,7 @@
 -- The role of each frame, as a list: the map from frame to role is `slice_get`.
 use Rattle.std.specs.Prelude.{◌≡◌, ℕ, ◌+◌, ◌-◌, ◌<◌, Bool, true, false, List, replicate, Some, slice_get, slice_set, count_by, sum_by, nat_lt, if◌then◌else◌}
-use Rattle.frame_ledger.specs.declared.LedgerFault.{LedgerFault}
-use Rattle.frame_ledger.specs.declared.LedgerFault.TheVariants as ledger
 use Rattle.alloc_table.specs.declared.Role.{Role}
 use Rattle.alloc_table.specs.declared.Role.TheVariants.{Reserved, Free, Directory, Table, Page}
-use Rattle.alloc_table.specs.declared.TableFault.{TableFault}
-use Rattle.alloc_table.specs.declared.TableFault.TheVariants.{BadSize, NoMemory}
-
--- the fault of a table whose ledger has this one
-abbrev pub table_fault : LedgerFault → TableFault
-table_fault ledger.BadSize = BadSize
-table_fault ledger.NoMemory = NoMemory
 
 abbrev pub is_free : Role → Bool
 is_free Reserved = false

@@ -4,12 +4,12 @@
 //! come from a ledger of the free ones.
 #![tactic(auto, unfolding(crate::specs::Roles::opening_roles))]
 
-ghost use Rattle.std.specs.Prelude.{◌≡◌, ℕ, ◌+◌, ◌<◌, ◌≤◌, ◌↔◌, List, IsTrue, IfOk, IsErrOf, IfSome, IsNone, Some, length, slice_get};
-ghost use Rattle.alloc_table.specs.Roles.{table_fault, CanBeTaken, IsTaken, IsPageBelow, IsHeld, IsInUse, IsReleased, released, free_frames, frames_weight, opening_roles};
+ghost use Rattle.std.specs.Prelude.{◌≡◌, ◌+◌, ◌<◌, ◌≤◌, ◌↔◌, List, IsTrue, IfOk, IsErrOf, IfSome, IsNone, Some, length, slice_get};
+ghost use Rattle.alloc_table.specs.Roles.{CanBeTaken, IsTaken, IsPageBelow, IsHeld, IsInUse, IsReleased, released, free_frames, frames_weight, opening_roles};
 ghost use Rattle.alloc_table.specs.Weights.{TakingAddsTheRole, HoldingAddsOne, ReleasingTakesOne, FreeOrWeighed};
 
-use frame_ledger::{Ledger, LedgerFault};
-use page_words::{Frame, MAX_FRAMES, MIN_FRAMES, Pid};
+use frame_ledger::Ledger;
+use page_words::{Frame, MAX_FRAMES, MIN_FRAMES, MachineFault, Pid};
 use std::alloc::Global;
 use std::marker::Model;
 
@@ -37,26 +37,6 @@ pub enum Role {
         /// How many hold it: at least 1.
         count: u32,
     },
-}
-
-/// Why there is no frame table.
-#[derive(Clone, Copy, Debug, PartialEq, Eq)]
-pub enum TableFault {
-    /// The number of frames is below 16 or above 4,096.
-    BadSize,
-    /// There was no memory for the table.
-    NoMemory,
-}
-
-impl From<LedgerFault> for TableFault {
-    ghost from_gives = { λ fault gives. gives ≡ table_fault fault };
-
-    fn from(fault: LedgerFault) -> TableFault {
-        match fault {
-            LedgerFault::BadSize => TableFault::BadSize,
-            LedgerFault::NoMemory => TableFault::NoMemory,
-        }
-    }
 }
 
 /// The roles of all frames.
@@ -99,9 +79,9 @@ impl FrameTable {
     /// A table of the frames 0 to `frames` - 1: frame 0 is reserved, and all others are free.
     ///
     /// BadSize where `frames` is outside 16 to 4,096, and else NoMemory where there is no memory.
-    pub fn new(alloc: Global, frames: u32) -> Result<FrameTable, TableFault>
+    pub fn new(alloc: Global, frames: u32) -> Result<FrameTable, MachineFault>
         ensures roles { IfOk result (λ table. table ≡ opening_roles frames) }
-        ensures bad_size { IsErrOf result TableFault.BadSize ↔ (MIN_FRAMES ≤ frames → frames ≤ MAX_FRAMES → ⊥) }
+        ensures bad_size { IsErrOf result MachineFault.BadSize ↔ (MIN_FRAMES ≤ frames → frames ≤ MAX_FRAMES → ⊥) }
     {
         let ledger = Ledger::new(alloc, frames)?;
         match vec![in alloc; Role::Free; frames as usize] {
@@ -109,7 +89,7 @@ impl FrameTable {
                 roles[0] = Role::Reserved;
                 Ok(FrameTable { ledger, roles })
             }
-            Err(_) => Err(TableFault::NoMemory),
+            Err(_) => Err(MachineFault::NoMemory),
         }
     }
 

@@ -1,6 +1,6 @@
 //! Roles of frames.
-use alloc_table::{FrameTable, Role, TableFault, weights_add_up};
-use page_words::Pid;
+use alloc_table::{FrameTable, Role, weights_add_up};
+use page_words::{MachineFault, Pid};
 use std::process::Abort;
 use std::test::Fail;
 
@@ -68,10 +68,10 @@ fn takes_16_to_4096_frames(rt: HostRuntime) {
     assert_eq!(rt;
         sizes,
         [
-            Err(TableFault::BadSize),
+            Err(MachineFault::BadSize),
             Ok(15),
             Ok(4095),
-            Err(TableFault::BadSize)
+            Err(MachineFault::BadSize)
         ]
     );
 }
@@ -83,7 +83,7 @@ fn takes_16_to_4096_frames(rt: HostRuntime) {
 fn goes_on_after_want_of_memory(rt: HostRuntime) -> Result<(), Fail> {
     let first = FrameTable::new(rt.alloc(), 16).map(|table| table.free_count());
     if first.is_err() {
-        assert_eq!(rt; first, Err(TableFault::NoMemory));
+        assert_eq!(rt; first, Err(MachineFault::NoMemory));
         let again = FrameTable::new(rt.alloc(), 16).map(|table| table.free_count());
         assert_eq!(rt; again, Ok(15));
         println!(rt; "NoMemory, and then a table")?;

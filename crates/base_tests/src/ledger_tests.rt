@@ -2,8 +2,8 @@
 
 ghost use Rattle.std.specs.Prelude.{◌≡◌, length};
 
-use frame_ledger::{Ledger, LedgerFault};
-use page_words::Frame;
+use frame_ledger::Ledger;
+use page_words::{Frame, MachineFault};
 use std::process::Abort;
 use std::test::Fail;
 
@@ -42,10 +42,10 @@ fn takes_16_to_4096_frames(rt: HostRuntime) {
     assert_eq!(rt;
         sizes,
         [
-            Err(LedgerFault::BadSize),
+            Err(MachineFault::BadSize),
             Ok(15),
             Ok(4095),
-            Err(LedgerFault::BadSize)
+            Err(MachineFault::BadSize)
         ]
     );
 }
@@ -155,7 +155,7 @@ fn agrees_with_a_scan_of_4096_frames(rt: HostRuntime) -> Result<(), Fail> {
 fn goes_on_after_want_of_memory(rt: HostRuntime) -> Result<(), Fail> {
     let first = Ledger::new(rt.alloc(), 16).map(|ledger| ledger.free_count());
     if first.is_err() {
-        assert_eq!(rt; first, Err(LedgerFault::NoMemory));
+        assert_eq!(rt; first, Err(MachineFault::NoMemory));
         let again = Ledger::new(rt.alloc(), 16).map(|ledger| ledger.free_count());
         assert_eq!(rt; again, Ok(15));
         println!(rt; "NoMemory, and then a ledger")?;

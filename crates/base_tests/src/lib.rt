@@ -7,6 +7,8 @@
 #[cfg(test)]
 mod address_tests;
 #[cfg(test)]
+mod fault_tests;
+#[cfg(test)]
 mod frame_table_tests;
 #[cfg(test)]
 mod ledger_tests;

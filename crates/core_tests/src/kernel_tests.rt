@@ -1,6 +1,6 @@
 //! A core by its calls.
 use crate::common::same;
-use kernel_calls::{BootFault, Call, Core, Ended, Event, Frame, Pid, Reply, Role};
+use kernel_calls::{BootFault, Call, Core, Ended, Event, Frame, Outcome, Pid, Reply, Role};
 use page_words::{Page, Size, Vaddr};
 use process_table::Cause;
 use std::process::Abort;
@@ -99,10 +99,16 @@ fn decide(rt: &impl Abort, core: &mut Core, call: Call, used: u32, reply: Reply)
 }
 
 /// A call of the root is carried out with this charge and this reply.
-fn carry_out(rt: &impl Abort, core: &mut Core, call: Call, used: u32, reply: Reply) {
-    let decision = core.carry_out(&event(root(rt), call));
-    same(rt, &decision.used_after, &used);
-    same(rt, &decision.reply, &reply);
+fn perform(rt: &impl Abort, core: &mut Core, call: Call, used: u32, reply: Reply) {
+    let outcome = core.perform(&event(root(rt), call));
+    same(
+        rt,
+        &outcome,
+        &Outcome {
+            reply,
+            used_after: used,
+        },
+    );
 }
 
 fn store(addr: Vaddr, value: u32) -> Call {
@@ -133,11 +139,11 @@ fn carries_out_at_once_or_by_its_plan(rt: HostRuntime) -> Result<(), Fail> {
     let (first, across) = (Vaddr(0x4000_0000), Vaddr(0x4000_0ffe));
     let addr = Vaddr(0x3fff_fffc);
     let fault = Reply::Fault { addr, code: 4 };
-    carry_out(&rt, &mut core, store(across, 0xdead_beef), 4, Reply::Done);
-    carry_out(&rt, &mut core, store(first, 7), 4, Reply::Done);
-    carry_out(&rt, &mut core, load(across), 4, Reply::Value(0xdead_beef));
-    carry_out(&rt, &mut core, load(first), 4, Reply::Value(7));
-    carry_out(&rt, &mut core, load(addr), 4, fault);
+    perform(&rt, &mut core, store(across, 0xdead_beef), 4, Reply::Done);
+    perform(&rt, &mut core, store(first, 7), 4, Reply::Done);
+    perform(&rt, &mut core, load(across), 4, Reply::Value(0xdead_beef));
+    perform(&rt, &mut core, load(first), 4, Reply::Value(7));
+    perform(&rt, &mut core, load(addr), 4, fault);
     Ok(())
 }
 

@@ -1,6 +1,6 @@
 //! Accesses, planned and settled.
 use crate::common::same;
-use fault_handler::{PageStep, Plan, plan, settle, try_load, try_store};
+use fault_handler::{PageStep, Plan, Stop, plan, settle, try_access};
 use page_words::{Page, Pid, Size, Vaddr};
 use process_table::{Cause, Processes};
 use std::process::Abort;
@@ -114,33 +114,146 @@ fn settles_with_the_value_read(rt: HostRuntime) -> Result<(), Fail> {
     Ok(())
 }
 
-fn load_at_once(rt: &impl Abort, processes: &mut Processes, address: Vaddr, value: Option<u32>) {
-    let read = try_load(processes, root(rt), address, Size::Four);
-    same(rt, &read, &value);
-}
-
-fn store_at_once(
+/// An access of the root of four bytes comes to this.
+fn check_access(
     rt: &impl Abort,
     processes: &mut Processes,
     address: Vaddr,
+    access: Access,
     value: u32,
-    done: bool,
+    expected: Result<u32, Stop>,
 ) {
-    let stored = try_store(processes, root(rt), address, Size::Four, value);
-    same(rt, &stored, &done);
+    let pid = root(rt);
+    let found = fault_handler::access(processes, pid, address, Size::Four, access, value);
+    same(rt, &found, &expected);
 }
 
 #[test]
-fn tries_what_completes_at_once(rt: HostRuntime) -> Result<(), Fail> {
+fn accesses_one_page(rt: HostRuntime) -> Result<(), Fail> {
     let mut processes = Processes::new(rt.alloc(), 16)?;
-    load_at_once(&rt, &mut processes, ADDRESS, None);
+    check_access(&rt, &mut processes, ADDRESS, Access::Read, 7, Ok(0));
+    check_access(
+        &rt,
+        &mut processes,
+        ADDRESS,
+        Access::Write,
+        0x00c0_ffee,
+        Ok(0),
+    );
+    check_access(
+        &rt,
+        &mut processes,
+        ADDRESS,
+        Access::Read,
+        7,
+        Ok(0x00c0_ffee),
+    );
+    check_access(
+        &rt,
+        &mut processes,
+        ADDRESS,
+        Access::Write,
+        0x00c0_ffff,
+        Ok(0),
+    );
+    check_access(
+        &rt,
+        &mut processes,
+        ADDRESS,
+        Access::Read,
+        7,
+        Ok(0x00c0_ffff),
+    );
+    Ok(())
+}
+
+#[test]
+fn an_access_stops_by_its_plan(rt: HostRuntime) -> Result<(), Fail> {
+    let mut processes = Processes::new(rt.alloc(), 16)?;
+    let beside = Vaddr(0x4000_1000);
+    map_page(&rt, &mut processes, Page(0x40001), false);
+    let barred = PageFault {
+        addr: beside,
+        code: 7,
+    };
+    check_access(
+        &rt,
+        &mut processes,
+        beside,
+        Access::Write,
+        7,
+        Err(Stop::Fault(barred)),
+    );
+    check_access(&rt, &mut processes, beside, Access::Read, 7, Ok(0));
+    spawn(&rt, &mut processes, 12);
+    check_access(
+        &rt,
+        &mut processes,
+        ADDRESS,
+        Access::Read,
+        7,
+        Err(Stop::Refused(Cause::Quota)),
+    );
+    let nobody = Pid::new(63).expect(&rt, "63 is below 64");
+    let (size, read) = (Size::Four, Access::Read);
+    let found = fault_handler::access(&mut processes, nobody, ADDRESS, size, read, 0);
+    same(&rt, &found, &Err(Stop::Refused(Cause::NoProcess)));
+    Ok(())
+}
+
+#[test]
+fn accesses_two_pages(rt: HostRuntime) -> Result<(), Fail> {
+    let mut processes = Processes::new(rt.alloc(), 16)?;
+    let over = Vaddr(0x4000_0ffe);
+    check_access(&rt, &mut processes, over, Access::Read, 7, Ok(0));
+    check_access(&rt, &mut processes, over, Access::Write, 0x00c0_ffee, Ok(0));
+    check_access(&rt, &mut processes, over, Access::Read, 7, Ok(0x00c0_ffee));
+    let outside = PageFault {
+        addr: Vaddr(0xf000_0000),
+        code: 6,
+    };
+    check_access(
+        &rt,
+        &mut processes,
+        Vaddr(0xefff_fffe),
+        Access::Write,
+        7,
+        Err(Stop::Fault(outside)),
+    );
+    Ok(())
+}
+
+/// An access of the root of four bytes, tried as memory stands, comes to this.
+fn check_tried(
+    rt: &impl Abort,
+    processes: &mut Processes,
+    address: Vaddr,
+    access: Access,
+    expected: Option<u32>,
+) {
+    let pid = root(rt);
+    let found = try_access(processes, pid, address, Size::Four, access, 7);
+    same(rt, &found, &expected);
+}
+
+#[test]
+fn tries_what_completes_as_memory_stands(rt: HostRuntime) -> Result<(), Fail> {
+    let mut processes = Processes::new(rt.alloc(), 16)?;
+    check_tried(&rt, &mut processes, ADDRESS, Access::Read, None);
     map_page(&rt, &mut processes, PAGE, true);
-    store_at_once(&rt, &mut processes, ADDRESS, 7, false);
-    load_at_once(&rt, &mut processes, ADDRESS, Some(0));
+    check_tried(&rt, &mut processes, ADDRESS, Access::Write, None);
+    check_tried(&rt, &mut processes, ADDRESS, Access::Read, Some(0));
     check_settled(&rt, &mut processes, Access::Write, 0x00c0_ffee, 0);
-    store_at_once(&rt, &mut processes, ADDRESS, 0x00c0_ffff, true);
-    load_at_once(&rt, &mut processes, ADDRESS, Some(0x00c0_ffff));
-    load_at_once(&rt, &mut processes, Vaddr(0x4000_0ffe), None);
-    store_at_once(&rt, &mut processes, BELOW, 7, false);
+    check_tried(
+        &rt,
+        &mut processes,
+        ADDRESS,
+        Access::Read,
+        Some(0x00c0_ffee),
+    );
+    check_tried(&rt, &mut processes, ADDRESS, Access::Write, Some(0));
+    check_tried(&rt, &mut processes, ADDRESS, Access::Read, Some(7));
+    check_tried(&rt, &mut processes, Vaddr(0x4000_0ffe), Access::Read, None);
+    check_tried(&rt, &mut processes, BELOW, Access::Write, None);
     Ok(())
 }

@@ -4,9 +4,11 @@ ghost use Rattle.page_words.specs.Addresses.{IsUserPage};
 ghost use Rattle.address_space.specs.View.{total_cost};
 
 use crate::common::same;
-use address_space::{Cell, Spaces, SpacesFault};
+use address_space::{Cell, Spaces};
 use alloc_table::Role;
-use page_words::{Frame, Page, Pid, Size, Vaddr, in_user_range, page_of, second_page};
+use page_words::{
+    Frame, MachineFault, Page, Pid, Size, Vaddr, in_user_range, page_of, second_page,
+};
 use std::process::Abort;
 use std::test::Fail;
 
@@ -50,7 +52,7 @@ fn map_page(rt: &impl Abort, spaces: &mut Spaces, pid: Pid, page: Page, need: u3
     assert!(rt; pid.number() < 64);
     assert!(rt; spaces.directory(pid).is_some());
     assert!(rt; spaces.cell(pid, page).is_none());
-    same(rt, &spaces.need(pid, page), &need);
+    same(rt, &spaces.place(pid, page).need(), &need);
     spaces.map_zero(pid, page, true);
 }
 
@@ -71,7 +73,8 @@ fn unmap_page(rt: &impl Abort, spaces: &mut Spaces, pid: Pid, page: Page, relief
     requires user { IsUserPage page }
 {
     assert!(rt; spaces.cell(pid, page).is_some());
-    same(rt, &spaces.relief(pid, page), &relief);
+    let place = spaces.place(pid, page);
+    same(rt, &spaces.relief_at(pid, page, &place), &relief);
     spaces.unmap(pid, page);
     assert!(rt; spaces.cell(pid, page).is_none());
 }
@@ -150,9 +153,9 @@ fn takes_16_to_4096_frames(rt: HostRuntime) {
         &rt,
         &sizes,
         &[
-            Err(SpacesFault::BadSize),
+            Err(MachineFault::BadSize),
             Ok(4096),
-            Err(SpacesFault::BadSize),
+            Err(MachineFault::BadSize),
         ],
     );
 }
@@ -262,20 +265,30 @@ fn load_at_once(
     address: Vaddr,
     value: Option<u32>,
 ) {
-    assert!(rt; in_user_range(page_of(address)));
+    let page = page_of(address);
+    assert!(rt; in_user_range(page));
     assert!(rt; second_page(address, Size::Two).is_none());
-    same(rt, &spaces.try_read(pid, address, Size::Two), &value);
+    let place = spaces.place(pid, page);
+    let read = match spaces.cell_at(pid, page, &place) {
+        Some(_) => Some(spaces.load_at(pid, address, Size::Two, &place)),
+        None => None,
+    };
+    same(rt, &read, &value);
+    same(rt, &place.is_mapped(), &value.is_some());
 }
 
 /// Stores beef at once, to one page of the user range, and says whether it is done.
 fn store_at_once(rt: &impl Abort, spaces: &mut Spaces, pid: Pid, address: Vaddr, done: bool) {
-    assert!(rt; in_user_range(page_of(address)));
+    let page = page_of(address);
+    assert!(rt; in_user_range(page));
     assert!(rt; second_page(address, Size::Two).is_none());
-    same(
-        rt,
-        &spaces.try_write(pid, address, Size::Two, 0xbeef),
-        &done,
-    );
+    let place = spaces.place(pid, page);
+    same(rt, &place.takes_stores(), &done);
+    if done {
+        assert!(rt; spaces.cell(pid, page).is_some());
+        assert!(rt; !spaces.is_lazy(pid, page));
+        spaces.store_at(pid, address, Size::Two, 0xbeef, &place);
+    }
 }
 
 #[test]
@@ -339,7 +352,7 @@ fn an_access_of_two_pages_needs_both(rt: HostRuntime) -> Result<(), Fail> {
 fn goes_on_after_want_of_memory(rt: HostRuntime) -> Result<(), Fail> {
     let first = Spaces::new(rt.alloc(), 16).map(|spaces| spaces.memory().frames());
     if first.is_err() {
-        same(&rt, &first, &Err(SpacesFault::NoMemory));
+        same(&rt, &first, &Err(MachineFault::NoMemory));
         let again = Spaces::new(rt.alloc(), 16).map(|spaces| spaces.memory().frames());
         same(&rt, &again, &Ok(16));
         println!(rt; "NoMemory, and then spaces")?;

@@ -13,6 +13,7 @@ use Rattle.quota_tree.specs.Book.{Member, given}
 use Rattle.quota_tree.specs.declared.Container.{Container}
 use Rattle.table_walk.specs.declared.Access.{Access}
 use Rattle.table_walk.specs.declared.Access.TheVariants.{Read, Write}
+use Rattle.process_table.proofs.Charged.{used-container}
 use Rattle.process_table.specs.State.{State, room, as_container, container_of}
 use Rattle.process_table.specs.View.{View}
 use Rattle.process_table.specs.declared.causes.Cause.TheVariants.{Quota}
@@ -27,13 +28,6 @@ use Rattle.fault_handler.specs.Looks.{look_of, look_behind, barred, need_by, rea
 
 same_container : (s : State) (p : ℕ) (c : Container) (m : Member) → option_map (λ member. as_container s p member) (Some m) ≡ Some c → as_container s p m ≡ c
 same_container s p c m h = ap (λ o. unwrap_or o c) h
-
-pub used_is : (s : State) (p : ℕ) (c : Container) → container_of s p ≡ Some c → c.used ≡ cost s.spaces p
-used_is s p c is = by (map.get s.book p) is
-  where
-    by : (x : Option Member) → option_map (λ member. as_container s p member) x ≡ Some c → c.used ≡ cost s.spaces p
-    by None h = cc
-    by (Some m) h = sym (ap (λ (k : Container). k.used) (same_container s p c m h))
 
 room_is : (s : State) (p : ℕ) (c : Container) → container_of s p ≡ Some c → c.quota - c.used - c.given ≡ room s p
 room_is s p c is = by (map.get s.book p) refl is
@@ -126,7 +120,7 @@ module _ (v : View) (p address : ℕ) (size : Size) (access : Access) where
       (λ i. fault_by (barred_is i) access true c (if nat_lt (room_is s p c has i) (need_is i) then record { plan = plan.Refused Quota; charge = c.used } else record { plan = steps_are i; charge = c.used + need_is i }))
       ∙ joined (forbidden s p address size access) (nat_lt (room s p) (access_need S p address size)) ready c (access_need S p address size) refl
       ∙ (λ i. let x : Plan = fault_or (sym within i) access false (fault_or (forbidden s p address size access) access true (if nat_lt (room s p) (access_need S p address size) then plan.Refused Quota else ready)) in
-      record { plan = x; charge = if goes_on x then used_is s p c has i + access_need S p address size else used_is s p c has i })
+      record { plan = x; charge = if goes_on x then used-container s p c has i + access_need S p address size else used-container s p c has i })
     where
       ready : Plan
       ready = plan.Ready (step_at v p access page) (option_map (step_at v p access) (second_page address size))

@@ -16,10 +16,11 @@ use Rattle.process_table.specs.State.{State, is_mapped, room, lacks_room}
 use Rattle.process_table.specs.View.{View}
 use Rattle.process_table.specs.Image.{memory_of}
 use Rattle.process_table.specs.declared.causes.Cause.TheVariants.{Quota}
+use Rattle.process_table.proofs.Placed.{page_is_user}
 use Rattle.fault_handler.specs.declared.plans.PageStep.TheVariants as step
 use Rattle.fault_handler.specs.declared.plans.Plan.TheVariants as plan
 use Rattle.fault_handler.specs.Plans.{outside, is_read_only, forbidden, fault_or, step_at, plan_at, takes_no_frame}
-use Rattle.fault_handler.proofs.Settled.{each_page, page_is_user}
+use Rattle.fault_handler.proofs.Settled.{each_page}
 
 -- where no page passes the test, no byte is found
 none_passes : (test : ℕ → Bool) (address : ℕ) (size : Size) → EachTouched address size (λ page. test page ≡ false) → find (λ a. test (page_number a)) (covered address size) ≡ None

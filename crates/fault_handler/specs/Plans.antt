@@ -1,5 +1,5 @@
 -- What an access of a live process comes to.
-use Rattle.std.proofs.Common.{ℕ, Bool, true, false, not, ◌&&◌, if◌then◌else◌, Option, Some, None}
+use Rattle.std.proofs.Common.{ℕ, Bool, true, false, not, ◌&&◌, if◌then◌else◌, Option, Some, None, Result, Ok, Err}
 use Rattle.std.specs.Prelude.{find}
 use Rattle.std.specs.Option.{option_map}
 use Rattle.page_words.specs.Addresses.{page_number, covered, second_page, is_user_page}
@@ -8,14 +8,17 @@ use Rattle.address_space.specs.Spaces.{Slot, cell_or_fresh, at_page, slot_at}
 use Rattle.table_walk.specs.declared.Access.{Access}
 use Rattle.table_walk.specs.Walk.{is_write, page_fault}
 use Rattle.address_space.specs.Image.{is_lazy_at}
-use Rattle.process_table.specs.State.{State, is_mapped, lacks_room}
+use Rattle.process_table.specs.Calls.{access_value}
+use Rattle.process_table.specs.State.{State, is_live, is_mapped, lacks_room}
 use Rattle.process_table.specs.View.{View}
 use Rattle.process_table.specs.Image.{memory_of}
-use Rattle.process_table.specs.declared.causes.Cause.TheVariants.{Quota}
+use Rattle.process_table.specs.declared.causes.Cause.TheVariants.{NoProcess, Quota}
 use Rattle.fault_handler.specs.declared.plans.PageStep.{PageStep}
 use Rattle.fault_handler.specs.declared.plans.PageStep.TheVariants as step
 use Rattle.fault_handler.specs.declared.plans.Plan.{Plan}
 use Rattle.fault_handler.specs.declared.plans.Plan.TheVariants as plan
+use Rattle.fault_handler.specs.declared.plans.Stop.{Stop}
+use Rattle.fault_handler.specs.declared.plans.Stop.TheVariants as stop
 
 -- the first byte of an access that lies outside the user range
 abbrev pub outside : ℕ → Size → Option ℕ
@@ -87,3 +90,15 @@ abbrev pub takes_no_frame : Plan → Bool
 takes_no_frame (plan.Ready step.Complete None) = true
 takes_no_frame (plan.Ready step.Complete (Some step.Complete)) = true
 takes_no_frame _ = false
+
+-- ---- What became of an access
+
+-- the value of one whose plan goes on, and else why it stops
+abbrev pub settled : Plan → ℕ → Result ℕ Stop
+settled (plan.Refused cause) value = Err (stop.Refused cause)
+settled (plan.Fault fault) value = Err (stop.Fault fault)
+settled (plan.Ready first second) value = Ok value
+
+-- of a process that isn't live: NoProcess
+abbrev pub access_result : View → ℕ → ℕ → Size → Access → Result ℕ Stop
+access_result v p address size access = if is_live v.state p then settled (plan_at v p address size access) (access_value v.state p address size access) else Err (stop.Refused NoProcess)

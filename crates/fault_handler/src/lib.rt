@@ -5,32 +5,37 @@
 //! mapped or filled.
 #![tactic(auto)]
 
-ghost use Rattle.std.specs.Prelude.{◌≡◌, ◌≢◌, ◌≤◌, ◌↔◌, ℕ, true, false, not, IfSome, IsSome, IsNone, Some, None};
+ghost use Rattle.std.specs.Prelude.{◌≡◌, ◌≤◌, ℕ, true, false, not, Some, None};
 ghost use Rattle.std.specs.Option.{option_map};
 ghost use Rattle.page_words.specs.Addresses.{page_number, byte_count, second_page, touched, EachTouched, IsUserPage};
 ghost use Rattle.address_space.specs.Kept.{is_marked, written_at, LeadTo};
 ghost use Rattle.address_space.specs.Spaces.{at_page, bytes_of, page_need, with_page, with_pages};
 ghost use Rattle.process_table.specs.State.{container_of, is_live, is_mapped, lacks_room, room};
-ghost use Rattle.process_table.specs.Calls.{loaded, access_value, after_access, after_load, after_store};
+ghost use Rattle.process_table.specs.Calls.{access_value, after_access};
 ghost use Rattle.address_space.specs.Image.{is_lazy_at};
-ghost use Rattle.address_space.specs.Stays.{FramesStay, none_goes};
+ghost use Rattle.address_space.specs.Spaces.{Slot};
+ghost use Rattle.address_space.specs.Stays.{FramesStay, none_goes, of_lazy};
+ghost use Rattle.address_space.specs.Places.{place_in};
+ghost use Rattle.process_table.specs.Places.{place_at, access_places};
 ghost use Rattle.address_space.specs.View.{directory_of};
 ghost use Rattle.address_space.specs.ByWalk.{finds, value_found, after_walked};
 ghost use Rattle.process_table.specs.Image.{memory_of};
 ghost use Rattle.fault_handler.specs.Fills.{lazy_touched, lazy_written};
-ghost use Rattle.fault_handler.specs.Plans.{maps_page, plan_at, goes_on, at_once, new_page, takes_no_frame};
-ghost use Rattle.process_table.specs.View.{View};
+ghost use Rattle.fault_handler.specs.Plans.{maps_page, plan_at, goes_on, at_once, takes_no_frame};
 ghost use Rattle.table_walk.specs.declared.Access.{Access};
 ghost use Rattle.fault_handler.specs.declared.plans.Plan.TheVariants as plan;
 
+mod accesses;
 mod looks;
 mod planning;
 mod plans;
 
+pub use accesses::{access, try_access};
+use address_space::Place;
 use page_words::{Page, Pid, Size, Vaddr, in_user_range, page_of, second_page};
-pub use planning::{plan, plan_charged};
-pub use plans::{PageStep, Plan, Planned};
-use process_table::Processes;
+pub use planning::{plan, plan_by};
+pub use plans::{PageStep, Plan, Planned, Stop};
+use process_table::{Places, Processes};
 use table_walk::Access;
 
 /// Whether an access completes as memory stands.
@@ -46,22 +51,56 @@ fn is_at_once(plan: &Plan) -> bool
     )
 }
 
-/// Maps a page, where its step says so.
-fn map_by_step(processes: &mut Processes, pid: Pid, page: Page, how: PageStep)
+/// Maps a page, where its step says so: its place then.
+#[inline(always)]
+fn map_by_step(
+    processes: &mut Processes,
+    pid: Pid,
+    page: Page,
+    how: PageStep,
+    place: &Place,
+) -> Place
     requires user { IsUserPage page }
     requires how { is_mapped processes.old.state (at_page pid page) ≡ not (maps_page how) }
     requires room { page_need processes.old.state.spaces pid page ≤ room processes.old.state pid }
+    requires place { place.now ≡ place_in processes.old.directories processes.old.bytes pid page }
     ensures state { processes.new.state ≡ record processes.old.state { spaces = with_page processes.old.state.spaces pid page } }
     ensures stay { FramesStay none_goes (memory_of processes.old) (memory_of processes.new) }
+    ensures place { result ≡ place_in processes.new.directories processes.new.bytes pid page }
 {
     match how {
-        PageStep::MapZero => processes.map(pid, page, true),
-        PageStep::Complete => {}
-        PageStep::Fill => {}
+        PageStep::MapZero => processes.map_at(pid, page, true, place),
+        PageStep::Complete => *place,
+        PageStep::Fill => *place,
     }
 }
 
-/// Maps the pages that an access touches and whose steps say so.
+/// Maps the second page of an access, where its step says so: the places of both then. The first may have got the table
+/// of their region, so the second is looked up, and then the first.
+fn map_behind(
+    processes: &mut Processes,
+    pid: Pid,
+    page: Page,
+    second: Page,
+    how: PageStep,
+) -> Places
+    requires user { IsUserPage second }
+    requires how { is_mapped processes.old.state (at_page pid second) ≡ not (maps_page how) }
+    requires room { page_need processes.old.state.spaces pid second ≤ room processes.old.state pid }
+    ensures state { processes.new.state ≡ record processes.old.state { spaces = with_page processes.old.state.spaces pid second } }
+    ensures stay { FramesStay none_goes (memory_of processes.old) (memory_of processes.new) }
+    ensures places { result ≡ record { first = place_at processes.new pid page; second = place_at processes.new pid second } }
+{
+    let place = processes.spaces().place(pid, second);
+    let behind = map_by_step(processes, pid, second, how, &place);
+    Places {
+        first: processes.place(pid, page),
+        second: Some(behind),
+    }
+}
+
+/// Maps the pages that an access touches and whose steps say so: their places then.
+#[inline(always)]
 fn map_pages(
     processes: &mut Processes,
     pid: Pid,
@@ -69,36 +108,76 @@ fn map_pages(
     size: Size,
     first: PageStep,
     second: Option<PageStep>,
-)
+    place: &Place,
+) -> Places
     requires user { EachTouched address size IsUserPage }
     requires room { lacks_room processes.old.state pid address size ≡ false }
     requires first { is_mapped processes.old.state (at_page pid (page_number address)) ≡ not (maps_page first) }
     requires second { option_map (λ page. is_mapped processes.old.state (at_page pid page)) (second_page address size) ≡ option_map (λ how. not (maps_page how)) second }
+    requires place { place.now ≡ place_in processes.old.directories processes.old.bytes pid (page_number address) }
     ensures state { processes.new.state ≡ record processes.old.state { spaces = with_pages processes.old.state.spaces pid (touched address size) } }
     ensures stay { FramesStay none_goes (memory_of processes.old) (memory_of processes.new) }
+    ensures places { result ≡ access_places processes.new pid address size }
 {
-    map_by_step(processes, pid, page_of(address), first);
+    let page = page_of(address);
+    let mapped = map_by_step(processes, pid, page, first, place);
     match second_page(address, size) {
-        Some(page) => map_by_step(processes, pid, page, second.unwrap()),
-        None => {}
+        Some(behind) => map_behind(processes, pid, page, behind, second.unwrap()),
+        None => Places {
+            first: Some(mapped),
+            second: None,
+        },
     }
 }
 
-/// Gives each page that a write touches a frame of its own, where it is lazy.
-fn fill_pages(processes: &mut Processes, pid: Pid, address: Vaddr, size: Size)
+/// Gives the second page of a write a frame of its own, where it is lazy: the places of both then.
+fn fill_behind(processes: &mut Processes, pid: Pid, page: Page, second: Page) -> Places
+    requires user { IsUserPage second }
+    requires mapped { is_mapped processes.old.state (at_page pid second) ≡ true }
+    ensures state { processes.new.state ≡ processes.old.state }
+    ensures stay { FramesStay (of_lazy pid second) (memory_of processes.old) (memory_of processes.new) }
+    ensures real { is_lazy_at (memory_of processes.new) (at_page pid second) ≡ false }
+    ensures others { (slot : Slot) → is_lazy_at (memory_of processes.old) slot ≡ false → is_lazy_at (memory_of processes.new) slot ≡ false }
+    ensures places { result ≡ record { first = place_at processes.new pid page; second = place_at processes.new pid second } }
+{
+    let place = processes.spaces().place(pid, second);
+    let behind = processes.fill_at(pid, second, &place);
+    Places {
+        first: processes.place(pid, page),
+        second: Some(behind),
+    }
+}
+
+/// Gives each page that a write touches a frame of its own, where it is lazy: their places then.
+#[inline(always)]
+fn fill_pages(
+    processes: &mut Processes,
+    pid: Pid,
+    address: Vaddr,
+    size: Size,
+    place: &Place,
+) -> Places
+    requires user { EachTouched address size IsUserPage }
     requires mapped { EachTouched address size (λ page. is_mapped processes.old.state (at_page pid page) ≡ true) }
+    requires place { place.now ≡ place_in processes.old.directories processes.old.bytes pid (page_number address) }
     ensures state { processes.new.state ≡ processes.old.state }
     ensures stay { FramesStay (lazy_touched pid address size) (memory_of processes.old) (memory_of processes.new) }
     ensures real { EachTouched address size (λ page. is_lazy_at (memory_of processes.new) (at_page pid page) ≡ false) }
+    ensures places { result ≡ access_places processes.new pid address size }
 {
-    processes.fill(pid, page_of(address));
+    let page = page_of(address);
+    let filled = processes.fill_at(pid, page, place);
     match second_page(address, size) {
-        Some(second) => processes.fill(pid, second),
-        None => {}
+        Some(second) => fill_behind(processes, pid, page, second),
+        None => Places {
+            first: Some(filled),
+            second: None,
+        },
     }
 }
 
-/// Maps and fills the pages of an access, as its plan says.
+/// Maps and fills the pages of an access, as its plan says: their places then.
+#[inline(always)]
 fn make_ready(
     processes: &mut Processes,
     plan: &Plan,
@@ -106,51 +185,32 @@ fn make_ready(
     address: Vaddr,
     size: Size,
     access: Access,
-)
+    places: &Places,
+) -> Places
     requires plan { plan.now ≡ plan_at processes.old pid address size access }
     requires ready { goes_on plan.now ≡ true }
+    requires places { places.now ≡ access_places processes.old pid address size }
     ensures state { processes.new.state ≡ record processes.old.state { spaces = with_pages processes.old.state.spaces pid (touched address size) } }
     ensures stay { FramesStay (lazy_written access pid address size) (memory_of processes.old) (memory_of processes.new) }
     ensures real { access ≡ Access.Write → EachTouched address size (λ page. is_lazy_at (memory_of processes.new) (at_page pid page) ≡ false) }
     ensures at_once { takes_no_frame plan.now ≡ true → processes.new ≡ processes.old }
+    ensures places { result ≡ access_places processes.new pid address size }
 {
     let Plan::Ready { first, second } = plan else {
         unreachable!()
     };
     if is_at_once(plan) {
-        return;
+        return *places;
     }
-    map_pages(processes, pid, address, size, *first, *second);
+    let place = places.first.unwrap();
+    let mapped = map_pages(processes, pid, address, size, *first, *second, &place);
     match access {
-        Access::Read => {}
-        Access::Write => fill_pages(processes, pid, address, size),
+        Access::Read => mapped,
+        Access::Write => {
+            let place = mapped.first.unwrap();
+            fill_pages(processes, pid, address, size, &place)
+        }
     }
-}
-
-/// Whether an access stores into one page, which is mapped for it.
-fn stores_in_new_page(plan: &Plan, access: Access) -> bool
-    ensures plan { result ≡ true → plan.now ≡ new_page }
-    ensures access { result ≡ true → access ≡ Access.Write }
-{
-    match access {
-        Access::Read => false,
-        Access::Write => matches!(
-            plan,
-            Plan::Ready {
-                first: PageStep::MapZero,
-                second: None,
-            }
-        ),
-    }
-}
-
-/// Maps the one page of a store that is not mapped, and stores into it.
-fn store_in_new_page(processes: &mut Processes, pid: Pid, address: Vaddr, size: Size, value: u32)
-    requires { plan_at processes.old pid address size Access.Write ≡ new_page }
-    ensures state { processes.new.state ≡ after_store processes.old.state pid address size value }
-    ensures stay { FramesStay none_goes (memory_of processes.old) (memory_of processes.new) }
-{
-    processes.map_stored(pid, address, size, value);
 }
 
 /// Carries out an access that completes, by the plan of this state: the value read, or 0 after a write.
@@ -171,12 +231,31 @@ pub fn settle(
     ensures stay { FramesStay (lazy_written access pid address size) (memory_of processes.old) (memory_of processes.new) }
     ensures frames { takes_no_frame plan ≡ true → processes.new.roles ≡ processes.old.roles }
 {
-    if stores_in_new_page(&plan, access) {
-        store_in_new_page(processes, pid, address, size, value);
-        return 0;
-    }
-    make_ready(processes, &plan, pid, address, size, access);
-    processes.access(pid, address, size, access, value)
+    let places = processes.access_places(pid, address, size);
+    settle_at(processes, &plan, pid, address, size, access, value, &places)
+}
+
+/// Carries out an access that completes, as `settle` does. The places are those of the pages that it touches.
+pub fn settle_at(
+    processes: &mut Processes,
+    plan: &Plan,
+    pid: Pid,
+    address: Vaddr,
+    size: Size,
+    access: Access,
+    value: u32,
+    places: &Places,
+) -> u32
+    requires plan { plan.now ≡ plan_at processes.old pid address size access }
+    requires ready { goes_on plan.now ≡ true }
+    requires places { places.now ≡ access_places processes.old pid address size }
+    ensures value { result ≡ access_value processes.old.state pid address size access }
+    ensures state { processes.new.state ≡ after_access processes.old.state pid address size access value }
+    ensures stay { FramesStay (lazy_written access pid address size) (memory_of processes.old) (memory_of processes.new) }
+    ensures frames { takes_no_frame plan.now ≡ true → processes.new.roles ≡ processes.old.roles }
+{
+    let places = make_ready(processes, plan, pid, address, size, access, places);
+    processes.access_at(pid, address, size, access, value, &places)
 }
 
 /// Makes an access as a processor does, where the walks of its process's directory find a frame for each page that
@@ -219,50 +298,4 @@ pub fn complete_kept(processes: &mut Processes, pid: Pid, address: Vaddr, size: 
     ensures containers { (p : ℕ) → container_of processes.new.state p ≡ container_of processes.old.state p }
 {
     processes.store_kept(pid, address, size, value);
-}
-
-/// Whether the bytes of an access lie in one page of the user range.
-fn is_in_page(address: Vaddr, size: Size) -> bool
-    ensures within { result ≡ true → second_page address size ≡ None }
-    ensures user { result ≡ true → IsUserPage (page_number address) }
-    ensures plan { (s : View) (p : ℕ) (access : Access) → result ≡ false → plan_at s p address size access ≢ at_once }
-{
-    in_user_range(page_of(address)) && second_page(address, size).is_none()
-}
-
-/// Loads where the load completes as memory stands: its bytes lie in one page, which is mapped. None where it
-/// doesn't, and nothing changes.
-pub fn try_load(processes: &mut Processes, pid: Pid, address: Vaddr, size: Size) -> Option<u32>
-    ensures live { IsSome result → is_live processes.old.state pid ≡ true }
-    ensures plan { IsSome result ↔ plan_at processes.old pid address size Access.Read ≡ at_once }
-    ensures value { IfSome result (λ value. value ≡ loaded processes.old.state pid address size) }
-    ensures state { IsSome result → processes.new.state ≡ after_load processes.old.state pid address size }
-    ensures stay { FramesStay none_goes (memory_of processes.old) (memory_of processes.new) }
-    ensures roles { processes.new.roles ≡ processes.old.roles }
-    ensures none { IsNone result → processes.new ≡ processes.old }
-{
-    if is_in_page(address, size) {
-        processes.try_load(pid, address, size)
-    } else {
-        None
-    }
-}
-
-/// Stores where the store completes as memory stands: its bytes lie in one page, which is mapped, with the right to
-/// write, and isn't lazy. Whether it is so; where it isn't, nothing changes.
-pub fn try_store(
-    processes: &mut Processes,
-    pid: Pid,
-    address: Vaddr,
-    size: Size,
-    value: u32,
-) -> bool
-    ensures live { result ≡ true → is_live processes.old.state pid ≡ true }
-    ensures plan { (result ≡ true) ↔ plan_at processes.old pid address size Access.Write ≡ at_once }
-    ensures state { result ≡ true → processes.new.state ≡ after_store processes.old.state pid address size value }
-    ensures stay { FramesStay none_goes (memory_of processes.old) (memory_of processes.new) }
-    ensures roles { processes.new.roles ≡ processes.old.roles }
-    ensures none { result ≡ false → processes.new ≡ processes.old }
-{
-    is_in_page(address, size) && processes.try_store(pid, address, size, value)
 }

@@ -1,13 +1,15 @@
-//! What is seen of the pages of an access: each is looked up once.
+//! What the places of the pages of an access tell.
 
 ghost use Rattle.std.specs.Prelude.{◌≡◌, ◌≤◌, IfSome, true};
-ghost use Rattle.page_words.specs.Addresses.{page_number, EachTouched, IsUserPage};
-ghost use Rattle.address_space.specs.Spaces.{at_page};
-ghost use Rattle.process_table.specs.State.{is_live, is_mapped};
-ghost use Rattle.fault_handler.specs.Plans.{step_at};
+ghost use Rattle.std.specs.Option.{option_and_then};
+ghost use Rattle.page_words.specs.Addresses.{page_number, second_page, EachTouched, IsUserPage};
+ghost use Rattle.address_space.specs.Places.{place_in};
+ghost use Rattle.process_table.specs.Places.{place_at};
+ghost use Rattle.process_table.specs.State.{is_live};
 ghost use Rattle.fault_handler.specs.Looks.{step_there, look_of, look_behind, barred, open_one_region, need_by};
 
 use crate::plans::{Look, PageStep};
+use address_space::Place;
 use page_words::{Page, Pid, Size, Vaddr, page_of, second_page, slot_of, start_of};
 use process_table::Processes;
 use table_walk::Access;
@@ -23,47 +25,49 @@ fn step_there(access: Access, is_lazy: bool) -> PageStep
     }
 }
 
-/// Looks at the page that a byte of an access lies in.
-pub fn look_at(processes: &Processes, pid: Pid, access: Access, byte: Vaddr) -> Look
+/// What the place of the page that a byte of an access lies in tells of the access.
+pub fn look_at(processes: &Processes, pid: Pid, access: Access, byte: Vaddr, place: &Place) -> Look
     requires live { is_live processes.now.state pid ≡ true }
     requires user { IsUserPage (page_number byte) }
+    requires place { place.now ≡ place_in processes.now.directories processes.now.bytes pid (page_number byte) }
     ensures look { result ≡ look_of processes.now pid access byte }
     ensures few { result.need ≤ 2 }
 {
-    let seen = processes.seen(pid, page_of(byte));
-    match seen.cell() {
+    processes.tells(pid, page_of(byte), place);
+    match place.found() {
         None => Look {
             byte,
             step: PageStep::MapZero,
             read_only: false,
-            need: seen.need(),
+            need: place.need(),
         },
-        Some(cell) => Look {
+        Some(found) => Look {
             byte,
-            step: step_there(access, seen.is_lazy()),
-            read_only: !cell.write,
+            step: step_there(access, found.entry.lazy),
+            read_only: !found.entry.write,
             need: 0,
         },
     }
 }
 
-/// Looks at the second page of an access, where there is one.
-pub fn look_at_second(
+/// What the place of the second page of an access tells, where there is one.
+pub fn look_behind(
     processes: &Processes,
     pid: Pid,
     access: Access,
     address: Vaddr,
     size: Size,
+    place: &Option<Place>,
 ) -> Option<Look>
     requires live { is_live processes.now.state pid ≡ true }
     requires user { EachTouched address size IsUserPage }
+    requires place { place.now ≡ option_and_then (place_at processes.now pid) (second_page address size) }
     ensures look { result ≡ look_behind processes.now pid access address size }
     ensures few { IfSome result (λ look. look.need ≤ 2) }
 {
-    match second_page(address, size) {
-        Some(page) => Some(look_at(processes, pid, access, start_of(page))),
-        None => None,
-    }
+    let page = second_page(address, size)?;
+    let place = place.unwrap();
+    Some(look_at(processes, pid, access, start_of(page), &place))
 }
 
 /// The first byte that an access may not have.

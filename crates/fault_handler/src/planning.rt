@@ -3,14 +3,15 @@
 ghost use Rattle.std.specs.Prelude.{◌≡◌, ◌<◌, ◌≤◌, ℕ, true, false, IfSome, Some, None};
 ghost use Rattle.address_space.specs.Spaces.{cost};
 ghost use Rattle.process_table.specs.Calls.{after_load, after_store};
+ghost use Rattle.process_table.specs.Places.{access_places};
 ghost use Rattle.process_table.specs.State.{container_of, is_live};
 ghost use Rattle.fault_handler.specs.Plans.{outside, plan_at, goes_on};
 ghost use Rattle.fault_handler.specs.Looks.{ready_by, roomy_by, planned_by_looks, planned_at};
 
-use crate::looks::{barred, look_at, look_at_second, need_by};
+use crate::looks::{barred, look_at, look_behind, need_by};
 use crate::plans::{Look, Plan, Planned};
 use page_words::{Pid, Size, Vaddr, in_user_range, page_of, second_page, start_of};
-use process_table::{Cause, Processes, left_of};
+use process_table::{Cause, Places, Processes, left_of};
 use quota_tree::Container;
 use table_walk::{Access, PageFault};
 
@@ -63,7 +64,12 @@ fn by_room(first: &Look, second: &Option<Look>, container: &Container) -> Planne
 }
 
 /// What an access to pages of the user range comes to.
-fn by_looks(access: Access, first: &Look, second: &Option<Look>, container: &Container) -> Planned
+pub(crate) fn by_looks(
+    access: Access,
+    first: &Look,
+    second: &Option<Look>,
+    container: &Container,
+) -> Planned
     requires first { first.now.need ≤ 2 }
     requires second { IfSome second.now (λ look. look.need ≤ 2) }
     requires used { container.now.used < 4096 }
@@ -86,16 +92,19 @@ fn plan_within(
     size: Size,
     access: Access,
     container: &Container,
+    places: &Places,
 ) -> Planned
     requires live { is_live processes.now.state pid ≡ true }
     requires container { container_of processes.now.state pid ≡ Some container.now }
     requires within { outside address size ≡ None }
+    requires places { places.now ≡ access_places processes.now pid address size }
     ensures { result ≡ planned_at processes.now pid address size access }
 {
     processes.stands();
     processes.spaces().stands();
-    let first = look_at(processes, pid, access, address);
-    let second = look_at_second(processes, pid, access, address, size);
+    let place = places.first.unwrap();
+    let first = look_at(processes, pid, access, address, &place);
+    let second = look_behind(processes, pid, access, address, size, &places.second);
     by_looks(access, &first, &second, container)
 }
 
@@ -107,9 +116,11 @@ fn planned_of(
     size: Size,
     access: Access,
     container: &Container,
+    places: &Places,
 ) -> Planned
     requires live { is_live processes.now.state pid ≡ true }
     requires container { container_of processes.now.state pid ≡ Some container.now }
+    requires places { places.now ≡ access_places processes.now pid address size }
     ensures { result ≡ planned_at processes.now pid address size access }
 {
     match outside(address, size) {
@@ -117,28 +128,31 @@ fn planned_of(
             Plan::Fault(PageFault::new(byte, access, false)),
             container.used,
         ),
-        None => plan_within(processes, pid, address, size, access, container),
+        None => plan_within(processes, pid, address, size, access, container, places),
     }
 }
 
 /// What an access of a live process comes to, as `plan` gives it, and what the process is charged for after it: that
-/// of today after a fault or a refusal. Each page is looked up once; the container is the process's.
-pub fn plan_charged(
+/// of today after a fault or a refusal. The container is the process's, and the places those of the pages that the access
+/// touches.
+pub fn plan_by(
     processes: &Processes,
     pid: Pid,
     address: Vaddr,
     size: Size,
     access: Access,
     container: &Container,
+    places: &Places,
 ) -> Planned
     requires live { is_live processes.now.state pid ≡ true }
     requires container { container_of processes.now.state pid ≡ Some container.now }
+    requires places { places.now ≡ access_places processes.now pid address size }
     ensures plan { result.plan ≡ plan_at processes.now pid address size access }
     ensures load { goes_on result.plan ≡ true → result.charge ≡ cost (after_load processes.now.state pid address size).spaces pid }
     ensures store { (value : ℕ) → goes_on result.plan ≡ true → result.charge ≡ cost (after_store processes.now.state pid address size value).spaces pid }
     ensures stays { goes_on result.plan ≡ false → result.charge ≡ cost processes.now.state.spaces pid }
 {
-    planned_of(processes, pid, address, size, access, container)
+    planned_of(processes, pid, address, size, access, container, places)
 }
 
 /// What an access of a live process comes to.
@@ -152,5 +166,6 @@ pub fn plan(processes: &Processes, pid: Pid, address: Vaddr, size: Size, access:
     ensures { result ≡ plan_at processes.now pid address size access }
 {
     let container = processes.container(pid).unwrap();
-    plan_charged(processes, pid, address, size, access, &container).plan
+    let places = processes.access_places(pid, address, size);
+    plan_by(processes, pid, address, size, access, &container, &places).plan
 }

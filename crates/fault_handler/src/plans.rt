@@ -29,6 +29,14 @@ pub enum Plan {
     Refused(Cause),
 }
 
+/// Why an access doesn't complete.
+#[derive(Clone, Copy, Debug, PartialEq, Eq)]
+pub enum Stop {
+    Refused(Cause),
+    /// A page fault, with the processor's error code.
+    Fault(PageFault),
+}
+
 /// A plan, and what the process is charged for after it.
 #[derive(Clone, Copy, Debug, PartialEq, Eq)]
 pub struct Planned {

@@ -10,7 +10,7 @@ use Rattle.std.proofs.lemmas.Bool.{ne_eqb}
 use Rattle.page_words.specs.FiniteMap.{nat_order, same}
 use Rattle.page_words.specs.FiniteSet as set
 use Rattle.page_words.specs.FiniteSet.{Set}
-use Rattle.page_words.specs.Marked.{marked}
+use Rattle.page_words.specs.Marked.{marked_numbers}
 use Rattle.page_words.proofs.MapLemmas.{contains-insert, len-insert, same_itself, same_set}
 use Rattle.page_words.proofs.SetLemmas.{contains-remove, contains-no_members, same_cases}
 use Rattle.page_words.proofs.Marks.{contains-marked, contains-within, len-marked, marked-set_true, marked-set_false}
@@ -145,7 +145,7 @@ module _ (places : List ℕ) (head count : ℕ) (ledger : IsLedger places head c
   seen_as-put_back f h =
       let m : map is_link (slice_set places f head) ≡ slice_set (map is_link places) f true = map-set is_link places f head ∙ ap (λ b. slice_set (map is_link places) f b) (unmarked head head_number) in
       let within : f < length (map is_link places) = omega (arith, h, length-map places is_link) in
-      λ i. record { free = (ap marked m ∙ marked-set_true (map is_link places) f within) i; frames = length-set places f head i }
+      λ i. record { free = (ap marked_numbers m ∙ marked-set_true (map is_link places) f within) i; frames = length-set places f head i }
 
   pub IsLedger-put_back : (f : ℕ) → 1 ≤ f → f < length places → set.contains (seen_as places).free f ≡ false → IsLedger (slice_set places f head) f (count + 1)
   IsLedger-put_back f low h in_use =
@@ -174,7 +174,7 @@ module _ (places : List ℕ) (head count : ℕ) (ledger : IsLedger places head c
   seen_as-take more =
       let m : map is_link (slice_set places head IN_USE) ≡ slice_set (map is_link places) head false = map-set is_link places head IN_USE in
       let within : head < length (map is_link places) = omega (arith, (head_within more).1, length-map places is_link) in
-      λ i. record { free = (ap marked m ∙ marked-set_false (map is_link places) head within) i; frames = length-set places head IN_USE i }
+      λ i. record { free = (ap marked_numbers m ∙ marked-set_false (map is_link places) head within) i; frames = length-set places head IN_USE i }
 
   chain-take : (frames : List ℕ) → IsFreeList places head frames → (more : head ≢ END)
       → (rest : List ℕ) × IsFreeList (slice_set places head IN_USE) (number_at places head) rest × (length frames ≡ length rest + 1)

@@ -2,7 +2,7 @@
 -- number of the next free one, the last one's holds 0, and the place of a frame in use a mark.
 use Rattle.std.specs.Prelude.{◌≡◌, ◌≢◌, ℕ, ◌≤◌, Bool, not, ◌==◌, List, [], ◌∷◌, length, map, AllPairs, slice_index_or}
 use Rattle.page_words.specs.FiniteSet as set
-use Rattle.page_words.specs.Marked.{marked}
+use Rattle.page_words.specs.Marked.{marked_numbers}
 use Rattle.frame_ledger.specs.FreeFrames.{FreeFrames}
 use Rattle.frame_ledger.specs.declared.TheConstants.{IN_USE, END}
 
@@ -12,7 +12,7 @@ is_link number = not (number == IN_USE)
 
 -- the frames whose place isn't the mark are free
 abbrev pub seen_as : List ℕ → FreeFrames
-seen_as places = record { free = marked (map is_link places); frames = length places }
+seen_as places = record { free = marked_numbers (map is_link places); frames = length places }
 
 -- no frame is free
 abbrev pub all_in_use : ℕ → FreeFrames

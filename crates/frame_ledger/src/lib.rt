@@ -9,18 +9,9 @@ ghost use Rattle.page_words.specs.FiniteSet as set;
 ghost use Rattle.frame_ledger.specs.FreeFrames.{opening, IsFree, IsTakenFrom, with_free};
 ghost use Rattle.frame_ledger.specs.FreeList.{all_in_use};
 
-use page_words::{Frame, MAX_FRAMES, MIN_FRAMES};
+use page_words::{Frame, MAX_FRAMES, MIN_FRAMES, MachineFault, is_frame_count};
 use std::alloc::Global;
 use std::marker::Model;
-
-/// Why there is no ledger.
-#[derive(Clone, Copy, Debug, PartialEq, Eq)]
-pub enum LedgerFault {
-    /// The number of frames is below 16 or above 4,096.
-    BadSize,
-    /// There was no memory for the ledger.
-    NoMemory,
-}
 
 /// What ends the list of free frames: the number of frame 0, which is never free.
 const END: u32 = 0;
@@ -57,13 +48,13 @@ impl Ledger {
     /// A ledger for the frames 0 to `frames` - 1, in which all but frame 0 are free.
     ///
     /// BadSize where `frames` is outside 16 to 4,096, and else NoMemory where there is no memory.
-    pub fn new(alloc: Global, frames: u32) -> Result<Ledger, LedgerFault>
+    pub fn new(alloc: Global, frames: u32) -> Result<Ledger, MachineFault>
         ensures ledger { IfOk result (λ ledger. ledger ≡ opening frames) }
         ensures size { IfOk result (λ ledger. ledger.frames ≡ frames) }
-        ensures bad_size { IsErrOf result LedgerFault.BadSize ↔ (MIN_FRAMES ≤ frames → frames ≤ MAX_FRAMES → ⊥) }
+        ensures bad_size { IsErrOf result MachineFault.BadSize ↔ (MIN_FRAMES ≤ frames → frames ≤ MAX_FRAMES → ⊥) }
     {
-        if frames < MIN_FRAMES || frames > MAX_FRAMES {
-            return Err(LedgerFault::BadSize);
+        if !is_frame_count(frames) {
+            return Err(MachineFault::BadSize);
         }
         let mut ledger = Ledger::full(alloc, frames)?;
         for frame in (1..frames).rev() {
@@ -73,11 +64,11 @@ impl Ledger {
     }
 
     /// A ledger of which no frame is free, of 16 to 4,096 frames.
-    fn full(alloc: Global, frames: u32) -> Result<Ledger, LedgerFault>
+    fn full(alloc: Global, frames: u32) -> Result<Ledger, MachineFault>
         requires fewest { MIN_FRAMES ≤ frames }
         requires most { frames ≤ MAX_FRAMES }
         ensures ledger { IfOk result (λ ledger. ledger ≡ all_in_use frames) }
-        ensures no_memory { IfErr result (λ fault. fault ≡ LedgerFault.NoMemory) }
+        ensures no_memory { IfErr result (λ fault. fault ≡ MachineFault.NoMemory) }
     {
         match vec![in alloc; IN_USE; frames as usize] {
             Ok(places) => Ok(Ledger {
@@ -85,7 +76,7 @@ impl Ledger {
                 head: END,
                 count: 0,
             }),
-            Err(_) => Err(LedgerFault::NoMemory),
+            Err(_) => Err(MachineFault::NoMemory),
         }
     }
 

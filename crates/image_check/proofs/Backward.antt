@@ -1,21 +1,22 @@
 -- Where no clause fails, the image is sound.
-use Rattle.std.proofs.Common.{◌≡◌, ◌≢◌, ℕ, ◌+◌, ◌<◌, Bool, true, false, ◌&&◌, ◌||◌, not, [], ◌∷◌, length, replicate, refl, sym, ap, subst, ◌∙◌, arith, inl, inr, Option, Some, None, is_some}
+use Rattle.std.proofs.Common.{◌≡◌, ◌≢◌, ℕ, ◌+◌, ◌<◌, ◌≤◌, Bool, true, false, ◌&&◌, ◌||◌, not, [], ◌∷◌, length, replicate, refl, sym, ap, subst, ◌∙◌, arith, inl, inr, Option, Some, None, is_some, sum_by}
 use Rattle.std.specs.Prelude.{if◌then◌else◌, ◌⊎◌, ◌==◌, nat_le}
-use Rattle.std.specs.List.{list_all}
+use Rattle.std.specs.Option.{option_map}
+use Rattle.std.specs.List.{list_all, range_with_len}
 use Rattle.std.proofs.lemmas.Option.{slice_get_within}
 use Rattle.std.proofs.lemmas.Bool.{and_parts, or_cases, cases_eq, eqb-true, ne_eqb, leb-true}
 use Rattle.page_words.specs.Addresses.{slot_number, index_number}
 use Rattle.page_words.specs.Words.{is_present, frame_number, NamesTable, IsKernelDirWord}
-use Rattle.memory_image.specs.Words.{is_lazy_word, NamesPageIn, IsTableWord}
-use Rattle.memory_image.specs.Sound.{frame_at, IsSoundMemory, IsSound}
+use Rattle.address_space.specs.ImageWords.{is_lazy_word, NamesPageIn, IsTableWord}
+use Rattle.memory_image.specs.Sound.{account_from, account_at, IsSound}
 use Rattle.memory_image.specs.Tests.{first_failing}
 use Rattle.phys_memory.specs.Bytes.{frame_bytes}
 use Rattle.phys_memory.proofs.Frames.{length-frame}
 use Rattle.alloc_table.specs.declared.Role.{Role}
 use Rattle.alloc_table.specs.declared.Role.TheVariants.{Reserved, Directory, Table, Page}
-use Rattle.address_space.specs.Spaces.{Slot, zeros}
+use Rattle.address_space.specs.Spaces.{Slot, slot_order, zeros}
 use Rattle.address_space.specs.Image as memory
-use Rattle.address_space.specs.Image.{directory_at, word_of, is_user_slot, table_at, IsCount}
+use Rattle.address_space.specs.Image.{directory_at, word_of, is_user_slot, table_at, page_frame, IsCount, IsSoundImage}
 use Rattle.image_check.specs.declared.clauses.FrameClause.{FrameClause}
 use Rattle.image_check.specs.declared.clauses.FrameClause.TheVariants as of_frame
 use Rattle.memory_image.specs.declared.processes.Process.{Process}
@@ -25,7 +26,9 @@ use Rattle.image_check.specs.WordTests.{names_table, names_page}
 use Rattle.image_check.specs.Verdict.{NothingFails, is_blank_and_reserved, clause_of, clause_by_role, serves, is_unnamed, is_unmapped, is_reserved, is_directory_of, is_table_of, is_page, links_table, links_tables, maps_page, maps_pages, table_is_right, quotas_from}
 use Rattle.image_check.proofs.RangeLemmas.{all-at, count-some, this-true}
 use Rattle.image_check.proofs.WordLemmas.{tests_decide}
-use Rattle.memory_image.proofs.References.{user_range, directory-of, live-of, pid-small}
+use Rattle.page_words.proofs.OptionLemmas.{is_some-map}
+use Rattle.process_table.specs.Image.{Account, IsCharge, quota_from}
+use Rattle.memory_image.proofs.References.{from_map, user_range, directory-of, live-of, pid-small}
 use Rattle.image_check.proofs.Linked.{linked, mapped, maps-counts, charge-counts}
 use Rattle.image_check.proofs.ClauseLemmas.{passes_first, Passes, all_pass, directory_role, table_role, page_role, reserved_role, zeros_from, quotas_listed}
 
@@ -101,13 +104,13 @@ module _ (image : Image) (I : IsImage image) (N : NothingFails image) where
       let b = and_parts (is_this f (table_at M p s)) (names image f == 1) a.0 in
       this-true f (table_at M p s) b.0
 
-  page-counts : (f c : ℕ) → role_at image f ≡ Some (Page c) → (0 < c) × IsCount c (λ slot. frame_at image slot ≡ Some f)
+  page-counts : (f c : ℕ) → role_at image f ≡ Some (Page c) → (0 < c) × IsCount slot_order c (λ slot. page_frame M slot ≡ Some f)
   page-counts f c is =
       let h = serving f (Page c) (λ e. cc) is in
       let a = and_parts (nat_le 1 c && (c == maps image f)) (is_unnamed image f) h in
       let b = and_parts (nat_le 1 c) (c == maps image f) a.0 in
       let one = leb-true 1 c b.0 in
-      (omega (arith, one), subst (λ n. IsCount n (λ slot. frame_at image slot ≡ Some f)) (sym (eqb-true c (maps image f) b.1)) (maps-counts image I.pids f))
+      (omega (arith, one), subst (λ n. IsCount slot_order n (λ slot. page_frame M slot ≡ Some f)) (sym (eqb-true c (maps image f) b.1)) (maps-counts image I.pids f))
 
   -- ---- Words
 
@@ -191,7 +194,7 @@ module _ (image : Image) (I : IsImage image) (N : NothingFails image) where
       let c = count-some (λ i. is_present (word_of M t i)) 0 1024 (leb-true 1 (words_in image t) a.0) in
       (c.0, (let k = c.2 in omega arith), c.3)
 
-  page-role : (slot : Slot) (f : ℕ) → frame_at image slot ≡ Some f → (c : ℕ) × (role_at image f ≡ Some (Page c))
+  page-role : (slot : Slot) (f : ℕ) → page_frame M slot ≡ Some f → (c : ℕ) × (role_at image f ≡ Some (Page c))
   page-role slot f h =
       let w = mapped image slot.pid slot.page f h in
       elim (holding (word_of M w.t (index_number slot.page)) (mapping slot.pid (slot_number slot.page) w.t (index_number slot.page) w.table (omega arith))) [
@@ -199,8 +202,9 @@ module _ (image : Image) (I : IsImage image) (N : NothingFails image) where
         | inr k ↦ let c = k.role w.real in (c.0, ap (role_at image) (sym w.frame) ∙ c.1)
       ]
 
-  sound-memory : IsSoundMemory image
+  sound-memory : IsSoundImage M
   sound-memory = record {
+    size = I.size;
     reserved = λ f inside. (reserved-alone f inside, λ e. ap (role_at image) e ∙ role-0);
     zero_frame = zero-frame;
     directories = λ f p. (directory-back f p, directory-role p f);
@@ -225,12 +229,22 @@ module _ (image : Image) (I : IsImage image) (N : NothingFails image) where
       not_root true x y h = cc
       not_root false x y h = refl
 
+  parent-there : (p : ℕ) (r : Process) → process_at image p ≡ Some r → is_some (process_at image r.parent) ≡ true
+  parent-there p r live = elim (cases_eq p 0) [
+    | inl e ↦ ap (λ q. is_some (process_at image q)) ((I.processes p r live).root e) ∙ ap is_some root.1
+    | inr differ ↦ live-parent p r differ live
+  ]
+
+  of-account : (P : Account → Type 0) (p : ℕ) → ((r : Process) → process_at image p ≡ Some r → P (account_from r)) → (c : Account) → account_at image p ≡ Some c → P c
+  of-account P p each c is = let r = from_map account_from (process_at image p) c is in subst P r.2 (each r.0 r.1)
+
   pub sound : IsSound image
   sound = record {
     memory = sound-memory;
-    root = (root.0, root.1, root-quota root.0 root.1);
-    parents = live-parent;
-    given = λ p r live. eqb-true r.given (quotas_from image p) (passes p r live).given ∙ quotas_listed image p;
-    within = λ p r live. leb-true (r.used + r.given) r.quota (passes p r live).quota;
-    used = λ p r live. charge-counts image I.pids p r.used (eqb-true r.used (1 + tables_by image p + pages_by image p) (passes p r live).used);
+    root = (account_from root.0, ap (option_map account_from) root.1, root-quota root.0 root.1);
+    live = λ p. is_some-map account_from (process_at image p) ∙ sym (is_some-map (λ r. r.directory) (process_at image p));
+    parents = λ p. of-account (λ c. is_some (account_at image c.parent) ≡ true) p (λ r live. is_some-map account_from (process_at image r.parent) ∙ parent-there p r live);
+    given = λ p. of-account (λ c. c.given ≡ sum_by (λ q. quota_from p q (account_at image q)) (range_with_len 0 64)) p (λ r live. eqb-true r.given (quotas_from image p) (passes p r live).given ∙ quotas_listed image p);
+    within = λ p. of-account (λ c. c.used + c.given ≤ c.quota) p (λ r live. leb-true (r.used + r.given) r.quota (passes p r live).quota);
+    used = λ p. of-account (λ c. IsCharge M p c.used) p (λ r live. charge-counts image I.pids p r.used (eqb-true r.used (1 + tables_by image p + pages_by image p) (passes p r live).used));
   }

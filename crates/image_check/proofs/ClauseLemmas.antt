@@ -7,9 +7,10 @@ use Rattle.alloc_table.specs.declared.Role.{Role}
 use Rattle.alloc_table.specs.declared.Role.TheVariants.{Reserved, Free, Directory, Table, Page}
 use Rattle.image_check.specs.declared.clauses.ProcessClause.TheVariants as of_process
 use Rattle.memory_image.specs.declared.processes.Process.{Process}
-use Rattle.memory_image.specs.Image.{Image, process_at}
+use Rattle.memory_image.specs.Image.{Image}
 use Rattle.image_check.specs.Verdict.{is_directory_of, is_table_of, is_page, is_reserved, has_parent, has_directory, links_tables, maps_pages, uses_its_frames, gives_its_children, keeps_its_quota, quotas_from, live_clause}
-use Rattle.memory_image.specs.Sound.{quota_from}
+use Rattle.memory_image.specs.Sound.{account_at}
+use Rattle.process_table.specs.Image.{quota_from}
 use Rattle.image_check.proofs.CountLemmas.{sum-listed}
 
 -- ---- The first that fails
@@ -111,6 +112,6 @@ all_zeros (suc n) = all_zeros n
 
 -- ---- Quotas
 
-pub quotas_listed : (image : Image) (p : ℕ) → quotas_from image p ≡ sum_by (λ q. quota_from p q (process_at image q)) (range_with_len 0 64)
+pub quotas_listed : (image : Image) (p : ℕ) → quotas_from image p ≡ sum_by (λ q. quota_from p q (account_at image q)) (range_with_len 0 64)
 unfolding quotas_from
-quotas_listed image p = sum-listed (λ q. quota_from p q (process_at image q)) 0 64
+quotas_listed image p = sum-listed (λ q. quota_from p q (account_at image q)) 0 64

@@ -1,20 +1,21 @@
 -- In a sound image no clause fails.
 use Rattle.std.proofs.Common.{◌≡◌, ◌≢◌, ℕ, ◌+◌, ◌*◌, ◌<◌, Bool, true, false, ◌&&◌, ◌||◌, not, [], ◌∷◌, refl, sym, ap, ◌∙◌, arith, inl, inr, Option, Some, None, is_some}
 use Rattle.std.specs.Prelude.{if◌then◌else◌, ◌==◌, nat_le}
-use Rattle.std.specs.Option.{option_and_then}
+use Rattle.std.specs.Option.{option_and_then, option_map}
 use Rattle.std.specs.List.{list_all}
 use Rattle.std.proofs.lemmas.Option.{slice_get_within}
 use Rattle.std.proofs.lemmas.Bool.{and_from, cases_eq, eqb-true, eq-eqb, ne_eqb, le-leb}
 use Rattle.page_words.specs.Words.{is_present, frame_number, IsKernelDirWord}
-use Rattle.memory_image.specs.Words.{is_lazy_word, own_frame, IsTableWord}
-use Rattle.memory_image.specs.Sound.{IsSound}
+use Rattle.address_space.specs.ImageWords.{is_lazy_word, own_frame, IsTableWord}
+use Rattle.memory_image.specs.Sound.{account_from, account_at, IsSound}
+use Rattle.process_table.specs.Image.{Account}
+use Rattle.page_words.proofs.OptionLemmas.{is_some-map}
 use Rattle.memory_image.specs.Tests.{first_failing}
 use Rattle.memory_image.proofs.References.{same_some, directory-of, pid-small}
 use Rattle.phys_memory.specs.Bytes.{frame_bytes}
 use Rattle.alloc_table.specs.declared.Role.{Role}
 use Rattle.alloc_table.specs.declared.Role.TheVariants.{Reserved, Free, Directory, Table, Page}
-use Rattle.address_space.specs.Spaces.{zeros}
-use Rattle.address_space.specs.Slots.{at_pid}
+use Rattle.address_space.specs.Spaces.{zeros, at_page}
 use Rattle.address_space.specs.Image as memory
 use Rattle.address_space.specs.Image.{directory_at, word_of, is_user_slot, table_at}
 use Rattle.image_check.specs.declared.clauses.ProcessClause.TheVariants as of_process
@@ -44,7 +45,7 @@ module _ (image : Image) (I : IsImage image) (S : IsSound image) where
   table-role p s f h = (S.memory.tables f p s).1 h
 
   page-role : (p page f : ℕ) → frame_of image p page ≡ Some f → (c : ℕ) × (role_at image f ≡ Some (Page c))
-  page-role p page f h = S.memory.pages (at_pid p page) f h
+  page-role p page f h = S.memory.pages (at_page p page) f h
 
   unnamed : (f : ℕ) (role : Role) → ((p s : ℕ) → role ≡ Table p s → ⊥) → role_at image f ≡ Some role → is_unnamed image f ≡ true
   unnamed f role other is = eq-eqb (names image f) 0 (names-none image f (λ p s h. other p s (let a = sym is ∙ table-role p s f h in cc)))
@@ -108,6 +109,9 @@ module _ (image : Image) (I : IsImage image) (S : IsSound image) where
   -- ---- Processes
 
   module _ (p : ℕ) (r : Process) (live : process_at image p ≡ Some r) where
+    told : account_at image p ≡ Some (account_from r)
+    told = ap (option_map account_from) live
+
     choose : (b x y : Bool) → (b ≡ true → x ≡ true) → (b ≡ false → y ≡ true) → (if b then x else y) ≡ true
     choose true x y h k = h refl
     choose false x y h k = k refl
@@ -115,12 +119,12 @@ module _ (image : Image) (I : IsImage image) (S : IsSound image) where
     parent-passes : has_parent image p r ≡ true
     parent-passes = elim (cases_eq p 0) [
       | inl e ↦ choose (p == 0) (1 + r.quota == frames image) (is_some (process_at image r.parent))
-          (λ _. let same : r ≡ S.root.0 = same_some r S.root.0 (sym live ∙ ap (process_at image) e ∙ S.root.1) in
-          eq-eqb (1 + r.quota) (frames image) (ap (λ (r : Process). 1 + r.quota) same ∙ S.root.2))
+          (λ _. let same : account_from r ≡ S.root.0 = same_some (account_from r) S.root.0 (sym told ∙ ap (account_at image) e ∙ S.root.1) in
+          eq-eqb (1 + r.quota) (frames image) (ap (λ (c : Account). 1 + c.quota) same ∙ S.root.2))
           (λ n. absurd (let y = sym (eq-eqb p 0 e) ∙ n in cc))
       | inr differ ↦ choose (p == 0) (1 + r.quota == frames image) (is_some (process_at image r.parent))
           (λ y. absurd (differ (eqb-true p 0 y)))
-          (λ _. S.parents p r differ live)
+          (λ _. sym (is_some-map account_from (process_at image r.parent)) ∙ S.parents p (account_from r) told)
     ]
 
     own-directory : role_at image r.directory ≡ Some (Directory p)
@@ -196,15 +200,15 @@ module _ (image : Image) (I : IsImage image) (S : IsSound image) where
       directory = directory-passes;
       tables = links-pass;
       pages = maps-pass;
-      used = eq-eqb r.used (1 + tables_by image p + pages_by image p) (charge-is image I.pids p r.used (S.used p r live));
-      given = eq-eqb r.given (quotas_from image p) (S.given p r live ∙ sym (quotas_listed image p));
-      quota = le-leb (r.used + r.given) r.quota (S.within p r live);
+      used = eq-eqb r.used (1 + tables_by image p + pages_by image p) (charge-is image I.pids p r.used (S.used p (account_from r) told));
+      given = eq-eqb r.given (quotas_from image p) (S.given p (account_from r) told ∙ sym (quotas_listed image p));
+      quota = le-leb (r.used + r.given) r.quota (S.within p (account_from r) told);
     }
 
   by-process : (p : ℕ) (x : Option Process) → process_at image p ≡ x → clause_of image p x ≡ None
   by-process p None is = elim (cases_eq p 0) [
     | inl e ↦ absurd (
-        let none = sym S.root.1 ∙ ap (process_at image) (sym e) ∙ is in cc)
+        let none = sym S.root.1 ∙ ap (account_at image) (sym e) ∙ ap (option_map account_from) is in cc)
     | inr differ ↦ dead (p == 0) (ne_eqb p 0 differ)
   ]
     where

@@ -7,16 +7,15 @@ use Rattle.std.proofs.lemmas.Bool.{and_parts, ltb-true, lt-ltb}
 use Rattle.page_words.specs.Addresses.{slot_number, index_number}
 use Rattle.page_words.specs.Words.{is_present, frame_number}
 use Rattle.page_words.specs.FiniteMap.{same}
-use Rattle.address_space.specs.Spaces.{Slot, slot_order}
-use Rattle.address_space.specs.Slots.{user_slots, at_pid}
+use Rattle.address_space.specs.Spaces.{Slot, slot_order, at_page}
+use Rattle.address_space.specs.Slots.{user_slots}
 use Rattle.address_space.proofs.entries.UserSlots.{in_user_slots}
 use Rattle.address_space.specs.Image as memory
-use Rattle.address_space.specs.Image.{directory_at, word_of, is_user_slot, named_by, table_at, present_word, page_word}
+use Rattle.address_space.specs.Image.{directory_at, word_of, is_user_slot, named_by, table_at, present_word, page_word, page_frame}
 use Rattle.process_table.specs.Image as machine
 use Rattle.memory_image.specs.declared.processes.Process.{Process}
 use Rattle.memory_image.specs.Image.{Image, frames, process_at, memory_of}
-use Rattle.memory_image.specs.Words.{is_lazy_word, own_frame}
-use Rattle.memory_image.specs.Sound.{frame_at}
+use Rattle.address_space.specs.ImageWords.{is_lazy_word, own_frame}
 use Rattle.memory_image.proofs.References.{is_there, same_some, chosen_some, then_some, user_range, directory-of, live-of, pid-small}
 use Rattle.image_check.specs.Counts.{is_this, frame_of, names_by, maps_by, tables_by, pages_by, names, maps}
 use Rattle.image_check.proofs.RangeLemmas.{sum-none, sum-one, count-none, count-one, this-true, this-is}
@@ -87,7 +86,7 @@ module _ (image : Image) where
     pub present : is_present word ≡ true
     pub is : word_of M t (index_number page) ≡ word
 
-  pub word-at : (p page word : ℕ) → page_word M (at_pid p page) ≡ Some word → IsWordAt p page word
+  pub word-at : (p page word : ℕ) → page_word M (at_page p page) ≡ Some word → IsWordAt p page word
   word-at p page word h =
       let t = then_some (λ t. present_word M t (word_of M t (index_number page))) (table_at M p (slot_number page)) word h in
       let c = chosen_some (nat_lt t.0 (length image.roles) && is_present (word_of M t.0 (index_number page))) (word_of M t.0 (index_number page)) word t.2 in
@@ -96,13 +95,13 @@ module _ (image : Image) where
 
   pub mapped : (p page f : ℕ) → frame_of image p page ≡ Some f → IsMapped p page f
   mapped p page f h =
-      let w = then_some (own_frame image.version) (page_word M (at_pid p page)) f h in
+      let w = then_some (own_frame image.version) (page_word M (at_page p page)) f h in
       let a = word-at p page w.0 w.1 in
       let o = own_real image.version w.0 f w.2 in
       record { t = a.t; table = a.table; inside = a.inside; present = ap is_present a.is ∙ a.present; real = ap (is_lazy_word image.version) a.is ∙ o.0; frame = ap frame_number a.is ∙ o.1 }
 
   pub word-from : (p s t i : ℕ) → table_at M p s ≡ Some t → t < frames image → i < 1024 → is_present (word_of M t i) ≡ true
-      → page_word M (at_pid p (s * 1024 + i)) ≡ Some (word_of M t i)
+      → page_word M (at_page p (s * 1024 + i)) ≡ Some (word_of M t i)
   word-from p s t i table inside low present =
       let region : slot_number (s * 1024 + i) ≡ s = omega arith in
       let index : index_number (s * 1024 + i) ≡ i = omega arith in
@@ -127,19 +126,19 @@ module _ (image : Image) where
     in-user-slots : (slot : Slot) (word : ℕ) → page_word M slot ≡ Some word → list_any (same slot_order slot) user_slots ≡ true
     in-user-slots slot word h = let u = user-slot pids slot word h in in_user_slots slot.pid slot.page u.0 u.1 u.2
 
-    frame-test : (f : ℕ) (slot : Slot) → is_this f (frame_at image slot) ≡ true → list_any (same slot_order slot) user_slots ≡ true
+    frame-test : (f : ℕ) (slot : Slot) → is_this f (page_frame M slot) ≡ true → list_any (same slot_order slot) user_slots ≡ true
     frame-test f slot h =
-        let w = then_some (own_frame image.version) (page_word M slot) f (this-true f (frame_at image slot) h) in
+        let w = then_some (own_frame image.version) (page_word M slot) f (this-true f (page_frame M slot) h) in
         in-user-slots slot w.0 w.1
 
     -- how many slots are mapped to a frame
-    pub maps-counts : (f : ℕ) → memory.IsCount (maps image f) (λ slot. frame_at image slot ≡ Some f)
+    pub maps-counts : (f : ℕ) → memory.IsCount slot_order (maps image f) (λ slot. page_frame M slot ≡ Some f)
     unfolding maps
-    maps-counts f = slot_count (λ slot. is_this f (frame_at image slot)) (frame-test f) (λ slot. frame_at image slot ≡ Some f) (λ slot. (this-true f (frame_at image slot), this-is f (frame_at image slot)))
+    maps-counts f = slot_count (λ slot. is_this f (page_frame M slot)) (frame-test f) (λ slot. page_frame M slot ≡ Some f) (λ slot. (this-true f (page_frame M slot), this-is f (page_frame M slot)))
 
-    pub maps-is : (f n : ℕ) → memory.IsCount n (λ slot. frame_at image slot ≡ Some f) → n ≡ maps image f
+    pub maps-is : (f n : ℕ) → memory.IsCount slot_order n (λ slot. page_frame M slot ≡ Some f) → n ≡ maps image f
     unfolding maps
-    maps-is f n c = slot_count_is (λ slot. is_this f (frame_at image slot)) (frame-test f) (λ slot. frame_at image slot ≡ Some f) (λ slot. (this-true f (frame_at image slot), this-is f (frame_at image slot))) n c
+    maps-is f n c = slot_count_is (λ slot. is_this f (page_frame M slot)) (frame-test f) (λ slot. page_frame M slot ≡ Some f) (λ slot. (this-true f (page_frame M slot), this-is f (page_frame M slot))) n c
 
     module _ (p : ℕ) where
       table-test : (s : ℕ) → is_some (table_at M p s) ≡ true → (256 ≤ s) × (s < 256 + 704)
@@ -149,10 +148,10 @@ module _ (image : Image) where
           let u = user_range s l.user in
           (u.0, let k = u.1 in omega arith)
 
-      page-test : (page : ℕ) → is_some (page_word M (at_pid p page)) ≡ true → (0x40000 ≤ page) × (page < 0x40000 + 0xb0000)
+      page-test : (page : ℕ) → is_some (page_word M (at_page p page)) ≡ true → (0x40000 ≤ page) × (page < 0x40000 + 0xb0000)
       page-test page h =
-          let w = is_there (page_word M (at_pid p page)) h in
-          let u = user-slot pids (at_pid p page) w.0 w.1 in
+          let w = is_there (page_word M (at_page p page)) h in
+          let u = user-slot pids (at_page p page) w.0 w.1 in
           let low = u.1 in
           let high = u.2 in
           (low, omega arith)
@@ -162,14 +161,14 @@ module _ (image : Image) where
         tables = tables_by image p;
         pages = pages_by image p;
         named = number_count (λ s. is_some (table_at M p s)) 256 704 table-test (λ s. IsTrue (is_some (table_at M p s))) (λ s. (λ h. h, λ h. h));
-        mapped = number_count (λ page. is_some (page_word M (at_pid p page))) 0x40000 0xb0000 page-test (λ page. IsTrue (is_some (page_word M (at_pid p page)))) (λ page. (λ h. h, λ h. h));
+        mapped = number_count (λ page. is_some (page_word M (at_page p page))) 0x40000 0xb0000 page-test (λ page. IsTrue (is_some (page_word M (at_page p page)))) (λ page. (λ h. h, λ h. h));
         sum = is;
       }
 
       pub charge-is : (used : ℕ) → machine.IsCharge M p used → used ≡ 1 + tables_by image p + pages_by image p
       charge-is used c =
           let a = number_count_is (λ s. is_some (table_at M p s)) 256 704 table-test (λ s. IsTrue (is_some (table_at M p s))) (λ s. (λ h. h, λ h. h)) c.tables c.named in
-          let b = number_count_is (λ page. is_some (page_word M (at_pid p page))) 0x40000 0xb0000 page-test (λ page. IsTrue (is_some (page_word M (at_pid p page)))) (λ page. (λ h. h, λ h. h)) c.pages c.mapped in
+          let b = number_count_is (λ page. is_some (page_word M (at_page p page))) 0x40000 0xb0000 page-test (λ page. IsTrue (is_some (page_word M (at_page p page)))) (λ page. (λ h. h, λ h. h)) c.pages c.mapped in
           c.sum ∙ (λ i. 1 + a i + b i)
 
   -- ---- Frames that nothing names, or one alone

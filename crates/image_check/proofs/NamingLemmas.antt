@@ -8,7 +8,7 @@ use Rattle.page_map.specs.Pages.{counted, count_range}
 use Rattle.page_map.proofs.PageLemmas.{count_range-add, count_range-le, count_range-none, count_range-zero, count_word}
 use Rattle.address_space.specs.Image.{table_at}
 use Rattle.memory_image.specs.Image.{Image, frames, memory_of}
-use Rattle.memory_image.specs.Words.{own_frame}
+use Rattle.address_space.specs.ImageWords.{own_frame}
 use Rattle.memory_image.proofs.ImageReads.{no_word}
 use Rattle.image_check.specs.Counts.{sum_range, is_this, frame_of, names_by, maps_by}
 use Rattle.image_check.specs.Adds.{Adds, Counts, HaveRoom, MayGrow, frame_named, words_naming}

@@ -13,10 +13,9 @@ use Rattle.page_words.specs.FiniteSet as set
 use Rattle.page_words.specs.FiniteSet.{Set}
 use Rattle.page_words.proofs.MapLemmas.{get-collect, same_set}
 use Rattle.page_map.specs.Pages.{count_range}
-use Rattle.address_space.specs.Spaces.{Slot, slot_order}
-use Rattle.address_space.specs.Slots.{user_slots, slots_below, at_pid}
-use Rattle.address_space.specs.Image as memory
-use Rattle.process_table.specs.Image as machine
+use Rattle.address_space.specs.Spaces.{Slot, slot_order, at_page}
+use Rattle.address_space.specs.Slots.{user_slots, slots_below}
+use Rattle.address_space.specs.Image.{IsCount}
 use Rattle.image_check.specs.Counts.{sum_range}
 use Rattle.image_check.proofs.RangeLemmas.{sum-same, sum-more, count-same}
 use Rattle.image_check.proofs.CountLemmas.{any-in, any-append, len-collect}
@@ -39,10 +38,10 @@ false_and : (a b : Bool) → a ≡ false → (a && b) ≡ false
 false_and true b h = cc
 false_and false b h = refl
 
-pub pages_apart : (p i j : ℕ) → i ≢ j → same slot_order (at_pid p i) (at_pid p j) ≡ false
+pub pages_apart : (p i j : ℕ) → i ≢ j → same slot_order (at_page p i) (at_page p j) ≡ false
 pages_apart p i j n = both_tied (nat_cmp p p) (nat_cmp i j) ∙ and_false (is_eq (nat_cmp p p)) (is_eq (nat_cmp i j)) (numbers_apart i j n)
 
-pids_apart : (p i q j : ℕ) → p ≢ q → same slot_order (at_pid p i) (at_pid q j) ≡ false
+pids_apart : (p i q j : ℕ) → p ≢ q → same slot_order (at_page p i) (at_page q j) ≡ false
 pids_apart p i q j n = both_tied (nat_cmp p q) (nat_cmp i j) ∙ false_and (is_eq (nat_cmp p q)) (is_eq (nat_cmp i j)) (numbers_apart p q n)
 
 -- ---- The set of those of a list's keys that pass
@@ -71,6 +70,18 @@ module _ {K : Type 0} (o : Order K) (t : K → Bool) (ks : List K) (covers : (k 
   -- any set with the same members
   is-passing : (s : Set o) → ((q : K) → IsTrue (set.contains s q) ↔ IsTrue (t q)) → s ≡ passing
   is-passing s are = same_set s passing (λ q. both_ways (set.contains s q) (t q) (are q).0 (are q).1 ∙ sym (contains-passing q))
+
+  module _ (P : K → Type 0) (says : (k : K) → IsTrue (t k) ↔ P k) (n : ℕ) (long : set.len passing ≡ n) where
+    -- how many keys have P
+    is_count : IsCount o n P
+    is_count = record {
+      members = passing;
+      are = λ k. (λ h. (says k).0 (sym (contains-passing k) ∙ h), λ h. contains-passing k ∙ (says k).1 h);
+      count = sym long;
+    }
+
+    count_is : (m : ℕ) → IsCount o m P → m ≡ n
+    count_is m c = c.count ∙ ap set.len (is-passing c.members (λ q. (λ h. (says q).1 ((c.are q).0 h), λ h. (c.are q).1 ((says q).0 h)))) ∙ long
 
 -- ---- Numbers
 
@@ -104,72 +115,61 @@ module _ (t : ℕ → Bool) (first count : ℕ) (covers : (k : ℕ) → t k ≡ 
 
   module _ (P : ℕ → Type 0) (says : (k : ℕ) → IsTrue (t k) ↔ P k) where
     -- how many numbers have P
-    pub number_count : machine.IsCount (count_range t first count) P
-    number_count = record {
-      members = passing nat_order t (listed first count) any-listed;
-      are = λ k. (λ h. (says k).0 (sym (contains-passing nat_order t (listed first count) any-listed k) ∙ h), λ h. contains-passing nat_order t (listed first count) any-listed k ∙ (says k).1 h);
-      count = sym len-listed;
-    }
+    pub number_count : IsCount nat_order (count_range t first count) P
+    number_count = is_count nat_order t (listed first count) any-listed P says (count_range t first count) len-listed
 
-    pub number_count_is : (n : ℕ) → machine.IsCount n P → n ≡ count_range t first count
-    number_count_is n c =
-        c.count
-        ∙ ap set.len (is-passing nat_order t (listed first count) any-listed c.members (λ q. (λ h. (says q).1 ((c.are q).0 h), λ h. (c.are q).1 ((says q).0 h))))
-        ∙ len-listed
+    pub number_count_is : (n : ℕ) → IsCount nat_order n P → n ≡ count_range t first count
+    number_count_is = count_is nat_order t (listed first count) any-listed P says (count_range t first count) len-listed
 
 -- ---- Slots
 
-other_pid : (p k n : ℕ) (pages : List ℕ) → n ≤ p → list_any (same slot_order (at_pid p k)) (slots_below n pages) ≡ false
+other_pid : (p k n : ℕ) (pages : List ℕ) → n ≤ p → list_any (same slot_order (at_page p k)) (slots_below n pages) ≡ false
 other_pid p k zero pages low = refl
 other_pid p k (suc n) pages low =
-    any-append (same slot_order (at_pid p k)) (list_map (at_pid n) pages) (slots_below n pages)
+    any-append (same slot_order (at_page p k)) (list_map (at_page n) pages) (slots_below n pages)
     ∙ (λ i. in-row pages i || other_pid p k n pages (omega arith) i)
   where
-    in-row : (js : List ℕ) → list_any (same slot_order (at_pid p k)) (list_map (at_pid n) js) ≡ false
+    in-row : (js : List ℕ) → list_any (same slot_order (at_page p k)) (list_map (at_page n) js) ≡ false
     in-row [] = refl
     in-row (j ∷ js) = λ i. pids_apart p k n j (omega arith) i || in-row js i
 
 len-slots_below : {X : Type 0} (f : Slot → Option X) (first count n : ℕ)
-    → map.len (map.collect {o = slot_order} f (slots_below n (range_with_len first count))) ≡ sum_range (λ p. count_range (λ page. is_some (f (at_pid p page))) first count) 0 n
+    → map.len (map.collect {o = slot_order} f (slots_below n (range_with_len first count))) ≡ sum_range (λ p. count_range (λ page. is_some (f (at_page p page))) first count) 0 n
 unfolding sum_range
 len-slots_below f first count zero = refl
 len-slots_below f first count (suc n) =
-    let a = len-collect slot_order (at_pid n) (pages_apart n) f (slots_below n (range_with_len first count)) (λ k. other_pid n k n (range_with_len first count) (omega arith)) first count in
+    let a = len-collect slot_order (at_page n) (pages_apart n) f (slots_below n (range_with_len first count)) (λ k. other_pid n k n (range_with_len first count) (omega arith)) first count in
     let b = len-slots_below f first count n in
-    let c = sum-more (λ p. count_range (λ page. is_some (f (at_pid p page))) first count) n in
+    let c = sum-more (λ p. count_range (λ page. is_some (f (at_page p page))) first count) n in
     omega (arith, a, b, c)
 
 len-user_slots : {X : Type 0} (f : Slot → Option X)
-    → map.len (map.collect {o = slot_order} f user_slots) ≡ sum_range (λ p. count_range (λ page. is_some (f (at_pid p page))) 0x40000 0xb0000) 0 64
+    → map.len (map.collect {o = slot_order} f user_slots) ≡ sum_range (λ p. count_range (λ page. is_some (f (at_page p page))) 0x40000 0xb0000) 0 64
 unfolding user_slots
 len-user_slots f = len-slots_below f 0x40000 0xb0000 64
 
 module _ (t : Slot → Bool) (covers : (slot : Slot) → t slot ≡ true → list_any (same slot_order slot) user_slots ≡ true) (P : Slot → Type 0) (says : (slot : Slot) → IsTrue (t slot) ↔ P slot) where
   slots_that_pass : ℕ
-  slots_that_pass = sum_range (λ p. count_range (λ page. t (at_pid p page)) 0x40000 0xb0000) 0 64
+  slots_that_pass = sum_range (λ p. count_range (λ page. t (at_page p page)) 0x40000 0xb0000) 0 64
 
   len-passing : set.len (passing slot_order t user_slots covers) ≡ slots_that_pass
   unfolding passing slots_that_pass
   len-passing =
       len-user_slots (λ slot. marked (t slot))
-      ∙ sum-same (λ p. count_range (λ page. is_some (marked (t (at_pid p page)))) 0x40000 0xb0000) (λ p. count_range (λ page. t (at_pid p page)) 0x40000 0xb0000) 0 64
-      (λ p _ _. count-same (λ page. is_some (marked (t (at_pid p page)))) (λ page. t (at_pid p page)) 0x40000 0xb0000 (λ page _ _. marked_some (t (at_pid p page))))
+      ∙ sum-same (λ p. count_range (λ page. is_some (marked (t (at_page p page)))) 0x40000 0xb0000) (λ p. count_range (λ page. t (at_page p page)) 0x40000 0xb0000) 0 64
+      (λ p _ _. count-same (λ page. is_some (marked (t (at_page p page)))) (λ page. t (at_page p page)) 0x40000 0xb0000 (λ page _ _. marked_some (t (at_page p page))))
 
   -- how many slots have P
-  slots_counted : memory.IsCount slots_that_pass P
-  slots_counted = record {
-    members = passing slot_order t user_slots covers;
-    are = λ k. (λ h. (says k).0 (sym (contains-passing slot_order t user_slots covers k) ∙ h), λ h. contains-passing slot_order t user_slots covers k ∙ (says k).1 h);
-    count = sym len-passing;
-  }
+  slots_counted : IsCount slot_order slots_that_pass P
+  slots_counted = is_count slot_order t user_slots covers P says slots_that_pass len-passing
 
-  pub slot_count : memory.IsCount (sum_range (λ p. count_range (λ page. t (at_pid p page)) 0x40000 0xb0000) 0 64) P
+  slots_counted_are : (n : ℕ) → IsCount slot_order n P → n ≡ slots_that_pass
+  slots_counted_are = count_is slot_order t user_slots covers P says slots_that_pass len-passing
+
+  pub slot_count : IsCount slot_order (sum_range (λ p. count_range (λ page. t (at_page p page)) 0x40000 0xb0000) 0 64) P
   unfolding slots_that_pass
   slot_count = slots_counted
 
-  pub slot_count_is : (n : ℕ) → memory.IsCount n P → n ≡ sum_range (λ p. count_range (λ page. t (at_pid p page)) 0x40000 0xb0000) 0 64
+  pub slot_count_is : (n : ℕ) → IsCount slot_order n P → n ≡ sum_range (λ p. count_range (λ page. t (at_page p page)) 0x40000 0xb0000) 0 64
   unfolding slots_that_pass
-  slot_count_is n c =
-      c.count
-      ∙ ap set.len (is-passing slot_order t user_slots covers c.members (λ q. (λ h. (says q).1 ((c.are q).0 h), λ h. (c.are q).1 ((says q).0 h))))
-      ∙ len-passing
+  slot_count_is = slots_counted_are

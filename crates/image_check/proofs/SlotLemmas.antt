@@ -7,11 +7,11 @@ use Rattle.page_words.specs.Addresses.{slot_number, index_number}
 use Rattle.page_words.specs.Words.{is_present}
 use Rattle.page_map.specs.Pages.{count_range}
 use Rattle.page_map.proofs.PageLemmas.{count_range-same, count_range-none}
-use Rattle.address_space.specs.Slots.{at_pid}
+use Rattle.address_space.specs.Spaces.{at_page}
 use Rattle.address_space.specs.Image as memory
 use Rattle.address_space.specs.Image.{named_by, table_at, word_of, present_word, page_word}
 use Rattle.memory_image.specs.Image.{Image, frames, process_at, directory_from, memory_of}
-use Rattle.memory_image.specs.Words.{own_frame}
+use Rattle.address_space.specs.ImageWords.{own_frame}
 use Rattle.image_check.specs.Counts.{is_this, frame_of, names_by, maps_by, words_in}
 use Rattle.image_check.specs.Adds.{frame_named, words_naming}
 use Rattle.memory_image.proofs.ImageReads.{no_word}
@@ -22,14 +22,14 @@ module _ (image : Image) (p slot : ℕ) where
   M = memory_of image
 
   -- the word of a page whose slot has a table
-  word-in : (t i : ℕ) → i < 1024 → table_at M p slot ≡ Some t → page_word M (at_pid p (1024 * slot + i)) ≡ present_word M t (word_of M t i)
+  word-in : (t i : ℕ) → i < 1024 → table_at M p slot ≡ Some t → page_word M (at_page p (1024 * slot + i)) ≡ present_word M t (word_of M t i)
   word-in t i low there =
       let region : slot_number (1024 * slot + i) ≡ slot = omega arith in
       let index : index_number (1024 * slot + i) ≡ i = omega arith in
       ap (λ x. option_and_then (λ t. present_word M t (word_of M t (index_number (1024 * slot + i)))) x) (ap (table_at M p) region ∙ there)
       ∙ ap (λ j. present_word M t (word_of M t j)) index
 
-  no-word : (i : ℕ) → i < 1024 → table_at M p slot ≡ None → page_word M (at_pid p (1024 * slot + i)) ≡ None
+  no-word : (i : ℕ) → i < 1024 → table_at M p slot ≡ None → page_word M (at_page p (1024 * slot + i)) ≡ None
   no-word i low none =
       let region : slot_number (1024 * slot + i) ≡ slot = omega arith in
       ap (λ x. option_and_then (λ t. present_word M t (word_of M t (index_number (1024 * slot + i)))) x) (ap (table_at M p) region ∙ none)
@@ -49,14 +49,14 @@ module _ (image : Image) (p slot : ℕ) where
   some-if false w = refl
 
   pub pages_in_table : (t : ℕ) → length image.bytes ≡ 4096 * frames image → table_at M p slot ≡ Some t
-      → words_in image t ≡ count_range (λ page. is_some (page_word M (at_pid p page))) (1024 * slot) 1024
+      → words_in image t ≡ count_range (λ page. is_some (page_word M (at_page p page))) (1024 * slot) 1024
   pages_in_table t size there =
-      count_range-same (λ i. is_present (word_of M t i)) (λ page. is_some (page_word M (at_pid p page))) 0 (1024 * slot) 1024
+      count_range-same (λ i. is_present (word_of M t i)) (λ page. is_some (page_word M (at_page p page))) 0 (1024 * slot) 1024
       (λ i low. ap (λ k. is_present (word_of M t k)) (let e : 0 + i ≡ i = omega arith in e)
       ∙ sym (ap is_some (word-in t i low there ∙ present-inside size t i) ∙ some-if (is_present (word_of M t i)) (word_of M t i)))
 
-  pub pages_without_table : table_at M p slot ≡ None → count_range (λ page. is_some (page_word M (at_pid p page))) (1024 * slot) 1024 ≡ 0
-  pages_without_table none = count_range-none (λ page. is_some (page_word M (at_pid p page))) (1024 * slot) 1024 (λ i low. ap is_some (no-word i low none))
+  pub pages_without_table : table_at M p slot ≡ None → count_range (λ page. is_some (page_word M (at_page p page))) (1024 * slot) 1024 ≡ 0
+  pages_without_table none = count_range-none (λ page. is_some (page_word M (at_page p page))) (1024 * slot) 1024 (λ i low. ap is_some (no-word i low none))
 
   named-if : (b : Bool) (w : ℕ) → option_and_then (own_frame image.version) (if b then Some w else None) ≡ (if b then own_frame image.version w else None)
   named-if true w = refl

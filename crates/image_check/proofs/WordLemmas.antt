@@ -3,7 +3,7 @@ use Rattle.std.proofs.Common.{◌≡◌, ℕ, ◌≤◌, Bool, true, false, ◌&
 use Rattle.std.specs.Prelude.{nat_le, ◌==◌, if◌then◌else◌, MatchBool}
 use Rattle.std.proofs.lemmas.Bool.{and_parts, and_from, not-true, eqb-true, eq-eqb, leb-true, le-leb}
 use Rattle.page_words.specs.Words.{flag, frame_number, is_present, is_writable, is_user, is_accessed, is_dirty, has_may, is_lazy, is_granted, NamesTable, NamesPage}
-use Rattle.memory_image.specs.Words.{NamesRealPage, NamesPageIn}
+use Rattle.address_space.specs.ImageWords.{NamesRealPage, NamesPageIn}
 use Rattle.image_check.specs.WordTests.{are_clear, only_with, are_equal, is_lazy_or_real, names_table, names_real_page, names_any_page, names_page, TestsDecide}
 
 only : (a b : Bool) → only_with a b ≡ true → a ≡ true → b ≡ true

@@ -4,7 +4,7 @@ use Rattle.page_words.specs.Words.{is_present}
 use Rattle.address_space.specs.Image.{word_of}
 use Rattle.page_map.specs.Pages.{count_range}
 use Rattle.memory_image.specs.Image.{Image, memory_of}
-use Rattle.memory_image.specs.Words.{own_frame}
+use Rattle.address_space.specs.ImageWords.{own_frame}
 use Rattle.image_check.specs.Counts.{is_this}
 
 -- each frame's count grew by what k gives for it

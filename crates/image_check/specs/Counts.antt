@@ -3,9 +3,8 @@ use Rattle.std.specs.Prelude.{ℕ, zero, suc, ◌+◌, Bool, true, false, ◌&&�
 use Rattle.page_words.specs.Words.{is_present}
 use Rattle.page_map.specs.Pages.{count_range}
 use Rattle.address_space.specs.Spaces.{at_page}
-use Rattle.address_space.specs.Image.{table_at, page_word, word_of}
+use Rattle.address_space.specs.Image.{table_at, page_word, page_frame, word_of}
 use Rattle.memory_image.specs.Image.{Image, memory_of}
-use Rattle.memory_image.specs.Sound.{frame_at}
 
 -- the sum of what f gives for that many numbers from a first one on
 unfoldable pub sum_range : (ℕ → ℕ) → ℕ → ℕ → ℕ
@@ -24,7 +23,7 @@ is_this f (Some g) = g == f
 
 -- the frame of a process's page, where it is mapped and isn't lazy
 abbrev pub frame_of : Image → ℕ → ℕ → Option ℕ
-frame_of image p page = frame_at image (at_page p page)
+frame_of image p page = page_frame (memory_of image) (at_page p page)
 
 -- ---- Of one process
 

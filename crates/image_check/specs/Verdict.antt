@@ -12,8 +12,9 @@ use Rattle.image_check.specs.declared.clauses.FrameClause.{FrameClause}
 use Rattle.image_check.specs.declared.clauses.FrameClause.TheVariants as of_frame
 use Rattle.memory_image.specs.declared.processes.Process.{Process}
 use Rattle.memory_image.specs.Image.{Image, frames, process_at, role_at, memory_of, IsImage}
-use Rattle.memory_image.specs.Words.{is_lazy_word}
-use Rattle.memory_image.specs.Sound.{quota_from, IsSound}
+use Rattle.address_space.specs.ImageWords.{is_lazy_word}
+use Rattle.memory_image.specs.Sound.{account_at, IsSound}
+use Rattle.process_table.specs.Image.{quota_from}
 use Rattle.memory_image.specs.Tests.{first_failing}
 use Rattle.image_check.specs.Counts.{sum_range, all_range, is_this, tables_by, pages_by, names, maps, words_in}
 use Rattle.image_check.specs.WordTests.{names_table, names_page}
@@ -71,7 +72,7 @@ uses_its_frames image p r = r.used == 1 + tables_by image p + pages_by image p
 
 -- what the children of a process have of its quota
 unfoldable pub quotas_from : Image → ℕ → ℕ
-quotas_from image p = sum_range (λ q. quota_from p q (process_at image q)) 0 64
+quotas_from image p = sum_range (λ q. quota_from p q (account_at image q)) 0 64
 
 abbrev pub gives_its_children : Image → ℕ → Process → Bool
 gives_its_children image p r = r.given == quotas_from image p

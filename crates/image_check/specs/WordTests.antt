@@ -3,7 +3,7 @@ use Rattle.std.specs.Prelude.{ℕ, Bool, ◌&&◌, ◌||◌, ◌==◌, not, nat_
 use Rattle.std.specs.List.{list_all}
 use Rattle.std.specs.Bool.{Decides}
 use Rattle.page_words.specs.Words.{flag, frame_number, is_present, is_writable, is_user, is_accessed, is_dirty, has_may, is_lazy, is_granted, NamesTable}
-use Rattle.memory_image.specs.Words.{NamesPageIn}
+use Rattle.address_space.specs.ImageWords.{NamesPageIn}
 
 -- each of these bits is 0
 abbrev pub are_clear : ℕ → List ℕ → Bool

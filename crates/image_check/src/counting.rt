@@ -3,7 +3,7 @@
 ghost use Rattle.std.specs.Prelude.{◌≡◌, ◌*◌, ◌<◌, None, if◌then◌else◌, length, slice_index};
 ghost use Rattle.page_words.specs.Words.{is_present};
 ghost use Rattle.page_map.specs.Pages.{counted};
-ghost use Rattle.memory_image.specs.Words.{own_frame};
+ghost use Rattle.address_space.specs.ImageWords.{own_frame};
 ghost use Rattle.image_check.specs.Counts.{is_this};
 ghost use Rattle.image_check.specs.Adds.{Adds, HaveRoom, MayGrow};
 

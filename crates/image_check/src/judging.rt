@@ -5,7 +5,8 @@ ghost use Rattle.page_words.specs.Words.{is_present};
 ghost use Rattle.page_map.specs.Pages.{counted};
 ghost use Rattle.address_space.specs.Image.{is_user_slot, table_at, word_of};
 ghost use Rattle.memory_image.specs.Image.{frames, process_at, role_at, memory_of};
-ghost use Rattle.memory_image.specs.Sound.{quota_from};
+ghost use Rattle.memory_image.specs.Sound.{account_at};
+ghost use Rattle.process_table.specs.Image.{quota_from};
 ghost use Rattle.image_check.specs.Counts.{all_range, tables_by, pages_by, names_by, maps_by};
 ghost use Rattle.image_check.specs.Adds.{Adds, HaveRoom};
 ghost use Rattle.image_check.specs.Verdict.{is_directory_of, is_table_of, is_page, has_parent, has_directory, links_table, maps_page, table_is_right, quotas_from, keeps_its_quota, live_clause, process_clause};
@@ -127,7 +128,7 @@ fn uses_its_frames(used: u32, found: &Walked) -> bool
 /// What a process has of another's quota: its own where it is a child of that one.
 fn quota_from(image: &Image, pid: Pid, number: u8) -> u32
     requires { number < 64 }
-    ensures { result ≡ quota_from pid number (process_at image.now number) }
+    ensures { result ≡ quota_from pid number (account_at image.now number) }
 {
     let Some(member) = Pid::new(number) else {
         return 0;

@@ -2,7 +2,7 @@
 
 ghost use Rattle.std.specs.Prelude.{◌≡◌, ◌<◌, List};
 ghost use Rattle.page_words.specs.Words.{flag};
-ghost use Rattle.memory_image.specs.Words.{is_lazy_word, own_frame};
+ghost use Rattle.address_space.specs.ImageWords.{is_lazy_word, own_frame};
 ghost use Rattle.image_check.specs.WordTests.{names_table, names_page, names_real_page, names_any_page, is_lazy_or_real, are_clear};
 
 use page_words::{DirWord, Frame, TableWord};

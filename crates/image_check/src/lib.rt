@@ -19,7 +19,7 @@ pub use judging::judge_process;
 pub use laws::{draws_add_up, sound_where_nothing_fails, tests_decide};
 pub use memory_image::{
     Image, ImageFault, NoMemory, Process, WriteFailed, bytes_are_refused_where_they_spell_none,
-    fault_in, images_are_judged_as_machines, images_have_one_spelling, images_of_machines_stand,
-    images_stand_for_one, read_image, write_image,
+    fault_in, images_have_one_spelling, images_of_machines_stand, images_stand_for_one, read_image,
+    write_image,
 };
 pub use verdicts::{Verdict, check};

@@ -16,11 +16,11 @@ use Rattle.page_map.specs.Pages.{user_pages}
 use Rattle.alloc_table.specs.declared.Role.{Role}
 use Rattle.alloc_table.specs.declared.Role.TheVariants.{Table, Page}
 use Rattle.address_space.specs.Spaces.{Slot, Cell, at_page}
-use Rattle.address_space.specs.Image.{table_at, word_of, present_word, page_word}
+use Rattle.address_space.specs.Image.{table_at, word_of, present_word, page_word, page_frame, SlotStands, CellStands}
 use Rattle.process_table.specs.State.{State}
 use Rattle.memory_image.specs.Image.{Image, IsImage, frames, role_at, memory_of}
-use Rattle.memory_image.specs.Sound.{IsSound, StandsFor, SlotStands, CellStands, IsOneGroup, frame_at}
-use Rattle.memory_image.specs.Words.{is_lazy_word, own_frame}
+use Rattle.memory_image.specs.Sound.{IsSound, StandsFor}
+use Rattle.address_space.specs.ImageWords.{is_lazy_word, own_frame}
 use Rattle.memory_image.proofs.References.{same_some}
 use Rattle.image_check.specs.Told.{fails_nothing, verdict_on}
 use Rattle.image_check.specs.Verdict.{is_table_of}
@@ -92,7 +92,7 @@ module _ (image : Image) (s : State) (p : ℕ) (stands : StandsFor image s) wher
       ap (λ x. option_and_then (λ u. present_word (memory_of image) u (word_of (memory_of image) u (index_number (1024 * slot + i)))) x) (ap (table_at (memory_of image) p) region ∙ none)
 
   -- a page with its word is listed as its cell
-  as-cell : (page : ℕ) (word : Option ℕ) (cell : Option Cell) → SlotStands image (at_page p page) word cell → (ws : List (ℕ × ℕ)) → ((w : ℕ) → word ≡ Some w → ws ≡ (page, w) ∷ []) → (word ≡ None → ws ≡ [])
+  as-cell : (page : ℕ) (word : Option ℕ) (cell : Option Cell) → SlotStands (memory_of image) (at_page p page) word cell → (ws : List (ℕ × ℕ)) → ((w : ℕ) → word ≡ Some w → ws ≡ (page, w) ∷ []) → (word ≡ None → ws ≡ [])
       → map (listed image.version) ws ≡ listed_cell page cell
   as-cell page None None stand ws some none = ap (map (listed image.version)) (none refl)
   as-cell page (Some w) (Some c) stand ws some none =
@@ -114,7 +114,7 @@ module _ (image : Image) (s : State) (p : ℕ) (stands : StandsFor image s) wher
       let page : ℕ = 1024 * slot + i in
       let w : ℕ = word_of (memory_of image) t i in
       let word : page_word (memory_of image) (at_page p page) ≡ (if is_present w then Some w else None) = word-in slot t i low there in
-      as-cell page (page_word (memory_of image) (at_page p page)) (finite.get s.spaces (at_page p page)) (stands.cells (at_page p page)) (word_at_page page w)
+      as-cell page (page_word (memory_of image) (at_page p page)) (finite.get s.spaces (at_page p page)) (stands.memory.cells (at_page p page)) (word_at_page page w)
       (λ v is. present-some (is_present w) page w v (sym word ∙ is))
       (λ is. present-none (is_present w) page w (sym word ∙ is))
 
@@ -123,7 +123,7 @@ module _ (image : Image) (s : State) (p : ℕ) (stands : StandsFor image s) wher
       sym (none-range (λ i. listed_slot (1024 * slot + i)) 0 1024 (λ i low high.
       let page : ℕ = 1024 * slot + i in
       let word = no-word slot i (omega arith) none in
-      sym (as-cell page (page_word (memory_of image) (at_page p page)) (finite.get s.spaces (at_page p page)) (stands.cells (at_page p page)) []
+      sym (as-cell page (page_word (memory_of image) (at_page p page)) (finite.get s.spaces (at_page p page)) (stands.memory.cells (at_page p page)) []
       (λ v is. let bad : ◌≡◌ {A = Option ℕ} None (Some v) = sym word ∙ is in cc) (λ is. refl))))
   in-slot slot (Some t) there =
       ap (map (listed image.version)) (runs-list image slot t)
@@ -153,8 +153,8 @@ one-group : {P : Type 0} (a b : Bool) → (IsTrue a ↔ P) → (IsTrue b ↔ P) 
 one-group a b f g = both_ways a b (λ h. g.1 (f.0 h)) (λ h. f.1 (g.0 h))
 
 module _ (image : Image) (s : State) (slot : Slot) (word : ℕ) (c : Cell) (stands : StandsFor image s) where
-  cell-stands : page_word (memory_of image) slot ≡ Some word → finite.get s.spaces slot ≡ Some c → CellStands image slot word c
-  cell-stands there is = subst (λ (x : Option ℕ × Option Cell). SlotStands image slot x.0 x.1) (λ i. (there i, is i)) (stands.cells slot)
+  cell-stands : page_word (memory_of image) slot ≡ Some word → finite.get s.spaces slot ≡ Some c → CellStands (memory_of image) slot word c
+  cell-stands there is = subst (λ (x : Option ℕ × Option Cell). SlotStands (memory_of image) slot x.0 x.1) (λ i. (there i, is i)) (stands.memory.cells slot)
 
   own-real : is_lazy_word image.version word ≡ false → own_frame image.version word ≡ Some (frame_number word)
   own-real real = ap (λ b. if b then None else Some (frame_number word)) real
@@ -162,13 +162,13 @@ module _ (image : Image) (s : State) (slot : Slot) (word : ℕ) (c : Cell) (stan
   pub holders-are : page_word (memory_of image) slot ≡ Some word → is_lazy_word image.version word ≡ false → finite.get s.spaces slot ≡ Some c → holders (role_at image (frame_number word)) ≡ set.len c.holders
   holders-are there real is =
       let f : ℕ = frame_number word in
-      let here : frame_at image slot ≡ Some f = ap (option_and_then (own_frame image.version)) there ∙ own-real real in
+      let here : page_frame (memory_of image) slot ≡ Some f = ap (option_and_then (own_frame image.version)) there ∙ own-real real in
       let page = stands.sound.memory.pages slot f here in
       let counted = (stands.sound.memory.counts f page.0 page.1).1 in
       let cell = cell-stands there is in
       ap holders page.1
       ∙ counted.count
-      ∙ ap set.len (same_set counted.members c.holders (λ other. one-group _ _ (counted.are other) (subst (λ b. IsTrue (set.contains c.holders other) ↔ MatchBool b (other ≡ slot) (frame_at image other ≡ Some f)) real (cell.group other))))
+      ∙ ap set.len (same_set counted.members c.holders (λ other. one-group _ _ (counted.are other) (subst (λ b. IsTrue (set.contains c.holders other) ↔ MatchBool b (other ≡ slot) (page_frame (memory_of image) other ≡ Some f)) real (cell.group other))))
 
 pub holders_are_slots : HoldersAreSlots
 holders_are_slots image s slot word c stands there real is = holders-are image s slot word c stands there real is

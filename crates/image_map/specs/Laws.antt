@@ -10,7 +10,7 @@ use Rattle.address_space.specs.Image.{page_word}
 use Rattle.process_table.specs.State.{State}
 use Rattle.memory_image.specs.Image.{Image, IsImage, role_at, memory_of}
 use Rattle.memory_image.specs.Sound.{IsSound, StandsFor}
-use Rattle.memory_image.specs.Words.{is_lazy_word, lets_write}
+use Rattle.address_space.specs.ImageWords.{is_lazy_word, lets_write}
 use Rattle.image_map.specs.declared.runs.Run.{Run}
 use Rattle.image_map.specs.Runs.{runs_at, pages_in}
 use Rattle.image_map.specs.Text.{run_line, pages_text, holders, limit}

@@ -8,7 +8,7 @@ use Rattle.alloc_table.specs.declared.Role.{Role}
 use Rattle.alloc_table.specs.declared.Role.TheVariants.{Reserved, Free, Directory, Table, Page}
 use Rattle.memory_image.specs.declared.processes.Process.{Process}
 use Rattle.memory_image.specs.Image.{Image, frames, process_at, role_at}
-use Rattle.memory_image.specs.Words.{is_lazy_word, lets_write}
+use Rattle.address_space.specs.ImageWords.{is_lazy_word, lets_write}
 use Rattle.image_check.specs.Told.{fails_nothing, verdict_on}
 use Rattle.image_check.specs.Text.{verdict_text}
 use Rattle.image_map.specs.declared.runs.Run.{Run}

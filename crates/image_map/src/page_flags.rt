@@ -1,7 +1,7 @@
 //! What the word of a page says, in an image of each version.
 
 ghost use Rattle.std.specs.Prelude.{◌≡◌};
-ghost use Rattle.memory_image.specs.Words.{is_lazy_word, lets_write};
+ghost use Rattle.address_space.specs.ImageWords.{is_lazy_word, lets_write};
 
 use page_words::TableWord;
 

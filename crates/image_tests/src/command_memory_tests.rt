@@ -9,11 +9,11 @@ use crate::common::say;
 use crate::comparing::{same, same_bytes};
 use clap::error::ErrorKind;
 use script_run::ScriptFault;
-use script_run::worked::sharing::SHARE_BOTH_WAYS;
 use std::alloc::Global;
 use std::process::Abort;
 use tool_answers::{ToolFault, WordsFault, words};
 use tower_line::{Job, check_bytes, job_of, write_script_image};
+use worked_scripts::sharing::SHARE_BOTH_WAYS;
 
 /// What the words of a race ask for, or why they are refused.
 fn race_asked(alloc: Global) -> Result<Job<'static>, ErrorKind> {

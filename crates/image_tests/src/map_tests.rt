@@ -6,10 +6,10 @@ use crate::damaged_tests::{Damage, damaged, damages, frames_of, image_bytes, lin
 use crate::images::{place_of, put, record_of, word};
 use crate::worked_tests::groups;
 use map_jobs::{Form, draw_bytes};
-use script_run::worked::Worked;
 use std::alloc::Global;
 use std::process::Abort;
 use tool_answers::ToolFault;
+use worked_scripts::Worked;
 
 /// A page that was stored to, lazy ones behind it, a child that holds the page too, and a child of that.
 const FAMILY: &str =

@@ -13,7 +13,7 @@ use Rattle.page_map.specs.Pages.{counted}
 use Rattle.memory_image.specs.Image.{Image}
 use Rattle.image_check.specs.Draws.{times}
 use Rattle.integrity_checker.specs.declared.draw.Drawer.{Drawer}
-use Rattle.integrity_checker.specs.Drawn.{drawer, once_below, share_of, spent_of, where_so, times_of, FitsSeat, IsIdle, Held, Given, Drew, Totals, gathered, spent}
+use Rattle.integrity_checker.specs.Drawn.{drawer, once_below, share_of, spent_of, where_so, times_of, FitsSeat, IsIdle, ViewsFit, Given, Drew, Totals, gathered, spent}
 use Rattle.integrity_checker.proofs.Sums.{total_set, total_push, total_least, total_one, times_append, times_nil, times_one, once_more, none_yet, full, spent_share, total_single, first_set}
 
 abbrev AllFit : ℕ → List Drawer → Type 0
@@ -37,8 +37,8 @@ spent_all : (v : Drawer) → v.done ≡ true → spent_of v ≡ v.share
 spent_all v e = ap (λ b. where_so b v.share) e
 
 -- the seat draws a number below 64
-drew_low : (n w : ℕ) (views : List Drawer) (seat : ℕ) (v : Drawer) → Held n w views → get_elem? views seat ≡ some v → 0 < v.share → v.done ≡ false → w < 64
-    → Held n (w + 1) (set views seat (drawer v.image v.share (v.drawn ++ w ∷ []) v.done))
+drew_low : (n w : ℕ) (views : List Drawer) (seat : ℕ) (v : Drawer) → ViewsFit n w views → get_elem? views seat ≡ some v → 0 < v.share → v.done ≡ false → w < 64
+    → ViewsFit n (w + 1) (set views seat (drawer v.image v.share (v.drawn ++ w ∷ []) v.done))
 drew_low n w views seat v h at some_share idle low =
     let u = drawer v.image v.share (v.drawn ++ w ∷ []) v.done in (
       (λ x.
@@ -57,8 +57,8 @@ drew_low n w views seat v h at some_share idle low =
     )
 
 -- the seat finds none left
-drew_high : (n w : ℕ) (views : List Drawer) (seat : ℕ) (v : Drawer) → Held n w views → get_elem? views seat ≡ some v → 0 < v.share → v.done ≡ false → 64 ≤ w
-    → Held n (w + 1) (set views seat (drawer v.image v.share v.drawn true))
+drew_high : (n w : ℕ) (views : List Drawer) (seat : ℕ) (v : Drawer) → ViewsFit n w views → get_elem? views seat ≡ some v → 0 < v.share → v.done ≡ false → 64 ≤ w
+    → ViewsFit n (w + 1) (set views seat (drawer v.image v.share v.drawn true))
 drew_high n w views seat v h at some_share idle high =
     let u = drawer v.image v.share v.drawn true in (
       (λ x. let s = total_set (times_of x) views seat v u at in let p = h.0 x in let a = full x w high in let b = full x (w + 1) (omega arith) in
@@ -71,7 +71,7 @@ drew_high n w views seat v h at some_share idle high =
       fit_set (w + 1) views seat u (λ j z e. ((h.3 j z e).0, λ d. let k = (h.3 j z e).1 d in omega arith)) ((λ none. absurd (omega arith)), (λ d. omega arith)),
     )
 
-low_enough : (n w : ℕ) (views : List Drawer) → n ≤ 8 → Held n w views → w + 1 < 2 ^ 64
+low_enough : (n w : ℕ) (views : List Drawer) → n ≤ 8 → ViewsFit n w views → w + 1 < 2 ^ 64
 low_enough n w views few h = let a = spent_share views in let b = h.1 in let c = h.2 in omega arith
 
 pub draws : (n slots seat : ℕ) (v : Drawer) (carried : List (ℕ × ℕ)) → 0 < v.share → v.done ≡ false → Allows (Given n) slots seat (v, carried) 0 (λ k. (k + 1) % 2 ^ 64) (Drew (step slots 0 1 0 none) (v, carried))
@@ -85,14 +85,14 @@ draws n slots seat v carried some_share idle s h homes at small =
       drawer v.image v.share v.drawn true,
       keeps,
       tt,
-      (h.0, words.0, subst (λ (k : ℕ). Held n k (set s.views seat (drawer v.image v.share v.drawn true))) (sym now) (drew_high n w s.views seat v h.2 at some_share idle high)),
+      (h.0, words.0, subst (λ (k : ℕ). ViewsFit n k (set s.views seat (drawer v.image v.share v.drawn true))) (sym now) (drew_high n w s.views seat v h.2 at some_share idle high)),
       (refl, (λ low. absurd (omega arith)), (λ _. refl)),
     ))
     (λ below. let low : w < 64 = omega arith in (
       drawer v.image v.share (v.drawn ++ w ∷ []) v.done,
       keeps,
       tt,
-      (h.0, words.0, subst (λ (k : ℕ). Held n k (set s.views seat (drawer v.image v.share (v.drawn ++ w ∷ []) v.done))) (sym now) (drew_low n w s.views seat v h.2 at some_share idle low)),
+      (h.0, words.0, subst (λ (k : ℕ). ViewsFit n k (set s.views seat (drawer v.image v.share (v.drawn ++ w ∷ []) v.done))) (sym now) (drew_low n w s.views seat v h.2 at some_share idle low)),
       (
         refl,
         (λ _. (refl, let least = total_least (times_of w) s.views seat v at in let all = h.2.0 w in let none' = none_yet w low in let t : ℕ = times w v.drawn in let o : ℕ = once_below w (min w 64) in omega arith)),
@@ -162,7 +162,7 @@ totals n slots seat v carried all done s h homes at small =
       v,
       keeps,
       tt,
-      (h.0, words.0, subst (λ (z : ℕ × List Drawer). Held n z.0 z.1) (λ i. (sym words.1 i, sym same i)) h.2),
+      (h.0, words.0, subst (λ (z : ℕ × List Drawer). ViewsFit n z.0 z.1) (λ i. (sym words.1 i, sym same i)) h.2),
       (
         refl,
         (λ x.

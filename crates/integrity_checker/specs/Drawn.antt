@@ -45,15 +45,15 @@ FitsSeat word v = (v.share ≡ 0 → v.drawn ≡ []) × (v.done ≡ true → 64 
 
 -- The word and the views of n helpers: each number below 64 and below the word stands in one list, once,
 -- and no other in any; the shares are those of n helpers; each helper that is done has drawn once more.
-abbrev pub Held : ℕ → ℕ → List Drawer → Type 0
-Held n word views =
+abbrev pub ViewsFit : ℕ → ℕ → List Drawer → Type 0
+ViewsFit n word views =
     ((x : ℕ) → total (times_of x) views ≡ once_below x (min word 64))
     × (total share_of views ≡ n)
     × (word ≤ 64 + total spent_of views)
     × ((seat : ℕ) (v : Drawer) → get_elem? views seat ≡ some v → FitsSeat word v)
 
 abbrev pub Given : ℕ → State ℕ Drawer → Type 0
-Given n s = (n ≤ 8) × (length s.words ≡ 1) × Held n (slice_index s.words 0) s.views
+Given n s = (n ≤ 8) × (length s.words ≡ 1) × ViewsFit n (slice_index s.words 0) s.views
 
 -- one draw: a number that the seat had not drawn, or none is left
 abbrev pub Drew : Step ℕ → Me ℕ Drawer → ℕ → Me ℕ Drawer → Type 0

@@ -13,8 +13,8 @@ use Rattle.integrity_checker.specs.declared.faults.AuditFault.{AuditFault}
 use Rattle.integrity_checker.specs.declared.faults.AuditFault.TheVariants.{BadCount, Missing, NoMemory}
 
 -- the numbers that a helper has answered, in their order
-abbrev pub answered : Helper → List ℕ
-answered helper = helper.seat.me.0.drawn
+abbrev pub numbers_answered : Helper → List ℕ
+numbers_answered helper = helper.seat.me.0.drawn
 
 -- a helper of this audit
 abbrev pub IsOf : Audit → Helper → Type 0
@@ -27,7 +27,7 @@ Stepped image before after NoneLeft = after ≡ before
 
 -- together they have answered each number below 64 once, and no other
 abbrev pub AnsweredAll : List Helper → Type 0
-AnsweredAll helpers = (x : ℕ) → sum_by (λ h. times x (answered h)) helpers ≡ once_below x 64
+AnsweredAll helpers = (x : ℕ) → sum_by (λ h. times x (numbers_answered h)) helpers ≡ once_below x 64
 
 -- a helper is not among them, or one of them has not answered that none is left
 abbrev pub AreMissing : Audit → List Helper → Type 0

@@ -9,7 +9,7 @@ ghost use Rattle.image_check.specs.Told.{verdict_on};
 ghost use Rattle.image_check.specs.Verdict.{process_clause};
 ghost use Rattle.image_check.specs.Draws.{times};
 ghost use Rattle.integrity_checker.specs.Drawn.{IsIdle, drawer, once_below};
-ghost use Rattle.integrity_checker.specs.Steps.{AnsweredAll, AreMissing, IsOf, IsRefused, answered};
+ghost use Rattle.integrity_checker.specs.Steps.{AnsweredAll, AreMissing, IsOf, IsRefused, numbers_answered};
 
 use crate::draw::{About, CutOne, Drawer, Gather, Total};
 use crate::faults::AuditFault;
@@ -35,7 +35,7 @@ impl Audit {
         ensures count { IfOk result (λ r. (r.0.about.helpers ≡ helpers) × (vec_len r.1 ≡ helpers)) }
         ensures image { IfOk result (λ r. r.0.about.image ≡ image) }
         ensures own { IfOk result (λ r. All (λ h. IsOf r.0 h) r.1.items) }
-        ensures empty { IfOk result (λ r. All (λ h. answered h ≡ []) r.1.items) }
+        ensures empty { IfOk result (λ r. All (λ h. numbers_answered h ≡ []) r.1.items) }
     {
         if helpers < 1 || helpers > 8 {
             return Err(AuditFault::BadCount);
@@ -84,7 +84,7 @@ fn made(alloc: Global, image: Image, helpers: u64) -> Option<(Audit, Vec<Helper>
     ensures count { IfSome result (λ r. (r.0.about.helpers ≡ helpers) × (vec_len r.1 ≡ helpers)) }
     ensures image { IfSome result (λ r. r.0.about.image ≡ image) }
     ensures own { IfSome result (λ r. All (λ h. IsOf r.0 h) r.1.items) }
-    ensures empty { IfSome result (λ r. All (λ h. answered h ≡ []) r.1.items) }
+    ensures empty { IfSome result (λ r. All (λ h. numbers_answered h ≡ []) r.1.items) }
 {
     let about = About { helpers, image };
     let Ok(room) = vec![in alloc; None; about.image.frames() as usize] else {
@@ -159,7 +159,7 @@ fn join_all(audit: &Audit, first: Helper, mut others: Vec<Helper>) -> Findings
     requires own { IsOf audit.now first × All (λ h. IsOf audit.now h) others.items }
     requires ended { (first.done ≡ true) × All (λ h. h.done ≡ true) others.items }
     requires count { vec_len others + 1 ≡ audit.now.about.helpers }
-    ensures all { (x : ℕ) → times x (answered first) + sum_by (λ h. times x (answered h)) others.items ≡ once_below x 64 }
+    ensures all { (x : ℕ) → times x (numbers_answered first) + sum_by (λ h. times x (numbers_answered h)) others.items ≡ once_below x 64 }
     ensures processes { result.clauses ≡ map (process_clause audit.now.about.image) (range_with_len 0 64) }
     ensures names { Counts result.names.items (frames audit.now.about.image) (λ f. counts.names audit.now.about.image f) }
     ensures maps { Counts result.maps.items (frames audit.now.about.image) (λ f. counts.maps audit.now.about.image f) }

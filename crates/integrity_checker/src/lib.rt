@@ -13,8 +13,8 @@ pub use draw::{About, Drawer, Draws};
 pub use faults::AuditFault;
 pub use image_check::{
     FrameClause, Image, ImageFault, NoMemory, Process, ProcessClause, Verdict, WriteFailed,
-    bytes_are_refused_where_they_spell_none, check, fault_in, images_are_judged_as_machines,
-    images_have_one_spelling, images_of_machines_stand, images_stand_for_one, read_image,
-    sound_where_nothing_fails, tests_decide, write_image,
+    bytes_are_refused_where_they_spell_none, check, fault_in, images_have_one_spelling,
+    images_of_machines_stand, images_stand_for_one, read_image, sound_where_nothing_fails,
+    tests_decide, write_image,
 };
 pub use parts::{Audit, DrawTable, Helper, Step};

@@ -3,7 +3,7 @@
 ghost use Rattle.std.specs.Prelude.{◌≡◌, ◌↔◌, [], true, false};
 ghost use Rattle.integrity_checker.specs.Drawn.{drawer};
 ghost use Rattle.integrity_checker.specs.Found.{IsFound};
-ghost use Rattle.integrity_checker.specs.Steps.{IsOf, Stepped, answered};
+ghost use Rattle.integrity_checker.specs.Steps.{IsOf, Stepped, numbers_answered};
 
 use crate::draw::{Draw, Drawer};
 use crate::findings::Findings;
@@ -30,7 +30,7 @@ impl Helper {
     pub fn step(&mut self, audit: &Audit) -> Step
         requires { IsOf audit.now self.old }
         ensures own { IsOf audit.now self.new }
-        ensures step { Stepped audit.now.about.image (answered self.old) (answered self.new) result }
+        ensures step { Stepped audit.now.about.image (numbers_answered self.old) (numbers_answered self.new) result }
         ensures done { (result ≡ Step.NoneLeft) ↔ (self.new.seat.me.0.done ≡ true) }
     {
         if self.done {

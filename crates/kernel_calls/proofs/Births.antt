@@ -31,7 +31,7 @@ use Rattle.page_words.proofs.SetLemmas.{same_cases, get-remove_other, get-remove
 use Rattle.address_space.specs.Spaces.{Slot, Cell, Spaces, at_page, is_of, copy_of, copied}
 use Rattle.address_space.proofs.costs.Copied.{copied-own}
 use Rattle.quota_tree.specs.Book.{Book}
-use Rattle.page_sharing.specs.Offers.{offer_of}
+use Rattle.page_sharing.specs.Offers.{offer_key}
 use Rattle.table_walk.specs.declared.Access.TheVariants.{Read, Write}
 use Rattle.process_table.specs.State.{State, is_live, child_of}
 use Rattle.process_table.specs.Calls.{
@@ -255,21 +255,21 @@ places_stay s e p = elim (place_of s e p) [
 
 -- who is not live makes no offer and has none
 pub no_offer_by : (s : State) (k page target : ℕ) → IsWellFormed s → is_live s k ≡ false
-    → map.get s.offers (offer_of k page target) ≡ None
-no_offer_by s k page target w free = by (map.get s.offers (offer_of k page target)) refl
+    → map.get s.offers (offer_key k page target) ≡ None
+no_offer_by s k page target w free = by (map.get s.offers (offer_key k page target)) refl
   where
-    by : (x : Option Bool) → map.get s.offers (offer_of k page target) ≡ x → x ≡ None
+    by : (x : Option Bool) → map.get s.offers (offer_key k page target) ≡ x → x ≡ None
     by None is = refl
-    by (Some right) is = absurd (let o = (w.offers (offer_of k page target) right is).offered in let live =
+    by (Some right) is = absurd (let o = (w.offers (offer_key k page target) right is).offered in let live =
         w.owners (at_page k page) o.0 o.1 in cc)
 
 pub no_offer_to : (s : State) (giver page k : ℕ) → IsWellFormed s → is_live s k ≡ false
-    → map.get s.offers (offer_of giver page k) ≡ None
-no_offer_to s giver page k w free = by (map.get s.offers (offer_of giver page k)) refl
+    → map.get s.offers (offer_key giver page k) ≡ None
+no_offer_to s giver page k w free = by (map.get s.offers (offer_key giver page k)) refl
   where
-    by : (x : Option Bool) → map.get s.offers (offer_of giver page k) ≡ x → x ≡ None
+    by : (x : Option Bool) → map.get s.offers (offer_key giver page k) ≡ x → x ≡ None
     by None is = refl
-    by (Some right) is = absurd (let live = (w.offers (offer_of giver page k) right is).target in cc)
+    by (Some right) is = absurd (let live = (w.offers (offer_key giver page k) right is).target in cc)
 
 -- the book and the offers with a new child
 abbrev pub with_child : State → ℕ → ℕ → ℕ → Spaces → State

@@ -35,7 +35,7 @@ use Rattle.page_words.specs.FiniteSet as set
 use Rattle.page_words.specs.FiniteSet.{Set}
 use Rattle.page_words.proofs.MapLemmas.{same_set}
 use Rattle.address_space.specs.Spaces.{Slot, slot_order, Cell, fresh, at_page, slot_at}
-use Rattle.page_sharing.specs.Offers.{OfferKey, offer_of}
+use Rattle.page_sharing.specs.Offers.{OfferKey, offer_key}
 use Rattle.process_table.specs.State.{State, is_live}
 use Rattle.process_table.specs.WellFormed.{IsWellFormed}
 use Rattle.kernel_calls.specs.Authority.{
@@ -144,7 +144,7 @@ module _ (s : State) (e : Event) (C D : ℕ → Bool) (w : IsWellFormed s) (conf
       mine j =
           let pid : slot.pid ≡ e.pid = j.own in
           let given = shares_by s j.giver other j.cell j.given j.among in
-          let offer = offer_live s (offer_of j.giver.pid j.giver.page e.pid) j.right w j.offered in
+          let offer = offer_live s (offer_key j.giver.pid j.giver.page e.pid) j.right w j.offered in
           let member : C e.pid ≡ true = sym (same e.pid offer.1 (ap (is_live (next s e)) (sym pid) ∙ after.0))
           ∙ ap D (sym pid) ∙ own in
           let kept : C j.giver.pid ≡ true = sym (ap (keeps_within C) j.call) ∙ keeps member in
@@ -156,7 +156,7 @@ module _ (s : State) (e : Event) (C D : ℕ → Bool) (w : IsWellFormed s) (conf
       theirs j =
           let pid : other.pid ≡ e.pid = j.own in
           let given = shares_by s j.giver slot j.cell j.given j.among in
-          let offer = offer_live s (offer_of j.giver.pid j.giver.page e.pid) j.right w j.offered in
+          let offer = offer_live s (offer_key j.giver.pid j.giver.page e.pid) j.right w j.offered in
           let outsider : C e.pid ≡ false = sym (same e.pid offer.1 (ap (is_live (next s e)) (sym pid) ∙ after.1))
           ∙ ap D (sym pid) ∙ apart in
           let member : C slot.pid ≡ true = sym (same slot.pid (shared_live s j.giver slot w given).1 after.0) ∙ own in
@@ -165,7 +165,7 @@ module _ (s : State) (e : Event) (C D : ℕ → Bool) (w : IsWellFormed s) (conf
           by : (j : IsJoin s e other slot) → shares s j.giver slot ≡ true → C e.pid ≡ false → C slot.pid ≡ true
               → (b : Bool) → C j.giver.pid ≡ b → ⊥
           by j given outsider member true is = let t =
-              confined.offers_none (offer_of j.giver.pid j.giver.page e.pid) j.right j.offered is in cc
+              confined.offers_none (offer_key j.giver.pid j.giver.page e.pid) j.right j.offered is in cc
           by j given outsider member false is = let t = back s j.giver slot w given in let f =
               confined.shares_none slot j.giver member is in cc
 
@@ -288,19 +288,19 @@ module _ (s : State) (e : Event) (C : ℕ → Bool) (p : ℕ) (w : IsWellFormed 
               ∙ groups_same page other
               ∙ ap (λ (x : Option Cell). unwrap_or (option_map (λ (k : Cell). set.contains k.holders other) x) false) a)
 
-  offers_same : (page target : ℕ) → map.get (next s e).offers (offer_of p page target) ≡ map.get s.offers
-      (offer_of p page target)
-  offers_same page target = elim (u.offers (offer_of p page target) refl) [
+  offers_same : (page target : ℕ) → map.get (next s e).offers (offer_key p page target) ≡ map.get s.offers
+      (offer_key p page target)
+  offers_same page target = elim (u.offers (offer_key p page target) refl) [
     | inl same_offer ↦ same_offer
-    | inr ended ↦ gone (map.get s.offers (offer_of p page target)) refl ended.0 ended.1
+    | inr ended ↦ gone (map.get s.offers (offer_key p page target)) refl ended.0 ended.1
   ]
     where
-      gone : (x : Option Bool) → map.get s.offers (offer_of p page target) ≡ x
-          → map.get (next s e).offers (offer_of p page target) ≡ None → EndsOffer e (offer_of p page target)
-          → map.get (next s e).offers (offer_of p page target) ≡ x
+      gone : (x : Option Bool) → map.get s.offers (offer_key p page target) ≡ x
+          → map.get (next s e).offers (offer_key p page target) ≡ None → EndsOffer e (offer_key p page target)
+          → map.get (next s e).offers (offer_key p page target) ≡ x
       gone None at none ends = none
       gone (Some right) at none ends = absurd (
-          let inside : C target ≡ true = confined.offers_none (offer_of p page target) right at member in
+          let inside : C target ≡ true = confined.offers_none (offer_key p page target) right at member in
           let out : C target ≡ false = ap C ends.target ∙ outsider in
           cc)
 

@@ -69,7 +69,7 @@ use Rattle.address_space.specs.Spaces.{
 }
 use Rattle.address_space.proofs.costs.Copied.{copied-own, copied-other}
 use Rattle.address_space.proofs.steps.Departures.{left, get-without}
-use Rattle.page_sharing.specs.Offers.{OfferKey, offer_order, offer_of}
+use Rattle.page_sharing.specs.Offers.{OfferKey, offer_order, offer_key}
 use Rattle.process_table.specs.State.{State, is_live, child_of}
 use Rattle.process_table.specs.Calls.{
   accept_refusal,
@@ -264,7 +264,7 @@ module _ (s : State) (e : Event) (giver giver_page page : ℕ) (w : IsWellFormed
   may = may_accept s e.pid giver giver_page page allowed
 
   abbrev taken : OfferKey
-  taken = offer_of giver giver_page e.pid
+  taken = offer_key giver giver_page e.pid
 
   abbrev new : Slot
   new = at_page e.pid page
@@ -434,23 +434,23 @@ after_offers s e key right (call.Unmap page) is h =
 after_offers s e key right (call.Protect page write) is h = inl h
 after_offers s e key right (call.Info page) is h = inl h
 after_offers s e key right (call.Offer page target write) is h =
-    elim (same_cases offer_order key (offer_of e.pid page target)) [
+    elim (same_cases offer_order key (offer_key e.pid page target)) [
       | inl same ↦ (
           let write_is : write ≡ right = same_Some write right
-          (sym (get-insert s.offers (offer_of e.pid page target) write key
+          (sym (get-insert s.offers (offer_key e.pid page target) write key
           ∙ ap (λ b. cond b (Some write) (map.get s.offers key)) same.1) ∙ h) in
           inr (
             sym (ap (λ (k : OfferKey). k.offerer) same.0),
             is
                 ∙ (λ i. call.Offer (sym same.0 i).page (sym same.0 i).target (write_is i)),
           ))
-      | inr other ↦ inl (sym (get-insert s.offers (offer_of e.pid page target) write key
+      | inr other ↦ inl (sym (get-insert s.offers (offer_key e.pid page target) write key
           ∙ ap (λ b. cond b (Some write) (map.get s.offers key)) other.1) ∙ h)
     ]
 after_offers s e key right (call.Withdraw page target) is h =
-    inl (retained s.offers (λ k. not (same offer_order (offer_of e.pid page target) k)) key right h).1
+    inl (retained s.offers (λ k. not (same offer_order (offer_key e.pid page target) k)) key right h).1
 after_offers s e key right (call.Accept giver giver_page page) is h =
-    inl (retained s.offers (λ k. not (same offer_order (offer_of giver giver_page e.pid) k)) key right h).1
+    inl (retained s.offers (λ k. not (same offer_order (offer_key giver giver_page e.pid) k)) key right h).1
 after_offers s e key right (call.Spawn quota) is h = inl h
 after_offers s e key right (call.Fork quota) is h = inl h
 after_offers s e key right call.Exit is h = inl (retained s.offers

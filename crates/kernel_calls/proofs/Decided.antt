@@ -22,7 +22,7 @@ use Rattle.page_words.specs.declared.addresses.Size.{Size}
 use Rattle.table_walk.specs.declared.Access.{Access}
 use Rattle.table_walk.specs.declared.Access.TheVariants.{Read, Write}
 use Rattle.kernel_calls.specs.Machine.{answer, answer_of, after, next, completes, refused_or, planned_or}
-use Rattle.kernel_calls.specs.Decisions.{decision_of, plan_of_call, plan_of_event, refused_plan, charge_in, charge_after, tested, spawned}
+use Rattle.kernel_calls.specs.Decisions.{judged_of, decision_of, plan_of_call, plan_of_event, refused_plan, charge_in, charge_after, tested, spawned}
 use Rattle.kernel_calls.proofs.Charges.{map_charge, spawn_lives, fork_lives, fork_charge}
 use Rattle.kernel_calls.specs.declared.calls.Call.{Call}
 use Rattle.kernel_calls.specs.declared.calls.Call.TheVariants as call
@@ -65,6 +65,10 @@ goes-event v e = by (is_live v.state e.pid)
     by : (b : Bool) → goes_on (if b then plan_of_call v e.pid e.call else plan.Refused cause.NoProcess) ≡ completes (if b then answer_of v.state e.pid e.call else reply.Refused cause.NoProcess)
     by true = goes-call v e.pid e.call
     by false = refl
+
+-- where what is planned of an event goes on or not, so does the answer
+pub goes-by : (v : View) (e : Event) (x : Plan) (b : Bool) → x ≡ plan_of_event v e → goes_on x ≡ b → completes (answer v.state e) ≡ b
+goes-by v e x b is h = sym (goes-event v e) ∙ sym (ap goes_on is) ∙ h
 
 -- where a decision's plan goes on or not, so does the answer
 pub goes-decided : (v : View) (d : Decision) (b : Bool) → d ≡ decision_of v d.event → goes_on d.plan ≡ b → completes (answer v.state d.event) ≡ b
@@ -113,8 +117,8 @@ module _ (v : View) (e : Event) (x : Option Cause) (r : Reply) (charge : ℕ) (l
   charge-live (Some k) same is = ap (λ t. charge_in t e.pid) (next-stays v.state e (ap completes is)) ∙ ap (λ b. if b then cost v.state.spaces e.pid else 0) live
   charge-live None same is = ap (λ t. charge_in t e.pid) (next-goes v.state e (ap completes is ∙ goes)) ∙ charged same
 
-  decided : decision_of v e ≡ record { event = e; plan = refused_plan x; reply = refused_or x r; used_after = used-by x (cost v.state.spaces e.pid) charge }
-  decided = λ i. record { event = e; plan = plan-live i; reply = reply-live i; used_after = charge-live x refl reply-live i }
+  decided : judged_of v e ≡ record { plan = refused_plan x; reply = refused_or x r; used_after = used-by x (cost v.state.spaces e.pid) charge }
+  decided = λ i. record { plan = plan-live i; reply = reply-live i; used_after = charge-live x refl reply-live i }
 
 first-cause : (s : State) (p : ℕ) (x : Option Cause) → is_live s p ≡ true → first_cause s p x ≡ x
 first-cause s p x live = ap (λ b. if b then x else Some cause.NoProcess) live
@@ -122,17 +126,17 @@ first-cause s p x live = ap (λ b. if b then x else Some cause.NoProcess) live
 -- done or refused, as the test of the call answers
 decided-test : (v : View) (e : Event) (x : Option Cause) (charge used : ℕ) → is_live v.state e.pid ≡ true → used ≡ cost v.state.spaces e.pid
     → plan_of_call v e.pid e.call ≡ refused_plan x → answer_of v.state e.pid e.call ≡ refused_or x reply.Done → (x ≡ None → charge_in (after v.state e.pid e.call) e.pid ≡ charge)
-    → tested e (number_unless (first_cause v.state e.pid x) charge) used ≡ decision_of v e
+    → tested (number_unless (first_cause v.state e.pid x) charge) used ≡ judged_of v e
 decided-test v e x charge used live used_is plan_is reply_is charged =
-    (λ i. tested e (number_unless (first-cause v.state e.pid x live i) charge) (used_is i)) ∙ by x
+    (λ i. tested (number_unless (first-cause v.state e.pid x live i) charge) (used_is i)) ∙ by x
     ∙ sym (decided v e x reply.Done charge live refl plan_is reply_is charged)
   where
-    by : (y : Option Cause) → tested e (number_unless y charge) (cost v.state.spaces e.pid) ≡ record { event = e; plan = refused_plan y; reply = refused_or y reply.Done; used_after = used-by y (cost v.state.spaces e.pid) charge }
+    by : (y : Option Cause) → tested (number_unless y charge) (cost v.state.spaces e.pid) ≡ record { plan = refused_plan y; reply = refused_or y reply.Done; used_after = used-by y (cost v.state.spaces e.pid) charge }
     by (Some k) = refl
     by None = refl
 
 pub decided-map : (v : View) (e : Event) (page : ℕ) (write : Bool) (used : ℕ) → e.call ≡ call.Map page write → is_live v.state e.pid ≡ true → used ≡ cost v.state.spaces e.pid
-    → tested e (map_answer v.state e.pid page) used ≡ decision_of v e
+    → tested (map_answer v.state e.pid page) used ≡ judged_of v e
 decided-map v e page write used is live used_is =
     decided-test v e (map_refusal v.state e.pid page) (cost (after_map v.state e.pid page true).spaces e.pid) used live used_is (ap (plan_of_call v e.pid) is) (ap (answer_of v.state e.pid) is)
     (λ _. ap (λ c. charge_in (after v.state e.pid c) e.pid) is ∙ ap (λ b. if b then cost (after_map v.state e.pid page write).spaces e.pid else 0) live ∙ map_charge v.state e.pid page write)
@@ -142,13 +146,13 @@ protect-charge : (s : State) (p page : ℕ) (write : Bool) → protect_refusal s
 protect-charge s p page write allowed = cost-protected_of s.spaces (at_page p page) write p (may_protect s p page write allowed).mapped
 
 pub decided-protect : (v : View) (e : Event) (page : ℕ) (write : Bool) (used : ℕ) → e.call ≡ call.Protect page write → is_live v.state e.pid ≡ true → used ≡ cost v.state.spaces e.pid
-    → tested e (protect_answer v.state e.pid page write) used ≡ decision_of v e
+    → tested (protect_answer v.state e.pid page write) used ≡ judged_of v e
 decided-protect v e page write used is live used_is =
     decided-test v e (protect_refusal v.state e.pid page write) (cost v.state.spaces e.pid) used live used_is (ap (plan_of_call v e.pid) is) (ap (answer_of v.state e.pid) is)
     (λ allowed. ap (λ c. charge_in (after v.state e.pid c) e.pid) is ∙ ap (λ b. if b then cost (after_protect v.state e.pid page write).spaces e.pid else 0) live ∙ protect-charge v.state e.pid page write allowed)
 
 pub decided-offer : (v : View) (e : Event) (page target : ℕ) (write : Bool) (used : ℕ) → e.call ≡ call.Offer page target write → is_live v.state e.pid ≡ true → used ≡ cost v.state.spaces e.pid
-    → tested e (offer_answer v.state e.pid page target write) used ≡ decision_of v e
+    → tested (offer_answer v.state e.pid page target write) used ≡ judged_of v e
 decided-offer v e page target write used is live used_is =
     decided-test v e (offer_refusal v.state e.pid page target write) (cost v.state.spaces e.pid) used live used_is (ap (plan_of_call v e.pid) is) (ap (answer_of v.state e.pid) is)
     (λ _. ap (λ c. charge_in (after v.state e.pid c) e.pid) is ∙ ap (λ b. if b then cost v.state.spaces e.pid else 0) live)
@@ -157,31 +161,23 @@ decided-offer v e page target write used is live used_is =
 decided-child : (v : View) (e : Event) (x : Option Cause) (used : ℕ) → is_live v.state e.pid ≡ true → used ≡ cost v.state.spaces e.pid
     → plan_of_call v e.pid e.call ≡ refused_plan x → answer_of v.state e.pid e.call ≡ refused_or x (reply.Child (child_of v.state))
     → (x ≡ None → charge_in (after v.state e.pid e.call) e.pid ≡ cost v.state.spaces e.pid)
-    → spawned e (child_unless (first_cause v.state e.pid x) (child_of v.state)) used ≡ decision_of v e
+    → spawned (child_unless (first_cause v.state e.pid x) (child_of v.state)) used ≡ judged_of v e
 decided-child v e x used live used_is plan_is reply_is charged =
-    (λ i. spawned e (child_unless (first-cause v.state e.pid x live i) (child_of v.state)) (used_is i)) ∙ by x
+    (λ i. spawned (child_unless (first-cause v.state e.pid x live i) (child_of v.state)) (used_is i)) ∙ by x
     ∙ sym (decided v e x (reply.Child (child_of v.state)) (cost v.state.spaces e.pid) live refl plan_is reply_is charged)
   where
-    by : (y : Option Cause) → spawned e (child_unless y (child_of v.state)) (cost v.state.spaces e.pid) ≡ record { event = e; plan = refused_plan y; reply = refused_or y (reply.Child (child_of v.state)); used_after = used-by y (cost v.state.spaces e.pid) (cost v.state.spaces e.pid) }
+    by : (y : Option Cause) → spawned (child_unless y (child_of v.state)) (cost v.state.spaces e.pid) ≡ record { plan = refused_plan y; reply = refused_or y (reply.Child (child_of v.state)); used_after = used-by y (cost v.state.spaces e.pid) (cost v.state.spaces e.pid) }
     by (Some k) = refl
     by None = refl
 
 pub decided-spawn : (v : View) (e : Event) (quota used : ℕ) → e.call ≡ call.Spawn quota → is_live v.state e.pid ≡ true → used ≡ cost v.state.spaces e.pid
-    → spawned e (spawn_answer v.state e.pid quota) used ≡ decision_of v e
+    → spawned (spawn_answer v.state e.pid quota) used ≡ judged_of v e
 decided-spawn v e quota used is live used_is =
     decided-child v e (spawn_refusal v.state e.pid quota) used live used_is (ap (plan_of_call v e.pid) is) (ap (answer_of v.state e.pid) is)
     (λ _. ap (λ c. charge_in (after v.state e.pid c) e.pid) is ∙ ap (λ b. if b then cost v.state.spaces e.pid else 0) (spawn_lives v.state e.pid quota live))
 
 pub decided-fork : (v : View) (e : Event) (quota used : ℕ) → e.call ≡ call.Fork quota → is_live v.state e.pid ≡ true → used ≡ cost v.state.spaces e.pid
-    → spawned e (fork_answer v.state e.pid quota) used ≡ decision_of v e
+    → spawned (fork_answer v.state e.pid quota) used ≡ judged_of v e
 decided-fork v e quota used is live used_is =
     decided-child v e (fork_refusal v.state e.pid quota) used live used_is (ap (plan_of_call v e.pid) is) (ap (answer_of v.state e.pid) is)
     (λ allowed. ap (λ c. charge_in (after v.state e.pid c) e.pid) is ∙ ap (λ b. if b then cost (after_fork v.state e.pid quota).spaces e.pid else 0) (fork_lives v.state e.pid quota live) ∙ fork_charge v.state e.pid quota live allowed)
-
--- a live process's container tells its cost
-pub used-container : (s : State) (p : ℕ) (c : Container) → container_of s p ≡ Some c → c.used ≡ cost s.spaces p
-used-container s p c is = by (map.get s.book p) is
-  where
-    by : (x : Option Member) → option_map (λ member. as_container s p member) x ≡ Some c → c.used ≡ cost s.spaces p
-    by None h = cc
-    by (Some m) h = sym (ap (λ o. (unwrap_or o c).used) h)

@@ -24,7 +24,7 @@ use Rattle.page_words.specs.Addresses.{is_user_page}
 use Rattle.page_words.specs.FiniteMap as map
 use Rattle.page_words.proofs.OptionLemmas.{some_value}
 use Rattle.address_space.specs.Spaces.{Slot, is_of, at_page, slot_at}
-use Rattle.page_sharing.specs.Offers.{offer_of}
+use Rattle.page_sharing.specs.Offers.{offer_key}
 use Rattle.process_table.specs.State.{State, is_live, child_of}
 use Rattle.process_table.specs.Calls.{withdraw_refusal, spawn_refusal, fork_refusal}
 use Rattle.process_table.specs.WellFormed.{IsWellFormed}
@@ -81,8 +81,8 @@ module _ (s : State) (C Q : ℕ → Bool) (confined : IsConfined s C) (apart : (
           by_sight true own h = let f = apart seen.0 seen.1 in let m : C seen.0 ≡ true =
               ap C (sym (eqb-true other.pid seen.0 own)) ∙ is in cc
           by_sight false own h =
-              let r = some_value (map.get s.offers (offer_of other.pid other.page seen.0)) h in
-              let m : C seen.0 ≡ true = confined.offers_none (offer_of other.pid other.page seen.0) r.0 r.1 is in
+              let r = some_value (map.get s.offers (offer_key other.pid other.page seen.0)) h in
+              let m : C seen.0 ≡ true = confined.offers_none (offer_key other.pid other.page seen.0) r.0 r.1 is in
               let f = apart seen.0 seen.1 in
               cc
 
@@ -110,10 +110,10 @@ module _ (s : State) (C Q : ℕ → Bool) (confined : IsConfined s C) (apart : (
   quiet_call q (call.Info page) member within strange h = tt
   quiet_call q (call.Offer page target write) member within strange h = no_member target within
   quiet_call q (call.Withdraw page target) member within strange h =
-      let there = withdrawn (is_user_page page) (map.contains_key s.offers (offer_of q page target))
+      let there = withdrawn (is_user_page page) (map.contains_key s.offers (offer_key q page target))
       (not-refused (withdraw_refusal s q page target) _ h) in
-      let r = some_value (map.get s.offers (offer_of q page target)) there in
-      no_member target (confined.offers_none (offer_of q page target) r.0 r.1 member)
+      let r = some_value (map.get s.offers (offer_key q page target)) there in
+      no_member target (confined.offers_none (offer_key q page target) r.0 r.1 member)
   quiet_call q (call.Accept giver giver_page page) member within strange h =
       (no_member giver within, unseen (at_page giver giver_page) within)
   quiet_call q (call.Spawn quota) member within strange h =

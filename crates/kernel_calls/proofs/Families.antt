@@ -35,7 +35,7 @@ use Rattle.page_words.proofs.MapLemmas.{get-insert, get-retain_keys}
 use Rattle.page_words.proofs.OptionLemmas.{some_value}
 use Rattle.address_space.specs.Spaces.{Slot, Cell, is_of, at_page, joined}
 use Rattle.quota_tree.specs.Book.{Book, Member, is_child, given, quota_of, number_of_children}
-use Rattle.page_sharing.specs.Offers.{OfferKey, offer_order, offer_of}
+use Rattle.page_sharing.specs.Offers.{OfferKey, offer_order, offer_key}
 use Rattle.process_table.specs.State.{State, is_live}
 use Rattle.process_table.specs.WellFormed.{IsWellFormed}
 use Rattle.process_table.proofs.BookLaws.{retained, parents_in}
@@ -201,8 +201,8 @@ module _ (s t : State) (Q : ℕ → Bool) (l : HaveTheSame s t Q) where
       by : (b : Bool) → is_of v.0 slot ≡ b → (b || is_offered (within Q s) v.0 slot) ≡ true → Q slot.pid ≡ true
       by true is h = ap Q (eqb-true slot.pid v.0 is) ∙ v.1
       by false is h =
-          let r = some_value (map.get (within Q s).offers (offer_of slot.pid slot.page v.0)) h in
-          (retained s.offers (by_member Q) (offer_of slot.pid slot.page v.0) r.0 r.1).0
+          let r = some_value (map.get (within Q s).offers (offer_key slot.pid slot.page v.0)) h in
+          (retained s.offers (by_member Q) (offer_key slot.pid slot.page v.0) r.0 r.1).0
 
   looks_within : LooksSame (within Q s) (within Q t) Q
   looks_within = record {
@@ -236,12 +236,12 @@ module _ (s : State) (e : Event) (Q : ℕ → Bool) (mine : Q e.pid ≡ true) (k
     flags = λ page. refl;
     pages = λ page. refl;
     same_page = λ page other. refl;
-    made = λ page target. offer_within Q s (offer_of e.pid page target) mine;
+    made = λ page target. offer_within Q s (offer_key e.pid page target) mine;
   }
 
   told_within : answer (within Q s) e ≡ answer s e
   told_within = process_told (within Q s) s e has_within refl
-      (λ giver page own is. ap is_some (offer_within Q s (offer_of giver page e.pid) (sym (ap (keeps_within Q) is)
+      (λ giver page own is. ap is_some (offer_within Q s (offer_key giver page e.pid) (sym (ap (keeps_within Q) is)
       ∙ keeps)))
 
   after_within : (c : Call) → keeps_within Q c ≡ true → Follows s (after (within Q s) e.pid c) (after s e.pid c) Q
@@ -260,22 +260,22 @@ module _ (s : State) (e : Event) (Q : ℕ → Bool) (mine : Q e.pid ≡ true) (k
     spaces = refl;
     book = refl;
     offers = λ key o.
-        get-insert (within Q s).offers (offer_of e.pid page target) write key
-        ∙ (λ i. cond (same offer_order key (offer_of e.pid page target)) (Some write) (o i))
-        ∙ sym (get-insert s.offers (offer_of e.pid page target) write key);
+        get-insert (within Q s).offers (offer_key e.pid page target) write key
+        ∙ (λ i. cond (same offer_order key (offer_key e.pid page target)) (Some write) (o i))
+        ∙ sym (get-insert s.offers (offer_key e.pid page target) write key);
   }
   after_within (call.Withdraw page target) h = record {
     spaces = refl;
     book = refl;
     offers = λ key o. kept_offers (within Q s).offers s.offers
-        (λ k. not (same offer_order (offer_of e.pid page target) k)) key o;
+        (λ k. not (same offer_order (offer_key e.pid page target) k)) key o;
   }
   after_within (call.Accept giver giver_page page) h = record {
     spaces = ap (λ (x : Option Bool). joined s.spaces (at_page giver giver_page) (at_page e.pid page)
-        (unwrap_or x false)) (offer_within Q s (offer_of giver giver_page e.pid) h);
+        (unwrap_or x false)) (offer_within Q s (offer_key giver giver_page e.pid) h);
     book = refl;
     offers = λ key o. kept_offers (within Q s).offers s.offers
-        (λ k. not (same offer_order (offer_of giver giver_page e.pid) k)) key o;
+        (λ k. not (same offer_order (offer_key giver giver_page e.pid) k)) key o;
   }
   after_within (call.Spawn quota) h = record { spaces = refl; book = refl; offers = λ key o. o }
   after_within (call.Fork quota) h = record { spaces = refl; book = refl; offers = λ key o. o }
@@ -305,7 +305,7 @@ module _ (s : State) (e : Event) (Q : ℕ → Bool) (mine : Q e.pid ≡ true) (k
 pub family_told : (s t : State) (e : Event) (Q : ℕ → Bool) → HaveTheSame s t Q → Q e.pid ≡ true
     → keeps_within Q e.call ≡ true → found s e.call ≡ found t e.call → answer s e ≡ answer t e
 family_told s t e Q l mine keeps finds = process_told s t e (member_has s t Q e.pid mine l) finds
-    (λ giver page own is. ap is_some (l.offers (offer_of giver page e.pid) (sym (ap (keeps_within Q) is) ∙ keeps)))
+    (λ giver page own is. ap is_some (l.offers (offer_key giver page e.pid) (sym (ap (keeps_within Q) is) ∙ keeps)))
 
 module _ (s t : State) (e : Event) (Q : ℕ → Bool) (w : IsWellFormed s) (v : IsWellFormed t) (l : HaveTheSame s t Q)
     (mine : Q e.pid ≡ true) (keeps : keeps_within Q e.call ≡ true) where

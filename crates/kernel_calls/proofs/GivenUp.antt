@@ -34,7 +34,7 @@ use Rattle.address_space.specs.Spaces.{Slot, slot_order, Cell, Spaces, without, 
 use Rattle.address_space.proofs.steps.Departures.{left, get-without}
 use Rattle.quota_tree.specs.Book.{Member, is_child, number_of_children}
 use Rattle.quota_tree.proofs.Sums.{given-remove}
-use Rattle.page_sharing.specs.Offers.{OfferKey, offer_order, offer_of}
+use Rattle.page_sharing.specs.Offers.{OfferKey, offer_order, offer_key}
 use Rattle.process_table.specs.State.{State}
 use Rattle.process_table.specs.Calls.{offer_refusal, exit_refusal, after_unmap, after_exit}
 use Rattle.process_table.specs.declared.causes.Cause.TheVariants as cause
@@ -103,13 +103,13 @@ exited s p allowed = record {
     gone = without_none s.spaces (is_of p) (at_page p page) (eq-eqb p p refl);
     groups = λ slot. without_drops s.spaces (is_of p) slot (at_page p page) (eq-eqb p p refl);
     offers = λ target.
-        get-retain_keys s.offers stay (offer_of p page target)
-        ∙ (λ i. cond (not (eq-eqb p p refl i || (target == p))) (map.get s.offers (offer_of p page target)) None);
+        get-retain_keys s.offers stay (offer_key p page target)
+        ∙ (λ i. cond (not (eq-eqb p p refl i || (target == p))) (map.get s.offers (offer_key p page target)) None);
   };
   offers = λ slot. ap is_some (
-      get-retain_keys s.offers stay (offer_of slot.pid slot.page p)
-      ∙ (λ i. cond (not ((slot.pid == p) || eq-eqb p p refl i)) (map.get s.offers (offer_of slot.pid slot.page p)) None)
-      ∙ none (slot.pid == p) (map.get s.offers (offer_of slot.pid slot.page p)));
+      get-retain_keys s.offers stay (offer_key slot.pid slot.page p)
+      ∙ (λ i. cond (not ((slot.pid == p) || eq-eqb p p refl i)) (map.get s.offers (offer_key slot.pid slot.page p)) None)
+      ∙ none (slot.pid == p) (map.get s.offers (offer_key slot.pid slot.page p)));
   returned = λ member at.
       let a = given-remove s.book p member at member.parent in
       let b : ◌≡◌ {A = ℕ} (cond (is_child member.parent (p, member)) member.quota 0) member.quota =
@@ -139,8 +139,8 @@ unmapped s p page = record {
   groups = λ other. without_drops s.spaces (is_slot p page) other (at_page p page)
       (same_itself slot_order (at_page p page));
   offers = λ target.
-      get-retain_keys s.offers (λ (k : OfferKey). not ((k.offerer == p) && (k.page == page))) (offer_of p page target)
-      ∙ (λ i. cond (not (eq-eqb p p refl i && eq-eqb page page refl i)) (map.get s.offers (offer_of p page target))
+      get-retain_keys s.offers (λ (k : OfferKey). not ((k.offerer == p) && (k.page == page))) (offer_key p page target)
+      ∙ (λ i. cond (not (eq-eqb p p refl i && eq-eqb page page refl i)) (map.get s.offers (offer_key p page target))
       None);
 }
 
@@ -151,15 +151,15 @@ unmaps_end s e page is told = subst (λ t. HasLeft t (at_page e.pid page))
 pub offers_end : OffersEnd
 offers_end s e key (inl withdrawn) told =
     ap (λ (t : State). map.get t.offers key) (done_goes s e (call.Withdraw key.page key.target) withdrawn.1 told).0
-    ∙ ap (map.get (map.remove s.offers (offer_of e.pid key.page key.target)))
+    ∙ ap (map.get (map.remove s.offers (offer_key e.pid key.page key.target)))
     (λ i. record { offerer = sym withdrawn.0 i; page = key.page; target = key.target })
-    ∙ get-removed s.offers (offer_of e.pid key.page key.target)
+    ∙ get-removed s.offers (offer_key e.pid key.page key.target)
 offers_end s e key (inr taken) told =
     ap (λ (t : State). map.get t.offers key) (done_goes s e (call.Accept key.offerer key.page taken.1.0) taken.1.1
     told).0
-    ∙ ap (map.get (map.remove s.offers (offer_of key.offerer key.page e.pid)))
+    ∙ ap (map.get (map.remove s.offers (offer_key key.offerer key.page e.pid)))
     (λ i. record { offerer = key.offerer; page = key.page; target = sym taken.0 i })
-    ∙ get-removed s.offers (offer_of key.offerer key.page e.pid)
+    ∙ get-removed s.offers (offer_key key.offerer key.page e.pid)
 
 -- ---- Pending offers stay, or end by somebody's event
 
@@ -201,31 +201,31 @@ module _ (s : State) (e : Event) (key : OfferKey) (right : Bool) (at : map.get s
   after_stays (call.Unmap page) is h = page_left page is (key.offerer == e.pid) (key.page == page) refl refl
   after_stays (call.Protect page write) is h = inl at
   after_stays (call.Info page) is h = inl at
-  after_stays (call.Offer page target write) is h = elim (same_cases offer_order key (offer_of e.pid page target)) [
+  after_stays (call.Offer page target write) is h = elim (same_cases offer_order key (offer_key e.pid page target)) [
     | inl new ↦ absurd (
         let f : map.contains_key s.offers key ≡ false = ap (map.contains_key s.offers) new.0
         ∙ (may_offer s e.pid page target write (not-refused (offer_refusal s e.pid page target write) _ h)).new in
         let t = ap is_some at in
         cc)
-    | inr other ↦ inl (get-insert s.offers (offer_of e.pid page target) write key
+    | inr other ↦ inl (get-insert s.offers (offer_key e.pid page target) write key
         ∙ ap (λ b. cond b (Some write) (map.get s.offers key)) other.1 ∙ at)
   ]
-  after_stays (call.Withdraw page target) is h = elim (same_cases offer_order key (offer_of e.pid page target)) [
+  after_stays (call.Withdraw page target) is h = elim (same_cases offer_order key (offer_key e.pid page target)) [
     | inl this ↦ inr (inl (inl (
       sym (ap (λ (k : OfferKey). k.offerer) this.0),
       is
           ∙ (λ i. call.Withdraw (sym this.0 i).page (sym this.0 i).target),
     )))
-    | inr other ↦ inl (get-remove_other s.offers (offer_of e.pid page target) key other.0 ∙ at)
+    | inr other ↦ inl (get-remove_other s.offers (offer_key e.pid page target) key other.0 ∙ at)
   ]
   after_stays (call.Accept giver giver_page page) is h =
-      elim (same_cases offer_order key (offer_of giver giver_page e.pid)) [
+      elim (same_cases offer_order key (offer_key giver giver_page e.pid)) [
         | inl this ↦
             inr (inl (inr (
               sym (ap (λ (k : OfferKey). k.target) this.0),
               (page, is ∙ (λ i. call.Accept (sym this.0 i).offerer (sym this.0 i).page page)),
             )))
-        | inr other ↦ inl (get-remove_other s.offers (offer_of giver giver_page e.pid) key other.0 ∙ at)
+        | inr other ↦ inl (get-remove_other s.offers (offer_key giver giver_page e.pid) key other.0 ∙ at)
       ]
   after_stays (call.Spawn quota) is h = inl at
   after_stays (call.Fork quota) is h = inl at

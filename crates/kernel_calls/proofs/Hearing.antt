@@ -22,7 +22,7 @@ use Rattle.std.proofs.Common.{
   inr,
 }
 use Rattle.address_space.specs.Spaces.{Slot, is_of}
-use Rattle.page_sharing.specs.Offers.{offer_of}
+use Rattle.page_sharing.specs.Offers.{offer_key}
 use Rattle.process_table.specs.State.{State, is_live}
 use Rattle.process_table.specs.WellFormed.{IsWellFormed}
 use Rattle.kernel_calls.specs.Authority.{
@@ -55,7 +55,7 @@ sees_both s t Q l slot v = (
   v.0,
   v.1,
   ap (λ b. is_of v.0 slot || b)
-      (ap is_some (l.offers (offer_of slot.pid slot.page v.0) (inr v.1))) ∙ v.2,
+      (ap is_some (l.offers (offer_key slot.pid slot.page v.0) (inr v.1))) ∙ v.2,
 )
 
 sees_too : (s t : State) (Q : ℕ → Bool) → LooksSame s t Q → (slot : Slot) → Sees s Q slot → Sees t Q slot
@@ -63,7 +63,7 @@ sees_too s t Q l slot v = (
   v.0,
   v.1,
   ap (λ b. is_of v.0 slot || b)
-      (ap is_some (sym (l.offers (offer_of slot.pid slot.page v.0) (inr v.1)))) ∙ v.2,
+      (ap is_some (sym (l.offers (offer_key slot.pid slot.page v.0) (inr v.1)))) ∙ v.2,
 )
 
 looks_back : (s t : State) (Q : ℕ → Bool) → LooksSame s t Q → LooksSame t s Q

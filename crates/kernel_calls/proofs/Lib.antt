@@ -9,6 +9,7 @@ pub mod Families
 pub mod Flags
 pub mod GivenUp
 pub mod Hearing
+pub mod InPage
 pub mod Isolated
 pub mod KeptAccesses
 pub mod KeptSlots

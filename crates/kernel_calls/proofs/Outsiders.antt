@@ -31,7 +31,7 @@ use Rattle.page_words.proofs.SetLemmas.{same_cases}
 use Rattle.address_space.specs.Spaces.{Slot, slot_order, Cell, is_of, at_page, slot_at}
 use Rattle.quota_tree.specs.Book.{Member, is_child, given, number_of_children}
 use Rattle.quota_tree.proofs.Sums.{given-none, number-none}
-use Rattle.page_sharing.specs.Offers.{OfferKey, offer_of}
+use Rattle.page_sharing.specs.Offers.{OfferKey, offer_key}
 use Rattle.process_table.specs.State.{State, is_live}
 use Rattle.process_table.specs.WellFormed.{IsWellFormed}
 use Rattle.process_table.proofs.ApartOthers.{no_page}
@@ -283,7 +283,7 @@ module _ (s : State) (e : Event) (Q : ℕ → Bool) (w : IsWellFormed s) (out : 
       → (key.target ≡ e.pid) × (e.call ≡ call.Exit) → ⊥
   no_exit key right (inr to) at exit = not_out key.target to exit.0
   no_exit key right (inl by) at exit =
-      let here : key ≡ offer_of key.offerer key.page e.pid =
+      let here : key ≡ offer_key key.offerer key.page e.pid =
       (λ i. record { offerer = key.offerer; page = key.page; target = exit.0 i }) in
       let there : is_offered s e.pid (at_page key.offerer key.page) ≡ true =
       ap (map.contains_key s.offers) (sym here) ∙ ap is_some at in

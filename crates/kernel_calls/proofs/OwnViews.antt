@@ -51,7 +51,7 @@ use Rattle.address_space.proofs.costs.Copied.{copied-other}
 use Rattle.quota_tree.specs.Book.{Member, is_child, given, quota_of, number_of_children, next_number}
 use Rattle.quota_tree.proofs.BookFacts.{get-insert_other}
 use Rattle.quota_tree.proofs.Sums.{given-insert, number-insert}
-use Rattle.page_sharing.specs.Offers.{OfferKey, Offers, offer_order, offer_of}
+use Rattle.page_sharing.specs.Offers.{OfferKey, Offers, offer_order, offer_key}
 use Rattle.process_table.specs.State.{State, is_live, child_of}
 use Rattle.process_table.specs.Calls.{
   spawn_refusal,
@@ -117,7 +117,7 @@ spaces_of s t q l = record {
 
 -- where the book stays
 has : (s t : State) (q : ℕ) (S T : Spaces) (O P : Offers) → HasTheSame s t q
-    → ((page target : ℕ) → map.get O (offer_of q page target) ≡ map.get P (offer_of q page target))
+    → ((page target : ℕ) → map.get O (offer_key q page target) ≡ map.get P (offer_key q page target))
     → SameSpaces (λ p. p == q) (Mine q) S T
     → HasTheSame (record { spaces = S; book = s.book; offers = O }) (record { spaces = T; book = t.book; offers = P }) q
 has s t q S T O P l made spaces = record {
@@ -182,24 +182,24 @@ module _ (s t : State) (q : ℕ) (l : HasTheSame s t q) where
       let stay : OfferKey → Bool = (λ (k : OfferKey). not ((k.offerer == q) && (k.page == page))) in
       has s t q (without s.spaces (is_slot q page)) (without t.spaces (is_slot q page)) (map.retain_keys s.offers stay)
       (map.retain_keys t.offers stay) l
-      (λ n target. kept_offers s.offers t.offers stay (offer_of q n target) (l.made n target))
+      (λ n target. kept_offers s.offers t.offers stay (offer_key q n target) (l.made n target))
       (gone_same Q q (itself q) (Mine q) own_pages s.spaces t.spaces (is_slot q page)
       (λ slot h. subst (Mine q) (same-true slot_order (at_page q page) slot h) (itself q)) start)
 
   withdraw_has : (page target : ℕ) → HasTheSame (after_withdraw s q page target) (after_withdraw t q page target) q
   withdraw_has page target =
-      let stay : OfferKey → Bool = (λ k. not (same offer_order (offer_of q page target) k)) in
+      let stay : OfferKey → Bool = (λ k. not (same offer_order (offer_key q page target) k)) in
       has s t q s.spaces t.spaces (map.retain_keys s.offers stay) (map.retain_keys t.offers stay) l
-      (λ n to. kept_offers s.offers t.offers stay (offer_of q n to) (l.made n to)) start
+      (λ n to. kept_offers s.offers t.offers stay (offer_key q n to) (l.made n to)) start
 
   offer_has : (page target : ℕ) (write : Bool) → HasTheSame (after_offer s q page target write)
       (after_offer t q page target write) q
   offer_has page target write =
-      has s t q s.spaces t.spaces (map.insert s.offers (offer_of q page target) write)
-      (map.insert t.offers (offer_of q page target) write) l
-      (λ n to. get-insert s.offers (offer_of q page target) write (offer_of q n to)
-      ∙ (λ i. cond (same offer_order (offer_of q n to) (offer_of q page target)) (Some write) (l.made n to i))
-      ∙ sym (get-insert t.offers (offer_of q page target) write (offer_of q n to)))
+      has s t q s.spaces t.spaces (map.insert s.offers (offer_key q page target) write)
+      (map.insert t.offers (offer_key q page target) write) l
+      (λ n to. get-insert s.offers (offer_key q page target) write (offer_key q n to)
+      ∙ (λ i. cond (same offer_order (offer_key q n to) (offer_key q page target)) (Some write) (l.made n to i))
+      ∙ sym (get-insert t.offers (offer_key q page target) write (offer_key q n to)))
       start
 
   -- a child more
@@ -289,7 +289,7 @@ module _ (s t : State) (q : ℕ) (l : HasTheSame s t q) where
         false)
         (exit_slot s q (at_page q page) (itself q) ∙ sym (exit_slot t q (at_page q page) (itself q)));
     made = λ page target. kept_offers s.offers t.offers (λ (k : OfferKey). not ((k.offerer == q) || (k.target == q)))
-        (offer_of q page target) (l.made page target);
+        (offer_key q page target) (l.made page target);
   }
     where
       childless : number_of_children s.book q ≡ 0
@@ -358,7 +358,7 @@ alone_has s t q l =
       same_page = spaces.groups;
     }
   where
-    here : (key : OfferKey) → (key.offerer == q) ≡ true → key ≡ offer_of q key.page key.target
+    here : (key : OfferKey) → (key.offerer == q) ≡ true → key ≡ offer_key q key.page key.target
     here key h = λ i. record { offerer = eqb-true key.offerer q h i; page = key.page; target = key.target }
 
 pub own_is_enough : OwnIsEnough

@@ -16,7 +16,7 @@ use Rattle.fault_handler.specs.declared.plans.PageStep.{PageStep}
 use Rattle.fault_handler.specs.declared.plans.Plan.{Plan}
 use Rattle.fault_handler.specs.declared.plans.Plan.TheVariants as plan
 use Rattle.kernel_calls.specs.Machine.{answer, answer_of, after, completes, planned_or}
-use Rattle.kernel_calls.specs.Decisions.{decision_of, plan_of_call, plan_of_event, charge_in, charge_after, planned}
+use Rattle.kernel_calls.specs.Decisions.{judged_of, plan_of_call, plan_of_event, charge_in, charge_after, planned}
 use Rattle.kernel_calls.specs.declared.calls.Call.TheVariants as call
 use Rattle.kernel_calls.specs.declared.calls.Event.{Event}
 use Rattle.kernel_calls.specs.declared.calls.Reply.{Reply}
@@ -59,27 +59,27 @@ module _ (v : View) (e : Event) (address : ℕ) (size : Size) (access : Access) 
   stopped : goes_on now ≡ false → completes (answer v.state e) ≡ false → charge_after v.state e ≡ charge
   stopped stops h = ap (λ t. charge_in t e.pid) (next-stays v.state e h) ∙ ap (λ b. if b then cost v.state.spaces e.pid else 0) live ∙ sym (stays stops)
 
-  by_plan : (y : Plan) → now ≡ y → planned e y r charge ≡ decision_of v e
+  by_plan : (y : Plan) → now ≡ y → planned y r charge ≡ judged_of v e
   by_plan (plan.Refused k) is =
       let told = reply-live (plan.Refused k) is in
-      λ i. record { event = e; plan = sym (plan-live (plan.Refused k) is) i; reply = sym told i; used_after = sym (stopped (ap goes_on is) (ap completes told)) i }
+      λ i. record { plan = sym (plan-live (plan.Refused k) is) i; reply = sym told i; used_after = sym (stopped (ap goes_on is) (ap completes told)) i }
   by_plan (plan.Fault f) is =
       let told = reply-live (plan.Fault f) is in
-      λ i. record { event = e; plan = sym (plan-live (plan.Fault f) is) i; reply = sym told i; used_after = sym (stopped (ap goes_on is) (ap completes told)) i }
+      λ i. record { plan = sym (plan-live (plan.Fault f) is) i; reply = sym told i; used_after = sym (stopped (ap goes_on is) (ap completes told)) i }
   by_plan (plan.Ready first second) is =
       let told = reply-live (plan.Ready first second) is in
       let both = goes (ap goes_on is) in
       let charged : charge_after v.state e ≡ charge = ap (λ t. charge_in t e.pid) (next-goes v.state e (ap completes told ∙ full_goes)) ∙ both.1 in
-      λ i. record { event = e; plan = sym (plan-live (plan.Ready first second) is) i; reply = (both.0 ∙ sym told) i; used_after = sym charged i }
+      λ i. record { plan = sym (plan-live (plan.Ready first second) is) i; reply = (both.0 ∙ sym told) i; used_after = sym charged i }
 
-  decided-access : planned e now r charge ≡ decision_of v e
+  decided-access : planned now r charge ≡ judged_of v e
   decided-access = by_plan now refl
 
 pub decided-load : (v : View) (e : Event) (address : ℕ) (size : Size) (value charge : ℕ) → e.call ≡ call.Load address size → is_live v.state e.pid ≡ true
     → (goes_on (plan_at v e.pid address size Read) ≡ true → value ≡ loaded v.state e.pid address size)
     → (goes_on (plan_at v e.pid address size Read) ≡ true → charge ≡ cost (after_load v.state e.pid address size).spaces e.pid)
     → (goes_on (plan_at v e.pid address size Read) ≡ false → charge ≡ cost v.state.spaces e.pid)
-    → planned e (plan_at v e.pid address size Read) (reply.Value value) charge ≡ decision_of v e
+    → planned (plan_at v e.pid address size Read) (reply.Value value) charge ≡ judged_of v e
 decided-load v e address size value charge is live value_is charge_is stays =
     decided-access v e address size Read (reply.Value value) (reply.Value (loaded v.state e.pid address size)) charge live
     (ap (plan_of_call v e.pid) is) (ap (answer_of v.state e.pid) is) refl stays
@@ -88,7 +88,7 @@ decided-load v e address size value charge is live value_is charge_is stays =
 pub decided-store : (v : View) (e : Event) (address : ℕ) (size : Size) (value charge : ℕ) → e.call ≡ call.Store address size value → is_live v.state e.pid ≡ true
     → (goes_on (plan_at v e.pid address size Write) ≡ true → charge ≡ cost (after_store v.state e.pid address size value).spaces e.pid)
     → (goes_on (plan_at v e.pid address size Write) ≡ false → charge ≡ cost v.state.spaces e.pid)
-    → planned e (plan_at v e.pid address size Write) reply.Done charge ≡ decision_of v e
+    → planned (plan_at v e.pid address size Write) reply.Done charge ≡ judged_of v e
 decided-store v e address size value charge is live charge_is stays =
     decided-access v e address size Write reply.Done reply.Done charge live
     (ap (plan_of_call v e.pid) is) (ap (answer_of v.state e.pid) is) refl stays

@@ -42,7 +42,7 @@ use Rattle.address_space.specs.Spaces.{Slot, slot_order, Cell, Spaces, fresh, by
 use Rattle.address_space.proofs.costs.Copied.{copied-own, copied-other}
 use Rattle.quota_tree.specs.Book.{Member, is_child, given, number_of_children, next_number}
 use Rattle.quota_tree.proofs.Sums.{given-insert, given-remove, given-none, number-insert, number-remove, number-none}
-use Rattle.page_sharing.specs.Offers.{OfferKey, Offers, offer_order, offer_of}
+use Rattle.page_sharing.specs.Offers.{OfferKey, Offers, offer_order, offer_key}
 use Rattle.process_table.specs.State.{State, is_live, child_of}
 use Rattle.process_table.specs.Calls.{
   accept_refusal,
@@ -145,13 +145,13 @@ single s t Q q mine l = record {
   pages = λ page. l.pages (at_page q page) (q, mine, sees_own s q page);
   same_page = λ page other. l.same_page (at_page q page) (at_page q other) (q, mine, sees_own s q page)
       (q, mine, sees_own s q other);
-  made = λ page target. l.offers (offer_of q page target) (inl mine);
+  made = λ page target. l.offers (offer_key q page target) (inl mine);
 }
 
 pub told_same : (s t : State) (e : Event) (Q : ℕ → Bool) → LooksSame s t Q → Q e.pid ≡ true
     → found s e.call ≡ found t e.call → answer s e ≡ answer t e
 told_same s t e Q l mine finds = process_told s t e (single s t Q e.pid mine l) finds
-    (λ giver page own is. ap is_some (l.offers (offer_of giver page e.pid) (inr mine)))
+    (λ giver page own is. ap is_some (l.offers (offer_key giver page e.pid) (inr mine)))
 
 spaces_same : (s t : State) (Q : ℕ → Bool) → LooksSame s t Q → SameSpaces Q (Sees s Q) s.spaces t.spaces
 spaces_same s t Q l = record { flags = l.flags; pages = l.pages; groups = l.same_page }
@@ -163,7 +163,7 @@ fewer_seen s u Q fewer slot v = (v.0, v.1, by (is_of v.0 slot) v.2)
   where
     by : (b : Bool) → (b || is_offered u v.0 slot) ≡ true → (b || is_offered s v.0 slot) ≡ true
     by true h = refl
-    by false h = fewer (offer_of slot.pid slot.page v.0) h
+    by false h = fewer (offer_key slot.pid slot.page v.0) h
 
 -- where the book stays
 looks : (s t : State) (Q : ℕ → Bool) (S T : Spaces) (O P : Offers) → LooksSame s t Q
@@ -241,7 +241,7 @@ module _ (s t : State) (Q : ℕ → Bool) (q : ℕ) (mine : Q q ≡ true) (l : L
 
   withdraw_together : (page target : ℕ) → LooksSame (after_withdraw s q page target) (after_withdraw t q page target) Q
   withdraw_together page target =
-      let stay : OfferKey → Bool = (λ k. not (same offer_order (offer_of q page target) k)) in
+      let stay : OfferKey → Bool = (λ k. not (same offer_order (offer_key q page target) k)) in
       looks s t Q s.spaces t.spaces (map.retain_keys s.offers stay) (map.retain_keys t.offers stay) l
       (kept_offers s.offers t.offers stay)
       (fewer_seen s (after_withdraw s q page target) Q (kept_key s.offers stay))
@@ -254,14 +254,14 @@ module _ (s t : State) (Q : ℕ → Bool) (q : ℕ) (mine : Q q ≡ true) (l : L
       (spaces_same s t Q l)
     where
       key : OfferKey
-      key = offer_of q page target
+      key = offer_key q page target
 
       more : (k : OfferKey) → map.get s.offers k ≡ map.get t.offers k
-          → map.get (map.insert s.offers (offer_of q page target) write) k ≡ map.get
-          (map.insert t.offers (offer_of q page target) write) k
-      more k h = get-insert s.offers (offer_of q page target) write k
-          ∙ (λ i. cond (same offer_order k (offer_of q page target)) (Some write) (h i))
-          ∙ sym (get-insert t.offers (offer_of q page target) write k)
+          → map.get (map.insert s.offers (offer_key q page target) write) k ≡ map.get
+          (map.insert t.offers (offer_key q page target) write) k
+      more k h = get-insert s.offers (offer_key q page target) write k
+          ∙ (λ i. cond (same offer_order k (offer_key q page target)) (Some write) (h i))
+          ∙ sym (get-insert t.offers (offer_key q page target) write k)
 
       seen : (slot : Slot) → Sees (after_offer s q page target write) Q slot → Sees s Q slot
       seen slot v = by (is_of v.0 slot) refl v.2
@@ -269,21 +269,21 @@ module _ (s t : State) (Q : ℕ → Bool) (q : ℕ) (mine : Q q ≡ true) (l : L
           by : (b : Bool) → is_of v.0 slot ≡ b → (b || is_offered (after_offer s q page target write) v.0 slot) ≡ true
               → Sees s Q slot
           by true is h = (v.0, v.1, ap (λ b. b || is_offered s v.0 slot) is)
-          by false is h = elim (same_cases offer_order (offer_of slot.pid slot.page v.0) (offer_of q page target)) [
+          by false is h = elim (same_cases offer_order (offer_key slot.pid slot.page v.0) (offer_key q page target)) [
             | inl same_key ↦ own_slots slot (eq-eqb slot.pid q (ap (λ (k : OfferKey). k.offerer) same_key.0))
             | inr other ↦ (
               v.0,
               v.1,
               ap (λ b. b || is_offered s v.0 slot) is ∙ sym
-                  (ap is_some (get-insert s.offers (offer_of q page target) write (offer_of slot.pid slot.page v.0)
-                  ∙ ap (λ b. cond b (Some write) (map.get s.offers (offer_of slot.pid slot.page v.0))) other.1)) ∙ h,
+                  (ap is_some (get-insert s.offers (offer_key q page target) write (offer_key slot.pid slot.page v.0)
+                  ∙ ap (λ b. cond b (Some write) (map.get s.offers (offer_key slot.pid slot.page v.0))) other.1)) ∙ h,
             )
           ]
 
-  accept_together : (giver giver_page page : ℕ) → map.contains_key s.offers (offer_of giver giver_page q) ≡ true
+  accept_together : (giver giver_page page : ℕ) → map.contains_key s.offers (offer_key giver giver_page q) ≡ true
       → LooksSame (after_accept s q giver giver_page page) (after_accept t q giver giver_page page) Q
   accept_together giver giver_page page there =
-      let stay : OfferKey → Bool = (λ k. not (same offer_order (offer_of giver giver_page q) k)) in
+      let stay : OfferKey → Bool = (λ k. not (same offer_order (offer_key giver giver_page q) k)) in
       looks s t Q (after_accept s q giver giver_page page).spaces (after_accept t q giver giver_page page).spaces
       (map.retain_keys s.offers stay) (map.retain_keys t.offers stay) l
       (kept_offers s.offers t.offers stay)
@@ -291,7 +291,7 @@ module _ (s t : State) (Q : ℕ → Bool) (q : ℕ) (mine : Q q ≡ true) (l : L
       (joined_same Q q mine (Sees s Q) own_pages s.spaces t.spaces (at_page giver giver_page) page
       (offered s giver giver_page q) (offered t giver giver_page q) (spaces_same s t Q l)
       (q, mine, ap (λ b. is_of q (at_page giver giver_page) || b) there ∙ or_yes (is_of q (at_page giver giver_page)))
-      (ap (λ (x : Option Bool). unwrap_or x false) (l.offers (offer_of giver giver_page q) (inr mine))))
+      (ap (λ (x : Option Bool). unwrap_or x false) (l.offers (offer_key giver giver_page q) (inr mine))))
     where
       or_yes : (b : Bool) → (b || true) ≡ true
       or_yes true = refl
@@ -465,12 +465,12 @@ module _ (s t : State) (Q : ℕ → Bool) (q k quota : ℕ) (w : IsWellFormed s)
 
   no_offers : (key : OfferKey) → (key.offerer ≡ k) ⊎ (key.target ≡ k) → map.get s.offers key ≡ map.get t.offers key
   no_offers key (inl is) =
-      let at : key ≡ offer_of k key.page key.target =
+      let at : key ≡ offer_key k key.page key.target =
       (λ i. record { offerer = is i; page = key.page; target = key.target }) in
       ap (map.get s.offers) at ∙ no_offer_by s k key.page key.target w free
       ∙ sym (ap (map.get t.offers) at ∙ no_offer_by t k key.page key.target v free_t)
   no_offers key (inr is) =
-      let at : key ≡ offer_of key.offerer key.page k =
+      let at : key ≡ offer_key key.offerer key.page k =
       (λ i. record { offerer = key.offerer; page = key.page; target = is i }) in
       ap (map.get s.offers) at ∙ no_offer_to s key.offerer key.page k w free
       ∙ sym (ap (map.get t.offers) at ∙ no_offer_to t key.offerer key.page k v free_t)

@@ -65,7 +65,7 @@ use Rattle.address_space.specs.Spaces.{
 }
 use Rattle.address_space.proofs.costs.Copied.{copied-other}
 use Rattle.address_space.proofs.steps.Departures.{left, get-without}
-use Rattle.page_sharing.specs.Offers.{offer_of}
+use Rattle.page_sharing.specs.Offers.{offer_key}
 use Rattle.process_table.specs.State.{State, is_live, child_of}
 use Rattle.process_table.specs.Calls.{
   accept_refusal,
@@ -507,8 +507,8 @@ seen_mapped s q slot w v = by (is_of q slot) v
     by : (b : Bool) → (b || is_offered s q slot) ≡ true → (b ≡ true) ⊎ ((c : Cell) × (map.get s.spaces slot ≡ Some c))
     by true h = inl refl
     by false h =
-        let r = some_value (map.get s.offers (offer_of slot.pid slot.page q)) h in
-        let o = (w.offers (offer_of slot.pid slot.page q) r.0 r.1).offered in
+        let r = some_value (map.get s.offers (offer_key slot.pid slot.page q)) h in
+        let o = (w.offers (offer_key slot.pid slot.page q) r.0 r.1).offered in
         inr (o.0, o.1)
 
 -- the event makes a child, as a spawn and a fork do

@@ -30,7 +30,8 @@ use Rattle.process_table.specs.declared.causes.Cause.TheVariants as cause
 use Rattle.process_table.proofs.CellLaws.{get-inserted}
 use Rattle.fault_handler.specs.Plans.{outside, forbidden, is_read_only, fault_or, plan_of, step_of}
 use Rattle.fault_handler.specs.declared.plans.Plan.TheVariants as plan
-use Rattle.fault_handler.proofs.Settled.{Goes, ready, all_user, page_is_user, same_cells, mapped_right}
+use Rattle.fault_handler.proofs.Settled.{Goes, ready, all_user, same_cells, mapped_right}
+use Rattle.process_table.proofs.Placed.{page_is_user}
 use Rattle.kernel_calls.specs.Machine.{answer, answer_of, next, completes, planned_or}
 use Rattle.fault_handler.specs.Fills.{lazy_touched, lazy_second}
 use Rattle.kernel_calls.specs.Gone.{gone_by}

@@ -47,7 +47,7 @@ use Rattle.address_space.proofs.costs.Copied.{copied-other}
 use Rattle.quota_tree.specs.Book.{Member, given, is_child, number_of_children}
 use Rattle.quota_tree.proofs.BookFacts.{child_no, get-insert_other}
 use Rattle.quota_tree.proofs.Sums.{given-insert, given-remove, number-insert, number-remove}
-use Rattle.page_sharing.specs.Offers.{OfferKey, Offers, offer_order, offer_of}
+use Rattle.page_sharing.specs.Offers.{OfferKey, Offers, offer_order, offer_key}
 use Rattle.process_table.specs.State.{State, is_live, child_of}
 use Rattle.process_table.specs.Calls.{
   accept_refusal,
@@ -249,7 +249,7 @@ retain_gone : (offers : Offers) (stay : OfferKey → Bool) (key : OfferKey) → 
     → map.get (map.retain_keys offers stay) key ≡ None
 retain_gone offers stay key h = get-retain_keys offers stay key ∙ ap (λ b. cond b (map.get offers key) None) h
 
-other_offerer : (p q page to : ℕ) (key : OfferKey) → p ≢ q → key.offerer ≡ p → key ≢ offer_of q page to
+other_offerer : (p q page to : ℕ) (key : OfferKey) → p ≢ q → key.offerer ≡ p → key ≢ offer_key q page to
 other_offerer p q page to key d own e = d (sym own ∙ ap (λ (k : OfferKey). k.offerer) e)
 
 -- a child of q more
@@ -390,14 +390,14 @@ module _ (s : State) (e : Event) (p : ℕ) (w : IsWellFormed s) (live_p : is_liv
   offer_untouched : (page target : ℕ) (write : Bool) → LeavesAll s (after_offer s e.pid page target write) e p
   offer_untouched page target write =
       same_untouched s (after_offer s e.pid page target write) e p d refl (λ n. refl) (inl (refl, refl))
-      (λ key own. inl (get-insert s.offers (offer_of e.pid page target) write key
+      (λ key own. inl (get-insert s.offers (offer_key e.pid page target) write key
       ∙ ap (λ b. cond b (Some write) (map.get s.offers key))
-      (same_apart offer_order key (offer_of e.pid page target) (other_offerer p e.pid page target key d own))))
+      (same_apart offer_order key (offer_key e.pid page target) (other_offerer p e.pid page target key d own))))
 
   withdraw_untouched : (page target : ℕ) → LeavesAll s (after_withdraw s e.pid page target) e p
   withdraw_untouched page target =
       same_untouched s (after_withdraw s e.pid page target) e p d refl (λ n. refl) (inl (refl, refl))
-      (λ key own. inl (get-remove_other s.offers (offer_of e.pid page target) key
+      (λ key own. inl (get-remove_other s.offers (offer_key e.pid page target) key
       (other_offerer p e.pid page target key d own)))
 
   accept_untouched : (giver giver_page page : ℕ) → e.call ≡ call.Accept giver giver_page page
@@ -408,25 +408,25 @@ module _ (s : State) (e : Event) (p : ℕ) (w : IsWellFormed s) (live_p : is_liv
       (λ n other o. joined_kept s e.pid giver giver_page page (offered s giver giver_page e.pid) w g.0 g.1 (at_page p n)
       other (of_others e.pid page (at_page p n) d) (of_others e.pid page other o))
       (inl (refl, refl))
-      (λ key own. offers key (same_cases offer_order key (offer_of giver giver_page e.pid)))
+      (λ key own. offers key (same_cases offer_order key (offer_key giver giver_page e.pid)))
     where
       g : (c : Cell) × (map.get s.spaces (at_page giver giver_page) ≡ Some c)
       g = giver_mapped s e.pid giver giver_page w (may_accept s e.pid giver giver_page page allowed).there
 
-      offers : (key : OfferKey) → ((key ≡ offer_of giver giver_page e.pid)
-          × (same offer_order key (offer_of giver giver_page e.pid) ≡ true))
-          ⊎ ((key ≢ offer_of giver giver_page e.pid) × (same offer_order key (offer_of giver giver_page e.pid) ≡ false))
-          → (map.get (map.remove s.offers (offer_of giver giver_page e.pid)) key ≡ map.get s.offers key)
-          ⊎ ((map.get (map.remove s.offers (offer_of giver giver_page e.pid)) key ≡ None) × EndsOffer e key)
+      offers : (key : OfferKey) → ((key ≡ offer_key giver giver_page e.pid)
+          × (same offer_order key (offer_key giver giver_page e.pid) ≡ true))
+          ⊎ ((key ≢ offer_key giver giver_page e.pid) × (same offer_order key (offer_key giver giver_page e.pid) ≡ false))
+          → (map.get (map.remove s.offers (offer_key giver giver_page e.pid)) key ≡ map.get s.offers key)
+          ⊎ ((map.get (map.remove s.offers (offer_key giver giver_page e.pid)) key ≡ None) × EndsOffer e key)
       offers key (inl same) = inr (
-        ap (map.get (map.remove s.offers (offer_of giver giver_page e.pid))) same.0
-            ∙ get-removed s.offers (offer_of giver giver_page e.pid),
+        ap (map.get (map.remove s.offers (offer_key giver giver_page e.pid))) same.0
+            ∙ get-removed s.offers (offer_key giver giver_page e.pid),
         record {
           target = ap (λ (k : OfferKey). k.target) same.0;
           how = inl (page, is ∙ (λ i. call.Accept (sym same.0 i).offerer (sym same.0 i).page page));
         },
       )
-      offers key (inr other) = inl (get-remove_other s.offers (offer_of giver giver_page e.pid) key other.0)
+      offers key (inr other) = inl (get-remove_other s.offers (offer_key giver giver_page e.pid) key other.0)
 
   child_untouched : (k quota : ℕ) (T : Spaces) → is_live s k ≡ false
       → ((n : ℕ) → map.get T (at_page p n) ≡ map.get s.spaces (at_page p n))

@@ -61,7 +61,7 @@ use Rattle.address_space.specs.Spaces.{
 }
 use Rattle.address_space.proofs.costs.Costs.{same_pages}
 use Rattle.quota_tree.specs.Book.{given, quota_of, number_of_children, next_number}
-use Rattle.page_sharing.specs.Offers.{OfferKey, offer_of, pending}
+use Rattle.page_sharing.specs.Offers.{OfferKey, offer_key, pending}
 use Rattle.table_walk.specs.declared.Access.{Access}
 use Rattle.table_walk.specs.declared.Access.TheVariants.{Read, Write}
 use Rattle.table_walk.specs.Walk.{is_write}
@@ -106,7 +106,7 @@ pub record HasTheSame (s t : State) (q : ℕ) : Type 0 where
   pub pages : (page : ℕ) → shown_at s (at_page q page) ≡ shown_at t (at_page q page)
   pub same_page : (page other : ℕ)
       → shares s (at_page q page) (at_page q other) ≡ shares t (at_page q page) (at_page q other)
-  pub made : (page target : ℕ) → map.get s.offers (offer_of q page target) ≡ map.get t.offers (offer_of q page target)
+  pub made : (page target : ℕ) → map.get s.offers (offer_key q page target) ≡ map.get t.offers (offer_key q page target)
 
 pub member_has : (s t : State) (Q : ℕ → Bool) (q : ℕ) → Q q ≡ true → HaveTheSame s t Q → HasTheSame s t q
 member_has s t Q q mine l = record {
@@ -117,7 +117,7 @@ member_has s t Q q mine l = record {
   flags = λ page. l.flags (at_page q page) mine;
   pages = λ page. l.pages (at_page q page) mine;
   same_page = λ page other. l.same_page (at_page q page) (at_page q other) mine mine;
-  made = λ page target. l.offers (offer_of q page target) mine;
+  made = λ page target. l.offers (offer_key q page target) mine;
 }
 
 abbrev pub takes_offer : Call → Bool
@@ -207,7 +207,7 @@ module _ (s t : State) (q : ℕ) (l : HasTheSame s t q) where
       by : (key : OfferKey) (b : Bool) → (key.offerer == q) ≡ b
           → cond (key.offerer == q) (map.get s.offers key) None ≡ cond (key.offerer == q) (map.get t.offers key) None
       by key true is =
-          let here : key ≡ offer_of q key.page key.target =
+          let here : key ≡ offer_key q key.page key.target =
           (λ i. record { offerer = eqb-true key.offerer q is i; page = key.page; target = key.target }) in
           ap (λ x. cond (key.offerer == q) x None) (ap (map.get s.offers) here ∙ l.made key.page key.target
           ∙ ap (map.get t.offers) (sym here))

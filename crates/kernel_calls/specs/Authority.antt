@@ -10,7 +10,7 @@ use Rattle.page_words.specs.FiniteMap as map
 use Rattle.page_words.specs.FiniteSet as set
 use Rattle.address_space.specs.Spaces.{Slot, Cell, cell_or_fresh, at_page, slot_at, is_of, bytes_of, copy_of}
 use Rattle.quota_tree.specs.Book.{Member, is_child, given, quota_of, number_of_children, next_number}
-use Rattle.page_sharing.specs.Offers.{OfferKey, offer_of}
+use Rattle.page_sharing.specs.Offers.{OfferKey, offer_key}
 use Rattle.process_table.specs.State.{State, is_live, child_of}
 use Rattle.process_table.specs.WellFormed.{IsWellFormed}
 use Rattle.kernel_calls.specs.Isolation.{Exchange, exchanges, quota_asked}
@@ -45,7 +45,7 @@ shares s slot other = unwrap_or (option_map (λ (c : Cell). set.contains c.holde
 
 -- a slot is offered to a process
 abbrev pub is_offered : State → ℕ → Slot → Bool
-is_offered s q slot = map.contains_key s.offers (offer_of slot.pid slot.page q)
+is_offered s q slot = map.contains_key s.offers (offer_key slot.pid slot.page q)
 
 -- q is a child of p
 abbrev pub is_child_of : State → ℕ → ℕ → Bool
@@ -118,7 +118,7 @@ pub record IsJoin (s : State) (e : Event) (slot other : Slot) : Type 0 where
   pub giver : Slot
   pub right : Bool
   pub call : e.call ≡ call.Accept giver.pid giver.page slot.page
-  pub offered : map.get s.offers (offer_of giver.pid giver.page e.pid) ≡ Some right
+  pub offered : map.get s.offers (offer_key giver.pid giver.page e.pid) ≡ Some right
   pub cell : Cell
   pub given : map.get s.spaces giver ≡ Some cell
   pub within : IsTrue right → IsTrue cell.may
@@ -152,7 +152,7 @@ OffersByOfferer = (s : State) (e : Event) (key : OfferKey) (right : Bool) → ma
 pub record HasLeft (t : State) (slot : Slot) : Type 0 where
   pub gone : map.get t.spaces slot ≡ None
   pub groups : (other : Slot) → shares t other slot ≡ false
-  pub offers : (target : ℕ) → map.get t.offers (offer_of slot.pid slot.page target) ≡ None
+  pub offers : (target : ℕ) → map.get t.offers (offer_key slot.pid slot.page target) ≡ None
 
 abbrev pub UnmapsEnd : Type 0
 UnmapsEnd = (s : State) (e : Event) (page : ℕ) → e.call ≡ call.Unmap page → answer s e ≡ reply.Done
@@ -365,7 +365,7 @@ members_at_end s C (e ∷ events) = members_at_end (next s e) (members_after s C
 pub record IsAsBefore (s t : State) (p : ℕ) : Type 0 where
   pub member : map.get t.book p ≡ map.get s.book p
   pub pages : (page : ℕ) → map.get t.spaces (at_page p page) ≡ map.get s.spaces (at_page p page)
-  pub offers : (page target : ℕ) → map.get t.offers (offer_of p page target) ≡ map.get s.offers (offer_of p page target)
+  pub offers : (page target : ℕ) → map.get t.offers (offer_key p page target) ≡ map.get s.offers (offer_key p page target)
 
 -- what a run from s to t leaves of each confined set: where its members' events keep within it, it stays confined as a
 -- set of numbers, whoever has these, and with all children that its members make, and their children; and events of

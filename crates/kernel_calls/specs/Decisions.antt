@@ -1,6 +1,7 @@
 -- What is decided of an event before anything changes: its plan, its reply, and the charge of its process afterwards.
 use Rattle.std.proofs.Common.{ℕ, false, if◌then◌else◌, Option, Some, None, Result, Ok, Err}
 use Rattle.page_words.specs.declared.addresses.Pid.{Pid}
+use Rattle.page_words.specs.declared.addresses.Size.{Size}
 use Rattle.address_space.specs.Spaces.{cost}
 use Rattle.quota_tree.specs.declared.Container.{Container}
 use Rattle.process_table.specs.State.{State, is_live}
@@ -11,8 +12,11 @@ use Rattle.process_table.specs.declared.causes.Cause.TheVariants as cause
 use Rattle.fault_handler.specs.Plans.{plan_at, at_once}
 use Rattle.fault_handler.specs.declared.plans.Plan.{Plan}
 use Rattle.fault_handler.specs.declared.plans.Plan.TheVariants as plan
+use Rattle.table_walk.specs.declared.Access.{Access}
 use Rattle.table_walk.specs.declared.Access.TheVariants.{Read, Write}
 use Rattle.kernel_calls.specs.Machine.{answer, next}
+use Rattle.kernel_calls.specs.Places.{places_of}
+use Rattle.kernel_calls.specs.declared.decisions.Judgement.{Judgement}
 use Rattle.kernel_calls.specs.declared.calls.Call.{Call}
 use Rattle.kernel_calls.specs.declared.calls.Call.TheVariants as call
 use Rattle.kernel_calls.specs.declared.calls.Event.{Event}
@@ -53,35 +57,51 @@ abbrev pub charge_after : State → Event → ℕ
 charge_after s e = charge_in (next s e) e.pid
 
 -- the reply and the charge are those of the state alone; the plan says also whether a page gets its frame first
+abbrev pub judged_of : View → Event → Judgement
+judged_of v e = record { plan = plan_of_event v e; reply = answer v.state e; used_after = charge_after v.state e }
+
+-- with the event, and what stands at its pages
 abbrev pub decision_of : View → Event → Decision
-decision_of v e = record { event = e; plan = plan_of_event v e; reply = answer v.state e; used_after = charge_after v.state e }
+decision_of v e = record { event = e; plan = plan_of_event v e; reply = answer v.state e; used_after = charge_after v.state e; places = places_of v e }
 
 -- ---- By the test of a call
 
 -- a refusal, which leaves the process charged as it is
-abbrev pub refusal_of : Event → Cause → ℕ → Decision
-refusal_of e cause used = record { event = e; plan = plan.Refused cause; reply = reply.Refused cause; used_after = used }
+abbrev pub refusal_of : Cause → ℕ → Judgement
+refusal_of cause used = record { plan = plan.Refused cause; reply = reply.Refused cause; used_after = used }
 
 -- a reply, with the charge afterwards
-abbrev pub reply_of : Event → Reply → ℕ → Decision
-reply_of e r used = record { event = e; plan = at_once; reply = r; used_after = used }
+abbrev pub reply_of : Reply → ℕ → Judgement
+reply_of r used = record { plan = at_once; reply = r; used_after = used }
 
 -- done with the charge that the test gives, or refused
-abbrev pub tested : Event → Result ℕ Cause → ℕ → Decision
-tested e (Err cause) used = refusal_of e cause used
-tested e (Ok charge) used = reply_of e reply.Done charge
+abbrev pub tested : Result ℕ Cause → ℕ → Judgement
+tested (Err cause) used = refusal_of cause used
+tested (Ok charge) used = reply_of reply.Done charge
 
 -- the child that the test of a spawn or a fork gives, or refused
-abbrev pub spawned : Event → Result Pid Cause → ℕ → Decision
-spawned e (Err cause) used = refusal_of e cause used
-spawned e (Ok child) used = reply_of e (reply.Child child) used
+abbrev pub spawned : Result Pid Cause → ℕ → Judgement
+spawned (Err cause) used = refusal_of cause used
+spawned (Ok child) used = reply_of (reply.Child child) used
 
 -- a refusal, a fault, or this reply, each with this charge
-abbrev pub planned : Event → Plan → Reply → ℕ → Decision
-planned e (plan.Refused cause) r charge = refusal_of e cause charge
-planned e (plan.Fault fault) r charge = record { event = e; plan = plan.Fault fault; reply = reply.Fault fault.addr fault.code; used_after = charge }
-planned e (plan.Ready first second) r charge = record { event = e; plan = plan.Ready first second; reply = r; used_after = charge }
+abbrev pub planned : Plan → Reply → ℕ → Judgement
+planned (plan.Refused cause) r charge = refusal_of cause charge
+planned (plan.Fault fault) r charge = record { plan = plan.Fault fault; reply = reply.Fault fault.addr fault.code; used_after = charge }
+planned (plan.Ready first second) r charge = record { plan = plan.Ready first second; reply = r; used_after = charge }
 
 -- the reply to a process that asks for its quota
 abbrev pub quota_told : Container → Reply
 quota_told c = reply.Quota c.quota c.used c.given
+
+-- ---- An access
+
+-- its call
+abbrev pub call_of : Access → ℕ → Size → ℕ → Call
+call_of Read address size value = call.Load address size
+call_of Write address size value = call.Store address size value
+
+-- the reply where it completes with this value
+abbrev pub reply_to : Access → ℕ → Reply
+reply_to Read value = reply.Value value
+reply_to Write value = reply.Done

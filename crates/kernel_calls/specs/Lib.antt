@@ -7,6 +7,7 @@ pub mod Kept
 pub mod Laws
 pub mod Machine
 pub mod Pages
+pub mod Places
 pub mod Transfers
 pub mod Translations
 pub mod Walked

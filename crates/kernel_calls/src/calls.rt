@@ -1,7 +1,7 @@
 //! Calls, events, replies and decisions.
 use fault_handler::Plan;
 use page_words::{Page, Pid, Size, Vaddr};
-use process_table::Cause;
+use process_table::{Cause, Places};
 
 /// What a process asks of the kernel.
 #[derive(Clone, Copy, Debug, PartialEq, Eq)]
@@ -107,6 +107,14 @@ pub enum Reply {
     Refused(Cause),
 }
 
+/// What came of an event that was carried out.
+#[derive(Clone, Copy, Debug, PartialEq, Eq)]
+pub struct Outcome {
+    pub reply: Reply,
+    /// The charge of the event's process after it, in frames; 0 where it is not live then.
+    pub used_after: u32,
+}
+
 /// What was decided of an event on one state of the core.
 #[derive(Clone, Copy, Debug, PartialEq, Eq)]
 pub struct Decision {
@@ -117,4 +125,6 @@ pub struct Decision {
     pub reply: Reply,
     /// The charge of the event's process after it, in frames; 0 where it is not live then.
     pub used_after: u32,
+    /// What stands at the pages of an access.
+    pub(crate) places: Places,
 }

@@ -9,21 +9,20 @@ ghost use Rattle.address_space.specs.Walks.{WalksAgree};
 ghost use Rattle.address_space.specs.ByWalk.{with_walked};
 ghost use Rattle.process_table.specs.State.{open_with, container_of, is_live, is_mapped};
 ghost use Rattle.process_table.specs.Parts.{after_loads, after_stores};
-ghost use Rattle.process_table.specs.Calls.{loaded, after_load, after_store};
-ghost use Rattle.table_walk.specs.declared.Access.TheVariants as access;
 ghost use Rattle.fault_handler.specs.declared.plans.Plan.TheVariants as plan;
 ghost use Rattle.process_table.specs.Image.{StandsFor, image_of, memory_of};
 ghost use Rattle.process_table.specs.WellFormed.{IsWellFormed, total};
 ghost use Rattle.address_space.specs.Image.{LeavesRoom, takes_stores};
 ghost use Rattle.address_space.specs.Spaces.{zeros, at_page, slot_at, byte_at};
 ghost use Rattle.phys_memory.specs.Bytes.{frame_bytes};
-ghost use Rattle.fault_handler.specs.Plans.{at_once, goes_on, plan_of, takes_no_frame};
+ghost use Rattle.fault_handler.specs.Plans.{goes_on, takes_no_frame};
 ghost use Rattle.kernel_calls.specs.Authority.{HearTheirOwn, KeepsBorders};
 ghost use Rattle.kernel_calls.specs.Families.{IsUnreached};
 ghost use Rattle.kernel_calls.specs.Isolation.{IsIsolated};
 ghost use Rattle.kernel_calls.specs.Pages.{page_in};
+ghost use Rattle.kernel_calls.specs.Places.{is_access, places_of};
 ghost use Rattle.kernel_calls.specs.Machine.{answer, after, next, answers, end_of, completes, none_completes};
-ghost use Rattle.kernel_calls.specs.Decisions.{decision_of, charge_in, charge_after, plan_of_event};
+ghost use Rattle.kernel_calls.specs.Decisions.{call_of, decision_of, charge_in, charge_after, plan_of_event};
 ghost use Rattle.kernel_calls.specs.declared.translations.Ended.TheVariants as end;
 ghost use Rattle.kernel_calls.specs.Gone.{gone_of_call, gone_by};
 ghost use Rattle.kernel_calls.specs.Translations.{ended_by, EndAlong, Ends};
@@ -31,29 +30,21 @@ ghost use Rattle.kernel_calls.specs.Walked.{finds_event, reply_found, bytes_acce
 ghost use Rattle.kernel_calls.specs.Kept.{ServesEvent, StoresMarked, bytes_kept};
 ghost use Rattle.kernel_calls.specs.declared.calls.Reply.TheVariants as reply;
 
-use crate::calls::{Call, Decision, Event, Reply};
-use crate::decisions::{answered, decide_on};
+use crate::calls::{Call, Decision, Event, Outcome, Reply};
+use crate::decisions::{decided, fault_told, judge, judge_call, value_told};
 use crate::pages::{self, PageState};
+use crate::places::{is_access, look};
 use crate::translations::{self, Ended};
-use crate::walked;
+use crate::{BootFault, walked};
 use alloc_table::Role;
-use fault_handler::{Plan, settle, try_load, try_store};
-use page_words::{Frame, Page, Pid, Vaddr, in_user_range, page_of};
+use fault_handler::{Plan, Stop, settle_at};
+use page_words::{Frame, Page, Pid, Size, Vaddr, in_user_range, page_of};
 use phys_memory::Memory;
-use process_table::{Processes, ProcessesFault};
+use process_table::{Places, Processes};
 use quota_tree::Container;
 use std::alloc::Global;
 use std::marker::Model;
 use table_walk::Access;
-
-/// Why a core did not boot.
-#[derive(Clone, Copy, Debug, PartialEq, Eq)]
-pub enum BootFault {
-    /// The number of frames is not 16 to 4,096.
-    BadSize,
-    /// There was no memory for the frames or for what the core keeps of them.
-    NoMemory,
-}
 
 /// The core: processes, their spaces, quotas and offers, over one memory.
 #[derive(Drop)]
@@ -71,30 +62,40 @@ impl Model for Core {
     ghost view = { λ c. c.processes };
 }
 
-/// Carries out a call that is neither refused nor a fault.
+/// Carries out an access that is neither refused nor a fault, by what stands at its pages.
 #[inline(always)]
-fn complete(processes: &mut Processes, decision: &Decision)
-    requires decided { decision.now ≡ decision_of processes.old decision.now.event }
-    requires completes { goes_on decision.now.plan ≡ true }
-    ensures state { processes.new.state ≡ after processes.old.state decision.now.event.pid decision.now.event.call }
-    ensures stay { FramesStay (gone_of_call decision.now.event.pid decision.now.event.call) (memory_of processes.old) (memory_of processes.new) }
+fn complete_access(processes: &mut Processes, event: &Event, plan: &Plan, places: &Places)
+    requires access { is_access event.now.call ≡ true }
+    requires decided { plan.now ≡ plan_of_event processes.old event.now }
+    requires completes { goes_on plan.now ≡ true }
+    requires places { places.now ≡ places_of processes.old event.now }
+    ensures state { processes.new.state ≡ after processes.old.state event.now.pid event.now.call }
+    ensures stay { FramesStay (gone_of_call event.now.pid event.now.call) (memory_of processes.old) (memory_of processes.new) }
 {
-    let pid = decision.event.pid;
-    match decision.event.call {
+    let pid = event.pid;
+    match event.call {
         Call::Load { addr, size } => {
-            settle(processes, decision.plan, pid, addr, size, Access::Read, 0);
+            let read = Access::Read;
+            settle_at(processes, plan, pid, addr, size, read, 0, places);
         }
         Call::Store { addr, size, value } => {
-            settle(
-                processes,
-                decision.plan,
-                pid,
-                addr,
-                size,
-                Access::Write,
-                value,
-            );
+            let write = Access::Write;
+            settle_at(processes, plan, pid, addr, size, write, value, places);
         }
+        _ => unreachable!(),
+    }
+}
+
+/// Carries out any other call that is not refused.
+#[inline(always)]
+fn complete_call(processes: &mut Processes, event: &Event)
+    requires call { is_access event.now.call ≡ false }
+    requires completes { goes_on (plan_of_event processes.old event.now) ≡ true }
+    ensures state { processes.new.state ≡ after processes.old.state event.now.pid event.now.call }
+    ensures stay { FramesStay (gone_of_call event.now.pid event.now.call) (memory_of processes.old) (memory_of processes.new) }
+{
+    let pid = event.pid;
+    match event.call {
         Call::Map { page, write } => processes.map(pid, page, write),
         Call::Unmap { page } => processes.unmap(pid, page),
         Call::Protect { page, write } => processes.protect(pid, page, write),
@@ -118,32 +119,127 @@ fn complete(processes: &mut Processes, decision: &Decision)
         }
         Call::Exit => processes.exit(pid),
         Call::Quota => {}
+        Call::Load { .. } => unreachable!(),
+        Call::Store { .. } => unreachable!(),
     }
 }
 
-/// Carries out a load or a store that completes at once, in one page. None, and nothing changes, for any other event.
+/// The reply to an access, by its plan.
+#[inline(always)]
+fn reply_access(
+    processes: &mut Processes,
+    event: &Event,
+    address: Vaddr,
+    size: Size,
+    access: Access,
+    value: u32,
+) -> Reply
+    requires { event.now.call ≡ call_of access address size value }
+    ensures reply { result ≡ answer processes.old.state event.now }
+    ensures state { processes.new.state ≡ next processes.old.state event.now }
+    ensures stay { FramesStay (gone_by processes.old.state event.now) (memory_of processes.old) (memory_of processes.new) }
+    ensures kept { completes result ≡ false → processes.new ≡ processes.old }
+{
+    match fault_handler::access(processes, event.pid, address, size, access, value) {
+        Ok(value) => value_told(access, value),
+        Err(Stop::Refused(cause)) => Reply::Refused(cause),
+        Err(Stop::Fault(fault)) => fault_told(&fault),
+    }
+}
+
+/// Carries out a load or a store that completes as memory stands, in one page. None, and nothing changes, for any other
+/// event.
 #[inline(always)]
 fn at_once(processes: &mut Processes, event: &Event) -> Option<Reply>
     ensures reply { IfSome result (λ reply. reply ≡ answer processes.old.state event.now) }
     ensures completes { IfSome result (λ reply. completes reply ≡ true) }
-    ensures plan { IsSome result → plan_of_event processes.old event.now ≡ at_once }
     ensures state { IsSome result → processes.new.state ≡ next processes.old.state event.now }
     ensures stay { FramesStay none_goes (memory_of processes.old) (memory_of processes.new) }
     ensures none { IsNone result → processes.new ≡ processes.old }
 {
+    let pid = event.pid;
     match event.call {
         Call::Load { addr, size } => {
-            let value = try_load(processes, event.pid, addr, size)?;
+            let value = fault_handler::try_access(processes, pid, addr, size, Access::Read, 0)?;
             Some(Reply::Value(value))
         }
         Call::Store { addr, size, value } => {
-            if try_store(processes, event.pid, addr, size, value) {
-                Some(Reply::Done)
-            } else {
-                None
-            }
+            fault_handler::try_access(processes, pid, addr, size, Access::Write, value)?;
+            Some(Reply::Done)
         }
         _ => None,
+    }
+}
+
+/// The reply to a load or a store. None, and nothing changes, for any other call.
+#[inline(always)]
+fn try_access(processes: &mut Processes, event: &Event) -> Option<Reply>
+    ensures reply { IfSome result (λ reply. reply ≡ answer processes.old.state event.now) }
+    ensures state { IsSome result → processes.new.state ≡ next processes.old.state event.now }
+    ensures stay { IsSome result → FramesStay (gone_by processes.old.state event.now) (memory_of processes.old) (memory_of processes.new) }
+    ensures kept { IfSome result (λ reply. completes reply ≡ false → processes.new ≡ processes.old) }
+    ensures call { IsNone result → is_access event.now.call ≡ false }
+    ensures none { IsNone result → processes.new ≡ processes.old }
+{
+    match event.call {
+        Call::Load { addr, size } => {
+            let read = Access::Read;
+            Some(reply_access(processes, event, addr, size, read, 0))
+        }
+        Call::Store { addr, size, value } => {
+            let write = Access::Write;
+            Some(reply_access(processes, event, addr, size, write, value))
+        }
+        _ => None,
+    }
+}
+
+/// Carries out an access by its plan, and by what stands at its pages.
+#[inline(always)]
+fn carry_access(processes: &mut Processes, event: &Event, plan: &Plan, places: &Places)
+    requires access { is_access event.now.call ≡ true }
+    requires decided { plan.now ≡ plan_of_event processes.old event.now }
+    requires places { places.now ≡ places_of processes.old event.now }
+    ensures state { processes.new.state ≡ next processes.old.state event.now }
+    ensures stay { FramesStay (gone_by processes.old.state event.now) (memory_of processes.old) (memory_of processes.new) }
+    ensures kept { completes (answer processes.old.state event.now) ≡ false → processes.new ≡ processes.old }
+{
+    match plan {
+        Plan::Refused(_) => {}
+        Plan::Fault(_) => {}
+        Plan::Ready { .. } => complete_access(processes, event, plan, places),
+    }
+}
+
+/// Carries out any other call by its plan.
+#[inline(always)]
+fn carry_call(processes: &mut Processes, event: &Event, plan: &Plan)
+    requires call { is_access event.now.call ≡ false }
+    requires decided { plan.now ≡ plan_of_event processes.old event.now }
+    ensures state { processes.new.state ≡ next processes.old.state event.now }
+    ensures stay { FramesStay (gone_by processes.old.state event.now) (memory_of processes.old) (memory_of processes.new) }
+    ensures kept { completes (answer processes.old.state event.now) ≡ false → processes.new ≡ processes.old }
+{
+    match plan {
+        Plan::Refused(_) => (),
+        Plan::Fault(_) => (),
+        Plan::Ready { .. } => complete_call(processes, event),
+    }
+}
+
+/// Carries out an event by its plan, an access by what stands at its pages.
+#[inline(always)]
+fn carry(processes: &mut Processes, event: &Event, plan: &Plan, places: &Places)
+    requires decided { plan.now ≡ plan_of_event processes.old event.now }
+    requires places { places.now ≡ places_of processes.old event.now }
+    ensures state { processes.new.state ≡ next processes.old.state event.now }
+    ensures stay { FramesStay (gone_by processes.old.state event.now) (memory_of processes.old) (memory_of processes.new) }
+    ensures kept { completes (answer processes.old.state event.now) ≡ false → processes.new ≡ processes.old }
+{
+    if is_access(event) {
+        carry_access(processes, event, plan, places);
+    } else {
+        carry_call(processes, event, plan);
     }
 }
 
@@ -157,21 +253,6 @@ fn charge_now(processes: &Processes, pid: Pid) -> u32
     }
 }
 
-/// Carries out what was decided.
-#[inline(always)]
-fn carry_out(processes: &mut Processes, decision: &Decision)
-    requires decided { decision.now ≡ decision_of processes.old decision.now.event }
-    ensures state { processes.new.state ≡ next processes.old.state decision.now.event }
-    ensures stay { FramesStay (gone_by processes.old.state decision.now.event) (memory_of processes.old) (memory_of processes.new) }
-    ensures kept { completes decision.now.reply ≡ false → processes.new ≡ processes.old }
-{
-    match decision.plan {
-        Plan::Refused(_) => {}
-        Plan::Fault(_) => {}
-        Plan::Ready { .. } => complete(processes, decision),
-    }
-}
-
 impl Core {
     /// A core of that many frames, 16 to 4,096, with process 0 alone, whose quota is one less.
     ///
@@ -181,14 +262,9 @@ impl Core {
         ensures stands { IfOk result (λ core. StandsFor (image_of core) core.state) }
         ensures size { IsErrOf result BootFault.BadSize ↔ (16 ≤ frames → frames ≤ 4096 → ⊥) }
     {
-        match Processes::new(alloc, frames) {
-            Ok(processes) => {
-                processes.stands();
-                Ok(Core { processes })
-            }
-            Err(ProcessesFault::BadSize) => Err(BootFault::BadSize),
-            Err(ProcessesFault::NoMemory) => Err(BootFault::NoMemory),
-        }
+        let processes = Processes::new(alloc, frames)?;
+        processes.stands();
+        Ok(Core { processes })
     }
 
     /// What is decided of an event: its plan, its reply and the charge of its process afterwards.
@@ -198,7 +274,9 @@ impl Core {
         ensures reply { result.reply ≡ answer self.now.state event.now }
         ensures charge { result.used_after ≡ charge_after self.now.state event.now }
     {
-        decide_on(&self.processes, event)
+        let places = look(&self.processes, event);
+        let judged = judge(&self.processes, event, &places);
+        decided(event, &judged, &places)
     }
 
     /// Which cached translations an event ends: a processor that keeps what its walks gave has to invalidate these
@@ -234,14 +312,19 @@ impl Core {
         ensures kept { completes decision.now.reply ≡ false → self.new ≡ self.old }
     {
         self.stands();
-        carry_out(&mut self.processes, decision);
+        carry(
+            &mut self.processes,
+            &decision.event,
+            &decision.plan,
+            &decision.places,
+        );
         self.stands();
     }
 
-    /// The reply to an event that is decided first. It stands apart from `step`, which keeps no decision where none is
-    /// made, and it hands none out, so that what is decided need not be put together.
+    /// The reply to any other call, which looks where it is tested and where it is carried out.
     #[inline(never)]
-    pub(crate) fn reply_planned(&mut self, event: &Event) -> Reply
+    fn reply_call(&mut self, event: &Event) -> Reply
+        requires { is_access event.now.call ≡ false }
         ensures reply { result ≡ answer self.old.state event.now }
         ensures state { self.new.state ≡ next self.old.state event.now }
         ensures stay { FramesStay (gone_by self.old.state event.now) (memory_of self.old) (memory_of self.new) }
@@ -250,36 +333,36 @@ impl Core {
         ensures kept { completes result ≡ false → self.new ≡ self.old }
     {
         self.stands();
-        let decision = decide_on(&self.processes, event);
-        carry_out(&mut self.processes, &decision);
+        let judged = judge_call(&self.processes, event);
+        carry_call(&mut self.processes, event, &judged.plan);
         self.stands();
-        decision.reply
+        judged.reply
     }
 
-    /// Decides an event and carries it out, and gives what was decided: what `decide` says of the state before.
-    pub fn carry_out(&mut self, event: &Event) -> Decision
-        ensures decision { result ≡ decision_of self.old event.now }
-        ensures reply { result.reply ≡ answer self.old.state event.now }
-        ensures charge { result.used_after ≡ charge_after self.old.state event.now }
-        ensures state { self.new.state ≡ next self.old.state event.now }
-        ensures stands { StandsFor (image_of self.new) self.new.state }
-        ensures ends { Ends (ended_by self.old event.now) self.old self.new }
-        ensures kept { completes result.reply ≡ false → self.new ≡ self.old }
-    {
-        self.stands();
-        if let Some(reply) = at_once(&mut self.processes, event) {
-            self.stands();
-            return answered(event, reply, charge_now(&self.processes, event.pid));
-        }
-        let decision = self.decide(event);
-        self.follow(&decision);
-        decision
-    }
-
-    /// Decides an event and carries it out.
-    pub fn step(&mut self, event: &Event) -> Reply
+    /// The reply to an event, which is carried out: an access by its plan, any other call by its test.
+    #[inline(never)]
+    fn reply_planned(&mut self, event: &Event) -> Reply
         ensures reply { result ≡ answer self.old.state event.now }
         ensures state { self.new.state ≡ next self.old.state event.now }
+        ensures stay { FramesStay (gone_by self.old.state event.now) (memory_of self.old) (memory_of self.new) }
+        ensures stands { StandsFor (image_of self.new) self.new.state }
+        ensures ends { Ends (ended_by self.old event.now) self.old self.new }
+        ensures kept { completes result ≡ false → self.new ≡ self.old }
+    {
+        self.stands();
+        if let Some(reply) = try_access(&mut self.processes, event) {
+            self.stands();
+            return reply;
+        }
+        self.reply_call(event)
+    }
+
+    /// The reply to an event, which is carried out.
+    #[inline(always)]
+    pub(crate) fn reply_to(&mut self, event: &Event) -> Reply
+        ensures reply { result ≡ answer self.old.state event.now }
+        ensures state { self.new.state ≡ next self.old.state event.now }
+        ensures stay { FramesStay (gone_by self.old.state event.now) (memory_of self.old) (memory_of self.new) }
         ensures stands { StandsFor (image_of self.new) self.new.state }
         ensures ends { Ends (ended_by self.old event.now) self.old self.new }
         ensures kept { completes result ≡ false → self.new ≡ self.old }
@@ -290,6 +373,34 @@ impl Core {
             return reply;
         }
         self.reply_planned(event)
+    }
+
+    /// Decides an event and carries it out, as `step` does, and gives the charge too: what `decide` says of the state
+    /// before.
+    pub fn perform(&mut self, event: &Event) -> Outcome
+        ensures reply { result.reply ≡ answer self.old.state event.now }
+        ensures charge { result.used_after ≡ charge_after self.old.state event.now }
+        ensures state { self.new.state ≡ next self.old.state event.now }
+        ensures stands { StandsFor (image_of self.new) self.new.state }
+        ensures ends { Ends (ended_by self.old event.now) self.old self.new }
+        ensures kept { completes result.reply ≡ false → self.new ≡ self.old }
+    {
+        let reply = self.reply_to(event);
+        Outcome {
+            reply,
+            used_after: charge_now(&self.processes, event.pid),
+        }
+    }
+
+    /// Decides an event and carries it out.
+    pub fn step(&mut self, event: &Event) -> Reply
+        ensures reply { result ≡ answer self.old.state event.now }
+        ensures state { self.new.state ≡ next self.old.state event.now }
+        ensures stands { StandsFor (image_of self.new) self.new.state }
+        ensures ends { Ends (ended_by self.old event.now) self.old self.new }
+        ensures kept { completes result ≡ false → self.new ≡ self.old }
+    {
+        self.reply_to(event)
     }
 
     /// Carries out events in order, and writes the reply to each in its place. What a process is told that

@@ -8,21 +8,33 @@ ghost use Rattle.fault_handler.specs.Plans.{plan_at, goes_on};
 ghost use Rattle.table_walk.specs.declared.Access.TheVariants as access;
 ghost use Rattle.kernel_calls.specs.declared.calls.Call.TheVariants as call;
 ghost use Rattle.kernel_calls.specs.declared.calls.Reply.TheVariants as reply;
-ghost use Rattle.kernel_calls.specs.Decisions.{decision_of, refusal_of, reply_of, tested, spawned, planned, quota_told};
+ghost use Rattle.kernel_calls.specs.Places.{is_access, places_of};
+ghost use Rattle.process_table.specs.Places.{access_places};
+ghost use Rattle.process_table.specs.TestAnswers.{map_answer, unmap_answer, protect_answer, offer_answer, accept_answer};
+ghost use Rattle.kernel_calls.specs.Decisions.{judged_of, refusal_of, reply_of, reply_to, tested, spawned, planned, quota_told};
 
 use crate::calls::{Call, Decision, Event, Reply};
+use crate::places::is_access;
 use address_space::Cell;
-use fault_handler::{PageStep, Plan, plan_charged};
-use page_words::{Page, Pid, Size, Vaddr, in_user_range};
-use process_table::{Cause, Processes};
+use fault_handler::{PageStep, Plan, plan_by};
+use page_words::{Page, Pid, Size, Vaddr};
+use process_table::{Cause, Places, Processes};
 use quota_tree::Container;
 use table_walk::{Access, PageFault};
 
-fn refusal(event: &Event, cause: Cause, used: u32) -> Decision
-    ensures { result ≡ refusal_of event.now cause used }
+/// What is decided of an event, beside the event itself and what stands at its pages.
+#[derive(Clone, Copy, Debug, PartialEq, Eq)]
+pub struct Judgement {
+    pub plan: Plan,
+    pub reply: Reply,
+    /// The charge of the event's process after it, in frames; 0 where it is not live then.
+    pub used_after: u32,
+}
+
+fn refusal(cause: Cause, used: u32) -> Judgement
+    ensures { result ≡ refusal_of cause used }
 {
-    Decision {
-        event: *event,
+    Judgement {
         plan: Plan::Refused(cause),
         reply: Reply::Refused(cause),
         used_after: used,
@@ -30,11 +42,10 @@ fn refusal(event: &Event, cause: Cause, used: u32) -> Decision
 }
 
 /// A reply to a call that completes as memory stands, with the charge afterwards.
-pub(crate) fn answered(event: &Event, reply: Reply, used_after: u32) -> Decision
-    ensures { result ≡ reply_of event.now reply used_after }
+fn answered(reply: Reply, used_after: u32) -> Judgement
+    ensures { result ≡ reply_of reply used_after }
 {
-    Decision {
-        event: *event,
+    Judgement {
         plan: Plan::Ready {
             first: PageStep::Complete,
             second: None,
@@ -44,7 +55,8 @@ pub(crate) fn answered(event: &Event, reply: Reply, used_after: u32) -> Decision
     }
 }
 
-fn fault_told(fault: &PageFault) -> Reply
+/// The reply to a process whose access faults.
+pub(crate) fn fault_told(fault: &PageFault) -> Reply
     ensures { result ≡ reply.Fault fault.now.addr fault.now.code }
 {
     Reply::Fault {
@@ -53,32 +65,41 @@ fn fault_told(fault: &PageFault) -> Reply
     }
 }
 
+/// The reply to an access that completes with this value.
+pub(crate) fn value_told(access: Access, value: u32) -> Reply
+    ensures { result ≡ reply_to access value }
+{
+    match access {
+        Access::Read => Reply::Value(value),
+        Access::Write => Reply::Done,
+    }
+}
+
 /// Done with the charge that a call's test gives, or refused.
-fn done_or_refused(event: &Event, test: Result<u32, Cause>, used: u32) -> Decision
-    ensures { result ≡ tested event.now test used }
+fn done_or_refused(test: Result<u32, Cause>, used: u32) -> Judgement
+    ensures { result ≡ tested test used }
 {
     match test {
-        Ok(charge) => answered(event, Reply::Done, charge),
-        Err(cause) => refusal(event, cause, used),
+        Ok(charge) => answered(Reply::Done, charge),
+        Err(cause) => refusal(cause, used),
     }
 }
 
 /// The child that the test of a spawn or a fork gives, or a refusal.
-fn child_or_refused(event: &Event, test: Result<Pid, Cause>, used: u32) -> Decision
-    ensures { result ≡ spawned event.now test used }
+fn child_or_refused(test: Result<Pid, Cause>, used: u32) -> Judgement
+    ensures { result ≡ spawned test used }
 {
     match test {
-        Ok(child) => answered(event, Reply::Child(child), used),
-        Err(cause) => refusal(event, cause, used),
+        Ok(child) => answered(Reply::Child(child), used),
+        Err(cause) => refusal(cause, used),
     }
 }
 
-/// A decision of these parts.
-fn made(event: &Event, plan: &Plan, reply: &Reply, used_after: u32) -> Decision
-    ensures { result ≡ record { event = event.now; plan = plan.now; reply = reply.now; used_after = used_after } }
+/// A judgement of these parts.
+fn made(plan: &Plan, reply: &Reply, used_after: u32) -> Judgement
+    ensures { result ≡ record { plan = plan.now; reply = reply.now; used_after = used_after } }
 {
-    Decision {
-        event: *event,
+    Judgement {
         plan: *plan,
         reply: *reply,
         used_after,
@@ -86,23 +107,35 @@ fn made(event: &Event, plan: &Plan, reply: &Reply, used_after: u32) -> Decision
 }
 
 /// An access as it was planned: a refusal, a fault, or this reply.
-fn by_plan(event: &Event, plan: &Plan, reply: &Reply, charge: u32) -> Decision
-    ensures { result ≡ planned event.now plan.now reply.now charge }
+fn by_plan(plan: &Plan, reply: &Reply, charge: u32) -> Judgement
+    ensures { result ≡ planned plan.now reply.now charge }
 {
     match plan {
-        Plan::Refused(cause) => refusal(event, *cause, charge),
-        Plan::Fault(fault) => made(event, plan, &fault_told(fault), charge),
-        Plan::Ready { .. } => made(event, plan, reply, charge),
+        Plan::Refused(cause) => refusal(*cause, charge),
+        Plan::Fault(fault) => made(plan, &fault_told(fault), charge),
+        Plan::Ready { .. } => made(plan, reply, charge),
     }
 }
 
 /// What a load of a live process gives, where it goes on.
-fn value_by(processes: &Processes, plan: &Plan, pid: Pid, address: Vaddr, size: Size) -> u32
+fn value_by(
+    processes: &Processes,
+    plan: &Plan,
+    pid: Pid,
+    address: Vaddr,
+    size: Size,
+    places: &Places,
+) -> u32
     requires plan { plan.now ≡ plan_at processes.now pid address size access.Read }
+    requires places { places.now ≡ access_places processes.now pid address size }
     ensures { goes_on plan.now ≡ true → result ≡ loaded processes.now.state pid address size }
 {
     match plan {
-        Plan::Ready { .. } => processes.spaces().peek(pid, address, size),
+        Plan::Ready { .. } => {
+            let place = places.first.unwrap();
+            let spaces = processes.spaces();
+            spaces.peek_at(pid, address, size, &place, &places.second)
+        }
         Plan::Refused(_) => 0,
         Plan::Fault(_) => 0,
     }
@@ -113,18 +146,28 @@ fn decide_load(
     processes: &Processes,
     event: &Event,
     container: &Container,
+    places: &Places,
     address: Vaddr,
     size: Size,
-) -> Decision
+) -> Judgement
     requires live { is_live processes.now.state event.now.pid ≡ true }
     requires container { container_of processes.now.state event.now.pid ≡ Some container.now }
+    requires places { places.now ≡ places_of processes.now event.now }
     requires load { event.now.call ≡ call.Load address size }
-    ensures { result ≡ decision_of processes.now event.now }
+    ensures { result ≡ judged_of processes.now event.now }
 {
     let pid = event.pid;
-    let planned = plan_charged(processes, pid, address, size, Access::Read, container);
-    let value = value_by(processes, &planned.plan, pid, address, size);
-    by_plan(event, &planned.plan, &Reply::Value(value), planned.charge)
+    let planned = plan_by(
+        processes,
+        pid,
+        address,
+        size,
+        Access::Read,
+        container,
+        places,
+    );
+    let value = value_by(processes, &planned.plan, pid, address, size, places);
+    by_plan(&planned.plan, &Reply::Value(value), planned.charge)
 }
 
 #[inline(always)]
@@ -132,24 +175,27 @@ fn decide_store(
     processes: &Processes,
     event: &Event,
     container: &Container,
+    places: &Places,
     address: Vaddr,
     size: Size,
     value: u32,
-) -> Decision
+) -> Judgement
     requires live { is_live processes.now.state event.now.pid ≡ true }
     requires container { container_of processes.now.state event.now.pid ≡ Some container.now }
+    requires places { places.now ≡ places_of processes.now event.now }
     requires store { event.now.call ≡ call.Store address size value }
-    ensures { result ≡ decision_of processes.now event.now }
+    ensures { result ≡ judged_of processes.now event.now }
 {
-    let planned = plan_charged(
+    let planned = plan_by(
         processes,
         event.pid,
         address,
         size,
         Access::Write,
         container,
+        places,
     );
-    by_plan(event, &planned.plan, &Reply::Done, planned.charge)
+    by_plan(&planned.plan, &Reply::Done, planned.charge)
 }
 
 /// The reply to a process that asks about a page with this cell.
@@ -166,18 +212,18 @@ fn info_told(cell: &Cell) -> Reply
 }
 
 #[inline(always)]
-fn decide_info(processes: &Processes, event: &Event, page: Page, used: u32) -> Decision
+fn decide_info(processes: &Processes, event: &Event, page: Page, used: u32) -> Judgement
     requires live { is_live processes.now.state event.now.pid ≡ true }
     requires info { event.now.call ≡ call.Info page }
     requires used { used ≡ cost processes.now.state.spaces event.now.pid }
-    ensures { result ≡ decision_of processes.now event.now }
+    ensures { result ≡ judged_of processes.now event.now }
 {
-    if !in_user_range(page) {
-        return refusal(event, Cause::BadPage, used);
-    }
-    match processes.spaces().cell(event.pid, page) {
-        Some(cell) => answered(event, info_told(&cell), used),
-        None => refusal(event, Cause::NotMapped, used),
+    let Some(place) = processes.place(event.pid, page) else {
+        return refusal(Cause::BadPage, used);
+    };
+    match processes.spaces().cell_at(event.pid, page, &place) {
+        Some(cell) => answered(info_told(&cell), used),
+        None => refusal(Cause::NotMapped, used),
     }
 }
 
@@ -192,57 +238,217 @@ fn quota_told(container: &Container) -> Reply
     }
 }
 
-/// What is decided of an event of a live process, which has this container.
-#[tactic(auto, using(crate::proofs::Charges::map_charge, crate::proofs::Charges::spawn_lives, crate::proofs::Charges::exit_gone))]
+/// The test of a map, whose page is looked up for it.
+#[inline(never)]
+fn test_map(
+    processes: &Processes,
+    container: &Container,
+    pid: Pid,
+    page: Page,
+) -> Result<u32, Cause>
+    requires live { is_live processes.now.state pid ≡ true }
+    requires container { container_of processes.now.state pid ≡ Some container.now }
+    ensures { result ≡ map_answer processes.now.state pid page }
+{
+    let place = processes.place(pid, page);
+    processes.map_test(container, pid, page, &place)
+}
+
+/// The test of an unmap, whose page is looked up for it.
+#[inline(never)]
+fn test_unmap(
+    processes: &Processes,
+    container: &Container,
+    pid: Pid,
+    page: Page,
+) -> Result<u32, Cause>
+    requires live { is_live processes.now.state pid ≡ true }
+    requires container { container_of processes.now.state pid ≡ Some container.now }
+    ensures { result ≡ unmap_answer processes.now.state pid page }
+{
+    let place = processes.place(pid, page);
+    processes.unmap_test(container, pid, page, &place)
+}
+
+/// The test of a protect, whose page is looked up for it.
+#[inline(never)]
+fn test_protect(
+    processes: &Processes,
+    container: &Container,
+    pid: Pid,
+    page: Page,
+    write: bool,
+) -> Result<u32, Cause>
+    requires live { is_live processes.now.state pid ≡ true }
+    requires container { container_of processes.now.state pid ≡ Some container.now }
+    ensures { result ≡ protect_answer processes.now.state pid page write }
+{
+    let place = processes.place(pid, page);
+    processes.protect_test(container, pid, page, write, &place)
+}
+
+/// The test of an offer, whose page is looked up for it.
+#[inline(never)]
+fn test_offer(
+    processes: &Processes,
+    container: &Container,
+    pid: Pid,
+    page: Page,
+    target: Pid,
+    write: bool,
+) -> Result<u32, Cause>
+    requires live { is_live processes.now.state pid ≡ true }
+    requires container { container_of processes.now.state pid ≡ Some container.now }
+    ensures { result ≡ offer_answer processes.now.state pid page target write }
+{
+    let place = processes.place(pid, page);
+    processes.offer_test(container, pid, page, target, write, &place)
+}
+
+/// The test of an accept, whose page is looked up for it.
+#[inline(never)]
+fn test_accept(
+    processes: &Processes,
+    container: &Container,
+    pid: Pid,
+    giver: Pid,
+    giver_page: Page,
+    page: Page,
+) -> Result<u32, Cause>
+    requires live { is_live processes.now.state pid ≡ true }
+    requires container { container_of processes.now.state pid ≡ Some container.now }
+    ensures { result ≡ accept_answer processes.now.state pid giver giver_page page }
+{
+    let place = processes.place(pid, page);
+    processes.accept_test(container, pid, giver, giver_page, page, &place)
+}
+
+/// What is decided of an access of a live process, which has this container, by the places of its pages.
 #[inline(always)]
-fn decide_live(processes: &Processes, event: &Event, container: &Container) -> Decision
+fn decide_access(
+    processes: &Processes,
+    event: &Event,
+    container: &Container,
+    places: &Places,
+) -> Judgement
     requires live { is_live processes.now.state event.now.pid ≡ true }
     requires container { container_of processes.now.state event.now.pid ≡ Some container.now }
-    ensures { result ≡ decision_of processes.now event.now }
+    requires places { places.now ≡ places_of processes.now event.now }
+    requires access { is_access event.now.call ≡ true }
+    ensures { result ≡ judged_of processes.now event.now }
+{
+    match event.call {
+        Call::Load { addr, size } => decide_load(processes, event, container, places, addr, size),
+        Call::Store { addr, size, value } => {
+            decide_store(processes, event, container, places, addr, size, value)
+        }
+        _ => unreachable!(),
+    }
+}
+
+/// What is decided of any other call of a live process, which has this container.
+#[tactic(auto, using(crate::proofs::Charges::map_charge, crate::proofs::Charges::spawn_lives, crate::proofs::Charges::exit_gone))]
+#[inline(always)]
+fn decide_call(processes: &Processes, event: &Event, container: &Container) -> Judgement
+    requires live { is_live processes.now.state event.now.pid ≡ true }
+    requires container { container_of processes.now.state event.now.pid ≡ Some container.now }
+    requires call { is_access event.now.call ≡ false }
+    ensures { result ≡ judged_of processes.now event.now }
 {
     let pid = event.pid;
     let used = container.used;
     match event.call {
-        Call::Load { addr, size } => decide_load(processes, event, container, addr, size),
-        Call::Store { addr, size, value } => {
-            decide_store(processes, event, container, addr, size, value)
+        Call::Map { page, .. } => {
+            let test = test_map(processes, container, pid, page);
+            done_or_refused(test, used)
         }
-        Call::Map { page, .. } => done_or_refused(event, processes.can_map(pid, page), used),
-        Call::Unmap { page } => done_or_refused(event, processes.can_unmap(pid, page), used),
+        Call::Unmap { page } => {
+            let test = test_unmap(processes, container, pid, page);
+            done_or_refused(test, used)
+        }
         Call::Protect { page, write } => {
-            done_or_refused(event, processes.can_protect(pid, page, write), used)
+            let test = test_protect(processes, container, pid, page, write);
+            done_or_refused(test, used)
         }
         Call::Info { page } => decide_info(processes, event, page, used),
         Call::Offer {
             page,
             target,
             write,
-        } => done_or_refused(event, processes.can_offer(pid, page, target, write), used),
+        } => {
+            let test = test_offer(processes, container, pid, page, target, write);
+            done_or_refused(test, used)
+        }
         Call::Withdraw { page, target } => {
-            done_or_refused(event, processes.can_withdraw(pid, page, target), used)
+            let test = processes.withdraw_test(container, pid, page, target);
+            done_or_refused(test, used)
         }
         Call::Accept {
             giver,
             giver_page,
             page,
         } => {
-            let test = processes.can_accept(pid, giver, giver_page, page);
-            done_or_refused(event, test, used)
+            let test = test_accept(processes, container, pid, giver, giver_page, page);
+            done_or_refused(test, used)
         }
-        Call::Spawn { quota } => child_or_refused(event, processes.can_spawn(pid, quota), used),
-        Call::Fork { quota } => child_or_refused(event, processes.can_fork(pid, quota), used),
-        Call::Exit => done_or_refused(event, processes.can_exit(pid), used),
-        Call::Quota => answered(event, quota_told(container), used),
+        Call::Spawn { quota } => child_or_refused(processes.spawn_test(pid, quota), used),
+        Call::Fork { quota } => {
+            child_or_refused(processes.fork_test(container, pid, quota), used)
+        }
+        Call::Exit => done_or_refused(processes.exit_test(container, pid), used),
+        Call::Quota => answered(quota_told(container), used),
+        Call::Load { .. } => unreachable!(),
+        Call::Store { .. } => unreachable!(),
     }
 }
 
-/// What is decided of an event.
+/// What is decided of an access, by the places of its pages, without them.
 #[inline(always)]
-pub(crate) fn decide_on(processes: &Processes, event: &Event) -> Decision
-    ensures { result ≡ decision_of processes.now event.now }
+pub(crate) fn judge_access(processes: &Processes, event: &Event, places: &Places) -> Judgement
+    requires access { is_access event.now.call ≡ true }
+    requires places { places.now ≡ places_of processes.now event.now }
+    ensures { result ≡ judged_of processes.now event.now }
+{
+    let Some(container) = processes.container(event.pid) else {
+        return refusal(Cause::NoProcess, 0);
+    };
+    decide_access(processes, event, &container, places)
+}
+
+/// What is decided of any other call, which looks at its pages where it is tested.
+#[inline(always)]
+pub(crate) fn judge_call(processes: &Processes, event: &Event) -> Judgement
+    requires { is_access event.now.call ≡ false }
+    ensures { result ≡ judged_of processes.now event.now }
 {
     match processes.container(event.pid) {
-        Some(container) => decide_live(processes, event, &container),
-        None => refusal(event, Cause::NoProcess, 0),
+        Some(container) => decide_call(processes, event, &container),
+        None => refusal(Cause::NoProcess, 0),
+    }
+}
+
+/// What is decided of an event, an access by the places of its pages, without them.
+#[inline(always)]
+pub(crate) fn judge(processes: &Processes, event: &Event, places: &Places) -> Judgement
+    requires { places.now ≡ places_of processes.now event.now }
+    ensures { result ≡ judged_of processes.now event.now }
+{
+    if is_access(event) {
+        judge_access(processes, event, places)
+    } else {
+        judge_call(processes, event)
+    }
+}
+
+/// A decision of an event, by what was judged of it and what stands at its pages.
+pub(crate) fn decided(event: &Event, judged: &Judgement, places: &Places) -> Decision
+    ensures { result ≡ record { event = event.now; plan = judged.now.plan; reply = judged.now.reply; used_after = judged.now.used_after; places = places.now } }
+{
+    Decision {
+        event: *event,
+        plan: judged.plan,
+        reply: judged.reply,
+        used_after: judged.used_after,
+        places: *places,
     }
 }

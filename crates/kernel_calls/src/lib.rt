@@ -10,14 +10,15 @@ mod cores;
 mod decisions;
 mod laws;
 mod pages;
+mod places;
 mod transfers;
 mod translations;
 mod walked;
 mod worked;
 
 pub use alloc_table::Role;
-pub use calls::{Call, Decision, Event, Reply};
-pub use cores::{BootFault, Core};
+pub use calls::{Call, Decision, Event, Outcome, Reply};
+pub use cores::Core;
 pub use fault_handler::{PageStep, Plan};
 pub use laws::{
     authority_spreads_by_consent, children_are_their_makers, confined_processes_stay_confined,
@@ -25,7 +26,7 @@ pub use laws::{
     processes_are_isolated, processes_keep_their_integrity, runs_stay_well_formed,
     what_a_process_has_is_enough, what_is_given_up_goes,
 };
-pub use page_words::{Frame, Page, Pid, Size, Vaddr};
+pub use page_words::{Frame, MachineFault as BootFault, Page, Pid, Size, Vaddr};
 pub use pages::PageState;
 pub use phys_memory::Memory;
 pub use process_table::Cause;

@@ -22,8 +22,14 @@ pub fn state_of(processes: &Processes, pid: Pid, page: Page) -> Option<PageState
     requires user { IsUserPage page }
     ensures { result ≡ page_in processes.now pid page }
 {
-    let seen = processes.seen(pid, page);
-    let cell = seen.cell()?;
-    let lazy = seen.is_lazy();
-    Some(PageState { cell, lazy })
+    let spaces = processes.spaces();
+    let place = spaces.place(pid, page);
+    processes.tells(pid, page, &place);
+    match spaces.cell_at(pid, page, &place) {
+        Some(cell) => Some(PageState {
+            cell,
+            lazy: place.is_lazy(),
+        }),
+        None => None,
+    }
 }

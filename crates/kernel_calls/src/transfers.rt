@@ -1,11 +1,11 @@
 //! A process's memory in and out, as copyin and copyout are: what the accesses of one byte each come to, up to the
 //! first that is refused or faults. Each page is looked up once, and its bytes go as one slice.
 
-ghost use Rattle.std.specs.Prelude.{◌≡◌, ◌+◌, ◌++◌, ◌<◌, ◌≤◌, Some, None, IfSome, IsSome, IsNone, true, false, length, drop, slice_index};
+ghost use Rattle.std.specs.Prelude.{◌≡◌, ◌+◌, ◌++◌, ◌<◌, ◌≤◌, Some, None, IfSome, IsSome, IsNone, false, length, drop, slice_index};
 ghost use Rattle.page_words.specs.Addresses.{page_number, offset_number, IsUserPage};
 ghost use Rattle.address_space.specs.Stays.{FramesStay, none_goes, of_lazy};
 ghost use Rattle.process_table.specs.Image.{StandsFor, image_of, memory_of};
-ghost use Rattle.kernel_calls.specs.Machine.{answer, answers, next, end_of, completes};
+ghost use Rattle.kernel_calls.specs.Machine.{answer, answers, end_of, completes};
 ghost use Rattle.kernel_calls.specs.Transfers.{load_byte, store_byte, loads, stores, carried, stop_of, values, of_lazy_pages, AreLoaded, AreStored};
 
 use crate::calls::{Call, Event, Reply};
@@ -114,7 +114,7 @@ impl Core {
         ensures stops { IfSome result (λ reply. completes reply ≡ false) }
         ensures kept { IsSome result → (self.new ≡ self.old) × (out.new ≡ out.old) }
     {
-        let reply = self.reply_planned(&load_byte(pid, address));
+        let reply = self.reply_to(&load_byte(pid, address));
         if !completes(&reply) {
             return Some(reply); // of a load
         }
@@ -190,7 +190,7 @@ impl Core {
         ensures stops { IfSome result (λ reply. completes reply ≡ false) }
         ensures kept { IsSome result → self.new ≡ self.old }
     {
-        let reply = self.reply_planned(&store_byte(pid, address, part[0]));
+        let reply = self.reply_to(&store_byte(pid, address, part[0]));
         if !completes(&reply) {
             return Some(reply); // of a store
         }

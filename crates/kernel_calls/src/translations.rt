@@ -76,24 +76,14 @@ fn by_plan(pid: Pid, address: Vaddr, size: Size, plan: &Plan) -> Ended
     }
 }
 
-/// Whether writes go through a page of a process.
-fn takes_stores(processes: &Processes, pid: Pid, page: Page) -> bool
-    requires user { IsUserPage page }
-    ensures { result ≡ takes_stores processes.now.state.spaces (memory_of processes.now) (at_page pid page) }
-{
-    let seen = processes.seen(pid, page);
-    match seen.cell() {
-        Some(cell) => cell.write && !seen.is_lazy(),
-        None => false,
-    }
-}
-
 /// What a Protect ends: the translation of a page that let writes through, where it lets none from then on.
 fn by_protect(processes: &Processes, pid: Pid, page: Page, write: bool) -> Ended
     requires user { IsUserPage page }
     ensures { result ≡ (if not write && takes_stores processes.now.state.spaces (memory_of processes.now) (at_page pid page) then end.Page pid page else end.Nothing) }
 {
-    if !write && takes_stores(processes, pid, page) {
+    let place = processes.spaces().place(pid, page);
+    processes.tells(pid, page, &place);
+    if !write && place.takes_stores() {
         Ended::Page { pid, page }
     } else {
         Ended::Nothing
@@ -105,7 +95,9 @@ fn by_accept(processes: &Processes, giver: Pid, giver_page: Page) -> Ended
     requires user { IsUserPage giver_page }
     ensures { result ≡ (if is_lazy_at (memory_of processes.now) (at_page giver giver_page) then end.Page giver giver_page else end.Nothing) }
 {
-    if processes.is_lazy(giver, giver_page) {
+    let place = processes.spaces().place(giver, giver_page);
+    processes.tells(giver, giver_page, &place);
+    if place.is_lazy() {
         Ended::Page {
             pid: giver,
             page: giver_page,
@@ -126,7 +118,7 @@ fn by_call(processes: &Processes, decision: &Decision) -> Ended
     match decision.event.call {
         Call::Store { addr, size, .. } => by_plan(pid, addr, size, &decision.plan),
         Call::Unmap { page } => Ended::Page { pid, page },
-        Call::Protect { page, write } => by_protect(processes, pid, page, write),
+        Call::Protect { page, write } => { by_protect(processes, pid, page, write) }
         Call::Accept {
             giver,
             giver_page,

@@ -67,8 +67,10 @@ fn is_marked(processes: &Processes, pid: Pid, page: Page) -> bool
     if !in_user_range(page) {
         return false;
     }
-    match processes.seen(pid, page).cell() {
-        Some(cell) => cell.accessed && cell.dirty,
+    let place = processes.spaces().place(pid, page);
+    processes.tells(pid, page, &place);
+    match place.found() {
+        Some(found) => found.entry.accessed && found.entry.dirty,
         None => false,
     }
 }

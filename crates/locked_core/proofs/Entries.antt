@@ -12,7 +12,7 @@ use Rattle.memory_report.specs.declared.entries.LogEntry.{LogEntry}
 use Rattle.process_table.specs.State.{State, open_with}
 use Rattle.kernel_calls.specs.declared.calls.Reply.{Reply}
 use Rattle.locked_core.proofs.Prefixes.{same_entries}
-use Rattle.locked_core.specs.Held.{Held}
+use Rattle.locked_core.specs.Held.{UnderLock}
 use Rattle.locked_core.specs.Makers.{Maker, maker, Makes, IsRefused, Prevents}
 use Rattle.locked_core.specs.declared.faults.Fault.{Fault}
 use Rattle.locked_core.specs.declared.faults.Fault.TheVariants.{NoMemory, Stale, Unread, Disagree}
@@ -100,11 +100,11 @@ prevents_refuses frames log cpu (Stale front) legal fits h = absurd h
 prevents_refuses frames log cpu Disagree legal fits h = absurd h
 
 -- the core is in the state after the log, which is a legal history
-abbrev pub Stands : ℕ → Held → Type 0
+abbrev pub Stands : ℕ → UnderLock → Type 0
 Stands frames h = Legal frames h.log × (h.core.state ≡ state_after frames h.log)
 
 -- the entry of a call that was judged ends a legal history
-pub judged : (frames : ℕ) (h : Held) (nth : ℕ) (event : Event) (reply : Reply) (used : ℕ) (e : LogEntry) → Stands frames h → nth ≡ calls_of event.cpu h.log
+pub judged : (frames : ℕ) (h : UnderLock) (nth : ℕ) (event : Event) (reply : Reply) (used : ℕ) (e : LogEntry) → Stands frames h → nth ≡ calls_of event.cpu h.log
     → reply ≡ answer h.core.state event → used ≡ charge_after h.core.state event → e ≡ record { cpu = event.cpu; nth = nth; pid = event.pid; call = event.call; reply = reply; used_after = used }
     → (e ≡ entry_after frames h.log event.cpu event.pid event.call) × Legal frames (h.log ++ e ∷ [])
 judged frames h nth event reply used e stands count answered charged is =

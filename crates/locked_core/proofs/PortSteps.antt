@@ -5,14 +5,14 @@ use Rattle.guest_cpu.specs.Ports.{Answer}
 use Rattle.kernel_calls.specs.declared.calls.Call.{Call}
 use Rattle.kernel_calls.specs.declared.calls.Event.{Event}
 use Rattle.kernel_calls.specs.declared.calls.Reply.{Reply}
-use Rattle.locked_core.specs.Faults.{another_cpu, number_of}
+use Rattle.locked_core.specs.Faults.{another_cpu, fault_number}
 use Rattle.locked_core.specs.Makers.{Maker}
 use Rattle.locked_core.specs.Ports.{by_number, step_by, IsPortStep, IsCpuCall, IsCpuStep}
 use Rattle.locked_core.specs.declared.faults.Fault.{Fault}
 use Rattle.locked_core.specs.declared.faults.Fault.TheVariants as fault
 
 -- no fault of a CPU has the number of another CPU's event
-not_another : (f : Fault) → number_of f ≢ another_cpu
+not_another : (f : Fault) → fault_number f ≢ another_cpu
 not_another fault.NoMemory = λ is. omega (arith, is)
 not_another (fault.Stale front) = λ is. omega (arith, is)
 not_another fault.Unread = λ is. omega (arith, is)

@@ -5,7 +5,7 @@ use Rattle.memory_report.specs.declared.entries.LogEntry.{LogEntry}
 use Rattle.process_table.specs.View.{View}
 
 -- the core, and the log of all calls
-pub record Held : Type 0 where
+pub record UnderLock : Type 0 where
   pub core : View
   pub log : List LogEntry
 

@@ -2,6 +2,7 @@ pub mod Counts
 pub mod Endings
 pub mod Faults
 pub mod Held
+pub mod Kept
 pub mod Makers
 pub mod Pages
 pub mod Ports

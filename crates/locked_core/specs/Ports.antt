@@ -6,7 +6,7 @@ use Rattle.guest_cpu.specs.Ports.{Answer}
 use Rattle.kernel_calls.specs.declared.calls.Call.{Call}
 use Rattle.kernel_calls.specs.declared.calls.Event.{Event}
 use Rattle.kernel_calls.specs.declared.calls.Reply.{Reply}
-use Rattle.locked_core.specs.Faults.{another_cpu, number_of}
+use Rattle.locked_core.specs.Faults.{another_cpu, fault_number}
 use Rattle.locked_core.specs.Makers.{Maker, Makes, IsRefused}
 use Rattle.locked_core.specs.declared.faults.Fault.{Fault}
 use Rattle.memory_report.specs.declared.entries.LogEntry.{LogEntry}
@@ -14,7 +14,7 @@ use Rattle.memory_report.specs.declared.entries.LogEntry.{LogEntry}
 -- what a port answers where the CPU answered so: the reply, or the fault by its number
 abbrev pub by_number : Result Reply Fault → Answer
 by_number (Ok reply) = Ok reply
-by_number (Err fault) = Err (number_of fault)
+by_number (Err fault) = Err (fault_number fault)
 
 -- What a port does with an event of its CPU, and with one of another: the caller makes one call, and what came of that call is the answer, its fault by its
 -- number; or nothing is called, and the answer is 6.
@@ -33,7 +33,7 @@ IsCpuCall frames before pid call (Err fault) after = (after ≡ before) × ((log
 
 -- a number of a fault that refuses a call of the CPU
 abbrev pub IsNumberOfRefusal : ℕ → Maker → ℕ → Type 0
-IsNumberOfRefusal frames cpu number = (fault : Fault) × (log : List LogEntry) × IsRefused frames log cpu fault × (number ≡ number_of fault)
+IsNumberOfRefusal frames cpu number = (fault : Fault) × (log : List LogEntry) × IsRefused frames log cpu fault × (number ≡ fault_number fault)
 
 -- a reply is that of one call of this CPU; a fault leaves what it has seen, is 6 exactly for an event of another CPU, and else the number of the fault that refused
 -- the call

@@ -4,22 +4,22 @@ ghost use Rattle.std.specs.Prelude.{◌≡◌, ◌+◌, ◌<◌, ◌^◌, ◌++�
 ghost use Rattle.locked_core.specs.Counts.{counts_of};
 ghost use Rattle.memory_report.specs.Histories.{calls_of};
 
-use kernel_calls::{Call, Decision, Event, Reply};
+use kernel_calls::{Call, Event, Outcome, Reply};
 use memory_report::LogEntry;
 use std::alloc::{AllocError, Global};
 use std::marker::Model;
 
 /// What is logged of a call as it was decided, with that number of its CPU's entries before it.
-pub fn entry_of(event: &Event, nth: usize, decision: &Decision) -> LogEntry
-    ensures { result ≡ record { cpu = event.now.cpu; nth = nth; pid = event.now.pid; call = event.now.call; reply = decision.now.reply; used_after = decision.now.used_after } }
+pub fn entry_of(event: &Event, nth: usize, outcome: &Outcome) -> LogEntry
+    ensures { result ≡ record { cpu = event.now.cpu; nth = nth; pid = event.now.pid; call = event.now.call; reply = outcome.now.reply; used_after = outcome.now.used_after } }
 {
     LogEntry {
         cpu: event.cpu,
         nth,
         pid: event.pid,
         call: event.call,
-        reply: decision.reply,
-        used_after: decision.used_after,
+        reply: outcome.reply,
+        used_after: outcome.used_after,
     }
 }
 

@@ -1,7 +1,7 @@
 //! Why a kernel was not made, and why a call of it was refused.
 
 ghost use Rattle.std.specs.Prelude.{◌≡◌};
-ghost use Rattle.locked_core.specs.Faults.{number_of};
+ghost use Rattle.locked_core.specs.Faults.{fault_number};
 
 use thiserror::Error;
 
@@ -43,7 +43,7 @@ pub enum Fault {
 impl Fault {
     /// The fault's number: 1, 2, 3 or 5.
     pub fn number(self) -> u8
-        ensures { result ≡ number_of self }
+        ensures { result ≡ fault_number self }
     {
         match self {
             Fault::NoMemory => 1,

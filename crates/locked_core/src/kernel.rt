@@ -21,7 +21,7 @@ use crate::rule::LogWriter;
 use crossbeam_utils::Backoff;
 use kernel_calls::Core;
 use memory_image::Image;
-use page_words::{MAX_FRAMES, MIN_FRAMES};
+use page_words::is_frame_count;
 use std::alloc::{AllocError, Global};
 use std::marker::Model;
 use std::sync::{Mutex, MutexGuard, Wait};
@@ -43,17 +43,14 @@ pub struct Blank<G: Gate + Drop> {
 }
 
 impl<G: Gate + Drop> Model for Blank<G> {
-    ghost use Rattle.std.specs.Prelude.{◌≡◌, ◌≤◌, []};
     ghost use Rattle.locked_core.specs.Held.{Unnamed};
-    ghost use Rattle.locked_core.specs.Pages.{page};
-    ghost use Rattle.locked_core.specs.Published.{view_of};
-    ghost use Rattle.process_table.specs.State.{open_with};
+    ghost use Rattle.locked_core.specs.Kept.{IsMade};
 
     ghost Value = { Unnamed };
 
     ghost view = { λ b. record { frames = b.frames; cpus = b.cpus; monitors = b.monitors; book = b.opened.seen.book } };
 
-    ghost invariant = { λ b. (b.cpus ≤ 8) × (16 ≤ b.frames) × (b.frames ≤ 4096) × (b.core.state ≡ open_with b.frames) × (b.writer.desk.shown.value ≡ page b.frames b.opened.seen.book []) × (b.writer.desk.place.me.0.client ≡ view_of b.frames b.opened.seen.book) × (b.writer.desk.spare.value ≡ page b.frames b.opened.seen.book []) };
+    ghost invariant = { λ b. IsMade b.frames b.cpus b.opened.seen.book b.core.state b.writer.desk.shown.value b.writer.desk.spare.value b.writer.desk.place.me.0.client };
 }
 
 /// A kernel: its core, log and writer under one lock. Contracts see how many CPUs it has. End it by `close`.
@@ -98,7 +95,7 @@ impl<N: Name, G: Gate + Drop> Kernel<N, G> {
         ensures count { IsErrOf result BootFault.BadCount ↔ (16 ≤ frames) × (frames ≤ 4096) × (1 ≤ cpus → cpus ≤ 8 → monitors ≤ 8 → ⊥) }
         ensures counted { IfOk result (λ _. (1 ≤ cpus) × (cpus ≤ 8) × (monitors ≤ 8)) }
     {
-        if !(MIN_FRAMES..=MAX_FRAMES).contains(&frames) {
+        if !is_frame_count(frames) {
             return Err(BootFault::BadSize);
         }
         if cpus < 1 || cpus > 8 || monitors > 8 {

@@ -48,17 +48,14 @@ pub struct Locked<N: Name> {
 }
 
 impl<N: Name> Model for Locked<N> {
-    ghost use Rattle.std.specs.Prelude.{◌≡◌, true};
-    ghost use Rattle.locked_core.specs.Held.{Held};
-    ghost use Rattle.locked_core.specs.Pages.{LagsBehind, page};
-    ghost use Rattle.locked_core.specs.Published.{view_of};
-    ghost use Rattle.memory_report.specs.Histories.{Legal, state_after};
+    ghost use Rattle.locked_core.specs.Held.{UnderLock};
+    ghost use Rattle.locked_core.specs.Kept.{IsUnderLock};
 
-    ghost Value = { Held };
+    ghost Value = { UnderLock };
 
     ghost view = { λ l. record { core = l.core; log = l.log.entries } };
 
-    ghost invariant = { λ l. Legal N.frames l.log.entries × (l.core.state ≡ state_after N.frames l.log.entries) × (l.is_watched ≡ true → l.writer.desk.shown.value ≡ page N.frames N.book l.log.entries) × (l.writer.desk.place.me.0.client ≡ view_of N.frames N.book) × LagsBehind l.writer.desk.spare.value (page N.frames N.book l.log.entries) × (l.head ≡ l.log.entries) × LagsBehind l.writer.desk.shown.value (page N.frames N.book l.log.entries) };
+    ghost invariant = { λ l. IsUnderLock N.frames N.book l.core.state l.log.entries l.head l.is_watched l.writer.desk.shown.value l.writer.desk.spare.value l.writer.desk.place.me.0.client };
 }
 
 impl<N: Name> Locked<N> {
@@ -189,8 +186,8 @@ impl<N: Name> Locked<N> {
         if !head.add(log, &event) {
             return Err(Fault::Unread);
         }
-        let decision = core.carry_out(&event);
-        let entry = entry_of(&event, nth, &decision);
+        let outcome = core.perform(&event);
+        let entry = entry_of(&event, nth, &outcome);
         log.push(&entry);
         keep_up(rt, writer, *is_watched, log.entries(), &head.all());
         Ok((entry.reply, front_of(log, head)))

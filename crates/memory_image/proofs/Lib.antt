@@ -1,5 +1,4 @@
 pub mod References
-pub mod Standing
 pub mod MachineLemmas
 pub mod SpellingLemmas
 pub mod ImageReads
@@ -10,5 +9,4 @@ pub mod ReadingLemmas
 pub mod RespellLemmas
 pub mod FillLemmas
 pub mod WritingLemmas
-pub mod MachineSound
 pub mod WorkedSpelling

@@ -1,9 +1,9 @@
 -- What an image's directories name.
-use Rattle.std.proofs.Common.{◌≡◌, ℕ, ◌<◌, ◌≤◌, Bool, true, false, length, refl, sym, ap, ◌∙◌, arith, Option, Some, None, is_some}
+use Rattle.std.proofs.Common.{◌≡◌, ℕ, ◌<◌, ◌≤◌, Bool, true, false, length, refl, ap, arith, Option, Some, None, is_some}
 use Rattle.std.specs.Prelude.{slice_get, nat_le, nat_lt, if◌then◌else◌}
 use Rattle.std.specs.Option.{option_and_then, option_map, unwrap_or}
 use Rattle.std.proofs.lemmas.Bool.{and_parts, leb-true, ltb-true}
-use Rattle.std.proofs.lemmas.Option.{slice_get-map, slice_get_within}
+use Rattle.std.proofs.lemmas.Option.{slice_get_within}
 use Rattle.address_space.specs.Image as memory
 use Rattle.address_space.specs.Image.{directory_at, is_user_slot}
 use Rattle.memory_image.specs.declared.processes.Process.{Process}
@@ -35,22 +35,11 @@ module _ (image : Image) where
   abbrev pub M : memory.Image
   M = memory_of image
 
-  pub directory-is : (p : ℕ) → directory_at M p ≡ directory_from (process_at image p)
-  directory-is p = ap (λ x. unwrap_or x None) (slice_get-map directory_from image.processes p) ∙ by (slice_get image.processes p)
-    where
-      by : (x : Option (Option Process)) → unwrap_or (option_map directory_from x) None ≡ directory_from (unwrap_or x None)
-      by None = refl
-      by (Some r) = refl
-
   pub directory-of : (p : ℕ) (r : Process) → process_at image p ≡ Some r → directory_at M p ≡ Some r.directory
-  directory-of p r live = directory-is p ∙ ap directory_from live
+  directory-of p r live = ap directory_from live
 
   pub live-of : (p d : ℕ) → directory_at M p ≡ Some d → (r : Process) × (process_at image p ≡ Some r) × (r.directory ≡ d)
-  live-of p d h = by (process_at image p) refl
-    where
-      by : (x : Option Process) → process_at image p ≡ x → (r : Process) × (process_at image p ≡ Some r) × (r.directory ≡ d)
-      by None e = let n = directory-is p ∙ ap directory_from e in cc
-      by (Some r) e = (r, e, (let n = directory-of p r e in same_some r.directory d (sym n ∙ h)))
+  live-of p d h = from_map (λ (r : Process). r.directory) (process_at image p) d h
 
   pub pid-small : length image.processes ≡ 64 → (p : ℕ) (r : Process) → process_at image p ≡ Some r → p < 64
   pid-small pids p r h = by (slice_get image.processes p) refl
@@ -60,4 +49,4 @@ module _ (image : Image) where
       by (Some y) e = let w = slice_get_within image.processes p y e in omega (arith, w, pids)
 
 pub directory_read : (image : Image) (p : ℕ) (x : Option Process) → x ≡ process_at image p → directory_from x ≡ directory_at (memory_of image) p
-directory_read image p x e = ap directory_from e ∙ sym (directory-is image p)
+directory_read image p x e = ap directory_from e

@@ -1,5 +1,5 @@
 -- An image: what a machine shows of itself at one moment, apart from offers and the log.
-use Rattle.std.specs.Prelude.{◌≡◌, ℕ, ◌*◌, ◌<◌, ◌≤◌, ◌^◌, ◌⊎◌, List, length, map, Option, Some, None, slice_get, slice_index}
+use Rattle.std.specs.Prelude.{◌≡◌, ℕ, ◌*◌, ◌<◌, ◌≤◌, ◌^◌, ◌⊎◌, List, length, Option, Some, None, slice_get, slice_index}
 use Rattle.std.specs.Option.{option_map, unwrap_or}
 use Rattle.alloc_table.specs.declared.Role.{Role}
 use Rattle.alloc_table.specs.declared.Role.TheVariants.{Reserved, Free, Directory, Table, Page}
@@ -30,7 +30,7 @@ directory_from process = option_map (λ r. r.directory) process
 
 -- directories, bytes and roles: what the processor's walk and the frame table see
 abbrev pub memory_of : Image → memory.Image
-memory_of image = record { directories = map directory_from image.processes; bytes = image.bytes; roles = image.roles }
+memory_of image = record { version = image.version; directories = λ p. directory_from (process_at image p); bytes = image.bytes; roles = image.roles }
 
 -- ---- The rules of the fields
 

@@ -1,6 +1,5 @@
 pub mod Image
 pub mod Codes
-pub mod Words
 pub mod Sound
 pub mod Machine
 pub mod Spelling

@@ -1,17 +1,15 @@
 -- The image of a machine.
-use Rattle.std.specs.Option.{option_map}
-use Rattle.std.specs.Prelude.{◌≡◌, ◌↔◌, ℕ, ◌<◌, List, Option, Some, None, IfSome, slice_get}
+use Rattle.std.specs.Prelude.{◌≡◌, ℕ, ◌<◌, List, Option, Some, None, IfSome, slice_get}
 use Rattle.alloc_table.specs.declared.Role.{Role}
 use Rattle.alloc_table.specs.declared.Role.TheVariants.{Page}
 use Rattle.address_space.specs.View.{directory_of}
 use Rattle.quota_tree.specs.declared.Container.{Container}
-use Rattle.quota_tree.specs.Book.{number_of_children}
-use Rattle.process_table.specs.State.{State, container_of}
+use Rattle.process_table.specs.State.{container_of}
 use Rattle.process_table.specs.View.{View}
 use Rattle.process_table.specs.Image as machine
 use Rattle.memory_image.specs.declared.processes.Process.{Process}
-use Rattle.memory_image.specs.Image.{Image, process_at, memory_of, IsWord, IsImage}
-use Rattle.memory_image.specs.Sound.{IsSound, StandsFor}
+use Rattle.memory_image.specs.Image.{Image, process_at, IsWord}
+use Rattle.memory_image.specs.Sound.{StandsFor}
 
 -- what is known of a process, and its directory
 abbrev pub process_from : Option Container → Option ℕ → Option Process
@@ -29,23 +27,6 @@ pub record IsImageOf (v : View) (image : Image) : Type 0 where
 -- the image of a machine stands for the state that the machine's own memory stands for
 abbrev pub ImagesStand : Type 0
 ImagesStand = (v : View) (image : Image) → IsImageOf v image → machine.StandsFor (machine.image_of v) v.state → StandsFor image v.state
-
--- ---- An image of version 2 as what a machine shows
-
--- what a machine tells of a process, whose number of children an image doesn't hold
-abbrev pub container_from : ℕ → Process → Container
-container_from children r = record { parent = r.parent; quota = r.quota; used = r.used; given = r.given; children = children }
-
-abbrev pub as_machine : Image → (ℕ → ℕ) → machine.Image
-as_machine image children = record { memory = memory_of image; containers = λ p. option_map (container_from (children p)) (process_at image p) }
-
--- an image of version 2 is sound exactly where what a machine shows is
-abbrev pub SoundAsMachines : Type 0
-SoundAsMachines = (image : Image) (children : ℕ → ℕ) → IsImage image → image.version ≡ 2 → IsSound image ↔ machine.IsSoundImage (as_machine image children)
-
--- and stands for a state exactly where that does
-abbrev pub StandsAsMachines : Type 0
-StandsAsMachines = (image : Image) (s : State) → IsImage image → image.version ≡ 2 → StandsFor image s ↔ machine.StandsFor (as_machine image (number_of_children s.book)) s
 
 -- ---- What the types of the numbers say of them
 

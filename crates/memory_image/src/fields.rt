@@ -7,7 +7,7 @@ ghost use Rattle.memory_image.specs.Tests.{first_failing};
 ghost use Rattle.memory_image.specs.Refusals.{process_fields, role_fields, first_bad, begins, fault_with, fault_of};
 
 use crate::faults::ImageFault;
-use page_words::{MAX_FRAMES, MIN_FRAMES};
+use page_words::is_frame_count;
 
 /// The number in four bytes, the lowest first.
 #[tactic(auto, using(crate::proofs::PieceLemmas::number_of_four))]
@@ -143,7 +143,7 @@ fn begins(bytes: &[u8]) -> bool
 fn fault_with(bytes: &[u8], frames: u32) -> Option<ImageFault>
     ensures { result ≡ fault_with bytes.now frames }
 {
-    if frames < MIN_FRAMES || MAX_FRAMES < frames {
+    if !is_frame_count(frames) {
         return Some(ImageFault::BadField { offset: 8 });
     }
     if bytes.len() != 1548 + 4112 * frames as usize {

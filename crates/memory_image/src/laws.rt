@@ -1,6 +1,6 @@
 //! Laws of images. Each is the contract of a function that computes nothing.
 
-ghost use Rattle.memory_image.specs.Machine.{ImagesStand, SoundAsMachines, StandsAsMachines};
+ghost use Rattle.memory_image.specs.Machine.{ImagesStand};
 ghost use Rattle.memory_image.specs.Refusals.{RefusedWhereNotSpelled};
 ghost use Rattle.memory_image.specs.Sound.{StandsForOne};
 ghost use Rattle.memory_image.specs.Spelling.{SpellingIsExact, SpellingsAreLong};
@@ -25,11 +25,4 @@ pub fn images_of_machines_stand()
 /// There is a reason against bytes exactly where they spell no image. It computes nothing.
 pub fn bytes_are_refused_where_they_spell_none()
     ensures { RefusedWhereNotSpelled }
-{}
-
-/// An image of version 2 is sound, and stands for a state, exactly where what a machine of its memory and
-/// processes shows does. It computes nothing.
-pub fn images_are_judged_as_machines()
-    ensures sound { SoundAsMachines }
-    ensures stands { StandsAsMachines }
 {}

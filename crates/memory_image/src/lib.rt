@@ -15,8 +15,8 @@ pub use faults::{ImageFault, NoMemory};
 pub use fields::fault_in;
 pub use images::Image;
 pub use laws::{
-    bytes_are_refused_where_they_spell_none, images_are_judged_as_machines,
-    images_have_one_spelling, images_of_machines_stand, images_stand_for_one,
+    bytes_are_refused_where_they_spell_none, images_have_one_spelling, images_of_machines_stand,
+    images_stand_for_one,
 };
 pub use processes::Process;
 pub use reading::read_image;

@@ -5,10 +5,10 @@ use Rattle.std.proofs.lemmas.Bool.{cases_eq}
 use Rattle.page_words.specs.Addresses.{slot_number, index_number, IsUserPage}
 use Rattle.page_words.specs.Words.{is_present, frame_number}
 use Rattle.phys_memory.specs.Bytes.{frame_bytes, word_in}
-use Rattle.page_map.specs.Entries.{Frames, dir_word, table_of, entry_at, IsPageMap, IsLastEntry, HasOtherEntry}
+use Rattle.page_map.specs.Entries.{Frames, dir_word, table_of, entry_at, IsPageMap, IsLastEntry, HasOtherEntry, TablesApart}
 use Rattle.page_map.specs.Pages.{counted, count_range}
 use Rattle.page_map.proofs.PageLemmas.{count-table, mapped_in_table, unmapped_without_table}
-use Rattle.page_map.proofs.MapSteps.{TablesApart, tables_of_map, with_word_at, word_own, word_other}
+use Rattle.page_map.proofs.MapSteps.{with_word_at, word_own, word_other}
 use Rattle.page_map.proofs.MapChanges.{table_there, user_slot}
 
 not_counted : (b : Bool) → counted b ≡ 0 → b ≡ false
@@ -111,7 +111,7 @@ module _ (bytes : List ℕ) (d page mapped : ℕ) (P : IsPageMap bytes d) (user 
   there = table_there m d (slot_number page) (table_mapped m d page here)
 
   T : TablesApart (length bytes) m d
-  T = tables_of_map bytes d P
+  T = P
 
   words : mapped ≡ count_range (λ i. is_present (word_in (m t) i)) 0 1024
   words = count ∙ sym (count-table m d (slot_number page) t there)

@@ -6,7 +6,7 @@ use Rattle.page_words.specs.Addresses.{page_number, slot_number, index_number}
 use Rattle.page_words.specs.Words.{frame_number, is_present, NamesTable, NamesPage}
 use Rattle.page_words.proofs.MapLemmas.{same_map}
 use Rattle.phys_memory.specs.Bytes.{frame_bytes, word_at, word_in, word_place}
-use Rattle.phys_memory.proofs.Frames.{word_in-frame, word_in-zeros}
+use Rattle.phys_memory.proofs.Frames.{length-frame, word_in-frame, word_in-zeros}
 use Rattle.table_walk.specs.declared.Access.{Access}
 use Rattle.table_walk.specs.Walk.{walk_of, is_outside, not_present}
 use Rattle.page_map.specs.Entries.{Frames, dir_word, word_table, table_of, entry_from, word_entry, entry_at, IsFreshTable}
@@ -24,6 +24,7 @@ blank_table m d slot blank small = ap word_table (blank_word m d slot blank smal
 
 pub blank_frames_are_maps : BlankFramesAreMaps
 blank_frames_are_maps bytes d inside blank = record {
+  long = length-frame bytes;
   directory_inside = inside;
   tables_inside = λ s t l is. absurd (some_not_none _ t (blank_table (frame_bytes bytes) d s blank l) is);
   apart = λ s t l is. absurd (some_not_none _ t (blank_table (frame_bytes bytes) d s blank l) is);

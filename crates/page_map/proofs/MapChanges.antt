@@ -10,11 +10,11 @@ use Rattle.page_words.specs.FiniteMap as map
 use Rattle.phys_memory.specs.Bytes.{frame_bytes, word_in, with_word_in, with_frame}
 use Rattle.phys_memory.proofs.Frames.{with_frame-same, with_frame-other, word_in-zeros}
 use Rattle.page_map.specs.declared.PageEntry.{PageEntry}
-use Rattle.page_map.specs.Entries.{Frames, dir_word, word_table, table_of, word_entry, entry_from, entry_at, entry_word, with_entry, link_word, with_table, IsPageMap, IsForeign, IsFreshTable, IsKernelEntry, IsCleared}
+use Rattle.page_map.specs.Entries.{Frames, dir_word, word_table, table_of, word_entry, entry_from, entry_at, entry_word, with_entry, link_word, with_table, IsPageMap, IsForeign, IsFreshTable, IsKernelEntry, IsCleared, TablesApart}
 use Rattle.page_map.specs.Pages.{entries_of}
 use Rattle.page_map.proofs.WordLaws.{entry_word-lt, entry_word-names, word_entry-entry_word, link_word-lt, link_word-names, word_table-link_word}
 use Rattle.page_map.proofs.PageLemmas.{entries-same, entries-insert, entries-remove}
-use Rattle.page_map.proofs.MapSteps.{TablesApart, tables_of_map, map_of_tables, with_word_at, with_dir_word, table_kept, entry_own, entry_other, tables-written, table_own, table_other, entry_elsewhere, tables-unlinked, table_foreign, tables-foreign, dir_word_own, dir_word_other, dir_long}
+use Rattle.page_map.proofs.MapSteps.{map_of_tables, with_word_at, with_dir_word, table_kept, entry_own, entry_other, tables-written, table_own, table_other, entry_elsewhere, tables-unlinked, table_foreign, tables-foreign, dir_word_own, dir_word_other, dir_long}
 
 -- a present word names a table
 pub found_word : (w : ℕ) → is_present w ≡ true → word_table w ≡ Some (frame_number w)
@@ -43,21 +43,19 @@ module _ (bytes after : List ℕ) (d page : ℕ) (e : PageEntry) (P : IsPageMap 
       let m : Frames = frame_bytes bytes in
       let t = frame_number (dir_word m d (slot_number page)) in
       let there = table_there m d (slot_number page) present in
-      let T = tables_of_map bytes d P in
       let lt = entry_word-lt e fits in
       ap (λ f. entries_of f d) frames
       ∙ entries-insert m (with_word_at m t page (entry_word e)) d page e user
-      (entry_own (length bytes) m d page t (entry_word e) T (user_slot page user) there lt ∙ word_entry-entry_word e fits)
-      (λ q h n. entry_other (length bytes) m d page t (entry_word e) T (user_slot page user) there lt q (user_slot q h) n)
+      (entry_own (length bytes) m d page t (entry_word e) P (user_slot page user) there lt ∙ word_entry-entry_word e fits)
+      (λ q h n. entry_other (length bytes) m d page t (entry_word e) P (user_slot page user) there lt q (user_slot q h) n)
 
   pub set-map : length after ≡ length bytes → IsKernelEntry e → IsPageMap after d
   set-map size k =
       let m : Frames = frame_bytes bytes in
       let t = frame_number (dir_word m d (slot_number page)) in
       let there = table_there m d (slot_number page) present in
-      let T = tables_of_map bytes d P in
       map_of_tables after (length bytes) (with_word_at m t page (entry_word e)) d
-      (tables-written (length bytes) m d page t (entry_word e) T (user_slot page user) there (entry_word-lt e fits) (inr (entry_word-names e fits k)))
+      (tables-written (length bytes) m d page t (entry_word e) P (user_slot page user) there (entry_word-lt e fits) (inr (entry_word-names e fits k)))
       frames size
 
   pub set-foreign : (f : ℕ) → IsForeign (frame_bytes bytes) d f → frame_bytes after f ≡ frame_bytes bytes f
@@ -145,7 +143,7 @@ module _ (bytes after : List ℕ) (d slot t : ℕ) (P : IsPageMap bytes d) (smal
   foreign_still F = record { no_directory = F.no_directory; no_table = λ s u l found. F.no_table s u l (sym (table_foreign (frame_bytes bytes) d t (replicate 4096 0) F.no_directory s) ∙ found) }
 
   tables_between : IsForeign (frame_bytes bytes) d t → TablesApart (length bytes) (with_frame (frame_bytes bytes) t (replicate 4096 0)) d
-  tables_between F = tables-foreign (length bytes) (frame_bytes bytes) d t (replicate 4096 0) (tables_of_map bytes d P) F (length-replicate {A = ℕ} 4096 0)
+  tables_between F = tables-foreign (length bytes) (frame_bytes bytes) d t (replicate 4096 0) P F (length-replicate {A = ℕ} 4096 0)
 
   pub link-map : length after ≡ length bytes → IsFreshTable (frame_bytes bytes) d slot t → IsPageMap after d
   link-map size fresh =
@@ -224,22 +222,20 @@ module _ (bytes after : List ℕ) (d page : ℕ) (freed : Option ℕ) (P : IsPag
   clear-entries =
       let m : Frames = frame_bytes bytes in
       let t = frame_number (dir_word (frame_bytes bytes) d (slot_number page)) in
-      let T = tables_of_map bytes d P in
       let there = table_there m d (slot_number page) present in
       elim (cleared_ways m d page freed (frame_bytes after) cleared) [
-        | inl is ↦ ap (λ f. entries_of f d) is ∙ entries-remove m (with_word_at m t page 0) d page user (entry-cleared (length bytes) m d page t T user there) (entry-kept (length bytes) m d page t T user there)
-        | inr h ↦ ap (λ f. entries_of f d) h.0 ∙ entries-remove m (with_dir_word (with_word_at m t page 0) d (slot_number page) 0) d page user (entry_unlinked (length bytes) m d page t T user there page refl) (entry-empty (length bytes) m d page t T user there h.1)
+        | inl is ↦ ap (λ f. entries_of f d) is ∙ entries-remove m (with_word_at m t page 0) d page user (entry-cleared (length bytes) m d page t P user there) (entry-kept (length bytes) m d page t P user there)
+        | inr h ↦ ap (λ f. entries_of f d) h.0 ∙ entries-remove m (with_dir_word (with_word_at m t page 0) d (slot_number page) 0) d page user (entry_unlinked (length bytes) m d page t P user there page refl) (entry-empty (length bytes) m d page t P user there h.1)
       ]
 
   pub clear-map : length after ≡ length bytes → IsPageMap after d
   clear-map size =
       let m : Frames = frame_bytes bytes in
       let t = frame_number (dir_word (frame_bytes bytes) d (slot_number page)) in
-      let T = tables_of_map bytes d P in
       let there = table_there m d (slot_number page) present in
       elim (cleared_ways m d page freed (frame_bytes after) cleared) [
-        | inl is ↦ map_of_tables after (length bytes) (with_word_at m t page 0) d (tables-cleared (length bytes) m d page t T user there) is size
-        | inr h ↦ map_of_tables after (length bytes) (with_dir_word (with_word_at m t page 0) d (slot_number page) 0) d (tables-unlinked (length bytes) (with_word_at m t page 0) d (slot_number page) (tables-cleared (length bytes) m d page t T user there) (user_slot page user)) h.0 size
+        | inl is ↦ map_of_tables after (length bytes) (with_word_at m t page 0) d (tables-cleared (length bytes) m d page t P user there) is size
+        | inr h ↦ map_of_tables after (length bytes) (with_dir_word (with_word_at m t page 0) d (slot_number page) 0) d (tables-unlinked (length bytes) (with_word_at m t page 0) d (slot_number page) (tables-cleared (length bytes) m d page t P user there) (user_slot page user)) h.0 size
       ]
 
   pub clear-foreign : (f : ℕ) → IsForeign (frame_bytes bytes) d f → frame_bytes after f ≡ frame_bytes bytes f

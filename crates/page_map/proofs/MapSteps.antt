@@ -1,48 +1,16 @@
 -- What a word written into a table or into the directory leaves of the entries, and that the page map
 -- stays one.
-use Rattle.std.proofs.Common.{◌≡◌, ◌≢◌, ℕ, ◌+◌, ◌*◌, ◌^◌, ◌<◌, ◌≤◌, List, length, refl, ap, sym, ◌∙◌, subst, arith, inl, inr, Option, Some, None}
+use Rattle.std.proofs.Common.{◌≡◌, ◌≢◌, ℕ, ◌^◌, ◌<◌, List, length, refl, ap, sym, ◌∙◌, subst, arith, inl, inr, Option, Some, None}
 use Rattle.std.specs.Option.{option_and_then}
 use Rattle.std.proofs.lemmas.Bool.{cases_eq}
 use Rattle.page_words.specs.Addresses.{slot_number, index_number}
 use Rattle.page_words.specs.Words.{IsKernelDirWord, IsKernelTableWord}
 use Rattle.phys_memory.specs.Bytes.{frame_bytes, word_in, with_word_in, with_frame}
-use Rattle.phys_memory.proofs.Frames.{length-frame, with_frame-same, with_frame-other, word_in_same, word_in_other, length-with_word_in}
-use Rattle.page_map.specs.Entries.{Frames, dir_word, word_table, table_of, word_entry, entry_at, IsPageMap, IsForeign}
-
--- a page map, with memory by its frames and n the number of bytes
-pub record TablesApart (n : ℕ) (m : Frames) (d : ℕ) : Type 0 where
-  pub long : (f : ℕ) → 4096 * f + 4096 ≤ n → length (m f) ≡ 4096
-  pub directory_inside : 4096 * d + 4096 ≤ n
-  pub tables_inside : (slot table : ℕ) → slot < 1024 → table_of m d slot ≡ Some table → 4096 * table + 4096 ≤ n
-  pub apart : (slot table : ℕ) → slot < 1024 → table_of m d slot ≡ Some table → table ≢ d
-  pub distinct : (slot other table : ℕ) → slot < 1024 → other < 1024 → table_of m d slot ≡ Some table → table_of m d other ≡ Some table → slot ≡ other
-  pub dir_words : (slot : ℕ) → slot < 1024 → IsKernelDirWord (dir_word m d slot)
-  pub table_words : (slot table index : ℕ) → slot < 1024 → index < 1024 → table_of m d slot ≡ Some table → IsKernelTableWord (word_in (m table) index)
-
-pub tables_of_map : (bytes : List ℕ) (d : ℕ) → IsPageMap bytes d → TablesApart (length bytes) (frame_bytes bytes) d
-tables_of_map bytes d P = record {
-  long = length-frame bytes;
-  directory_inside = P.directory_inside;
-  tables_inside = P.tables_inside;
-  apart = P.apart;
-  distinct = P.distinct;
-  dir_words = P.dir_words;
-  table_words = P.table_words;
-}
+use Rattle.phys_memory.proofs.Frames.{with_frame-same, with_frame-other, word_in_same, word_in_other, length-with_word_in}
+use Rattle.page_map.specs.Entries.{Frames, dir_word, word_table, table_of, word_entry, entry_at, TablesApart, IsPageMap, IsForeign}
 
 pub map_of_tables : (bytes : List ℕ) (n : ℕ) (m : Frames) (d : ℕ) → TablesApart n m d → frame_bytes bytes ≡ m → length bytes ≡ n → IsPageMap bytes d
-map_of_tables bytes n m d T frames size =
-    let P : Frames → Type 0 = λ f. TablesApart n f d in
-    let Q : ℕ → Type 0 = λ k. TablesApart k (frame_bytes bytes) d in
-    let S : TablesApart (length bytes) (frame_bytes bytes) d = subst Q (sym size) (subst P (sym frames) T) in
-    record {
-      directory_inside = S.directory_inside;
-      tables_inside = S.tables_inside;
-      apart = S.apart;
-      distinct = S.distinct;
-      dir_words = S.dir_words;
-      table_words = S.table_words;
-    }
+map_of_tables bytes n m d T frames size = subst (λ (k : ℕ × Frames). TablesApart k.0 k.1 d) (sym (λ i. (size i, frames i))) T
 
 -- memory with another word at a page, in this table
 abbrev pub with_word_at : Frames → ℕ → ℕ → ℕ → Frames

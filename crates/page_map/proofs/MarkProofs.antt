@@ -18,11 +18,11 @@ use Rattle.table_walk.proofs.Leads.{ok_value, walked}
 use Rattle.table_walk.proofs.MarkLemmas.{marks_change_two_words}
 use Rattle.table_walk.specs.Walk.{walk_of, table_word}
 use Rattle.page_map.specs.declared.PageEntry.{PageEntry}
-use Rattle.page_map.specs.Entries.{Frames, dir_word, word_table, table_of, entry_from, word_entry, entry_at, IsPageMap}
+use Rattle.page_map.specs.Entries.{Frames, dir_word, word_table, table_of, entry_from, word_entry, entry_at, IsPageMap, TablesApart}
 use Rattle.page_map.specs.Pages.{entries_of}
 use Rattle.page_map.specs.Laws.{touched_entry, with_touched_words, TouchesEntry, MarksTouchEntries}
 use Rattle.page_map.proofs.PageLemmas.{entries-same, entries-insert}
-use Rattle.page_map.proofs.MapSteps.{TablesApart, tables_of_map, map_of_tables, with_word_at, with_dir_word, entry_own, entry_other, tables-written, table_own, table_other, dir_word_own, dir_word_other, dir_long}
+use Rattle.page_map.proofs.MapSteps.{map_of_tables, with_word_at, with_dir_word, entry_own, entry_other, tables-written, table_own, table_other, dir_word_own, dir_word_other, dir_long}
 use Rattle.page_map.proofs.MapChanges.{user_slot, present_entry, found_word}
 use Rattle.table_walk.proofs.MarkLemmas.{touched_lt}
 
@@ -186,7 +186,7 @@ module _ (bytes : List ℕ) (d address v w : ℕ) (access : Access) (e : PageEnt
     (first : dir_word (frame_bytes bytes) d (slot_number (page_number address)) ≡ v) (names : NamesTable v)
     (second : word_in (frame_bytes bytes (frame_number v)) (index_number (page_number address)) ≡ w) (page_names : NamesPage w) (holds : entry_from w ≡ e) where
   T : TablesApart (length bytes) (frame_bytes bytes) d
-  T = tables_of_map bytes d P
+  T = P
 
   small : slot_number (page_number address) < 1024
   small = user_slot (page_number address) user

@@ -3,7 +3,7 @@ use Rattle.std.proofs.Common.{◌≡◌, ◌≢◌, ℕ, ◌-◌, ◌^◌, ◌<�
 use Rattle.std.specs.Prelude.{Some, not, ◌&&◌}
 use Rattle.std.proofs.lemmas.Nat.{or_lt, and_le_l}
 use Rattle.std.proofs.Math.Pow.{pow-lt}
-use Rattle.page_words.specs.Words.{flag, with_flag, with_frame as word_with_frame, frame_number, is_present, is_writable, is_accessed, is_dirty, has_may, is_lazy, is_granted, NamesPage, NamesTable}
+use Rattle.page_words.specs.Words.{flag, with_flag, word_with_frame, frame_number, is_present, is_writable, is_accessed, is_dirty, has_may, is_lazy, is_granted, NamesPage, NamesTable}
 use Rattle.page_words.proofs.Flags.{flag-with_flag_same, flag-with_flag_other, flag-with_frame, frame-with_flag, frame-with_frame}
 use Rattle.page_map.specs.declared.PageEntry.{PageEntry}
 use Rattle.page_map.specs.Entries.{entry_from, lets_writes, walked_word, entry_word, IsKernelEntry, link_word, word_table, word_entry}

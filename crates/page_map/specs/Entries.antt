@@ -3,7 +3,7 @@
 use Rattle.std.specs.Prelude.{◌≡◌, ◌≢◌, ℕ, ◌+◌, ◌*◌, ◌<◌, ◌≤◌, Bool, true, false, not, ◌&&◌, if◌then◌else◌, List, length, replicate, Option, Some, None}
 use Rattle.std.specs.Option.{option_and_then}
 use Rattle.page_words.specs.Addresses.{slot_number, index_number}
-use Rattle.page_words.specs.Words.{with_flag, with_frame as word_with_frame, frame_number, is_present, is_accessed, is_dirty, has_may, is_lazy, is_granted, IsKernelDirWord, IsKernelTableWord}
+use Rattle.page_words.specs.Words.{with_flag, word_with_frame, frame_number, is_present, is_accessed, is_dirty, has_may, is_lazy, is_granted, IsKernelDirWord, IsKernelTableWord}
 use Rattle.phys_memory.specs.Bytes.{frame_bytes, word_in, with_word_in, with_frame}
 use Rattle.page_map.specs.declared.PageEntry.{PageEntry}
 
@@ -79,14 +79,19 @@ with_table m directory slot table = with_frame (with_frame m table (replicate 40
 abbrev pub without_table : Frames → ℕ → ℕ → Frames
 without_table m directory slot = with_frame m directory (with_word_in (m directory) slot 0)
 
--- a directory and its tables hold kernel words and are distinct frames of memory
-pub record IsPageMap (bytes : List ℕ) (directory : ℕ) : Type 0 where
-  pub directory_inside : 4096 * directory + 4096 ≤ length bytes
-  pub tables_inside : (slot table : ℕ) → slot < 1024 → table_of (frame_bytes bytes) directory slot ≡ Some table → 4096 * table + 4096 ≤ length bytes
-  pub apart : (slot table : ℕ) → slot < 1024 → table_of (frame_bytes bytes) directory slot ≡ Some table → table ≢ directory
-  pub distinct : (slot other table : ℕ) → slot < 1024 → other < 1024 → table_of (frame_bytes bytes) directory slot ≡ Some table → table_of (frame_bytes bytes) directory other ≡ Some table → slot ≡ other
-  pub dir_words : (slot : ℕ) → slot < 1024 → IsKernelDirWord (dir_word (frame_bytes bytes) directory slot)
-  pub table_words : (slot table index : ℕ) → slot < 1024 → index < 1024 → table_of (frame_bytes bytes) directory slot ≡ Some table → IsKernelTableWord (word_in (frame_bytes bytes table) index)
+-- a directory and its tables hold kernel words and are distinct frames of memory, which has n bytes
+pub record TablesApart (n : ℕ) (m : Frames) (directory : ℕ) : Type 0 where
+  pub long : (frame : ℕ) → 4096 * frame + 4096 ≤ n → length (m frame) ≡ 4096
+  pub directory_inside : 4096 * directory + 4096 ≤ n
+  pub tables_inside : (slot table : ℕ) → slot < 1024 → table_of m directory slot ≡ Some table → 4096 * table + 4096 ≤ n
+  pub apart : (slot table : ℕ) → slot < 1024 → table_of m directory slot ≡ Some table → table ≢ directory
+  pub distinct : (slot other table : ℕ) → slot < 1024 → other < 1024 → table_of m directory slot ≡ Some table → table_of m directory other ≡ Some table → slot ≡ other
+  pub dir_words : (slot : ℕ) → slot < 1024 → IsKernelDirWord (dir_word m directory slot)
+  pub table_words : (slot table index : ℕ) → slot < 1024 → index < 1024 → table_of m directory slot ≡ Some table → IsKernelTableWord (word_in (m table) index)
+
+-- those of a directory in memory of these bytes
+abbrev pub IsPageMap : List ℕ → ℕ → Type 0
+IsPageMap bytes directory = TablesApart (length bytes) (frame_bytes bytes) directory
 
 -- a frame that is neither the directory nor one of its tables
 pub record IsForeign (m : Frames) (directory frame : ℕ) : Type 0 where

@@ -17,15 +17,15 @@ use Rattle.page_words.specs.FiniteMap.{nat_order, same}
 use Rattle.page_words.proofs.MapLemmas.{get-insert, get-retain_keys, same_map, len-insert}
 use Rattle.page_words.proofs.SetLemmas.{same_sym, same_cases}
 use Rattle.page_sharing.specs.declared.Offer.{Offer}
-use Rattle.page_sharing.specs.Offers.{OfferKey, Offers, offer_of, offer_order, offer_answer, answered, limited, pending, without_page, without_process}
+use Rattle.page_sharing.specs.Offers.{OfferKey, Offers, offer_key, offer_order, offer_answer, unless_pending, limited, pending, without_page, without_process}
 use Rattle.page_sharing.specs.Listed.{is_of, offers_by, with_list, with_offers, offers_from, offers_in, IsDistinct, IsOffers, all_pending}
 
 -- ---- Keys
 
 -- whether an offer by p has a key, as the order of keys sees it
-same-key : (key : OfferKey) (p : ℕ) (offer : Offer) → same offer_order key (offer_of p offer.page offer.target) ≡ ((p == key.offerer) && is_of key.page key.target offer)
+same-key : (key : OfferKey) (p : ℕ) (offer : Offer) → same offer_order key (offer_key p offer.page offer.target) ≡ ((p == key.offerer) && is_of key.page key.target offer)
 same-key key p offer =
-    same_sym offer_order key (offer_of p offer.page offer.target)
+    same_sym offer_order key (offer_key p offer.page offer.target)
     ∙ sym (tied_then (nat_cmp p key.offerer) (ordering_then (nat_cmp offer.page key.page) (nat_cmp offer.target key.target)))
     ∙ (λ i. unsigned_tied p key.offerer i && sym (tied_then (nat_cmp offer.page key.page) (nat_cmp offer.target key.target)) i)
     ∙ (λ i. (p == key.offerer) && (unsigned_tied offer.page key.page i && unsigned_tied offer.target key.target i))
@@ -37,36 +37,36 @@ abbrev pub right_in : List Offer → ℕ → ℕ → Option Bool
 right_in offers page target = option_map (λ offer. offer.write) (find (is_of page target) offers)
 
 module _ (p : ℕ) (others : Offers) where
-  get-own : (offers : List Offer) (page target : ℕ) → map.get others (offer_of p page target) ≡ None → map.get (with_offers p offers others) (offer_of p page target) ≡ right_in offers page target
+  get-own : (offers : List Offer) (page target : ℕ) → map.get others (offer_key p page target) ≡ None → map.get (with_offers p offers others) (offer_key p page target) ≡ right_in offers page target
   get-own [] page target none = none
   get-own (offer ∷ offers) page target none =
-      get-insert (with_offers p offers others) (offer_of p offer.page offer.target) offer.write (offer_of p page target)
-      ∙ (λ i. cond ((same-key (offer_of p page target) p offer ∙ ap (λ b. b && is_of page target offer) (eq-eqb p p refl)) i) (Some offer.write) (get-own offers page target none i))
+      get-insert (with_offers p offers others) (offer_key p offer.page offer.target) offer.write (offer_key p page target)
+      ∙ (λ i. cond ((same-key (offer_key p page target) p offer ∙ ap (λ b. b && is_of page target offer) (eq-eqb p p refl)) i) (Some offer.write) (get-own offers page target none i))
       ∙ turned (is_of page target offer)
     where
       turned : (b : Bool) → cond b (Some offer.write) (right_in offers page target) ≡ option_map (λ (o : Offer). o.write) (cond b (Some offer) (find (is_of page target) offers))
       turned true = refl
       turned false = refl
 
-  get-other : (q : ℕ) → q ≢ p → (offers : List Offer) (page target : ℕ) → map.get (with_offers p offers others) (offer_of q page target) ≡ map.get others (offer_of q page target)
+  get-other : (q : ℕ) → q ≢ p → (offers : List Offer) (page target : ℕ) → map.get (with_offers p offers others) (offer_key q page target) ≡ map.get others (offer_key q page target)
   get-other q apart [] page target = refl
   get-other q apart (offer ∷ offers) page target =
-      get-insert (with_offers p offers others) (offer_of p offer.page offer.target) offer.write (offer_of q page target)
-      ∙ ap (λ b. cond b (Some offer.write) (map.get (with_offers p offers others) (offer_of q page target))) (same-key (offer_of q page target) p offer ∙ ap (λ b. b && is_of page target offer) (ne_eqb p q (λ e. apart (sym e))))
+      get-insert (with_offers p offers others) (offer_key p offer.page offer.target) offer.write (offer_key q page target)
+      ∙ ap (λ b. cond b (Some offer.write) (map.get (with_offers p offers others) (offer_key q page target))) (same-key (offer_key q page target) p offer ∙ ap (λ b. b && is_of page target offer) (ne_eqb p q (λ e. apart (sym e))))
       ∙ get-other q apart offers page target
 
-get-before : (start : ℕ) (lists : List (ArrayVec Offer)) (q page target : ℕ) → q < start → map.get (offers_from start lists) (offer_of q page target) ≡ None
+get-before : (start : ℕ) (lists : List (ArrayVec Offer)) (q page target : ℕ) → q < start → map.get (offers_from start lists) (offer_key q page target) ≡ None
 get-before start [] q page target h = refl
 get-before start (list ∷ lists) q page target h =
     let other : q ≢ start = omega arith in
     get-other start (offers_from (start + 1) lists) q other list.items page target
     ∙ get-before (start + 1) lists q page target (omega arith)
 
-get-at : (start : ℕ) (lists : List (ArrayVec Offer)) (i q page target : ℕ) → q ≡ start + i → map.get (offers_from start lists) (offer_of q page target) ≡ right_in (offers_by lists i) page target
+get-at : (start : ℕ) (lists : List (ArrayVec Offer)) (i q page target : ℕ) → q ≡ start + i → map.get (offers_from start lists) (offer_key q page target) ≡ right_in (offers_by lists i) page target
 get-at start [] i q page target e = refl
 get-at start (list ∷ lists) zero q page target e =
     let here : start ≡ q = omega arith in
-    subst (λ (n : ℕ). map.get (with_offers start list.items (offers_from (start + 1) lists)) (offer_of n page target) ≡ right_in list.items page target) here
+    subst (λ (n : ℕ). map.get (with_offers start list.items (offers_from (start + 1) lists)) (offer_key n page target) ≡ right_in list.items page target) here
     (get-own start (offers_from (start + 1) lists) list.items page target (get-before (start + 1) lists start page target (omega arith)))
 get-at start (list ∷ lists) (suc i) q page target e =
     let other : q ≢ start = omega arith in
@@ -89,11 +89,11 @@ offers_in-none lists none = same_offers lists map.empty (λ key. ap (λ offers. 
 len-with_offers : (p : ℕ) (offers : List Offer) → IsDistinct offers → map.len (with_offers p offers map.empty) ≡ length offers
 len-with_offers p [] h = refl
 len-with_offers p (offer ∷ offers) h =
-    let absent : map.contains_key (with_offers p offers map.empty) (offer_of p offer.page offer.target) ≡ false =
+    let absent : map.contains_key (with_offers p offers map.empty) (offer_key p offer.page offer.target) ≡ false =
     ap is_some (get-own p map.empty offers offer.page offer.target refl) ∙ ap (λ o. is_some (option_map (λ (x : Offer). x.write) o)) h.0
     in
     let rest = len-with_offers p offers h.1 in
-    len-insert (with_offers p offers map.empty) (offer_of p offer.page offer.target) offer.write
+    len-insert (with_offers p offers map.empty) (offer_key p offer.page offer.target) offer.write
     ∙ ap (λ b. cond b (map.len (with_offers p offers map.empty)) (map.len (with_offers p offers map.empty) + 1)) absent
     ∙ omega (arith, rest)
 
@@ -106,7 +106,7 @@ pending_alone lists p = same_map (pending (offers_in lists) p) (with_offers p (o
           ∙ get-offers_in lists key
           ∙ ap (λ q. right_in (offers_by lists q) key.page key.target) is.0
           ∙ sym (get-own p map.empty (offers_by lists p) key.page key.target refl)
-          ∙ ap (λ q. map.get (with_offers p (offers_by lists p) map.empty) (offer_of q key.page key.target)) (sym is.0)
+          ∙ ap (λ q. map.get (with_offers p (offers_by lists p) map.empty) (offer_key q key.page key.target)) (sym is.0)
       | inr other ↦
           ap (λ b. cond b (map.get (offers_in lists) key) None) (ne_eqb key.offerer p other.0)
           ∙ sym (get-other p map.empty key.offerer other.0 (offers_by lists p) key.page key.target)
@@ -181,13 +181,13 @@ module _ (lists : List (ArrayVec Offer)) (p : ℕ) (p_in : p < length lists) (of
     few = for_each (λ xs. length xs ≤ 32) few kept.few;
   }
 
-  offers_in-with_list : (m : Offers) → ((page target : ℕ) → right_in offers page target ≡ map.get m (offer_of p page target)) → ((key : OfferKey) → key.offerer ≢ p → map.get (offers_in lists) key ≡ map.get m key) → offers_in (with_list lists p offers) ≡ m
+  offers_in-with_list : (m : Offers) → ((page target : ℕ) → right_in offers page target ≡ map.get m (offer_key p page target)) → ((key : OfferKey) → key.offerer ≢ p → map.get (offers_in lists) key ≡ map.get m key) → offers_in (with_list lists p offers) ≡ m
   offers_in-with_list m own others = same_offers (with_list lists p offers) m (λ key. elim (same_cases nat_order key.offerer p) [
     | inl is ↦
         ap (λ q. right_in (offers_by (with_list lists p offers) q) key.page key.target) is.0
         ∙ ap (λ xs. right_in xs key.page key.target) by_it
         ∙ own key.page key.target
-        ∙ ap (λ q. map.get m (offer_of q key.page key.target)) (sym is.0)
+        ∙ ap (λ q. map.get m (offer_key q key.page key.target)) (sym is.0)
     | inr other ↦ ap (λ xs. right_in xs key.page key.target) (by_other key.offerer other.0) ∙ sym (get-offers_in lists key) ∙ others key other.0
   ])
 
@@ -261,26 +261,26 @@ module _ (t : ℕ → ℕ → Bool) where
         let b = kept.few p in
         kept-with_list lists p p_in (filter passes (offers_by lists p)) kept (distinct-filter (offers_by lists p) (kept.distinct p)) (omega (arith, a, b))
 
-    pub offers_in-filter : (u : OfferKey → Bool) → ((page target : ℕ) → u (offer_of p page target) ≡ t page target) → ((key : OfferKey) → key.offerer ≢ p → u key ≡ true) → offers_in left ≡ map.retain_keys (offers_in lists) u
+    pub offers_in-filter : (u : OfferKey → Bool) → ((page target : ℕ) → u (offer_key p page target) ≡ t page target) → ((key : OfferKey) → key.offerer ≢ p → u key ≡ true) → offers_in left ≡ map.retain_keys (offers_in lists) u
     offers_in-filter u own others = offers_in-with_list lists p p_in (filter passes (offers_by lists p)) (map.retain_keys (offers_in lists) u)
         (λ page target.
         right_in-filter (offers_by lists p) page target
-        ∙ (λ i. cond (sym (own page target) i) (sym (get-offers_in lists (offer_of p page target)) i) None)
-        ∙ sym (get-retain_keys (offers_in lists) u (offer_of p page target)))
+        ∙ (λ i. cond (sym (own page target) i) (sym (get-offers_in lists (offer_key p page target)) i) None)
+        ∙ sym (get-retain_keys (offers_in lists) u (offer_key p page target)))
         (λ key apart. sym (get-retain_keys (offers_in lists) u key ∙ ap (λ b. cond b (map.get (offers_in lists) key) None) (others key apart)))
 
 -- ---- What goes: one offer, the offers of a page, all of a process, those to a process
 
 module _ (lists : List (ArrayVec Offer)) (p : ℕ) (p_in : p < length lists) where
   module _ (page target : ℕ) where
-    unlike : (q g t : ℕ) → not (same offer_order (offer_of p page target) (offer_of q g t)) ≡ not ((q == p) && ((g == page) && (t == target)))
-    unlike q g t = ap not (same-key (offer_of p page target) q (record { page = g; target = t; write = true }))
+    unlike : (q g t : ℕ) → not (same offer_order (offer_key p page target) (offer_key q g t)) ≡ not ((q == p) && ((g == page) && (t == target)))
+    unlike q g t = ap not (same-key (offer_key p page target) q (record { page = g; target = t; write = true }))
 
     pub kept-remove : IsOffers lists → IsOffers (with_list lists p (filter (λ offer. not (is_of page target offer)) (offers_by lists p)))
     kept-remove kept = kept-filter (λ g t. not ((g == page) && (t == target))) lists p p_in kept
 
-    pub offers_in-remove : offers_in (with_list lists p (filter (λ offer. not (is_of page target offer)) (offers_by lists p))) ≡ map.remove (offers_in lists) (offer_of p page target)
-    offers_in-remove = offers_in-filter (λ g t. not ((g == page) && (t == target))) lists p p_in (λ key. not (same offer_order (offer_of p page target) key))
+    pub offers_in-remove : offers_in (with_list lists p (filter (λ offer. not (is_of page target offer)) (offers_by lists p))) ≡ map.remove (offers_in lists) (offer_key p page target)
+    offers_in-remove = offers_in-filter (λ g t. not ((g == page) && (t == target))) lists p p_in (λ key. not (same offer_order (offer_key p page target) key))
         (λ g t. unlike p g t ∙ ap (λ b. not (b && ((g == page) && (t == target)))) (eq-eqb p p refl))
         (λ key apart. unlike key.offerer key.page key.target ∙ ap (λ b. not (b && ((key.page == page) && (key.target == target)))) (ne_eqb key.offerer p apart))
 
@@ -298,7 +298,7 @@ module _ (lists : List (ArrayVec Offer)) (p : ℕ) (p_in : p < length lists) whe
 
   offers_in-clear : offers_in (with_list lists p []) ≡ map.retain_keys (offers_in lists) (λ key. not (key.offerer == p))
   offers_in-clear = offers_in-with_list lists p p_in [] (map.retain_keys (offers_in lists) (λ key. not (key.offerer == p)))
-      (λ page target. sym (get-retain_keys (offers_in lists) (λ key. not (key.offerer == p)) (offer_of p page target) ∙ ap (λ b. cond (not b) (map.get (offers_in lists) (offer_of p page target)) None) (eq-eqb p p refl)))
+      (λ page target. sym (get-retain_keys (offers_in lists) (λ key. not (key.offerer == p)) (offer_key p page target) ∙ ap (λ b. cond (not b) (map.get (offers_in lists) (offer_key p page target)) None) (eq-eqb p p refl)))
       (λ key apart. sym (get-retain_keys (offers_in lists) (λ k. not (k.offerer == p)) key ∙ ap (λ b. cond (not b) (map.get (offers_in lists) key) None) (ne_eqb key.offerer p apart)))
 
 -- each list loses the offers to p
@@ -346,7 +346,7 @@ room offers p false is e = grind (arith, nat_tests)
 may_offer : (offers : Offers) (key : OfferKey) → IsOk (offer_answer offers key) → (map.get offers key ≡ None) × (map.len (pending offers key.offerer) < 32)
 may_offer offers key h = by (map.get offers key) refl h
   where
-    by : (o : Option Bool) → map.get offers key ≡ o → IsOk (answered (is_some o) (nat_le 32 (map.len (pending offers key.offerer)))) → (map.get offers key ≡ None) × (map.len (pending offers key.offerer) < 32)
+    by : (o : Option Bool) → map.get offers key ≡ o → IsOk (unless_pending (is_some o) (nat_le 32 (map.len (pending offers key.offerer)))) → (map.get offers key ≡ None) × (map.len (pending offers key.offerer) < 32)
     by None is e = (is, room offers key.offerer (nat_le 32 (map.len (pending offers key.offerer))) refl e)
     by (Some right) is e = cc
 
@@ -386,12 +386,12 @@ module _ (o : Offer) where
       by false is e rest = (find-append (is_of x.page x.target) offers (o ∷ []) ∙ (λ i. option_or (h.0 i) (cond (swapped is i) (Some o) None)), rest e)
 
 -- an offer that may be made
-module _ (lists : List (ArrayVec Offer)) (kept : IsOffers lists) (p : ℕ) (o : Offer) (may : IsOk (offer_answer (offers_in lists) (offer_of p o.page o.target))) where
+module _ (lists : List (ArrayVec Offer)) (kept : IsOffers lists) (p : ℕ) (o : Offer) (may : IsOk (offer_answer (offers_in lists) (offer_key p o.page o.target))) where
   pub may_push : length (offers_by lists p) < 32
-  may_push = let a = len-pending lists kept p in let b = (may_offer (offers_in lists) (offer_of p o.page o.target) may).1 in omega (arith, a, b)
+  may_push = let a = len-pending lists kept p in let b = (may_offer (offers_in lists) (offer_key p o.page o.target) may).1 in omega (arith, a, b)
 
   absent_there : find (is_of o.page o.target) (offers_by lists p) ≡ None
-  absent_there = by (find (is_of o.page o.target) (offers_by lists p)) (sym (get-offers_in lists (offer_of p o.page o.target)) ∙ (may_offer (offers_in lists) (offer_of p o.page o.target) may).0)
+  absent_there = by (find (is_of o.page o.target) (offers_by lists p)) (sym (get-offers_in lists (offer_key p o.page o.target)) ∙ (may_offer (offers_in lists) (offer_key p o.page o.target) may).0)
     where
       by : (x : Option Offer) → option_map (λ (y : Offer). y.write) x ≡ None → x ≡ None
       by None e = refl
@@ -403,10 +403,10 @@ module _ (lists : List (ArrayVec Offer)) (kept : IsOffers lists) (p : ℕ) (o : 
       let b = length-append (offers_by lists p) (o ∷ []) in
       kept-with_list lists p p_in (offers_by lists p ++ o ∷ []) kept (distinct-push o (offers_by lists p) absent_there (kept.distinct p)) (omega (arith, a, b))
 
-  pub offers_in-push : p < length lists → offers_in (with_list lists p (offers_by lists p ++ o ∷ [])) ≡ map.insert (offers_in lists) (offer_of p o.page o.target) o.write
-  offers_in-push p_in = offers_in-with_list lists p p_in (offers_by lists p ++ o ∷ []) (map.insert (offers_in lists) (offer_of p o.page o.target) o.write)
+  pub offers_in-push : p < length lists → offers_in (with_list lists p (offers_by lists p ++ o ∷ [])) ≡ map.insert (offers_in lists) (offer_key p o.page o.target) o.write
+  offers_in-push p_in = offers_in-with_list lists p p_in (offers_by lists p ++ o ∷ []) (map.insert (offers_in lists) (offer_key p o.page o.target) o.write)
       (λ page target.
       right_in-push o (offers_by lists p) absent_there page target
-      ∙ (λ i. cond (sym (same-key (offer_of p page target) p o ∙ ap (λ b. b && is_of page target o) (eq-eqb p p refl)) i) (Some o.write) (sym (get-offers_in lists (offer_of p page target)) i))
-      ∙ sym (get-insert (offers_in lists) (offer_of p o.page o.target) o.write (offer_of p page target)))
-      (λ key apart. sym (get-insert (offers_in lists) (offer_of p o.page o.target) o.write key ∙ ap (λ b. cond b (Some o.write) (map.get (offers_in lists) key)) (same-key key p o ∙ ap (λ b. b && is_of key.page key.target o) (ne_eqb p key.offerer (λ e. apart (sym e))))))
+      ∙ (λ i. cond (sym (same-key (offer_key p page target) p o ∙ ap (λ b. b && is_of page target o) (eq-eqb p p refl)) i) (Some o.write) (sym (get-offers_in lists (offer_key p page target)) i))
+      ∙ sym (get-insert (offers_in lists) (offer_key p o.page o.target) o.write (offer_key p page target)))
+      (λ key apart. sym (get-insert (offers_in lists) (offer_key p o.page o.target) o.write key ∙ ap (λ b. cond b (Some o.write) (map.get (offers_in lists) key)) (same-key key p o ∙ ap (λ b. b && is_of key.page key.target o) (ne_eqb p key.offerer (λ e. apart (sym e))))))

@@ -3,7 +3,7 @@ use Rattle.std.specs.Prelude.{◌≡◌, ℕ, ◌+◌, ◌≤◌, ◌==◌, ◌&
 use Rattle.arrayvec.specs.ArrayVec.{ArrayVec}
 use Rattle.page_words.specs.FiniteMap as map
 use Rattle.page_sharing.specs.declared.Offer.{Offer}
-use Rattle.page_sharing.specs.Offers.{Offers, offer_of}
+use Rattle.page_sharing.specs.Offers.{Offers, offer_key}
 
 -- whether an offer is of that page to that target
 abbrev pub is_of : ℕ → ℕ → Offer → Bool
@@ -24,7 +24,7 @@ all_pending lists = sum_by (λ list. length list.items) lists
 -- those of a process beside others
 abbrev pub with_offers : ℕ → List Offer → Offers → Offers
 with_offers p [] others = others
-with_offers p (offer ∷ offers) others = map.insert (with_offers p offers others) (offer_of p offer.page offer.target) offer.write
+with_offers p (offer ∷ offers) others = map.insert (with_offers p offers others) (offer_key p offer.page offer.target) offer.write
 
 -- those of lists of which the first is that of process p
 abbrev pub offers_from : ℕ → List (ArrayVec Offer) → Offers

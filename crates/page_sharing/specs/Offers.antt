@@ -20,8 +20,8 @@ pub record OfferKey : Type 0 where
   pub target : ℕ
 
 -- the offer of a page by a process to another
-abbrev pub offer_of : ℕ → ℕ → ℕ → OfferKey
-offer_of offerer page target = record { offerer = offerer; page = page; target = target }
+abbrev pub offer_key : ℕ → ℕ → ℕ → OfferKey
+offer_key offerer page target = record { offerer = offerer; page = page; target = target }
 
 -- by offerer, then by page, then by target
 abbrev pub offer_cmp : OfferKey → OfferKey → Ordering
@@ -66,12 +66,12 @@ abbrev pub limited : Bool → Result (Unit {0}) OfferFault
 limited is_full = if is_full then Err TooManyOffers else Ok tt
 
 -- an answer where the offer is pending or not
-abbrev pub answered : Bool → Bool → Result (Unit {0}) OfferFault
-answered is_pending is_full = if is_pending then Err OfferPending else limited is_full
+abbrev pub unless_pending : Bool → Bool → Result (Unit {0}) OfferFault
+unless_pending is_pending is_full = if is_pending then Err OfferPending else limited is_full
 
 -- whether an offer may be made, and else the first reason against it
 abbrev pub offer_answer : Offers → OfferKey → Result (Unit {0}) OfferFault
-offer_answer offers key = answered (map.contains_key offers key) (nat_le 32 (map.len (pending offers key.offerer)))
+offer_answer offers key = unless_pending (map.contains_key offers key) (nat_le 32 (map.len (pending offers key.offerer)))
 
 -- without the offers of a page
 abbrev pub without_page : Offers → ℕ → ℕ → Offers

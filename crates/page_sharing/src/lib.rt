@@ -7,7 +7,7 @@
 ghost use Rattle.std.specs.Prelude.{◌≡◌, ℕ, ◌+◌, ◌<◌, ◌≤◌, ◌==◌, ◌&&◌, ◌↔◌, not, false, [], ◌∷◌, ◌++◌, IsErrOf, IfErr, IfOk, IsOk, OnOk, OnErr, Some, filter, find, length, nat_le};
 ghost use Rattle.std.specs.Option.{option_map};
 ghost use Rattle.page_words.specs.FiniteMap as map;
-ghost use Rattle.page_sharing.specs.Offers.{offer_of, offer_answer, pending, without_page, without_process};
+ghost use Rattle.page_sharing.specs.Offers.{offer_key, offer_answer, pending, without_page, without_process};
 ghost use Rattle.page_sharing.specs.Listed.{is_of, offers_by, with_list, all_pending};
 
 use arrayvec::ArrayVec;
@@ -253,7 +253,7 @@ impl Offers {
     /// OfferPending where that offer is pending, else TooManyOffers where the giver has 32 offers
     /// pending.
     pub fn can_offer(&self, giver: Pid, page: Page, target: Pid) -> Result<(), OfferFault>
-        ensures { result ≡ offer_answer self.now (offer_of giver page target) }
+        ensures { result ≡ offer_answer self.now (offer_key giver page target) }
     {
         if self.get(giver, page, target).is_some() {
             return Err(OfferFault::OfferPending);
@@ -266,8 +266,8 @@ impl Offers {
 
     /// Makes an offer, with the right to write or without it.
     pub fn offer(&mut self, giver: Pid, page: Page, target: Pid, write: bool)
-        requires { IsOk (offer_answer self.old (offer_of giver page target)) }
-        ensures { self.new ≡ map.insert self.old (offer_of giver page target) write }
+        requires { IsOk (offer_answer self.old (offer_key giver page target)) }
+        ensures { self.new ≡ map.insert self.old (offer_key giver page target) write }
     {
         let offer = Offer {
             page,
@@ -280,15 +280,15 @@ impl Offers {
 
     /// The right of a pending offer: whether the target may write. None where it isn't pending.
     pub fn get(&self, giver: Pid, page: Page, target: Pid) -> Option<bool>
-        ensures { result ≡ map.get self.now (offer_of giver page target) }
+        ensures { result ≡ map.get self.now (offer_key giver page target) }
     {
         right_of(list_by(&self.lists, giver), page, target)
     }
 
     /// Takes a pending offer back. NoOffer where it isn't pending, and nothing changes then.
     pub fn withdraw(&mut self, giver: Pid, page: Page, target: Pid) -> Result<(), OfferFault>
-        ensures withdrawn { OnOk result (self.new ≡ map.remove self.old (offer_of giver page target)) }
-        ensures absent { IsErrOf result OfferFault.NoOffer ↔ (map.contains_key self.old (offer_of giver page target) ≡ false) }
+        ensures withdrawn { OnOk result (self.new ≡ map.remove self.old (offer_key giver page target)) }
+        ensures absent { IsErrOf result OfferFault.NoOffer ↔ (map.contains_key self.old (offer_key giver page target) ≡ false) }
         ensures fault { IfErr result (λ fault. fault ≡ OfferFault.NoOffer) }
         ensures kept { OnErr result (self.new ≡ self.old) }
     {
@@ -299,9 +299,9 @@ impl Offers {
     /// Takes a pending offer out, and gives its right: whether the target may write. NoOffer where it
     /// isn't pending, and nothing changes then.
     pub fn take(&mut self, giver: Pid, page: Page, target: Pid) -> Result<bool, OfferFault>
-        ensures right { IfOk result (λ write. map.get self.old (offer_of giver page target) ≡ Some write) }
-        ensures taken { OnOk result (self.new ≡ map.remove self.old (offer_of giver page target)) }
-        ensures absent { IsErrOf result OfferFault.NoOffer ↔ (map.contains_key self.old (offer_of giver page target) ≡ false) }
+        ensures right { IfOk result (λ write. map.get self.old (offer_key giver page target) ≡ Some write) }
+        ensures taken { OnOk result (self.new ≡ map.remove self.old (offer_key giver page target)) }
+        ensures absent { IsErrOf result OfferFault.NoOffer ↔ (map.contains_key self.old (offer_key giver page target) ≡ false) }
         ensures fault { IfErr result (λ fault. fault ≡ OfferFault.NoOffer) }
         ensures kept { OnErr result (self.new ≡ self.old) }
     {

@@ -7,7 +7,7 @@ use Rattle.std.proofs.lemmas.List.Sums.{sum_by-cons}
 use Rattle.page_words.specs.FiniteMap.{nat_order, same}
 use Rattle.page_words.specs.FiniteSet as set
 use Rattle.page_words.specs.FiniteSet.{Set}
-use Rattle.page_words.specs.Marked.{marked_from, marked}
+use Rattle.page_words.specs.Marked.{marked_from, marked_numbers}
 use Rattle.page_words.proofs.MapLemmas.{contains-insert, len-insert, same_itself, same_set}
 use Rattle.page_words.proofs.SetLemmas.{contains-remove, same_cases}
 use Rattle.std.proofs.Math.Bool.{and-false, and-true, or-false}
@@ -42,8 +42,8 @@ contains-at start (mark ∷ marks) (suc i) q e =
     ∙ contains-at (start + 1) marks i q (omega arith)
 
 -- a number is marked exactly where the list is true at it
-pub contains-marked : (marks : List Bool) (q : ℕ) → set.contains (marked marks) q ≡ get_or marks q false
-unfolding marked
+pub contains-marked : (marks : List Bool) (q : ℕ) → set.contains (marked_numbers marks) q ≡ get_or marks q false
+unfolding marked_numbers
 contains-marked marks q = contains-at 0 marks q q (omega arith)
 
 one_more : (mark : Bool) (s : Set nat_order) (k : ℕ) → set.contains s k ≡ false → set.len (cond mark (set.insert s k) s) ≡ cond mark 1 0 + set.len s
@@ -58,8 +58,8 @@ len-marked_from start (mark ∷ marks) =
     ∙ sym (sum_by-cons (λ b. cond b 1 0) mark marks)
 
 -- as many numbers are marked as the list is true at
-pub len-marked : (marks : List Bool) → set.len (marked marks) ≡ count_by (λ mark. mark) marks
-unfolding marked
+pub len-marked : (marks : List Bool) → set.len (marked_numbers marks) ≡ count_by (λ mark. mark) marks
+unfolding marked_numbers
 len-marked marks = len-marked_from 0 marks
 
 -- a run of marked numbers
@@ -68,33 +68,33 @@ marked_from-replicate start zero = refl
 marked_from-replicate start (suc n) = ap (λ s. set.insert s start) (marked_from-replicate (start + 1) n)
 
 -- one mark more
-pub marked-set_true : (marks : List Bool) (f : ℕ) → f < length marks → marked (slice_set marks f true) ≡ set.insert (marked marks) f
-marked-set_true marks f h = same_set (marked (slice_set marks f true)) (set.insert (marked marks) f) each
+pub marked-set_true : (marks : List Bool) (f : ℕ) → f < length marks → marked_numbers (slice_set marks f true) ≡ set.insert (marked_numbers marks) f
+marked-set_true marks f h = same_set (marked_numbers (slice_set marks f true)) (set.insert (marked_numbers marks) f) each
   where
-    each : (q : ℕ) → set.contains (marked (slice_set marks f true)) q ≡ set.contains (set.insert (marked marks) f) q
+    each : (q : ℕ) → set.contains (marked_numbers (slice_set marks f true)) q ≡ set.contains (set.insert (marked_numbers marks) f) q
     each q =
         contains-marked (slice_set marks f true) q
         ∙ elim (same_cases nat_order q f) [
-          | inl is ↦ ap (λ k. get_or (slice_set marks f true) k false) is.0 ∙ get_or-set_same marks f true false h ∙ ap (λ b. b || set.contains (marked marks) q) (sym is.1)
-          | inr other ↦ get_or-set_other marks f q true false other.0 ∙ sym (contains-marked marks q) ∙ ap (λ b. b || set.contains (marked marks) q) (sym other.1)
+          | inl is ↦ ap (λ k. get_or (slice_set marks f true) k false) is.0 ∙ get_or-set_same marks f true false h ∙ ap (λ b. b || set.contains (marked_numbers marks) q) (sym is.1)
+          | inr other ↦ get_or-set_other marks f q true false other.0 ∙ sym (contains-marked marks q) ∙ ap (λ b. b || set.contains (marked_numbers marks) q) (sym other.1)
         ]
-        ∙ sym (contains-insert (marked marks) f q)
+        ∙ sym (contains-insert (marked_numbers marks) f q)
 
 -- one mark less
-pub marked-set_false : (marks : List Bool) (f : ℕ) → f < length marks → marked (slice_set marks f false) ≡ set.remove (marked marks) f
-marked-set_false marks f h = same_set (marked (slice_set marks f false)) (set.remove (marked marks) f) each
+pub marked-set_false : (marks : List Bool) (f : ℕ) → f < length marks → marked_numbers (slice_set marks f false) ≡ set.remove (marked_numbers marks) f
+marked-set_false marks f h = same_set (marked_numbers (slice_set marks f false)) (set.remove (marked_numbers marks) f) each
   where
-    each : (q : ℕ) → set.contains (marked (slice_set marks f false)) q ≡ set.contains (set.remove (marked marks) f) q
+    each : (q : ℕ) → set.contains (marked_numbers (slice_set marks f false)) q ≡ set.contains (set.remove (marked_numbers marks) f) q
     each q =
         contains-marked (slice_set marks f false) q
         ∙ elim (same_cases nat_order q f) [
-          | inl is ↦ ap (λ k. get_or (slice_set marks f false) k false) is.0 ∙ get_or-set_same marks f false false h ∙ ap (λ b. not b && set.contains (marked marks) q) (sym is.1)
-          | inr other ↦ get_or-set_other marks f q false false other.0 ∙ sym (contains-marked marks q) ∙ ap (λ b. not b && set.contains (marked marks) q) (sym other.1)
+          | inl is ↦ ap (λ k. get_or (slice_set marks f false) k false) is.0 ∙ get_or-set_same marks f false false h ∙ ap (λ b. not b && set.contains (marked_numbers marks) q) (sym is.1)
+          | inr other ↦ get_or-set_other marks f q false false other.0 ∙ sym (contains-marked marks q) ∙ ap (λ b. not b && set.contains (marked_numbers marks) q) (sym other.1)
         ]
-        ∙ sym (contains-remove (marked marks) f q)
+        ∙ sym (contains-remove (marked_numbers marks) f q)
 
 -- a list that isn't true at 0 marks numbers from 1 to its length less 1
-pub contains-within : (marks : List Bool) (f : ℕ) → get_or marks 0 false ≡ false → set.contains (marked marks) f ≡ true → (1 ≤ f) × (f < length marks)
+pub contains-within : (marks : List Bool) (f : ℕ) → get_or marks 0 false ≡ false → set.contains (marked_numbers marks) f ≡ true → (1 ≤ f) × (f < length marks)
 contains-within marks f reserved member =
     let marks_it : get_or marks f false ≡ true = sym (contains-marked marks f) ∙ member in
     (first f marks_it, below marks f marks_it)

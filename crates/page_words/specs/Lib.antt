@@ -1,5 +1,6 @@
 pub mod Addresses
 pub mod Codes
+pub mod Faults
 pub mod FiniteMap
 pub mod FiniteSet
 pub mod Marked

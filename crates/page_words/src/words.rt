@@ -1,6 +1,6 @@
 //! The words of page directories and page tables.
 ghost use Rattle.std.specs.Prelude.{◌≡◌, ◌<◌, ◌^◌};
-ghost use Rattle.page_words.specs.Words.{flag, with_flag, frame_number, with_frame, is_present, is_writable, is_user, is_accessed, is_dirty, has_may, is_lazy, is_granted};
+ghost use Rattle.page_words.specs.Words.{flag, with_flag, frame_number, word_with_frame, is_present, is_writable, is_user, is_accessed, is_dirty, has_may, is_lazy, is_granted};
 ghost use Rattle.page_words.specs.Words.{DirWordsByFields, TableWordsByFields, FlagsStandAlone, FrameStandsAlone};
 
 use super::addresses::Frame;
@@ -53,7 +53,7 @@ fn frame_in(word: u32) -> Frame
 /// The word with another frame.
 fn naming(word: u32, frame: Frame) -> u32
     requires { frame < 2 ^ 20 }
-    ensures { result ≡ with_frame word frame }
+    ensures { result ≡ word_with_frame word frame }
 {
     (frame.0 << 12) | (word & 0xfff)
 }
@@ -103,7 +103,7 @@ impl DirWord {
     /// Names another frame, below 2 to the 20; all flags stay.
     pub fn set_frame(&mut self, frame: Frame)
         requires { frame < 2 ^ 20 }
-        ensures { self.new ≡ with_frame self.old frame }
+        ensures { self.new ≡ word_with_frame self.old frame }
     {
         self.word = naming(self.word, frame); // PDE: address
     }
@@ -210,7 +210,7 @@ impl TableWord {
     /// Names another frame, below 2 to the 20; all flags stay.
     pub fn set_frame(&mut self, frame: Frame)
         requires { frame < 2 ^ 20 }
-        ensures { self.new ≡ with_frame self.old frame }
+        ensures { self.new ≡ word_with_frame self.old frame }
     {
         self.word = naming(self.word, frame); // PTE: address
     }

@@ -15,21 +15,13 @@ ghost use Rattle.phys_memory.specs.Bytes.{FramesBeginBlank, FramesEnd, BytesLieI
 ghost use Rattle.phys_memory.specs.Bytes.{FramesAreWhole, WordsKeepLengths, FramesKeepLengths};
 
 use byteorder::{ByteOrder, LittleEndian};
-use page_words::{Frame, MAX_FRAMES, MIN_FRAMES};
+pub use page_words::MachineFault as MemoryFault;
+use page_words::{Frame, is_frame_count};
 use std::alloc::Global;
 use std::marker::Model;
 
 /// How many bytes a frame has.
 pub const FRAME_BYTES: usize = 4096;
-
-/// Why there is no memory.
-#[derive(Clone, Copy, Debug, PartialEq, Eq)]
-pub enum MemoryFault {
-    /// The number of frames is not 16 to 4,096.
-    BadSize,
-    /// The allocator refused the bytes.
-    NoMemory,
-}
 
 /// The memory of a machine of 16 to 4,096 frames. A contract sees the list of its bytes.
 #[derive(Debug, Drop)]
@@ -56,7 +48,7 @@ impl Memory {
         ensures length { IfOk result (λ memory. length memory ≡ 4096 * frames) }
         ensures size { (result ≡ Err MemoryFault.BadSize) ↔ ((frames < 16) ⊎ (4096 < frames)) }
     {
-        if !(MIN_FRAMES..=MAX_FRAMES).contains(&frames) {
+        if !is_frame_count(frames) {
             return Err(MemoryFault::BadSize);
         }
         match vec![in alloc; 0u8; frames as usize * FRAME_BYTES] {

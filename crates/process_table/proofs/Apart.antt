@@ -18,7 +18,7 @@ use Rattle.address_space.specs.Spaces.{Slot, slot_order, Cell, Spaces, cost, cos
 use Rattle.address_space.proofs.costs.Costs.{same_pages}
 use Rattle.address_space.proofs.steps.Departures.{left, get-without}
 use Rattle.quota_tree.specs.Book.{Book, Member, children, given, number_of_children, quota_of}
-use Rattle.page_sharing.specs.Offers.{OfferKey, offer_order, offer_of}
+use Rattle.page_sharing.specs.Offers.{OfferKey, offer_order, offer_key}
 use Rattle.process_table.specs.State.{State, is_mapped, has_no_room, lacks_room}
 use Rattle.process_table.specs.Calls.{map_refusal, unmap_refusal, protect_refusal, withdraw_refusal, exit_refusal, loaded, after_map, after_unmap, after_protect, after_withdraw, after_load, after_store}
 use Rattle.process_table.specs.Apart.{IsApart, AreAlike, Held, held, held_in, lone}
@@ -109,12 +109,12 @@ module _ (s t : State) (p q : ℕ) (a : AreAlike s p t q) where
   pub withdraw_refusal_alike : (page target : ℕ) → withdraw_refusal s p page target ≡ withdraw_refusal t q page target
   withdraw_refusal_alike page target = λ i. if not (is_user_page page) then Some BadPage else if not ((no_offer s p a.one page target ∙ sym (no_offer t q a.other page target)) i) then Some NoOffer else None
     where
-      no_offer : (s : State) (p : ℕ) → IsApart s p → (page target : ℕ) → map.contains_key s.offers (offer_of p page target) ≡ false
-      no_offer s p a page target = by (map.get s.offers (offer_of p page target)) refl
+      no_offer : (s : State) (p : ℕ) → IsApart s p → (page target : ℕ) → map.contains_key s.offers (offer_key p page target) ≡ false
+      no_offer s p a page target = by (map.get s.offers (offer_key p page target)) refl
         where
-          by : (x : Option Bool) → map.get s.offers (offer_of p page target) ≡ x → is_some x ≡ false
+          by : (x : Option Bool) → map.get s.offers (offer_key p page target) ≡ x → is_some x ≡ false
           by None is = refl
-          by (Some right) is = absurd (a.offers_none (offer_of p page target) right is refl)
+          by (Some right) is = absurd (a.offers_none (offer_key p page target) right is refl)
 
 -- ---- What a process apart does to its own pages
 
@@ -302,7 +302,7 @@ withdraw_changes s p page target a = record {
   book = refl;
   here = refl;
   elsewhere = λ n d. refl;
-  offers = λ key right h. (retained s.offers (λ k. not (same offer_order (offer_of p page target) k)) key right h).1;
+  offers = λ key right h. (retained s.offers (λ k. not (same offer_order (offer_key p page target) k)) key right h).1;
   group = λ c is. a.shares_none page c is;
 }
 

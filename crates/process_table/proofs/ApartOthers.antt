@@ -23,7 +23,7 @@ use Rattle.address_space.proofs.costs.Copied.{copied-own, copied-other}
 use Rattle.quota_tree.specs.Book.{Member, is_child, number_of_children, next_number}
 use Rattle.quota_tree.proofs.BookFacts.{child_no, get-insert_other}
 use Rattle.quota_tree.proofs.Sums.{number-insert, number-remove, number-none}
-use Rattle.page_sharing.specs.Offers.{OfferKey, Offers, offer_order, offer_of}
+use Rattle.page_sharing.specs.Offers.{OfferKey, Offers, offer_order, offer_key}
 use Rattle.process_table.specs.State.{State, is_live, child_of, room}
 use Rattle.process_table.specs.Calls.{accept_refusal, spawn_refusal, fork_refusal, offered, after_map, after_unmap, after_protect, after_offer, after_withdraw, after_accept, after_spawn, after_fork, after_exit, after_load, after_store}
 use Rattle.process_table.specs.WellFormed.{IsWellFormed}
@@ -213,16 +213,16 @@ module _ (s : State) (p q : ℕ) (w : IsWellFormed s) (a : IsApart s p) (d : q �
       ]
 
   pub offer_leaves : (page target : ℕ) (write : Bool) → AreAlike s p (after_offer s q page target write) p
-  offer_leaves page target write = spaces_left s p s.spaces (map.insert s.offers (offer_of q page target) write) a (λ n. refl) offers
+  offer_leaves page target write = spaces_left s p s.spaces (map.insert s.offers (offer_key q page target) write) a (λ n. refl) offers
     where
-      offers : (key : OfferKey) (right : Bool) → map.get (map.insert s.offers (offer_of q page target) write) key ≡ Some right → key.offerer ≢ p
-      offers key right h = elim (same_cases offer_order key (offer_of q page target)) [
+      offers : (key : OfferKey) (right : Bool) → map.get (map.insert s.offers (offer_key q page target) write) key ≡ Some right → key.offerer ≢ p
+      offers key right h = elim (same_cases offer_order key (offer_key q page target)) [
         | inl is ↦ (λ e. d (sym (ap (λ (k : OfferKey). k.offerer) is.0) ∙ e))
-        | inr other ↦ a.offers_none key right (sym (get-insert s.offers (offer_of q page target) write key ∙ ap (λ b. cond b (Some write) (map.get s.offers key)) other.1) ∙ h)
+        | inr other ↦ a.offers_none key right (sym (get-insert s.offers (offer_key q page target) write key ∙ ap (λ b. cond b (Some write) (map.get s.offers key)) other.1) ∙ h)
       ]
 
   pub withdraw_leaves : (page target : ℕ) → AreAlike s p (after_withdraw s q page target) p
-  withdraw_leaves page target = spaces_left s p s.spaces (map.remove s.offers (offer_of q page target)) a (λ n. refl) (retained_left s p (λ k. not (same offer_order (offer_of q page target) k)) a)
+  withdraw_leaves page target = spaces_left s p s.spaces (map.remove s.offers (offer_key q page target)) a (λ n. refl) (retained_left s p (λ k. not (same offer_order (offer_key q page target) k)) a)
 
 -- spaces where a group holds other slots, at a slot that is not in it
 set_holders_outside : (S : Spaces) (group holders : Set slot_order) (slot : Slot) → set.contains group slot ≡ false → map.get (set_holders S group holders) slot ≡ map.get S slot
@@ -234,7 +234,7 @@ set_holders_outside S group holders slot out = get-map_values slot_order (λ q c
 
 pub accept_leaves : (s : State) (p q giver giver_page page : ℕ) → IsWellFormed s → IsApart s p → q ≢ p → accept_refusal s q giver giver_page page ≡ None → AreAlike s p (after_accept s q giver giver_page page) p
 accept_leaves s p q giver giver_page page w a d allowed =
-    let key = offer_of giver giver_page q in
+    let key = offer_key giver giver_page q in
     let there = some_value (map.get s.offers key) (may_accept s q giver giver_page page allowed).there in
     let g : Cell = cell_or_fresh s.spaces (at_page giver giver_page) in
     let wider = set.insert g.holders (at_page q page) in

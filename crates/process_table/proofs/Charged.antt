@@ -11,6 +11,8 @@ use Rattle.address_space.proofs.costs.CostSteps.{sum_one}
 use Rattle.address_space.proofs.costs.Totals.{cost-without_other}
 use Rattle.quota_tree.specs.Book.{Member, quota_of}
 use Rattle.quota_tree.specs.Containers.{Containers, IsLive, used_of, with_used, after_close, total_used}
+use Rattle.quota_tree.specs.declared.Container.{Container}
+use Rattle.process_table.specs.State.{State, as_container, container_of}
 use Rattle.process_table.specs.View.{IsProcesses}
 use Rattle.process_table.proofs.Ranges.{found, sum-range}
 use Rattle.std.proofs.lemmas.Bool.{ne_eqb}
@@ -146,3 +148,11 @@ charged-exit v w c p kept child spaces long none others = record {
     gone q e l = let a = sym (ap is_some (removed-itself c.book p)) ∙ ap (map.contains_key (after_close c p).book) e ∙ l in cc
 
 -- ---- Readings of a cell
+
+-- a live process's container tells its cost
+pub used-container : (s : State) (p : ℕ) (c : Container) → container_of s p ≡ Some c → c.used ≡ cost s.spaces p
+used-container s p c is = by (map.get s.book p) is
+  where
+    by : (x : Option Member) → option_map (λ member. as_container s p member) x ≡ Some c → c.used ≡ cost s.spaces p
+    by None h = cc
+    by (Some m) h = sym (ap (λ o. (unwrap_or o c).used) h)

@@ -20,11 +20,10 @@ use Rattle.address_space.specs.View.{directory_of}
 use Rattle.address_space.proofs.costs.Costs.{contains-pages_of}
 use Rattle.address_space.proofs.costs.CostSteps.{region_member, region_there}
 use Rattle.address_space.proofs.standing.Standing.{stands_for_one}
-use Rattle.quota_tree.specs.declared.Container.{Container}
 use Rattle.quota_tree.specs.Book.{Member, is_child, given, quota_of}
-use Rattle.process_table.specs.State.{State, is_live, as_container, container_of}
+use Rattle.process_table.specs.State.{State, is_live}
 use Rattle.process_table.specs.View.{View}
-use Rattle.process_table.specs.Image.{image_of, IsCharge, quota_from, IsSoundImage, StandsFor, StandsForOne}
+use Rattle.process_table.specs.Image.{Account, as_account, account_of, memory_of, image_of, IsCharge, quota_from, IsSoundImage, StandsFor, StandsForOne}
 use Rattle.process_table.proofs.Ranges.{found, sum-same, sum-range}
 use Rattle.page_words.proofs.OptionLemmas.{is_some-map}
 use Rattle.page_words.proofs.OptionLemmas.{some_value}
@@ -98,13 +97,13 @@ sum-filter f t (e ∷ es) =
     ∙ ap (λ n. cond (t e) (f e) 0 + n) (sum-filter f t es)
     ∙ sym (sum_by-cons (λ e. cond (t e) (f e) 0) e es)
 
-given-range : (s : State) (p : ℕ) → ((k : ℕ) (m : Member) → map.get s.book k ≡ Some m → k < 64) → given s.book p ≡ sum_by (λ q. quota_from p q (container_of s q)) (range_with_len 0 64)
+given-range : (s : State) (p : ℕ) → ((k : ℕ) (m : Member) → map.get s.book k ≡ Some m → k < 64) → given s.book p ≡ sum_by (λ q. quota_from p q (account_of s q)) (range_with_len 0 64)
 given-range s p small =
     sum-filter (λ (e : ℕ × Member). e.1.quota) (is_child p) s.book.entries
     ∙ sum-range s.book (λ k m. cond (is_child p (k, m)) m.quota 0) 64 small
-    ∙ sum-same (λ k. found (λ m. cond (is_child p (k, m)) m.quota 0) (map.get s.book k)) (λ q. quota_from p q (container_of s q)) (range_with_len 0 64) (λ q. each q (map.get s.book q))
+    ∙ sum-same (λ k. found (λ m. cond (is_child p (k, m)) m.quota 0) (map.get s.book k)) (λ q. quota_from p q (account_of s q)) (range_with_len 0 64) (λ q. each q (map.get s.book q))
   where
-    each : (q : ℕ) (x : Option Member) → found (λ m. cond (is_child p (q, m)) m.quota 0) x ≡ quota_from p q (option_map (λ m. as_container s q m) x)
+    each : (q : ℕ) (x : Option Member) → found (λ m. cond (is_child p (q, m)) m.quota 0) x ≡ quota_from p q (option_map (λ m. as_account s q m) x)
     each q None = refl
     each q (Some m) = refl
 
@@ -113,9 +112,6 @@ given-range s p small =
 from_some : {A B : Type 0} (f : A → B) (x : Option A) (c : B) → option_map f x ≡ Some c → (a : A) × (x ≡ Some a) × (f a ≡ c)
 from_some f None c h = cc
 from_some f (Some a) c h = (a, refl, ap (λ o. unwrap_or o (f a)) h)
-
-abbrev memory_of : View → memory.Image
-memory_of v = record { directories = v.directories; bytes = v.bytes; roles = v.roles }
 
 module _ (v : View) (stands : memory.StandsFor (memory_of v) v.state.spaces) (live : (p : ℕ) → is_some (directory_of v.directories p) ≡ is_live v.state p)
     (root_quota : 1 + quota_of v.state.book 0 ≡ length v.roles) (root : is_live v.state 0 ≡ true)
@@ -127,30 +123,30 @@ module _ (v : View) (stands : memory.StandsFor (memory_of v) v.state.spaces) (li
   root_there : (m : Member) × (map.get v.state.book 0 ≡ Some m)
   root_there = some_value (map.get v.state.book 0) root
 
-  member_of : (p : ℕ) (c : Container) → container_of v.state p ≡ Some c → (m : Member) × (map.get v.state.book p ≡ Some m) × (as_container v.state p m ≡ c)
-  member_of p c h = from_some (λ m. as_container v.state p m) (map.get v.state.book p) c h
+  member_of : (p : ℕ) (c : Account) → account_of v.state p ≡ Some c → (m : Member) × (map.get v.state.book p ≡ Some m) × (as_account v.state p m ≡ c)
+  member_of p c h = from_some (λ m. as_account v.state p m) (map.get v.state.book p) c h
 
-  parent_there : (p : ℕ) (c : Container) → container_of v.state p ≡ Some c → is_some (container_of v.state c.parent) ≡ true
+  parent_there : (p : ℕ) (c : Account) → account_of v.state p ≡ Some c → is_some (account_of v.state c.parent) ≡ true
   parent_there p c h =
       let m = member_of p c h in
-      is_some-map (λ m. as_container v.state c.parent m) (map.get v.state.book c.parent) ∙ ap (λ (c : Container). is_live v.state c.parent) (sym m.2) ∙ (members p m.0 m.1).1
+      is_some-map (λ m. as_account v.state c.parent m) (map.get v.state.book c.parent) ∙ ap (λ (c : Account). is_live v.state c.parent) (sym m.2) ∙ (members p m.0 m.1).1
 
-  within_quota : (p : ℕ) (c : Container) → container_of v.state p ≡ Some c → c.used + c.given ≤ c.quota
+  within_quota : (p : ℕ) (c : Account) → account_of v.state p ≡ Some c → c.used + c.given ≤ c.quota
   within_quota p c h =
       let m = member_of p c h in
       let a = rooms p (ap is_some m.1) in
       let b = quota_is p m.0 m.1 in
-      subst (λ (c : Container). c.used + c.given ≤ c.quota) m.2 (omega (arith, a, b))
+      subst (λ (c : Account). c.used + c.given ≤ c.quota) m.2 (omega (arith, a, b))
 
   sound_image : IsSoundImage (image_of v)
   sound_image = record {
     memory = stands.sound;
-    root = (as_container v.state 0 root_there.0, ap (option_map (λ m. as_container v.state 0 m)) root_there.1, ap suc_of (sym (quota_is 0 root_there.0 root_there.1)) ∙ root_quota);
-    live = λ p. is_some-map (λ m. as_container v.state p m) (map.get v.state.book p) ∙ sym (live p);
+    root = (as_account v.state 0 root_there.0, ap (option_map (λ m. as_account v.state 0 m)) root_there.1, ap suc_of (sym (quota_is 0 root_there.0 root_there.1)) ∙ root_quota);
+    live = λ p. is_some-map (λ m. as_account v.state p m) (map.get v.state.book p) ∙ sym (live p);
     parents = parent_there;
-    given = λ p c h. ap (λ (c : Container). c.given) (sym (member_of p c h).2) ∙ given-range v.state p (λ k m is. (members k m is).0);
+    given = λ p c h. ap (λ (c : Account). c.given) (sym (member_of p c h).2) ∙ given-range v.state p (λ k m is. (members k m is).0);
     within = within_quota;
-    used = λ p c h. subst (λ (c : Container). IsCharge (memory_of v) p c.used) (member_of p c h).2 (charge-stands (memory_of v) v.state.spaces stands p);
+    used = λ p c h. subst (λ (c : Account). IsCharge (memory_of v) p c.used) (member_of p c h).2 (charge-stands (memory_of v) v.state.spaces stands p);
   }
     where
       suc_of : ℕ → ℕ
@@ -158,21 +154,21 @@ module _ (v : View) (stands : memory.StandsFor (memory_of v) v.state.spaces) (li
 
   -- the image of a view is sound and stands for its state, where memory and the book agree
   pub image_stands : StandsFor (image_of v) v.state
-  image_stands = record { sound = sound_image; memory = stands; containers = λ p. refl }
+  image_stands = record { sound = sound_image; memory = stands; accounts = λ p. refl }
 
 -- ---- One state at most
 
-same_member : (s t : State) (p : ℕ) (x y : Option Member) → option_map (λ m. as_container s p m) x ≡ option_map (λ m. as_container t p m) y → x ≡ y
+same_member : (s t : State) (p : ℕ) (x y : Option Member) → option_map (λ m. as_account s p m) x ≡ option_map (λ m. as_account t p m) y → x ≡ y
 same_member s t p None None h = refl
 same_member s t p None (Some n) h = cc
 same_member s t p (Some m) None h = cc
 same_member s t p (Some m) (Some n) h =
-    let c = ap (λ o. unwrap_or o (as_container s p m)) h in
+    let c = ap (λ o. unwrap_or o (as_account s p m)) h in
     λ i. Some (record { parent = (c i).parent; quota = (c i).quota })
 
 -- an image stands for at most one pair of spaces and book
 pub stands_for_one_state : StandsForOne
 stands_for_one_state image s t f g = (
   stands_for_one image.memory s.spaces t.spaces f.memory g.memory,
-  same_map s.book t.book (λ p. same_member s t p (map.get s.book p) (map.get t.book p) (sym (f.containers p) ∙ g.containers p)),
+  same_map s.book t.book (λ p. same_member s t p (map.get s.book p) (map.get t.book p) (sym (f.accounts p) ∙ g.accounts p)),
 )

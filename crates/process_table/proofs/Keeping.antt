@@ -1,13 +1,10 @@
 -- Each call whose test passes keeps states well formed.
-use Rattle.std.proofs.Common.{◌≡◌, ℕ, Bool, true, false, cond, ap, ◌∙◌, refl, sym, subst, Option, Some, None}
+use Rattle.std.proofs.Common.{◌≡◌, ℕ, Bool, true, false, refl, sym, subst, Option, Some, None}
 use Rattle.std.specs.Prelude.{if◌then◌else◌, IsOk, IfSome}
 use Rattle.page_words.specs.Addresses.{byte_count, page_number, offset_number, second_page, touched, EachTouched}
 use Rattle.address_space.proofs.steps.Bytes.{stored_in_page}
 use Rattle.page_words.specs.declared.addresses.Size.{Size}
-use Rattle.page_words.specs.FiniteMap as map
-use Rattle.page_words.proofs.MapLemmas.{same_itself}
-use Rattle.address_space.proofs.costs.AccessCosts.{key-insert}
-use Rattle.address_space.specs.Spaces.{Slot, Cell, slot_order, Spaces, slot_at, stored, with_pages, all_accessed, all_stored, bytes_of}
+use Rattle.address_space.specs.Spaces.{Spaces, slot_at, stored, with_pages, all_accessed, all_stored, bytes_of}
 use Rattle.address_space.proofs.costs.MapFirst.{IsThere, with_touched-same, bytes_there}
 use Rattle.address_space.specs.View as frames
 use Rattle.quota_tree.specs.Containers.{Containers}
@@ -69,10 +66,6 @@ keeps-access s p address size access value w there = by access
 -- what holds of the one page of an access that stays in it
 pub alone : (address : ℕ) (size : Size) (P : ℕ → Type 0) → second_page address size ≡ None → P (page_number address) → EachTouched address size P
 alone address size P none h = (h, subst (λ x. IfSome x P) (sym none) tt)
-
--- a slot is mapped once it is inserted
-pub there_now : (S : Spaces) (slot : Slot) (c : Cell) → map.contains_key (map.insert S slot c) slot ≡ true
-there_now S slot c = key-insert S slot c slot ∙ ap (λ b. cond b true (map.contains_key S slot)) (same_itself slot_order slot)
 
 pub keeps-store_in_page : (s : State) (p address : ℕ) (size : Size) (value : ℕ) → IsWellFormed s → second_page address size ≡ None → IsThere s.spaces p (page_number address)
     → IsWellFormed (record s { spaces = stored s.spaces (slot_at p address) (offset_number address) (bytes_of (byte_count size) value) })

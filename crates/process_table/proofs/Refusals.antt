@@ -7,7 +7,7 @@ use Rattle.page_words.specs.FiniteMap as map
 use Rattle.address_space.specs.Spaces.{fresh, cell_or_fresh, joined, cost, need, at_page}
 use Rattle.address_space.proofs.costs.Costs.{cost-insert}
 use Rattle.address_space.proofs.costs.Totals.{cost-joined}
-use Rattle.page_sharing.specs.Offers.{offer_of, pending}
+use Rattle.page_sharing.specs.Offers.{offer_key, pending}
 use Rattle.process_table.specs.State.{State, is_live, is_mapped, has_no_room}
 use Rattle.process_table.specs.Calls.{map_refusal, unmap_refusal, protect_refusal, offer_refusal, accept_refusal, offered, after_map, after_accept}
 use Rattle.process_table.specs.TestAnswers.{first_cause, number_unless, map_answer, accept_answer}
@@ -68,7 +68,7 @@ pub record MayOffer (s : State) (p page target : ℕ) (write : Bool) : Type 0 wh
   pub another : target ≢ p
   pub live : is_live s target ≡ true
   pub right : write ≡ true → (cell_or_fresh s.spaces (at_page p page)).may ≡ true
-  pub new : map.contains_key s.offers (offer_of p page target) ≡ false
+  pub new : map.contains_key s.offers (offer_key p page target) ≡ false
   pub few : map.len (pending s.offers p) < 32
 
 pub may_offer : (s : State) (p page target : ℕ) (write : Bool) → offer_refusal s p page target write ≡ None → MayOffer s p page target write
@@ -79,7 +79,7 @@ may_offer s p page target write h =
     let c = choice (target == p) _ _ b.1 in
     let d = choice (not (is_live s target)) _ _ c.1 in
     let e = choice (write && not may) _ _ d.1 in
-    let f = choice (map.contains_key s.offers (offer_of p page target)) _ _ e.1 in
+    let f = choice (map.contains_key s.offers (offer_key p page target)) _ _ e.1 in
     let g = choice (nat_le 32 (map.len (pending s.offers p))) _ _ f.1 in
     record {
       user = not-false _ a.0;
@@ -94,14 +94,14 @@ may_offer s p page target write h =
 -- an offer may be accepted: what it tells
 pub record MayAccept (s : State) (p giver giver_page page : ℕ) : Type 0 where
   pub user : is_user_page page ≡ true
-  pub there : map.contains_key s.offers (offer_of giver giver_page p) ≡ true
+  pub there : map.contains_key s.offers (offer_key giver giver_page p) ≡ true
   pub none : map.get s.spaces (at_page p page) ≡ None
   pub room : has_no_room s (at_page p page) ≡ false
 
 pub may_accept : (s : State) (p giver giver_page page : ℕ) → accept_refusal s p giver giver_page page ≡ None → MayAccept s p giver giver_page page
 may_accept s p giver giver_page page h =
     let a = choice (not (is_user_page page)) _ _ h in
-    let b = choice (not (map.contains_key s.offers (offer_of giver giver_page p))) _ _ a.1 in
+    let b = choice (not (map.contains_key s.offers (offer_key giver giver_page p))) _ _ a.1 in
     let c = choice (is_mapped s (at_page p page)) _ _ b.1 in
     let d = choice (has_no_room s (at_page p page)) _ _ c.1 in
     record { user = not-false _ a.0; there = not-false _ b.0; none = no_value _ c.0; room = d.0 }
@@ -143,7 +143,7 @@ test_map s p page live user = by (is_mapped s (at_page p page)) (has_no_room s (
     by false false gone roomy = sym (map-charge s p page _ live (λ i. if not (user i) then Some BadPage else if gone i then Some Mapped else if roomy i then Some Quota else None) refl)
 
 -- what the test of an accept answers
-pub test_accept : (s : State) (p giver giver_page page : ℕ) → is_live s p ≡ true → is_user_page page ≡ true → map.contains_key s.offers (offer_of giver giver_page p) ≡ true
+pub test_accept : (s : State) (p giver giver_page page : ℕ) → is_live s p ≡ true → is_user_page page ≡ true → map.contains_key s.offers (offer_key giver giver_page p) ≡ true
     → (if is_mapped s (at_page p page) then Err Mapped else if has_no_room s (at_page p page) then Err Quota else Ok (cost s.spaces p + need s.spaces p page)) ≡ accept_answer s p giver giver_page page
 test_accept s p giver giver_page page live user there = by (is_mapped s (at_page p page)) (has_no_room s (at_page p page)) refl refl
   where

@@ -15,7 +15,7 @@ use Rattle.page_words.proofs.SetLemmas.{same_cases}
 use Rattle.address_space.specs.Spaces.{Slot, slot_order, Cell, Spaces, cost, need, fresh, cell_or_fresh, with_holders, set_holders, joined, join_in, at_page}
 use Rattle.address_space.proofs.costs.Totals.{cost-joined, cost-joined_other}
 use Rattle.quota_tree.specs.Book.{given, quota_of}
-use Rattle.page_sharing.specs.Offers.{OfferKey, Offers, offer_order, offer_of, pending}
+use Rattle.page_sharing.specs.Offers.{OfferKey, Offers, offer_order, offer_key, pending}
 use Rattle.process_table.specs.State.{State, is_live, has_no_room, room}
 use Rattle.process_table.specs.Calls.{protect_refusal, offer_refusal, accept_refusal, offered, after_protect, after_offer, after_withdraw, after_accept}
 use Rattle.process_table.specs.WellFormed.{IsCellAt, IsOfferIn, IsWellFormed}
@@ -74,7 +74,7 @@ offer-same s offers key right old = record { target = old.target; another = old.
 
 module _ (s : State) (p page target : ℕ) (write : Bool) (w : IsWellFormed s) (may : MayOffer s p page target write) where
   abbrev new_key : OfferKey
-  new_key = offer_of p page target
+  new_key = offer_key p page target
 
   abbrev more_offers : Offers
   more_offers = map.insert s.offers new_key write
@@ -120,12 +120,12 @@ well_formed-withdraw s p page target w = record {
   rooms = w.rooms;
   owners = w.owners;
   cells = w.cells;
-  offers = λ key right h. offer-same s fewer key right (w.offers key right (retained s.offers (λ j. not (same offer_order (offer_of p page target) j)) key right h).1);
-  few = λ q. let a = len-retain s.offers (λ j. not (same offer_order (offer_of p page target) j)) (λ key. key.offerer == q) in let b = w.few q in omega (arith, a, b);
+  offers = λ key right h. offer-same s fewer key right (w.offers key right (retained s.offers (λ j. not (same offer_order (offer_key p page target) j)) key right h).1);
+  few = λ q. let a = len-retain s.offers (λ j. not (same offer_order (offer_key p page target) j)) (λ key. key.offerer == q) in let b = w.few q in omega (arith, a, b);
 }
   where
     fewer : Offers
-    fewer = map.remove s.offers (offer_of p page target)
+    fewer = map.remove s.offers (offer_key p page target)
 
 -- ---- A slot joins a group
 
@@ -264,11 +264,11 @@ module _ (S : Spaces) (giver slot : Slot) (g : Cell) (right : Bool) (at : map.ge
       by false is = (d, get-outside q d h is, refl)
 
 -- an offered slot is mapped
-pub giver_mapped : (s : State) (p giver giver_page : ℕ) → IsWellFormed s → map.contains_key s.offers (offer_of giver giver_page p) ≡ true
+pub giver_mapped : (s : State) (p giver giver_page : ℕ) → IsWellFormed s → map.contains_key s.offers (offer_key giver giver_page p) ≡ true
     → (g : Cell) × (map.get s.spaces (at_page giver giver_page) ≡ Some g)
 giver_mapped s p giver giver_page w there =
-    let r = some_value (map.get s.offers (offer_of giver giver_page p)) there in
-    let o = (w.offers (offer_of giver giver_page p) r.0 r.1).offered in
+    let r = some_value (map.get s.offers (offer_key giver giver_page p)) there in
+    let o = (w.offers (offer_key giver giver_page p) r.0 r.1).offered in
     (o.0, o.1)
 
 -- and its page is one of the user range
@@ -288,7 +288,7 @@ touched_user s p address size w there = (mapped_user s (at_page p (page_number a
     by None h = h
     by (Some second) h = mapped_user s (at_page p second) w h
 
-pub giver_user : (s : State) (p giver giver_page : ℕ) → IsWellFormed s → map.contains_key s.offers (offer_of giver giver_page p) ≡ true → IsUserPage giver_page
+pub giver_user : (s : State) (p giver giver_page : ℕ) → IsWellFormed s → map.contains_key s.offers (offer_key giver giver_page p) ≡ true → IsUserPage giver_page
 giver_user s p giver giver_page w there = let g = giver_mapped s p giver giver_page w there in (w.cells (at_page giver giver_page) g.0 g.1).user
 
 module _ (s : State) (p giver giver_page page : ℕ) (right : Bool) (g : Cell) (at : map.get s.spaces (at_page giver giver_page) ≡ Some g) (w : IsWellFormed s) (live : is_live s p ≡ true)

@@ -8,7 +8,7 @@ use Rattle.page_words.specs.FiniteMap as map
 use Rattle.page_words.specs.FiniteMap.{same, nat_order}
 use Rattle.page_words.proofs.MapLemmas.{same_or_not, same_itself, get-insert}
 use Rattle.address_space.specs.Spaces.{Slot, Cell, Spaces, cost, at_page}
-use Rattle.address_space.specs.Image.{Image, StandsFor, SlotStands, directory_at, page_word}
+use Rattle.address_space.specs.Image.{Image, StandsFor, SlotStands, directory_at, page_word, image_of}
 use Rattle.address_space.specs.View as frames
 use Rattle.address_space.specs.View.{directory_of, live_cost, total_cost}
 use Rattle.quota_tree.specs.declared.QuotaFault.{QuotaFault}
@@ -115,8 +115,8 @@ nothing-mapped image S p page stands none = by (map.get S slot) (subst (λ x. Sl
     by None h = refl
     by (Some cell) h = absurd h
 
-pub cost-child : (v : frames.View) (p : ℕ) → StandsFor (record { directories = v.directories; bytes = v.bytes; roles = v.roles }) v.spaces → directory_of v.directories p ≡ None → cost v.spaces p ≡ 1
-cost-child v p stands none = cost-no_pages v.spaces p (λ page. nothing-mapped (record { directories = v.directories; bytes = v.bytes; roles = v.roles }) v.spaces p page stands none)
+pub cost-child : (v : frames.View) (p : ℕ) → StandsFor (image_of v) v.spaces → directory_of v.directories p ≡ None → cost v.spaces p ≡ 1
+cost-child v p stands none = cost-no_pages v.spaces p (λ page. nothing-mapped (image_of v) v.spaces p page stands none)
 
 root_not : (c : Containers) (child : ℕ) → IsLive c 0 → map.contains_key c.book child ≡ false → 0 ≢ child
 root_not c child live absent e = let a : map.contains_key c.book child ≡ true = ap (map.contains_key c.book) (sym e) ∙ live in cc
@@ -158,7 +158,7 @@ module _ (v : frames.View) (c : Containers) (p asked child : ℕ) (kept : IsProc
       omega (arith, r)
 
   -- the child has a directory and is charged for it
-  pub charged-child : (w : frames.View) → StandsFor (record { directories = v.directories; bytes = v.bytes; roles = v.roles }) v.spaces → w.spaces ≡ v.spaces → length w.roles ≡ length v.roles
+  pub charged-child : (w : frames.View) → StandsFor (image_of v) v.spaces → w.spaces ≡ v.spaces → length w.roles ≡ length v.roles
       → is_some (directory_of w.directories child) ≡ true → ((q : ℕ) → q ≢ child → directory_of w.directories q ≡ directory_of v.directories q) → IsProcesses w after
   charged-child w stands spaces long live others = record {
     live = λ q. elim (same_or_not nat_order q child) [

@@ -5,7 +5,7 @@ use Rattle.page_words.specs.declared.addresses.Size.{Size}
 use Rattle.page_words.specs.FiniteMap as map
 use Rattle.address_space.specs.Spaces.{cell_or_fresh, fresh, without, is_slot, is_of, protected, joined, number_of, with_pages, all_accessed, all_stored, bytes_of, at_page, cost, copied}
 use Rattle.quota_tree.specs.Book.{next_number, number_of_children}
-use Rattle.page_sharing.specs.Offers.{offer_of, pending, without_page, without_process}
+use Rattle.page_sharing.specs.Offers.{offer_key, pending, without_page, without_process}
 use Rattle.table_walk.specs.declared.Access.{Access}
 use Rattle.table_walk.specs.declared.Access.TheVariants.{Read, Write}
 use Rattle.process_table.specs.State.{State, is_live, is_mapped, has_no_room, room, child_of}
@@ -42,20 +42,20 @@ offer_refusal s p page target write =
     if target == p then Some SelfOffer else
     if not (is_live s target) then Some NoTarget else
     if write && not (cell_or_fresh s.spaces (at_page p page)).may then Some Rights else
-    if map.contains_key s.offers (offer_of p page target) then Some OfferPending else
+    if map.contains_key s.offers (offer_key p page target) then Some OfferPending else
     if nat_le 32 (map.len (pending s.offers p)) then Some TooManyOffers else
     None
 
 abbrev pub withdraw_refusal : State → ℕ → ℕ → ℕ → Option Cause
 withdraw_refusal s p page target =
     if not (is_user_page page) then Some BadPage else
-    if not (map.contains_key s.offers (offer_of p page target)) then Some NoOffer else
+    if not (map.contains_key s.offers (offer_key p page target)) then Some NoOffer else
     None
 
 abbrev pub accept_refusal : State → ℕ → ℕ → ℕ → ℕ → Option Cause
 accept_refusal s p giver giver_page page =
     if not (is_user_page page) then Some BadPage else
-    if not (map.contains_key s.offers (offer_of giver giver_page p)) then Some NoOffer else
+    if not (map.contains_key s.offers (offer_key giver giver_page p)) then Some NoOffer else
     if is_mapped s (at_page p page) then Some Mapped else
     if has_no_room s (at_page p page) then Some Quota else
     None
@@ -123,20 +123,20 @@ abbrev pub after_protect : State → ℕ → ℕ → Bool → State
 after_protect s p page write = record s { spaces = protected s.spaces (at_page p page) write }
 
 abbrev pub after_offer : State → ℕ → ℕ → ℕ → Bool → State
-after_offer s p page target write = record s { offers = map.insert s.offers (offer_of p page target) write }
+after_offer s p page target write = record s { offers = map.insert s.offers (offer_key p page target) write }
 
 abbrev pub after_withdraw : State → ℕ → ℕ → ℕ → State
-after_withdraw s p page target = record s { offers = map.remove s.offers (offer_of p page target) }
+after_withdraw s p page target = record s { offers = map.remove s.offers (offer_key p page target) }
 
 -- the right that a pending offer gives
 abbrev pub offered : State → ℕ → ℕ → ℕ → Bool
-offered s giver giver_page p = unwrap_or (map.get s.offers (offer_of giver giver_page p)) false
+offered s giver giver_page p = unwrap_or (map.get s.offers (offer_key giver giver_page p)) false
 
 -- the slot joins the giver's group with the offer's right, and the offer goes
 abbrev pub after_accept : State → ℕ → ℕ → ℕ → ℕ → State
 after_accept s p giver giver_page page = record s {
   spaces = joined s.spaces (at_page giver giver_page) (at_page p page) (offered s giver giver_page p);
-  offers = map.remove s.offers (offer_of giver giver_page p);
+  offers = map.remove s.offers (offer_key giver giver_page p);
 }
 
 -- a child, which has the least number that is not live

@@ -4,6 +4,7 @@ pub mod Calls
 pub mod Image
 pub mod Laws
 pub mod Parts
+pub mod Places
 pub mod State
 pub mod View
 pub mod WellFormed

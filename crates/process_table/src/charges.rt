@@ -1,15 +1,22 @@
 //! What a live process is charged for, and what it has room for.
 
-ghost use Rattle.std.specs.Prelude.{◌≡◌, ◌+◌, ◌-◌, ◌≤◌, ◌<◌, if◌then◌else◌, nat_lt, true, Some, Ok, Err};
+ghost use Rattle.std.specs.Prelude.{◌≡◌, ◌+◌, ◌-◌, ◌≤◌, ◌<◌, if◌then◌else◌, nat_lt, true, Some, Ok, Err, length};
 ghost use Rattle.page_words.specs.Addresses.{EachTouched, IsUserPage};
+ghost use Rattle.address_space.specs.Places.{place_in};
 ghost use Rattle.address_space.specs.Spaces.{cost, need, access_need, without, is_slot, at_page};
-ghost use Rattle.process_table.specs.State.{is_live, is_mapped, has_no_room, lacks_room, room, container_of};
+ghost use Rattle.process_table.specs.State.{is_live, is_mapped, has_no_room, room, container_of};
+ghost use Rattle.address_space.specs.View.{total_cost};
+ghost use Rattle.quota_tree.specs.Containers.{IsLive, used_of, room_of, with_used};
+ghost use Rattle.process_table.specs.TestAnswers.{number_unless};
+ghost use Rattle.process_table.specs.View.{IsProcesses};
 ghost use Rattle.process_table.specs.declared.causes.Cause.TheVariants as cause;
+ghost use Rattle.address_space.specs.View as seen;
 
 use crate::causes::Cause;
 use crate::processes::Processes;
+use address_space::{Place, Spaces};
 use page_words::{Page, Pid, Size, Vaddr};
-use quota_tree::Container;
+use quota_tree::{Container, Quotas};
 
 /// What a live process is charged for.
 pub fn charge_of(processes: &Processes, pid: Pid) -> u32
@@ -32,14 +39,6 @@ pub fn left_of(container: &Container) -> u32
         .saturating_sub(container.given)
 }
 
-/// What is left of a live process's quota.
-fn room_of(processes: &Processes, pid: Pid) -> u32
-    requires live { is_live processes.now.state pid ≡ true }
-    ensures { result ≡ room processes.now.state pid }
-{
-    left_of(&processes.container(pid).unwrap())
-}
-
 /// What is charged for a container and so many frames more, where it has room for them, and else Quota.
 fn charged_more(container: &Container, frames: u32) -> Result<u32, Cause>
     requires used { container.now.used < 4096 }
@@ -54,46 +53,52 @@ fn charged_more(container: &Container, frames: u32) -> Result<u32, Cause>
 }
 
 /// What a live process is charged for once it has a page that it hasn't, or the cause against it: Mapped, Quota. The
-/// container is the process's, and the page is looked up once.
+/// container is the process's, and the place the page's.
+#[inline(always)]
 pub fn charge_with(
     processes: &Processes,
     container: &Container,
     pid: Pid,
     page: Page,
+    place: &Place,
 ) -> Result<u32, Cause>
     requires container { container_of processes.now.state pid ≡ Some container.now }
     requires live { is_live processes.now.state pid ≡ true }
     requires user { IsUserPage page }
+    requires place { place.now ≡ place_in processes.now.directories processes.now.bytes pid page }
     ensures { result ≡ (if is_mapped processes.now.state (at_page pid page) then Err cause.Mapped else if has_no_room processes.now.state (at_page pid page) then Err cause.Quota else Ok (cost processes.now.state.spaces pid + need processes.now.state.spaces pid page)) }
 {
     processes.stands();
     processes.spaces().stands();
-    let seen = processes.seen(pid, page);
-    if seen.cell().is_some() {
+    processes.tells(pid, page, place);
+    if place.is_mapped() {
         Err(Cause::Mapped)
     } else {
-        charged_more(container, seen.need())
+        charged_more(container, place.need())
     }
 }
 
-/// What a live process is charged for once a mapped page is gone. The container is the process's.
-pub fn charge_without(processes: &Processes, container: &Container, pid: Pid, page: Page) -> u32
+/// What a live process is charged for once a page is gone, or the cause against it: NotMapped. The container is the
+/// process's, and the place the page's.
+#[inline(always)]
+pub fn charge_without(
+    processes: &Processes,
+    container: &Container,
+    pid: Pid,
+    page: Page,
+    place: &Place,
+) -> Result<u32, Cause>
     requires container { container_of processes.now.state pid ≡ Some container.now }
     requires user { IsUserPage page }
-    requires mapped { is_mapped processes.now.state (at_page pid page) ≡ true }
-    ensures { result ≡ cost (without processes.now.state.spaces (is_slot pid page)) pid }
+    requires place { place.now ≡ place_in processes.now.directories processes.now.bytes pid page }
+    ensures { result ≡ (if is_mapped processes.now.state (at_page pid page) then Ok (cost (without processes.now.state.spaces (is_slot pid page)) pid) else Err cause.NotMapped) }
 {
-    container.used - processes.spaces().relief(pid, page)
-}
-
-/// Whether a live process has no room for the pages that an access touches and that are not mapped.
-pub fn is_short(processes: &Processes, pid: Pid, address: Vaddr, size: Size) -> bool
-    requires live { is_live processes.now.state pid ≡ true }
-    requires user { EachTouched address size IsUserPage }
-    ensures { result ≡ lacks_room processes.now.state pid address size }
-{
-    processes.stands();
-    room_of(processes, pid) < processes.spaces().access_need(pid, address, size)
+    processes.tells(pid, page, place);
+    if place.is_mapped() {
+        Ok(container.used - processes.spaces().relief_at(pid, page, place))
+    } else {
+        Err(Cause::NotMapped)
+    }
 }
 
 /// What a live process is charged for once the pages that an access touches are mapped.
@@ -104,4 +109,36 @@ pub fn charge_at(processes: &Processes, pid: Pid, address: Vaddr, size: Size) ->
 {
     processes.stands();
     charge_of(processes, pid) + processes.spaces().access_need(pid, address, size)
+}
+
+/// Charges a live process for frames that it has room for, which are then free.
+pub fn take_room(quotas: &mut Quotas, pid: Pid, frames: u32)
+    requires live { IsLive quotas.old pid }
+    requires room { frames ≤ room_of quotas.old pid }
+    ensures quotas { quotas.new ≡ with_used quotas.old pid (used_of quotas.old pid + frames) }
+    ensures room { (v : seen.View) → IsProcesses v quotas.old → 1 + total_cost v.directories v.spaces + frames ≤ length v.roles }
+{
+    quotas.charge(pid, frames);
+    quotas.within();
+}
+
+/// What one more page costs a process, by the page's place.
+pub fn need_at(spaces: &Spaces, pid: Pid, page: Page, place: &Place) -> u32
+    requires user { IsUserPage page }
+    requires place { place.now ≡ place_in spaces.now.directories spaces.now.bytes pid page }
+    ensures value { result ≡ need spaces.now.spaces pid page }
+    ensures most { result ≤ 2 }
+{
+    spaces.stands();
+    place.need()
+}
+
+/// What a process is charged for, where nothing is against its call.
+pub fn charge_or(charge: u32, refused: Option<Cause>) -> Result<u32, Cause>
+    ensures { result ≡ number_unless refused charge }
+{
+    match refused {
+        Some(cause) => Err(cause),
+        None => Ok(charge),
+    }
 }

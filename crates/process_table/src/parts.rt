@@ -1,6 +1,6 @@
 //! Parts of a process's page: bytes that are loaded or stored as one slice, as an access of each would do it.
 
-ghost use Rattle.std.specs.Prelude.{◌≡◌, ◌+◌, ◌≤◌, ◌<◌, ℕ, length, map, slice_index, true, false};
+ghost use Rattle.std.specs.Prelude.{◌≡◌, ◌+◌, ◌≤◌, length, map, true, false};
 ghost use Rattle.std.specs.List.{range_with_len};
 ghost use Rattle.page_words.specs.Addresses.{page_number, offset_number, IsUserPage};
 ghost use Rattle.address_space.specs.Image.{takes_stores};

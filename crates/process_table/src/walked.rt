@@ -15,7 +15,6 @@ ghost use Rattle.process_table.specs.Calls.{after_access, access_value};
 ghost use Rattle.process_table.specs.Image.{memory_of};
 ghost use Rattle.process_table.specs.State.{State, is_live, is_mapped, container_of};
 ghost use Rattle.process_table.specs.View.{IsProcesses};
-ghost use Rattle.table_walk.specs.declared.Access.TheVariants as access_variant;
 
 use crate::processes::Processes;
 use address_space::Spaces;

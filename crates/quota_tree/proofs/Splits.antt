@@ -1,6 +1,6 @@
 -- What a split answers, and what it leaves.
 use Rattle.std.proofs.Common.{◌≡◌, ◌≢◌, ℕ, ◌+◌, ◌-◌, ◌<◌, ◌≤◌, ◌⊎◌, inl, inr, Bool, true, false, cond, ◌==◌, List, length, get_or, is_some, refl, sym, ap, ◌∙◌, Option, Some, None, arith, subst, length-set}
-use Rattle.std.specs.Prelude.{slice_set, nat_lt, Ok, Err}
+use Rattle.std.specs.Prelude.{slice_set, nat_lt, Ok, Err, IsOk}
 use Rattle.std.specs.Option.{option_map}
 use Rattle.std.proofs.lemmas.Bool.Decides.{nat_tests}
 use Rattle.page_words.specs.FiniteMap as map
@@ -41,6 +41,28 @@ module _ (c : Containers) (parent quota : ℕ) where
             next = (let same : k ≡ child = cc in next ∙ ap Some same);
             room = grind (arith, nat_tests);
           }
+
+  -- where one may be, its child has the next number
+  pub split_is : (child : ℕ) → IsOk (split_answer c parent quota) → next_number c.book ≡ Some child → split_answer c parent quota ≡ Ok child
+  split_is child = by (quota == 0) (next_number c.book)
+    where
+      fits : (k : ℕ) (over : Bool) → IsOk (cond over (Err NoRoom) (Ok k)) → Some k ≡ Some child → cond over (Err NoRoom) (Ok k) ≡ Ok child
+      fits k true ok is = cc
+      fits k false ok is = cc
+
+      by : (none : Bool) (next : Option ℕ) → IsOk (cond none (Err BadQuota) (fitting c parent quota next)) → next ≡ Some child → cond none (Err BadQuota) (fitting c parent quota next) ≡ Ok child
+      by true next ok is = cc
+      by false None ok is = cc
+      by false (Some k) ok is = fits k (nat_lt (room_of c parent) quota) ok is
+
+  -- and there is one
+  pub next_there : IsOk (split_answer c parent quota) → is_some (next_number c.book) ≡ true
+  next_there = by (quota == 0) (next_number c.book)
+    where
+      by : (none : Bool) (next : Option ℕ) → IsOk (cond none (Err BadQuota) (fitting c parent quota next)) → is_some next ≡ true
+      by true next ok = cc
+      by false None ok = cc
+      by false (Some k) ok = refl
 
 -- ---- A split: a parent gives a part of its room to a child that wasn't there
 

@@ -214,7 +214,7 @@ impl Quotas {
         ensures child { split_answer self.old parent quota ≡ Ok result }
         ensures containers { self.new ≡ after_split self.old parent quota result }
     {
-        let child = self.can_split(parent, quota).unwrap();
+        let child = self.next_number().unwrap();
         let giver = live(&self.containers, parent);
         put(&mut self.containers, parent, Some(with_child(giver, quota)));
         put(&mut self.containers, child, Some(opened(parent, quota)));

@@ -1,7 +1,7 @@
 -- The texts of a script's faults.
 use Rattle.std.specs.Prelude.{◌≡◌, ℕ, List, ◌++◌, codes, decimal}
-use Rattle.kernel_calls.specs.declared.cores.BootFault.{BootFault}
-use Rattle.kernel_calls.specs.declared.cores.BootFault.TheVariants as boot
+use Rattle.page_words.specs.declared.faults.MachineFault.{MachineFault}
+use Rattle.page_words.specs.declared.faults.MachineFault.TheVariants as boot
 use Rattle.script_run.specs.declared.faults.ScriptFault.{ScriptFault}
 use Rattle.script_run.specs.declared.faults.ScriptFault.TheVariants.{BadSize, NoMemory, Malformed, TooLong, ReadFailed, WriteFailed}
 
@@ -14,6 +14,6 @@ fault_text ReadFailed = codes "tower: read failed"
 fault_text WriteFailed = codes "tower: write failed"
 
 -- what a fault of the boot is to a script
-abbrev pub BootGives : BootFault → ScriptFault → Type 0
+abbrev pub BootGives : MachineFault → ScriptFault → Type 0
 BootGives boot.BadSize fault = fault ≡ BadSize
 BootGives boot.NoMemory fault = fault ≡ NoMemory

@@ -8,16 +8,16 @@ abbrev pub are_digits : ℕ → List ℕ → Bool
 are_digits radix token = list_all (λ byte. is_digit byte radix) token
 
 -- the number that the token writes in digits of this radix, `most` of them at most
-abbrev pub number_of : ℕ → ℕ → List ℕ → Option ℕ
-number_of radix most token = if nat_le 1 (length token) && nat_le (length token) most && are_digits radix token then Some (digits_value radix token) else None
+abbrev pub number_written : ℕ → ℕ → List ℕ → Option ℕ
+number_written radix most token = if nat_le 1 (length token) && nat_le (length token) most && are_digits radix token then Some (digits_value radix token) else None
 
 -- one to ten decimal digits
 unfoldable pub decimal_number : List ℕ → Option ℕ
-decimal_number token = number_of 10 10 token
+decimal_number token = number_written 10 10 token
 
 -- one to eight hexadecimal digits, of either case
 unfoldable pub hexadecimal_number : List ℕ → Option ℕ
-hexadecimal_number token = number_of 16 8 token
+hexadecimal_number token = number_written 16 8 token
 
 -- a number below the limit, and nothing else
 abbrev pub below : ℕ → Option ℕ → Option ℕ

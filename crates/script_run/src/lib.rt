@@ -15,7 +15,6 @@ mod replies;
 mod script;
 mod session;
 mod tokens;
-pub mod worked;
 
 pub use faults::ScriptFault;
 pub use lines::{Line, line_of};

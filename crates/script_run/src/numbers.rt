@@ -4,7 +4,7 @@ ghost use Rattle.std.specs.Prelude.{◌≡◌, ◌<◌, ◌≤◌, IfSome, IfNon
 ghost use Rattle.std.specs.Char.{digit_value};
 ghost use Rattle.std.specs.List.{position_or_len};
 ghost use Rattle.std.specs.Option.{option_map};
-ghost use Rattle.script_run.specs.Numbers.{number_of, below, decimal_number, hexadecimal_number};
+ghost use Rattle.script_run.specs.Numbers.{number_written, below, decimal_number, hexadecimal_number};
 ghost use Rattle.script_run.specs.Operands.{IsWorth, first_by, worth};
 ghost use Rattle.script_run.specs.Tokens.{is_space, tokens_of};
 
@@ -69,7 +69,7 @@ pub fn digit_of(byte: u8) -> u8
 fn number(token: &[u8], radix: u32, most: usize) -> Option<u64>
     requires radix { (2 ≤ radix) × (radix ≤ 16) }
     requires most { most ≤ 10 }
-    ensures { result ≡ number_of radix most token.now }
+    ensures { result ≡ number_written radix most token.now }
 {
     if token.is_empty() || token.len() > most {
         return None;

@@ -44,47 +44,47 @@ right_of n = if n == 0 then Some false else if n == 1 then Some true else None
 abbrev pub pid_of : ℕ → Option ℕ
 pid_of n = if nat_lt n 64 then Some n else None
 
-abbrev pub load_of : ℕ → Option Size → Option Call
-load_of addr (Some size) = Some (call.Load addr size)
-load_of addr None = None
+abbrev pub load_with : ℕ → Option Size → Option Call
+load_with addr (Some size) = Some (call.Load addr size)
+load_with addr None = None
 
-abbrev pub store_of : ℕ → ℕ → Option Size → Option Call
-store_of addr value (Some size) = Some (call.Store addr size value)
-store_of addr value None = None
+abbrev pub store_with : ℕ → ℕ → Option Size → Option Call
+store_with addr value (Some size) = Some (call.Store addr size value)
+store_with addr value None = None
 
-abbrev pub map_of : ℕ → Option Bool → Option Call
-map_of page (Some write) = Some (call.Map page write)
-map_of page None = None
+abbrev pub map_with : ℕ → Option Bool → Option Call
+map_with page (Some write) = Some (call.Map page write)
+map_with page None = None
 
-abbrev pub protect_of : ℕ → Option Bool → Option Call
-protect_of page (Some write) = Some (call.Protect page write)
-protect_of page None = None
+abbrev pub protect_with : ℕ → Option Bool → Option Call
+protect_with page (Some write) = Some (call.Protect page write)
+protect_with page None = None
 
-abbrev pub offer_of : ℕ → Option ℕ → Option Bool → Option Call
-offer_of page (Some target) (Some write) = Some (call.Offer page target write)
-offer_of page (Some target) None = None
-offer_of page None write = None
+abbrev pub offer_with : ℕ → Option ℕ → Option Bool → Option Call
+offer_with page (Some target) (Some write) = Some (call.Offer page target write)
+offer_with page (Some target) None = None
+offer_with page None write = None
 
-abbrev pub withdraw_of : ℕ → Option ℕ → Option Call
-withdraw_of page (Some target) = Some (call.Withdraw page target)
-withdraw_of page None = None
+abbrev pub withdraw_with : ℕ → Option ℕ → Option Call
+withdraw_with page (Some target) = Some (call.Withdraw page target)
+withdraw_with page None = None
 
-abbrev pub accept_of : Option ℕ → ℕ → ℕ → Option Call
-accept_of (Some giver) giver_page page = Some (call.Accept giver giver_page page)
-accept_of None giver_page page = None
+abbrev pub accept_with : Option ℕ → ℕ → ℕ → Option Call
+accept_with (Some giver) giver_page page = Some (call.Accept giver giver_page page)
+accept_with None giver_page page = None
 
 -- the call of a number
 abbrev pub call_of : TowerEvent → Option Call
 call_of e =
-    if e.call == 0 then load_of e.first (size_of e.flag) else
-    if e.call == 1 then store_of e.first e.second (size_of e.flag) else
-    if e.call == 2 then map_of e.first (right_of e.flag) else
+    if e.call == 0 then load_with e.first (size_of e.flag) else
+    if e.call == 1 then store_with e.first e.second (size_of e.flag) else
+    if e.call == 2 then map_with e.first (right_of e.flag) else
     if e.call == 3 then Some (call.Unmap e.first) else
-    if e.call == 4 then protect_of e.first (right_of e.flag) else
+    if e.call == 4 then protect_with e.first (right_of e.flag) else
     if e.call == 5 then Some (call.Info e.first) else
-    if e.call == 6 then offer_of e.first (pid_of e.second) (right_of e.flag) else
-    if e.call == 7 then withdraw_of e.first (pid_of e.second) else
-    if e.call == 8 then accept_of (pid_of e.second) e.first e.third else
+    if e.call == 6 then offer_with e.first (pid_of e.second) (right_of e.flag) else
+    if e.call == 7 then withdraw_with e.first (pid_of e.second) else
+    if e.call == 8 then accept_with (pid_of e.second) e.first e.third else
     if e.call == 9 then Some (call.Spawn e.first) else
     if e.call == 10 then Some call.Exit else
     if e.call == 11 then Some call.Quota else

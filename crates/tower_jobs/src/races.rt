@@ -9,7 +9,7 @@ ghost use Rattle.text_output.specs.Output.{AppendsFront};
 use arrayvec::ArrayVec;
 use guest_race::{Asks, Referee, RoundFault, round_by};
 use memory_report::Report;
-use page_words::{MAX_FRAMES, MIN_FRAMES};
+use page_words::is_frame_count;
 use std::alloc::Global;
 use std::io::Write;
 use std::sync::Wait;
@@ -95,7 +95,7 @@ pub fn race_by<R: Threads + Wait + Sync, W: Write, F: Referee>(
     ensures fault { IfErr result (λ fault. EndsRace frames rounds fault (W.contents writer.old) (W.contents writer.new)) }
     ensures asked { OnOk result (WritesAnswers (IsAsked F.reported F.judged) rounds referee.old referee.new (W.contents writer.old) (W.contents writer.new)) }
 {
-    if !(MIN_FRAMES..=MAX_FRAMES).contains(&frames) {
+    if !is_frame_count(frames) {
         return Err(ToolFault::BadSize);
     }
     let report = match play(rt, alloc, frames, rounds, referee) {

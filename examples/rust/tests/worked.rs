@@ -5,13 +5,13 @@ use std::fmt::Write;
 use std::str::SplitWhitespace;
 use tower::{Call, Core, Event, Page, Pid, Reply, Size, Vaddr};
 
-#[path = "../../../crates/script_run/src/worked/alone.rt"]
+#[path = "../../../crates/worked_scripts/src/alone.rt"]
 mod alone;
-#[path = "../../../crates/script_run/src/worked/forks.rt"]
+#[path = "../../../crates/worked_scripts/src/forks.rt"]
 mod forks;
-#[path = "../../../crates/script_run/src/worked/processes.rt"]
+#[path = "../../../crates/worked_scripts/src/processes.rt"]
 mod processes;
-#[path = "../../../crates/script_run/src/worked/sharing.rt"]
+#[path = "../../../crates/worked_scripts/src/sharing.rt"]
 mod sharing;
 
 /// A script and what it must get.

@@ -1,7 +1,6 @@
 -- What an access needs: what its first page needs, and what the second needs once the first is mapped.
 use Rattle.std.proofs.Common.{◌≡◌, ◌≢◌, ℕ, ◌+◌, ◌==◌, Bool, true, false, cond, not, ◌||◌, ◌&&◌, [], ◌∷◌, refl, ap, sym, ◌∙◌, arith, Option, Some, None}
 use Rattle.std.specs.Prelude.{is_some, if◌then◌else◌}
-use Rattle.std.specs.Option.{option_map}
 use Rattle.std.proofs.lemmas.Bool.{eqb-true, eq-eqb}
 use Rattle.page_words.specs.Addresses.{slot_number, page_number, touched, page_and, second_page}
 use Rattle.page_words.specs.declared.addresses.Size.{Size}
@@ -10,13 +9,13 @@ use Rattle.page_words.specs.FiniteMap.{nat_order, same}
 use Rattle.page_words.specs.FiniteSet as set
 use Rattle.page_words.specs.FiniteSet.{Set}
 use Rattle.page_words.proofs.Accesses.{crosses}
-use Rattle.page_words.proofs.OptionLemmas.{no_value, is_some-map}
+use Rattle.page_words.proofs.OptionLemmas.{no_value}
 use Rattle.page_words.proofs.MapLemmas.{same_itself, contains-insert, retain-insert, retain-insert_other, len-insert}
 use Rattle.page_words.proofs.SetLemmas.{same_apart}
 use Rattle.address_space.specs.Spaces.{Slot, slot_order, Spaces, Cell, at_page, fresh, cost, pages_of, regions_of, need, page_need, missing, need_of, access_need, with_page, with_pages}
-use Rattle.address_space.specs.declared.seen_pages.Seen.{Seen}
-use Rattle.address_space.specs.Seen.{cell_seen, need_seen}
-use Rattle.address_space.specs.Shown.{shown}
+use Rattle.address_space.specs.declared.place.Place.{Place}
+use Rattle.address_space.specs.Places as places
+use Rattle.address_space.specs.Places.{found_of}
 use Rattle.address_space.proofs.costs.AccessCosts.{key-insert}
 use Rattle.address_space.proofs.costs.Costs.{pages-insert, regions-insert, cost-insert}
 
@@ -188,23 +187,19 @@ second_need S p page second apart = by (map.contains_key S (at_page p page)) ref
     by true is = refl
     by false is = λ i. if other i then 0 else need-beside S p page second (fresh (at_page p page) true) i
 
--- what an access needs
--- what was seen of a page says what the process needs for it
-pub page_need_seen : (S : Spaces) (p page : ℕ) (s : Seen) → cell_seen s ≡ option_map shown (map.get S (at_page p page)) → need_seen s ≡ need S p page
-    → (if is_some (cell_seen s) then 0 else need_seen s) ≡ page_need S p page
-page_need_seen S p page s cell costs =
-    let there = ap is_some cell ∙ is_some-map shown (map.get S (at_page p page)) in
-    (λ i. if there i then 0 else costs i)
+-- what the place of a page says that the process needs for it
+pub page_need_at : (S : Spaces) (p page : ℕ) (place : Place) → is_some (found_of place) ≡ map.contains_key S (at_page p page) → places.need_of place ≡ need S p page
+    → (if is_some (found_of place) then 0 else places.need_of place) ≡ page_need S p page
+page_need_at S p page place there costs = (λ i. if there i then 0 else costs i)
 
 -- and, of two pages, for the second behind the first
-pub second_need_seen : (S : Spaces) (p page second : ℕ) (s o : Seen) → second ≢ page → cell_seen s ≡ option_map shown (map.get S (at_page p page))
-    → cell_seen o ≡ option_map shown (map.get S (at_page p second)) → need_seen o ≡ need S p second
-    → (if is_some (cell_seen o) then 0 else (if not (is_some (cell_seen s)) && (slot_number page == slot_number second) then 1 else need_seen o)) ≡ page_need (with_page S p page) p second
-second_need_seen S p page second s o apart cell other costs =
-    let first = ap is_some cell ∙ is_some-map shown (map.get S (at_page p page)) in
-    let there = ap is_some other ∙ is_some-map shown (map.get S (at_page p second)) in
+pub second_need_at : (S : Spaces) (p page second : ℕ) (place other : Place) → second ≢ page → is_some (found_of place) ≡ map.contains_key S (at_page p page)
+    → is_some (found_of other) ≡ map.contains_key S (at_page p second) → places.need_of other ≡ need S p second
+    → (if is_some (found_of other) then 0 else (if not (is_some (found_of place)) && (slot_number page == slot_number second) then 1 else places.need_of other)) ≡ page_need (with_page S p page) p second
+second_need_at S p page second place other apart first there costs =
     (λ i. if there i then 0 else (if not (first i) && (slot_number page == slot_number second) then 1 else costs i)) ∙ sym (second_need S p page second apart)
 
+-- what an access needs
 pub need-in_one : (S : Spaces) (p address : ℕ) (size : Size) → second_page address size ≡ None → access_need S p address size ≡ page_need S p (page_number address)
 need-in_one S p address size none = ap (λ x. need_of S p (missing S p (page_and (page_number address) x))) none ∙ need-one_page S p (page_number address)
 

@@ -5,7 +5,7 @@ use Rattle.std.specs.List.{list_any, range_with_len}
 use Rattle.page_words.specs.FiniteMap.{same, nat_order}
 use Rattle.page_words.proofs.MapLemmas.{same_or_not, same_itself, list_any-map}
 use Rattle.address_space.specs.Spaces.{slot_order, at_page}
-use Rattle.address_space.specs.Slots.{user_slots, slots_below, at_pid}
+use Rattle.address_space.specs.Slots.{user_slots, slots_below}
 use Rattle.std.proofs.Math.Bool.{or-true}
 use Rattle.std.specs.Cmp.{tied_then}
 
@@ -41,14 +41,14 @@ any_ext s t (x ∷ xs) is = λ i. is x i || any_ext s t xs is i
 slots_any : (p page n : ℕ) (pages : List ℕ) → p < n → list_any (λ y. same nat_order page y) pages ≡ true → list_any (same slot_order (at_page p page)) (slots_below n pages) ≡ true
 slots_any p page zero pages low user = absurd (omega arith)
 slots_any p page (suc n) pages low user =
-    any-append (same slot_order (at_page p page)) (map (at_pid n) pages) (slots_below n pages)
+    any-append (same slot_order (at_page p page)) (map (at_page n) pages) (slots_below n pages)
     ∙ elim (same_or_not nat_order p n) [
       | inl h ↦ ap (λ b. b || list_any (same slot_order (at_page p page)) (slots_below n pages))
-          (list_any-map (at_pid n) (same slot_order (at_page p page)) pages
-          ∙ any_ext (λ y. same slot_order (at_page p page) (at_pid n y)) (λ y. same nat_order page y) pages (λ y. slot_same_parts p page n y ∙ ap (λ b. b && same nat_order page y) h.1)
+          (list_any-map (at_page n) (same slot_order (at_page p page)) pages
+          ∙ any_ext (λ y. same slot_order (at_page p page) (at_page n y)) (λ y. same nat_order page y) pages (λ y. slot_same_parts p page n y ∙ ap (λ b. b && same nat_order page y) h.1)
           ∙ user)
-      | inr h ↦ ap (λ b. list_any (same slot_order (at_page p page)) (map (at_pid n) pages) || b) (slots_any p page n pages (below p n low (apart p n h)) user)
-          ∙ or-true (list_any (same slot_order (at_page p page)) (map (at_pid n) pages))
+      | inr h ↦ ap (λ b. list_any (same slot_order (at_page p page)) (map (at_page n) pages) || b) (slots_any p page n pages (below p n low (apart p n h)) user)
+          ∙ or-true (list_any (same slot_order (at_page p page)) (map (at_page n) pages))
     ]
   where
     apart : (p n : ℕ) → same nat_order p n ≡ false → (p ≡ n) → ⊥

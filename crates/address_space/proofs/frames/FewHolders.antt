@@ -11,9 +11,9 @@ use Rattle.page_words.specs.FiniteSet as set
 use Rattle.std.specs.FinMap.Entries.{where_key}
 use Rattle.std.proofs.Common.{map as map_list, length-append}
 use Rattle.std.proofs.lemmas.List.{length-map}
-use Rattle.address_space.specs.Spaces.{Slot, slot_order}
+use Rattle.address_space.specs.Spaces.{Slot, slot_order, at_page}
 use Rattle.page_words.specs.FiniteMap.{collect, put_some}
-use Rattle.address_space.specs.Slots.{user_slots, slots_below, at_pid}
+use Rattle.address_space.specs.Slots.{user_slots, slots_below}
 use Rattle.page_words.specs.FiniteMap.{same}
 use Rattle.page_words.proofs.MapLemmas.{len-insert}
 use Rattle.address_space.specs.Cells.{Entries, names, holders_of, nothing}
@@ -60,9 +60,9 @@ length-slots : (n a k : ℕ) → length (slots_below n (range_with_len a k)) ≡
 length-slots zero a k = omega arith
 length-slots (suc n) a k =
     let pages : List ℕ = range_with_len a k in
-    let x = length-append (map_list (at_pid n) pages) (slots_below n pages) in
+    let x = length-append (map_list (at_page n) pages) (slots_below n pages) in
     let b = length-slots n a k in
-    let c : length (map_list (at_pid n) pages) ≡ length pages = length-map pages (at_pid n) in
+    let c : length (map_list (at_page n) pages) ≡ length pages = length-map pages (at_page n) in
     let r = length-range a k in
     let d = suc_times n k in
     omega (arith, x, b, c, d, r)

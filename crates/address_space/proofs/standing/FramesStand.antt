@@ -1,29 +1,27 @@
 -- Slots whose walk leads to the same frame after a change.
-use Rattle.std.proofs.Common.{◌≡◌, ℕ, Bool, true, false, List, refl, ap, sym, ◌∙◌, inl, inr, Option, Some, None}
-use Rattle.std.specs.Prelude.{◌&&◌, ◌==◌}
+use Rattle.std.proofs.Common.{◌≡◌, ℕ, false, List, refl, ap, sym, ◌∙◌, Option, Some, None}
 use Rattle.std.specs.Option.{option_map, option_and_then}
 use Rattle.page_words.specs.Words.{frame_number}
 use Rattle.page_words.specs.Addresses.{slot_number}
 use Rattle.page_words.specs.FiniteMap as map
-use Rattle.page_words.proofs.MapLemmas.{same_or_not}
 use Rattle.phys_memory.specs.Bytes.{frame_bytes}
 use Rattle.alloc_table.specs.declared.Role.{Role}
 use Rattle.page_map.specs.declared.PageEntry.{PageEntry}
 use Rattle.page_map.specs.Entries.{entry_from}
-use Rattle.address_space.specs.Spaces.{Slot, slot_order, Cell, Spaces, at_page, is_slot}
-use Rattle.address_space.specs.Image.{Image, StandsFor, SlotStands, directory_at, page_word}
+use Rattle.address_space.specs.Spaces.{Slot}
+use Rattle.address_space.specs.Image.{Image, directory_at, page_word, image_from}
 use Rattle.address_space.specs.View.{directory_of, entries_in}
 use Rattle.address_space.specs.Sound.{IsSound}
-use Rattle.address_space.specs.Stays.{way_of, Gone, FramesStay, none_goes, of_lazy, entry_frame, PlacesStay}
-use Rattle.address_space.proofs.standing.Standing.{image_of, read_entry, same_table}
+use Rattle.address_space.specs.Stays.{way_of, Gone, FramesStay, none_goes, entry_frame, PlacesStay}
+use Rattle.address_space.proofs.standing.Standing.{read_entry, same_table}
 
 -- the frame of a slot's word is that of its entry
 pub frame_read : (directories : List (Option ℕ)) (bytes : List ℕ) (roles : List Role) → IsSound directories bytes roles
     → (slot : Slot)
     → entry_frame (entries_in (directory_of directories) (frame_bytes bytes)) slot ≡ option_map frame_number
-    (page_word (image_of directories bytes roles) slot)
+    (page_word (image_from directories bytes roles) slot)
 frame_read directories bytes roles sound slot = ap (option_map (λ (x : PageEntry). x.frame))
-    (read_entry directories bytes roles sound slot) ∙ by (page_word (image_of directories bytes roles) slot)
+    (read_entry directories bytes roles sound slot) ∙ by (page_word (image_from directories bytes roles) slot)
   where
     by : (x : Option ℕ) → option_map (λ (x : PageEntry). x.frame) (option_map entry_from x) ≡ option_map frame_number x
     by None = refl
@@ -68,17 +66,17 @@ pub frames_stay_by : (gone : Gone) (directories directories' : List (Option ℕ)
     → ((slot : Slot) (d f : ℕ) → gone slot f ≡ false → directory_of directories slot.pid ≡ Some d
     → directory_of directories' slot.pid ≡ Some d)
     → PlacesStay gone (directory_of directories) (frame_bytes bytes) (directory_of directories') (frame_bytes bytes')
-    → FramesStay gone (image_of directories bytes roles) (image_of directories' bytes' roles')
+    → FramesStay gone (image_from directories bytes roles) (image_from directories' bytes' roles')
 frames_stay_by gone directories directories' bytes bytes' roles roles' sound sound' dirs stay = record {
   directories = dirs;
   tables = λ slot d f t stays way is.
-      let was = way_parts (image_of directories bytes roles) slot d f way in
+      let was = way_parts (image_from directories bytes roles) slot d f way in
       same_table directories' bytes' roles' sound' slot.pid (slot_number slot.page)
       ∙ stay.tables slot f t stays (frame_read directories bytes roles sound slot ∙ was.names)
       (sym (same_table directories bytes roles sound slot.pid (slot_number slot.page)) ∙ is);
   ways = λ slot d f stays way.
-      let was = way_parts (image_of directories bytes roles) slot d f way in
-      way_whole (image_of directories' bytes' roles') slot d f
+      let was = way_parts (image_from directories bytes roles) slot d f way in
+      way_whole (image_from directories' bytes' roles') slot d f
       (record {
         live = dirs slot d f stays was.live;
         names = sym (frame_read directories' bytes' roles' sound' slot)
@@ -90,7 +88,7 @@ frames_stay_by gone directories directories' bytes bytes' roles roles' sound sou
 pub frames_stay : (gone : Gone) (directories : List (Option ℕ)) (bytes bytes' : List ℕ) (roles roles' : List Role)
     → IsSound directories bytes roles → IsSound directories bytes' roles'
     → PlacesStay gone (directory_of directories) (frame_bytes bytes) (directory_of directories) (frame_bytes bytes')
-    → FramesStay gone (image_of directories bytes roles) (image_of directories bytes' roles')
+    → FramesStay gone (image_from directories bytes roles) (image_from directories bytes' roles')
 frames_stay gone directories bytes bytes' roles roles' sound sound' stay =
     frames_stay_by gone directories directories bytes bytes' roles roles' sound sound' (λ slot d f stays live. live)
     stay
@@ -124,32 +122,3 @@ stays_more fewer stay = record {
 
 pub stays_most : {gone : Gone} {a b : Image} → FramesStay none_goes a b → FramesStay gone a b
 stays_most stay = stays_more (λ q f stays. refl) stay
-
--- a slot that names no frame may get any
-pub stays_from_none : (p page : ℕ) (old new : Image) → way_of old (at_page p page) ≡ None
-    → FramesStay (of_lazy p page) old new → FramesStay none_goes old new
-stays_from_none p page old new none stay = record {
-  directories = λ q d f stays live. stay.directories q d 1 (not_first (is_slot p page q)) live;
-  tables = λ q d f t stays way is. stay.tables q d f t (apart q d f way) way is;
-  ways = λ q d f stays way. stay.ways q d f (apart q d f way) way;
-}
-  where
-    not_first : (b : Bool) → (b && false) ≡ false
-    not_first true = refl
-    not_first false = refl
-
-    apart : (q : Slot) (d f : ℕ) → way_of old q ≡ Some (d, f) → of_lazy p page q f ≡ false
-    apart q d f way = elim (same_or_not slot_order (at_page p page) q) [
-      | inl h ↦ absurd (let k : None ≡ Some (d, f) = sym (ap (way_of old) (sym h.0) ∙ none) ∙ way in cc)
-      | inr h ↦ ap (λ b. b && (f == 0)) h
-    ]
-
--- the same, by what the image stands for
-pub no_way_stands : (image : Image) (spaces : Spaces) (slot : Slot) → StandsFor image spaces → map.get spaces slot ≡ None → way_of image slot ≡ None
-no_way_stands image spaces slot stands none = by (directory_at image slot.pid) (page_word image slot) (map.get spaces slot) (stands.cells slot) none
-  where
-    by : (x y : Option ℕ) (z : Option Cell) → SlotStands image slot y z → z ≡ None → option_and_then {U = ℕ × ℕ} (λ d. option_map (λ word. (d, frame_number word)) y) x ≡ None
-    by None y z h e = refl
-    by (Some d) None z h e = refl
-    by (Some d) (Some w) None h e = absurd h
-    by (Some d) (Some w) (Some c) h e = cc

@@ -21,7 +21,8 @@ use Rattle.page_map.specs.Entries.{Frames, dir_word, word_table, table_of, word_
 use Rattle.address_space.specs.Spaces.{Slot, slot_order, Cell, cell_or_fresh, at_page}
 use Rattle.address_space.specs.Slots.{user_slots}
 use Rattle.address_space.specs.Cells.{Entries, names, group_of, cell_of, spaces_of, holders_of}
-use Rattle.address_space.specs.Image.{Image, word_of, is_user_slot, named_by, table_at, own_frame, is_lazy_at, takes_stores, IsOneGroup, present_word, page_word, page_frame, IsSoundImage, SlotStands, StandsFor, StandsForOne}
+use Rattle.address_space.specs.Image.{Image, word_of, is_user_slot, named_by, table_at, is_lazy_at, takes_stores, IsOneGroup, present_word, page_word, page_frame, IsSoundImage, SlotStands, StandsFor, StandsForOne, image_from}
+use Rattle.address_space.specs.ImageWords.{own_frame}
 use Rattle.address_space.specs.View.{Directories, directory_of, table_in, entry_in, entries_in, spaces_in}
 use Rattle.address_space.specs.Sound.{IsSound, IsSpaces}
 use Rattle.address_space.specs.Changes.{takes_stores_through}
@@ -80,9 +81,6 @@ not_user_slot s h = elim (cases_lt s 256) [
   ]
 ]
 
-abbrev pub image_of : List (Option ℕ) → List ℕ → List Role → Image
-image_of directories bytes roles = record { directories = directories; bytes = bytes; roles = roles }
-
 -- what a table word says, where it is present
 entry_present : (word : ℕ) (b : Bool) → (if b then Some (entry_from word) else None) ≡ option_map entry_from (if b then Some word else None)
 entry_present word true = refl
@@ -99,22 +97,22 @@ taken true false w word h = cc
 taken false p w word h = cc
 
 -- a word's frame, where it has one of its own
-owned : (word f : ℕ) → own_frame word ≡ Some f → (is_lazy word ≡ false) × (frame_number word ≡ f)
+owned : (word f : ℕ) → own_frame 2 word ≡ Some f → (is_lazy word ≡ false) × (frame_number word ≡ f)
 owned word f h = by (is_lazy word) refl h
   where
     by : (b : Bool) → is_lazy word ≡ b → (if b then None else Some (frame_number word)) ≡ Some f → (is_lazy word ≡ false) × (frame_number word ≡ f)
     by true is k = cc
     by false is k = (is, cc)
 
-own_is : (word : ℕ) → is_lazy word ≡ false → own_frame word ≡ Some (frame_number word)
+own_is : (word : ℕ) → is_lazy word ≡ false → own_frame 2 word ≡ Some (frame_number word)
 own_is word real = ap (λ b. if b then None else Some (frame_number word)) real
 
 -- an entry names a frame other than frame 0 where its word does
-named : (f : ℕ) (x : Option ℕ) → 1 ≤ f → ((word : ℕ) → x ≡ Some word → NamesPage word) → IsTrue (names f (option_map entry_from x)) ↔ (option_and_then own_frame x ≡ Some f)
+named : (f : ℕ) (x : Option ℕ) → 1 ≤ f → ((word : ℕ) → x ≡ Some word → NamesPage word) → IsTrue (names f (option_map entry_from x)) ↔ (option_and_then (own_frame 2) x ≡ Some f)
 named f None up kernel = (λ h. cc, λ h. cc)
 named f (Some word) up kernel = (there (is_lazy word) refl, λ h. eq-eqb (frame_number word) f (owned word f h).1)
   where
-    there : (b : Bool) → is_lazy word ≡ b → IsTrue (frame_number word == f) → own_frame word ≡ Some f
+    there : (b : Bool) → is_lazy word ≡ b → IsTrue (frame_number word == f) → own_frame 2 word ≡ Some f
     there true is h = let z = (kernel word refl).zero is in let e = eqb-true (frame_number word) f h in absurd (omega (arith, z, e, up))
     there false is h = own_is word is ∙ ap Some (eqb-true (frame_number word) f h)
 
@@ -130,7 +128,7 @@ module _ (directories : List (Option ℕ)) (bytes : List ℕ) (roles : List Role
   m = frame_bytes bytes
 
   abbrev pub image : Image
-  image = image_of directories bytes roles
+  image = image_from directories bytes roles
 
   abbrev pub E : Entries
   E = entries_in D m
@@ -270,7 +268,7 @@ module _ (directories : List (Option ℕ)) (bytes : List ℕ) (roles : List Role
   page_role : (slot : Slot) (f : ℕ) → page_frame image slot ≡ Some f → (c : ℕ) × (slice_get roles f ≡ Some (Page c))
   page_role slot f h = by (page_word image slot) refl (read_entry slot) h
     where
-      by : (x : Option ℕ) → page_word image slot ≡ x → map.get E slot ≡ option_map entry_from x → option_and_then own_frame x ≡ Some f → (c : ℕ) × (slice_get roles f ≡ Some (Page c))
+      by : (x : Option ℕ) → page_word image slot ≡ x → map.get E slot ≡ option_map entry_from x → option_and_then (own_frame 2) x ≡ Some f → (c : ℕ) × (slice_get roles f ≡ Some (Page c))
       by None at is k = cc
       by (Some word) at is k =
           let own = owned word f k in
@@ -298,7 +296,7 @@ module _ (directories : List (Option ℕ)) (bytes : List ℕ) (roles : List Role
     in_use = λ p s t is. used p s t (sym (same_table p s) ∙ is);
   }
 
-pub image_stands : (directories : List (Option ℕ)) (bytes : List ℕ) (roles : List Role) → IsSpaces directories bytes roles → StandsFor (image_of directories bytes roles) (spaces_in directories bytes)
+pub image_stands : (directories : List (Option ℕ)) (bytes : List ℕ) (roles : List Role) → IsSpaces directories bytes roles → StandsFor (image_from directories bytes roles) (spaces_in directories bytes)
 unfolding spaces_in
 image_stands directories bytes roles s = record {
   sound = image_is_sound directories bytes roles s.sound s.in_use;
@@ -307,13 +305,13 @@ image_stands directories bytes roles s = record {
 
 -- whether the entry that was read is lazy
 pub lazy_read : (directories : List (Option ℕ)) (bytes : List ℕ) (roles : List Role) (p d page : ℕ) → IsSound directories bytes roles → directory_of directories p ≡ Some d
-    → is_lazy_entry (entry_at (frame_bytes bytes) d page) ≡ is_lazy_at (image_of directories bytes roles) (at_page p page)
+    → is_lazy_entry (entry_at (frame_bytes bytes) d page) ≡ is_lazy_at (image_from directories bytes roles) (at_page p page)
 lazy_read directories bytes roles p d page sound live =
     ap is_lazy_entry (sym (ap (option_and_then (λ d. entry_at (frame_bytes bytes) d page)) live)) ∙ sym (same_lazy directories bytes roles sound (at_page p page))
 
 -- whether the entry of a slot takes stores
 pub stores_read : (directories : List (Option ℕ)) (bytes : List ℕ) (roles : List Role) (p page : ℕ) → IsSound directories bytes roles → 0x40000 ≤ page → page < 0xf0000
-    → takes_stores_through (entry_in (directory_of directories) (frame_bytes bytes) (at_page p page)) ≡ takes_stores (spaces_in directories bytes) (image_of directories bytes roles) (at_page p page)
+    → takes_stores_through (entry_in (directory_of directories) (frame_bytes bytes) (at_page p page)) ≡ takes_stores (spaces_in directories bytes) (image_from directories bytes roles) (at_page p page)
 stores_read directories bytes roles p page sound low high = by_directory (directory_of directories p) refl
   where
     m : Frames
@@ -323,9 +321,9 @@ stores_read directories bytes roles p page sound low high = by_directory (direct
     slot = at_page p page
 
     others : Bool
-    others = (cell_or_fresh (spaces_in directories bytes) slot).write && not (is_lazy_at (image_of directories bytes roles) slot)
+    others = (cell_or_fresh (spaces_in directories bytes) slot).write && not (is_lazy_at (image_from directories bytes roles) slot)
 
-    by_entry : (d : ℕ) → directory_of directories p ≡ Some d → (x : Option PageEntry) → entry_at m d page ≡ x → takes_stores_through x ≡ takes_stores (spaces_in directories bytes) (image_of directories bytes roles) slot
+    by_entry : (d : ℕ) → directory_of directories p ≡ Some d → (x : Option PageEntry) → entry_at m d page ≡ x → takes_stores_through x ≡ takes_stores (spaces_in directories bytes) (image_from directories bytes roles) slot
     by_entry d live None is =
         let few = live_small directories p d sound.pids live in
         sym (ap (λ b. b && others) (mapped_read directories bytes p d page live few low high ∙ ap is_some is))
@@ -333,10 +331,10 @@ stores_read directories bytes roles p page sound low high = by_directory (direct
         let few = live_small directories p d sound.pids live in
         let there = mapped_read directories bytes p d page live few low high ∙ ap is_some is in
         let write : (cell_or_fresh (spaces_in directories bytes) slot).write ≡ e.write = ap (λ (c : Cell). c.write) (cell_read directories bytes p d page e live few low high is) in
-        let lazy : is_lazy_at (image_of directories bytes roles) slot ≡ e.lazy = sym (lazy_read directories bytes roles p d page sound live) ∙ ap is_lazy_entry is in
+        let lazy : is_lazy_at (image_from directories bytes roles) slot ≡ e.lazy = sym (lazy_read directories bytes roles p d page sound live) ∙ ap is_lazy_entry is in
         sym (λ i. there i && (write i && not (lazy i)))
 
-    by_directory : (x : Option ℕ) → directory_of directories p ≡ x → takes_stores_through (entry_in (directory_of directories) m slot) ≡ takes_stores (spaces_in directories bytes) (image_of directories bytes roles) slot
+    by_directory : (x : Option ℕ) → directory_of directories p ≡ x → takes_stores_through (entry_in (directory_of directories) m slot) ≡ takes_stores (spaces_in directories bytes) (image_from directories bytes roles) slot
     by_directory None none =
         ap (λ x. takes_stores_through (option_and_then (λ d. entry_at m d page) x)) none ∙ sym (ap (λ b. b && others) (ap is_some (no_cell directories bytes p page none)))
     by_directory (Some d) live = ap (λ x. takes_stores_through (option_and_then (λ d. entry_at m d page) x)) live ∙ by_entry d live (entry_at m d page) refl
@@ -350,23 +348,23 @@ same_truth false false f g = refl
 -- where the same slots name frame 0, the same pages are lazy
 pub lazy_kept : (directories : List (Option ℕ)) (bytes bytes' : List ℕ) (roles : List Role) → IsSound directories bytes roles → IsSound directories bytes' roles
     → holders_of (entries_in (directory_of directories) (frame_bytes bytes')) 0 ≡ holders_of (entries_in (directory_of directories) (frame_bytes bytes)) 0
-    → (slot : Slot) → is_lazy_at (image_of directories bytes' roles) slot ≡ is_lazy_at (image_of directories bytes roles) slot
+    → (slot : Slot) → is_lazy_at (image_from directories bytes' roles) slot ≡ is_lazy_at (image_from directories bytes roles) slot
 lazy_kept directories bytes bytes' roles sound sound' same slot =
     let old = lazy_slots directories bytes roles sound slot in
     let new = lazy_slots directories bytes' roles sound' slot in
     let is = ap (λ h. set.contains h slot) same in
-    same_truth (is_lazy_at (image_of directories bytes' roles) slot) (is_lazy_at (image_of directories bytes roles) slot)
+    same_truth (is_lazy_at (image_from directories bytes' roles) slot) (is_lazy_at (image_from directories bytes roles) slot)
     (λ h. old.0 (subst IsTrue is (new.1 h)))
     (λ h. new.0 (subst IsTrue (sym is) (old.1 h)))
 
 -- where no more slots name frame 0, a page that isn't lazy stays so
 pub real_kept : (directories : List (Option ℕ)) (bytes bytes' : List ℕ) (roles roles' : List Role) → IsSound directories bytes roles → IsSound directories bytes' roles'
     → ((q : Slot) → set.contains (holders_of (entries_in (directory_of directories) (frame_bytes bytes)) 0) q ≡ false → set.contains (holders_of (entries_in (directory_of directories) (frame_bytes bytes')) 0) q ≡ false)
-    → (slot : Slot) → is_lazy_at (image_of directories bytes roles) slot ≡ false → is_lazy_at (image_of directories bytes' roles') slot ≡ false
+    → (slot : Slot) → is_lazy_at (image_from directories bytes roles) slot ≡ false → is_lazy_at (image_from directories bytes' roles') slot ≡ false
 real_kept directories bytes bytes' roles roles' sound sound' fewer slot real =
     let old = lazy_slots directories bytes roles sound slot in
     let new = lazy_slots directories bytes' roles' sound' slot in
-    none (set.contains (holders_of (entries_in (directory_of directories) (frame_bytes bytes)) 0) slot) refl (is_lazy_at (image_of directories bytes' roles') slot) (λ h. subst IsTrue real (old.0 h)) (λ h. new.1 h)
+    none (set.contains (holders_of (entries_in (directory_of directories) (frame_bytes bytes)) 0) slot) refl (is_lazy_at (image_from directories bytes' roles') slot) (λ h. subst IsTrue real (old.0 h)) (λ h. new.1 h)
   where
     none : (b : Bool) → set.contains (holders_of (entries_in (directory_of directories) (frame_bytes bytes)) 0) slot ≡ b → (x : Bool)
         → (IsTrue (set.contains (holders_of (entries_in (directory_of directories) (frame_bytes bytes)) 0) slot) → IsTrue false)

@@ -19,8 +19,9 @@ use Rattle.address_space.specs.Cells.{cell_of}
 use Rattle.address_space.specs.Walks.{FindsBytes, WalkEndsBy, WalksAgree}
 use Rattle.address_space.specs.View.{directory_of, entries_in, spaces_in}
 use Rattle.address_space.specs.Sound.{IsSound, IsSpaces}
+use Rattle.address_space.specs.Image.{image_from}
 use Rattle.address_space.proofs.entries.Refinement.{get-spaces_of}
-use Rattle.address_space.proofs.standing.Standing.{image_of, same_entry, read_entry, same_lazy}
+use Rattle.address_space.proofs.standing.Standing.{same_entry, read_entry, same_lazy}
 use Rattle.address_space.proofs.steps.Steps.{page_map_of, holds_inside}
 
 module _ (directories : List (Option ℕ)) (bytes : List ℕ) (roles : List Role) (sound : IsSound directories bytes roles) where
@@ -57,7 +58,7 @@ module _ (directories : List (Option ℕ)) (bytes : List ℕ) (roles : List Role
       by true h = h
       by false h = record { frame = e.frame; found = h ∙ ap (λ b. if b then Err Outside else Ok e.frame) within; same = refl }
 
-pub walks_agree : (directories : List (Option ℕ)) (bytes : List ℕ) (roles : List Role) → IsSpaces directories bytes roles → WalksAgree (image_of directories bytes roles) (spaces_in directories bytes)
+pub walks_agree : (directories : List (Option ℕ)) (bytes : List ℕ) (roles : List Role) → IsSpaces directories bytes roles → WalksAgree (image_from directories bytes roles) (spaces_in directories bytes)
 walks_agree directories bytes roles s p d address access live small =
     subst (λ l. WalkEndsBy bytes d address access l (map.get (spaces_in directories bytes) (slot_at p address)))
     (ap is_lazy_entry (sym (ap (option_and_then (λ d. entry_at (frame_bytes bytes) d (page_number address))) live)) ∙ sym (same_lazy directories bytes roles s.sound (slot_at p address)))

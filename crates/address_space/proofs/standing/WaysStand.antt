@@ -11,11 +11,11 @@ use Rattle.alloc_table.specs.declared.Role.{Role}
 use Rattle.page_map.specs.declared.PageEntry.{PageEntry}
 use Rattle.table_walk.specs.declared.WalkEnd.{WalkEnd}
 use Rattle.address_space.specs.Spaces.{Slot, slot_at}
-use Rattle.address_space.specs.Image.{page_word, is_lazy_at}
+use Rattle.address_space.specs.Image.{page_word, is_lazy_at, image_from}
 use Rattle.address_space.specs.View.{directory_of}
 use Rattle.address_space.specs.Sound.{IsSound}
 use Rattle.address_space.specs.Stays.{WaysAgree}
-use Rattle.address_space.proofs.standing.Standing.{image_of, word_names}
+use Rattle.address_space.proofs.standing.Standing.{word_names}
 use Rattle.address_space.proofs.standing.FramesStand.{frame_read, way_parts, way_whole}
 use Rattle.address_space.proofs.steps.Steps.{live_small}
 use Rattle.address_space.proofs.steps.Stores.{get_user}
@@ -26,21 +26,21 @@ one_frame : (a b : ℕ) → ◌≡◌ {A = Result ℕ WalkEnd} (Ok a) (Ok b) →
 one_frame a b h = cc
 
 pub ways_agree : (directories : List (Option ℕ)) (bytes : List ℕ) (roles : List Role) → IsSound directories bytes roles
-    → WaysAgree (image_of directories bytes roles)
+    → WaysAgree (image_from directories bytes roles)
 ways_agree directories bytes roles sound = record {
   lead = λ p d a f access live small walk.
       let e = found_entry directories bytes roles p d sound live a access small (ap is_ok walk) in
       let there = get_user (directory_of directories) (frame_bytes bytes) p d (page_number a) e.entry live
       (live_small directories p d sound.pids live) e.low e.high e.here in
-      way_whole (image_of directories bytes roles) (slot_at p a) d f
+      way_whole (image_from directories bytes roles) (slot_at p a) d f
       (record {
         live = live;
         names = sym (frame_read directories bytes roles sound (slot_at p a))
             ∙ ap (option_map (λ (x : PageEntry). x.frame)) there
             ∙ ap Some (one_frame e.entry.frame f (sym e.walk ∙ walk));
       });
-  lazy = λ slot d f way. by slot f (page_word (image_of directories bytes roles) slot) refl
-      (way_parts (image_of directories bytes roles) slot d f way).names;
+  lazy = λ slot d f way. by slot f (page_word (image_from directories bytes roles) slot) refl
+      (way_parts (image_from directories bytes roles) slot d f way).names;
   clean = λ slot word is. (word_names directories bytes roles sound slot word is).clean;
 }
   where
@@ -50,8 +50,8 @@ ways_agree directories bytes roles sound = record {
     at_zero word f true is same up zero = is ∙ sym (eq-eqb f 0 (sym same ∙ zero is))
     at_zero word f false is same up zero = is ∙ sym (ne_eqb f 0 (λ z. let u = up is in omega (arith, u, same, z)))
 
-    by : (slot : Slot) (f : ℕ) (x : Option ℕ) → page_word (image_of directories bytes roles) slot ≡ x
-        → option_map frame_number x ≡ Some f → is_lazy_at (image_of directories bytes roles) slot ≡ (f == 0)
+    by : (slot : Slot) (f : ℕ) (x : Option ℕ) → page_word (image_from directories bytes roles) slot ≡ x
+        → option_map frame_number x ≡ Some f → is_lazy_at (image_from directories bytes roles) slot ≡ (f == 0)
     by slot f None is names = cc
     by slot f (Some word) is names =
         let names_page = word_names directories bytes roles sound slot word is in

@@ -9,7 +9,9 @@ use Rattle.page_words.specs.FiniteMap as map
 use Rattle.page_words.specs.FiniteMap.{same}
 use Rattle.page_words.specs.FiniteSet as set
 use Rattle.std.proofs.lemmas.Bool.{cases_lt}
-use Rattle.std.proofs.lemmas.List.{append-nil, take-append-drop}
+use Rattle.std.proofs.lemmas.List.{append-nil, drop-take, length-take-le, take-append-drop}
+use Rattle.std.specs.List.{slice_range}
+use Rattle.page_words.specs.declared.addresses.Size.TheVariants.{One, Two, Four}
 use Rattle.page_words.proofs.Accesses.{stays, crosses, some_bytes, page_stays, page_next}
 use Rattle.page_words.proofs.MapLemmas.{same_or_not, same_itself, same_map, get-insert, get-map_values}
 use Rattle.address_space.specs.Spaces.{Slot, slot_order, at_page, slot_at, Cell, Spaces, fresh, cell_or_fresh, set_bytes, with_bytes, stored, store_in, write_at, bytes_at, bytes_of, value_of, byte_at, number_of, all_stored}
@@ -244,6 +246,11 @@ stored_four p S S1 S2 S3 S4 a a1 a2 a3 v v1 v2 v3 s1 b1 w1 s2 b2 w2 s3 b3 w3 s4 
     let x3 : v3 ≡ v / 256 / 256 / 256 = w3 ∙ ap (λ x. x / 256) x2 in
     s4 ∙ (λ i. lowest p (t3 i) (c3 i) (x3 i))
 
+-- how many bytes of a number
+pub length-bytes : (k v : ℕ) → length (bytes_of k v) ≡ k
+length-bytes zero v = refl
+length-bytes (suc k) v = ap suc (length-bytes k (v / 256))
+
 -- a store whose bytes lie in one page
 pub stored_in_page : (S : Spaces) (p address : ℕ) (size : Size) (value : ℕ) → second_page address size ≡ None
     → all_stored S p address (bytes_of (byte_count size) value) ≡ stored S (slot_at p address) (offset_number address) (bytes_of (byte_count size) value)
@@ -256,7 +263,54 @@ stored_in_page S p address size value within =
     (λ i l. let long = length-bytes n.0 (value / 256) in page_stays address i (omega (arith, fits, l, count, long)))
     (λ i l. let long = length-bytes n.0 (value / 256) in let s : offset_number address + i < 4096 = omega (arith, fits, l, count, long) in omega (arith, s))
     ∙ sym (ap (λ k. stored S (slot_at p address) (offset_number address) (bytes_of k value)) count)
+
+-- ---- Bytes that lie in two pages
+
+-- some bytes of one page, stored as one part
+part_stored : (S : Spaces) (p a : ℕ) (bs : List ℕ) → 1 ≤ length bs → offset_number a + length bs ≤ 4096 → all_stored S p a bs ≡ stored S (slot_at p a) (offset_number a) bs
+part_stored S p a [] some fits = absurd (let k : suc zero ≤ zero = some in omega (arith, k))
+part_stored S p a (b ∷ bs) some fits =
+    stored_in S p (page_number a) a (offset_number a) b bs
+    (λ i l. page_stays a i (omega (arith, fits, l)))
+    (λ i l. let s : offset_number a + i < 4096 = omega (arith, fits, l) in omega (arith, s))
+
+-- one part after the other
+all_append : (S : Spaces) (p a : ℕ) (xs ys : List ℕ) → all_stored S p a (xs ++ ys) ≡ all_stored (all_stored S p a xs) p (a + length xs) ys
+all_append S p a [] ys = let z : a ≡ a + zero = omega arith in ap (λ n. all_stored S p n ys) z
+all_append S p a (x ∷ xs) ys =
+    let z : a + 1 + length xs ≡ a + suc (length xs) = omega arith in
+    all_append (stored S (slot_at p a) (offset_number a) (x ∷ [])) p (a + 1) xs ys
+    ∙ ap (λ n. all_stored (all_stored (stored S (slot_at p a) (offset_number a) (x ∷ [])) p (a + 1) xs) p n ys) z
+
+-- those at the end of a page, and those at the start of the next
+pub stored_two : (S : Spaces) (p a : ℕ) (xs ys : List ℕ) → 1 ≤ length xs → 1 ≤ length ys → offset_number a + length xs ≡ 4096 → length ys ≤ 4096
+    → all_stored S p a (xs ++ ys) ≡ stored (stored S (slot_at p a) (offset_number a) xs) (slot_at p (a + length xs)) (offset_number (a + length xs)) ys
+stored_two S p a xs ys some more ends fits =
+    all_append S p a xs ys
+    ∙ ap (λ T. all_stored T p (a + length xs) ys) (part_stored S p a xs some (omega (arith, ends)))
+    ∙ part_stored (stored S (slot_at p a) (offset_number a) xs) p (a + length xs) ys more (omega (arith, ends, fits))
+
+-- ---- The parts of a number's bytes
+
+pub two_parts : (B : List ℕ) (cut end : ℕ) → cut ≤ end → end ≤ length B → take cut B ++ slice_range B cut end ≡ take end B
+two_parts B cut end a b =
+    let k = end - cut in
+    let n : end ≡ cut + k = omega (arith, a) in
+    ap (λ xs. xs ++ take k (drop cut B)) (sym (take-take B cut k)) ∙ ap (λ xs. take cut (take (cut + k) B) ++ xs) (sym (drop-take cut k B)) ∙ take-append-drop cut (take (cut + k) B) ∙ ap (λ m. take m B) (sym n)
   where
-    length-bytes : (k v : ℕ) → length (bytes_of k v) ≡ k
-    length-bytes zero v = refl
-    length-bytes (suc k) v = ap suc (length-bytes k (v / 256))
+    take-none : (n : ℕ) → take {A = ℕ} n [] ≡ []
+    take-none zero = refl
+    take-none (suc n) = refl
+
+    take-take : (xs : List ℕ) (i m : ℕ) → take i (take (i + m) xs) ≡ take i xs
+    take-take xs zero m = refl
+    take-take [] (suc i) m = ap (take (suc i)) (take-none (suc i + m))
+    take-take (x ∷ xs) (suc i) m = let z : suc i + m ≡ suc (i + m) = omega arith in ap (λ n. take (suc i) (take n (x ∷ xs))) z ∙ ap (λ r. x ∷ r) (take-take xs i m)
+
+pub length-part : (B : List ℕ) (from to : ℕ) → from ≤ to → to ≤ length B → length (slice_range B from to) ≡ to - from
+length-part B from to a b = let left = length-drop from B in length-take-le (to - from) (drop from B) (omega (arith, a, b, left))
+
+pub first_bytes : (size : Size) (v : ℕ) → take (byte_count size) (bytes_of 4 v) ≡ bytes_of (byte_count size) v
+first_bytes One v = refl
+first_bytes Two v = refl
+first_bytes Four v = refl

@@ -16,7 +16,7 @@ use Rattle.table_walk.specs.declared.Access.{Access}
 use Rattle.table_walk.specs.declared.Access.TheVariants.{Read, Write}
 use Rattle.table_walk.specs.Walk.{walk_of}
 use Rattle.address_space.specs.ByWalk.{finds_at, finds, byte_place, number_found}
-use Rattle.address_space.specs.Image.{Image, directory_at, takes_stores}
+use Rattle.address_space.specs.Image.{Image, directory_at, takes_stores, image_from}
 use Rattle.address_space.specs.Spaces.{Spaces, at_page, byte_at, number_of, value_of, slot_at}
 use Rattle.address_space.specs.View.{directory_of, spaces_in}
 use Rattle.address_space.specs.Sound.{IsSound}
@@ -61,7 +61,7 @@ pub record FoundPages (spaces : Spaces) (image : Image) (p address : ℕ) (size 
   pub takes : access ≡ Write → EachTouched address size (λ page. takes_stores spaces image (at_page p page) ≡ true)
 
 pub found_each : (directories : List (Option ℕ)) (bytes : List ℕ) (roles : List Role) (p d address : ℕ) (size : Size) (access : Access) → IsSound directories bytes roles → directory_of directories p ≡ Some d
-    → finds (record { directories = directories; bytes = bytes; roles = roles }) p address size access ≡ true → FoundEach bytes d address size access
+    → finds (image_from directories bytes roles) p address size access ≡ true → FoundEach bytes d address size access
 found_each directories bytes roles p d address size access sound live h =
     record {
       found = λ i l.
@@ -72,7 +72,7 @@ found_each directories bytes roles p d address size access sound live h =
     }
   where
     image : Image
-    image = record { directories = directories; bytes = bytes; roles = roles }
+    image = image_from directories bytes roles
 
     Q : ℕ → Type 0
     Q page = (a : ℕ) → a < 2 ^ 32 → page_number a ≡ page → IsOk (walk_of bytes d a access)
@@ -125,11 +125,11 @@ pub record FindsEach (image : Image) (p address : ℕ) (size : Size) (access : A
   pub fits : address + byte_count size < 2 ^ 32
 
 pub finds_each : (directories : List (Option ℕ)) (bytes : List ℕ) (roles : List Role) (p address : ℕ) (size : Size) (access : Access) → IsSound directories bytes roles
-    → finds (record { directories = directories; bytes = bytes; roles = roles }) p address size access ≡ true → FindsEach (record { directories = directories; bytes = bytes; roles = roles }) p address size access
+    → finds (image_from directories bytes roles) p address size access ≡ true → FindsEach (image_from directories bytes roles) p address size access
 finds_each directories bytes roles p address size access sound h = by (directory_of directories p) refl (finds_live image p address size access h)
   where
     image : Image
-    image = record { directories = directories; bytes = bytes; roles = roles }
+    image = image_from directories bytes roles
 
     by : (x : Option ℕ) → directory_of directories p ≡ x → is_some x ≡ true → FindsEach image p address size access
     by None is some = cc
@@ -172,7 +172,7 @@ found_mapped directories bytes roles p d address access sound live small ok =
 
 -- and where it is for a store, the page takes stores
 found_takes : (directories : List (Option ℕ)) (bytes : List ℕ) (roles : List Role) (p d address : ℕ) → IsSound directories bytes roles → directory_of directories p ≡ Some d
-    → address < 2 ^ 32 → IsOk (walk_of bytes d address Write) → takes_stores (spaces_in directories bytes) (record { directories = directories; bytes = bytes; roles = roles }) (slot_at p address) ≡ true
+    → address < 2 ^ 32 → IsOk (walk_of bytes d address Write) → takes_stores (spaces_in directories bytes) (image_from directories bytes roles) (slot_at p address) ≡ true
 found_takes directories bytes roles p d address sound live small ok =
     let f = found_entry directories bytes roles p d sound live address Write small ok in
     sym (stores_read directories bytes roles p (page_number address) sound f.low f.high)
@@ -180,8 +180,8 @@ found_takes directories bytes roles p d address sound live small ok =
     ∙ f.right refl
 
 pub found_pages : (directories : List (Option ℕ)) (bytes : List ℕ) (roles : List Role) (p d address : ℕ) (size : Size) (access : Access) → IsSound directories bytes roles → directory_of directories p ≡ Some d
-    → finds (record { directories = directories; bytes = bytes; roles = roles }) p address size access ≡ true
-    → FoundPages (spaces_in directories bytes) (record { directories = directories; bytes = bytes; roles = roles }) p address size access
+    → finds (image_from directories bytes roles) p address size access ≡ true
+    → FoundPages (spaces_in directories bytes) (image_from directories bytes roles) p address size access
 found_pages directories bytes roles p d address size access sound live h =
     record {
       mapped = each (λ page. is_some (map.get S (at_page p page)) ≡ true) (λ a is. let f = found_at image p d a access live is in found_mapped directories bytes roles p d a access sound live f.0 f.1);
@@ -193,7 +193,7 @@ found_pages directories bytes roles p d address size access sound live h =
     S = spaces_in directories bytes
 
     image : Image
-    image = record { directories = directories; bytes = bytes; roles = roles }
+    image = image_from directories bytes roles
 
     parts : (finds_at image p access address ≡ true) × (unwrap_or (option_map (λ page. finds_at image p access (start_number page)) (second_page address size)) true ≡ true)
     parts = and_parts (finds_at image p access address) _ h
@@ -207,12 +207,12 @@ found_pages directories bytes roles p d address size access sound live h =
 
 -- each page of a store takes stores
 pub finds_takes : (directories : List (Option ℕ)) (bytes : List ℕ) (roles : List Role) (p address : ℕ) (size : Size) → IsSound directories bytes roles
-    → finds (record { directories = directories; bytes = bytes; roles = roles }) p address size Write ≡ true
-    → EachTouched address size (λ page. takes_stores (spaces_in directories bytes) (record { directories = directories; bytes = bytes; roles = roles }) (at_page p page) ≡ true)
+    → finds (image_from directories bytes roles) p address size Write ≡ true
+    → EachTouched address size (λ page. takes_stores (spaces_in directories bytes) (image_from directories bytes roles) (at_page p page) ≡ true)
 finds_takes directories bytes roles p address size sound h = by (directory_of directories p) refl (finds_live image p address size Write h)
   where
     image : Image
-    image = record { directories = directories; bytes = bytes; roles = roles }
+    image = image_from directories bytes roles
 
     by : (x : Option ℕ) → directory_of directories p ≡ x → is_some x ≡ true → EachTouched address size (λ page. takes_stores (spaces_in directories bytes) image (at_page p page) ≡ true)
     by None is some = cc

@@ -1,18 +1,17 @@
 -- A page that was found: what is known of it, and what an access through it leaves.
-use Rattle.std.proofs.Common.{◌≡◌, ℕ, ◌+◌, ◌^◌, ◌<◌, ◌≤◌, Bool, true, false, not, List, length, refl, ap, sym, ◌∙◌, subst, arith, inl, inr, Option, Some, None}
+use Rattle.std.proofs.Common.{◌≡◌, ℕ, ◌+◌, ◌^◌, ◌<◌, ◌≤◌, Bool, true, false, List, length, refl, ap, sym, ◌∙◌, subst, arith, inl, inr, Option, Some, None}
 use Rattle.std.specs.Prelude.{is_some, slice_get, replicate}
 use Rattle.std.specs.Option.{option_and_then, option_map}
 use Rattle.page_words.specs.Addresses.{slot_number, index_number, byte_count, IsUserPage}
 use Rattle.page_words.specs.declared.addresses.Size.{Size}
 use Rattle.page_words.specs.FiniteMap as map
-use Rattle.std.proofs.lemmas.Bool.{and_parts}
 use Rattle.phys_memory.specs.Bytes.{frame_bytes, word_in, with_word_in}
 use Rattle.phys_memory.proofs.Frames.{with_frame-same, word_in_same, length-frame}
 use Rattle.page_map.specs.declared.PageEntry.{PageEntry}
 use Rattle.page_map.specs.Entries.{Frames, dir_word, table_of, word_entry, entry_at, with_entry, entry_word, is_lazy_entry, IsKernelEntry}
 use Rattle.page_map.proofs.WordLaws.{entry_word-lt, word_entry-entry_word}
 use Rattle.address_space.proofs.entries.EntrySteps.{tables_kept}
-use Rattle.address_space.specs.declared.lookup.Found.{Found}
+use Rattle.address_space.specs.declared.place.Found.{Found}
 use Rattle.address_space.specs.declared.Spaces.TheInside.{Inside as Inner}
 use Rattle.address_space.specs.Spaces.{need, Slot, Spaces, Cell, cell_or_fresh, bytes_of, stored, accessed, protected, at_page}
 use Rattle.address_space.specs.Stays.{FramesStay, none_goes, of_lazy}
@@ -20,7 +19,7 @@ use Rattle.address_space.proofs.standing.FramesStand.{frames_stay}
 use Rattle.address_space.specs.Cells.{cell_of}
 use Rattle.address_space.specs.View.{Directories, directory_of, entry_in, entries_in, spaces_in}
 use Rattle.address_space.specs.Changes.{PageFilled, EntryPut, Touched, takes_stores_through}
-use Rattle.address_space.specs.Image.{is_lazy_at, takes_stores}
+use Rattle.address_space.specs.Image.{is_lazy_at, takes_stores, image_from}
 use Rattle.address_space.specs.Counts.{IsKept}
 use Rattle.address_space.specs.Sound.{IsSound, Names}
 use Rattle.address_space.proofs.costs.AccessCosts.{kept, key-stored}
@@ -117,22 +116,15 @@ pub found_takes : (inner : Inner) (p page : ℕ) → IsKeptInside inner → IsUs
     → takes_stores_through (option_map (λ (f : Found). f.entry) (found_at inner p page)) ≡ takes_stores (spaces_at inner) (image_at inner) (at_page p page)
 found_takes inner p page before user = ap takes_stores_through (found_entry (directory_of inner.directories) (frame_bytes inner.memory) p page) ∙ stores_read inner.directories inner.memory inner.frames p page before.spaces.sound user.0 user.1
 
-pub takes_real : (e : PageEntry) → takes_stores_through (Some e) ≡ true → e.lazy ≡ false
-takes_real e h = by e.lazy (and_parts e.write (not e.lazy) h).1
-  where
-    by : (b : Bool) → not b ≡ true → b ≡ false
-    by false h = refl
-    by true h = cc
-
 -- what an access left
 pub record Left (inner : Inner) (S : Spaces) (bytes' : List ℕ) : Type 0 where
   pub spaces : spaces_in inner.directories bytes' ≡ S
   pub kept : IsKept inner.directories bytes' inner.frames inner.counts.items
   -- the same slots are lazy
-  pub lazy : (q : Slot) → is_lazy_at (record { directories = inner.directories; bytes = bytes'; roles = inner.frames }) q ≡ is_lazy_at (image_at inner) q
+  pub lazy : (q : Slot) → is_lazy_at (image_from inner.directories bytes' inner.frames) q ≡ is_lazy_at (image_at inner) q
   -- and each names its frame
   pub stay : FramesStay none_goes (image_at inner)
-      (record { directories = inner.directories; bytes = bytes'; roles = inner.frames })
+      (image_from inner.directories bytes' inner.frames)
 
 -- ---- What stands at a page
 
@@ -337,7 +329,7 @@ module _ (inner : Inner) (p page : ℕ) (f : Found) (before : IsKeptInside inner
   pub filled_stay : (two : List ℕ) (roles' : List Role)
       → PageFilled inner.directories p page inner.memory inner.frames two roles'
       → FramesStay (of_lazy p page) (image_at inner)
-      (record { directories = inner.directories; bytes = two; roles = roles' })
+      (image_from inner.directories two roles')
   filled_stay two roles' filled = frames_stay (of_lazy p page) inner.directories inner.memory two inner.frames roles'
       before.spaces.sound filled.after.sound filled.stay
 
@@ -365,12 +357,12 @@ found_lazy inner p page before user None is = sym (absent_lazy inner p page befo
 found_lazy inner p page before user (Some f) is = sym (found_real inner p page f before user (sym is))
 
 -- a page that was filled isn't lazy
-pub filled_real : (directories : List (Option ℕ)) (bytes bytes' : List ℕ) (roles roles' : List Role) (p page : ℕ) → PageFilled directories p page bytes roles bytes' roles' → is_lazy_at (record { directories = directories; bytes = bytes'; roles = roles' }) (at_page p page) ≡ false
+pub filled_real : (directories : List (Option ℕ)) (bytes bytes' : List ℕ) (roles roles' : List Role) (p page : ℕ) → PageFilled directories p page bytes roles bytes' roles' → is_lazy_at (image_from directories bytes' roles') (at_page p page) ≡ false
 filled_real directories bytes bytes' roles roles' p page filled = same_lazy directories bytes' roles' filled.after.sound (at_page p page) ∙ ap is_lazy_entry filled.real.1 ∙ filled.real.2
 
 -- and no other page became lazy
 pub filled_others : (directories : List (Option ℕ)) (bytes bytes' : List ℕ) (roles roles' : List Role) (p page : ℕ) → IsSound directories bytes roles → PageFilled directories p page bytes roles bytes' roles'
-    → (q : Slot) → is_lazy_at (record { directories = directories; bytes = bytes; roles = roles }) q ≡ false → is_lazy_at (record { directories = directories; bytes = bytes'; roles = roles' }) q ≡ false
+    → (q : Slot) → is_lazy_at (image_from directories bytes roles) q ≡ false → is_lazy_at (image_from directories bytes' roles') q ≡ false
 filled_others directories bytes bytes' roles roles' p page sound filled = real_kept directories bytes bytes' roles roles' sound filled.after.sound filled.fewer
 
 -- a page that a directory maps is one of its process

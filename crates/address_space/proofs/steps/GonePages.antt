@@ -9,7 +9,7 @@ use Rattle.alloc_table.specs.Roles.{IsInUse}
 use Rattle.alloc_table.proofs.RoleLemmas.{get-set_same}
 use Rattle.page_map.specs.Entries.{table_of, entry_at, IsCleared}
 use Rattle.page_map.specs.Pages.{count_range}
-use Rattle.address_space.specs.declared.lookup.Found.{Found}
+use Rattle.address_space.specs.declared.place.Found.{Found}
 use Rattle.address_space.specs.declared.Spaces.TheInside.{Inside as Inner}
 use Rattle.address_space.specs.View.{directory_of, spaces_in}
 use Rattle.address_space.specs.Counts.{IsCounted, IsKept}

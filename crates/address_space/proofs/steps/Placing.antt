@@ -8,8 +8,8 @@ use Rattle.phys_memory.specs.Bytes.{frame_bytes, word_in}
 use Rattle.page_map.specs.Entries.{Frames, table_of, word_entry}
 use Rattle.page_map.specs.declared.PageEntry.{PageEntry}
 use Rattle.address_space.specs.declared.Spaces.TheInside.{Inside as Inner}
-use Rattle.address_space.specs.declared.lookup.Found.{Found}
-use Rattle.address_space.specs.declared.lookup.Place.TheVariants.{Mapped}
+use Rattle.address_space.specs.declared.place.Found.{Found}
+use Rattle.address_space.specs.declared.place.Place.TheVariants.{Mapped}
 use Rattle.address_space.specs.Changes.{takes_stores_through}
 use Rattle.address_space.specs.Spaces.{need, at_page}
 use Rattle.address_space.specs.View.{directory_of, table_in}

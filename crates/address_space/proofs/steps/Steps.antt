@@ -10,7 +10,7 @@ use Rattle.alloc_table.specs.declared.Role.{Role}
 use Rattle.alloc_table.specs.declared.Role.TheVariants.{Reserved, Free, Directory, Table, Page}
 use Rattle.alloc_table.specs.Roles.{IsTaken}
 use Rattle.alloc_table.proofs.RoleLemmas.{get-set_same, get-set_other, weight-taken}
-use Rattle.phys_memory.proofs.Frames.{with_frame-other, frames-with_frame_bytes}
+use Rattle.phys_memory.proofs.Frames.{length-frame, with_frame-other, frames-with_frame_bytes}
 use Rattle.page_map.proofs.WordLaws.{entry_word-names, entry_word-lt, entry_word-present, word_entry-entry_word}
 use Rattle.std.proofs.lemmas.List.{length-replicate}
 use Rattle.address_space.proofs.entries.Refinement.{lazy_refines, get-spaces_of}
@@ -43,6 +43,7 @@ page_map_by D bytes roles p d size few T live =
     let m : Frames = frame_bytes bytes in
     let up : (slot t : ℕ) → table_of m d slot ≡ Some t → table_in D m p slot ≡ Some t = λ slot t is. ap (option_and_then (λ x. table_of m x slot)) live ∙ is in
     record {
+      long = length-frame bytes;
       directory_inside = (inside_by bytes roles d (Directory p) size few (T.directory p d live)).fits;
       tables_inside = λ slot t l is. (inside_by bytes roles t (Table p slot) size few (T.table p slot t (up slot t is))).fits;
       apart = λ slot t l is same. let a = T.table p slot t (up slot t is) in let b = T.directory p d live in let k : slice_get roles t ≡ slice_get roles d = ap (slice_get roles) same in cc;

@@ -13,7 +13,7 @@ use Rattle.table_walk.specs.Walk.{walk_of}
 use Rattle.table_walk.specs.Marks.{marked}
 use Rattle.address_space.specs.declared.Spaces.TheInside.{Inside as Inner}
 use Rattle.address_space.specs.ByWalk.{finds_at, finds, byte_place}
-use Rattle.address_space.specs.Image.{Image}
+use Rattle.address_space.specs.Image.{Image, image_from, directory_at}
 use Rattle.address_space.specs.Spaces.{Slot, slot_order, Cell, Spaces, fresh, with_bytes, set_bytes, write_at, bytes_of, accessed, stored, cell_or_fresh, slot_at}
 use Rattle.address_space.specs.Kept.{is_marked, kept_place, written_at}
 use Rattle.page_words.specs.FiniteMap as map
@@ -63,23 +63,22 @@ pub record ByteLeft (inner : Inner) (p address v : ℕ) (two : List ℕ) : Type 
   pub spaces : spaces_at (record inner { memory = two }) ≡ stored (spaces_at inner) (slot_at p address) (offset_number address) (v % 256 ∷ [])
   pub kept : IsKept inner.directories two inner.frames inner.counts.items
   pub stay : FramesStay none_goes (image_at inner)
-      (record { directories = inner.directories; bytes = two; roles = inner.frames })
+      (image_from inner.directories two inner.frames)
   -- each walk finds a frame as before
-  pub finds : (kind : Access) (at : ℕ) → finds_at (record { directories = inner.directories; bytes = two; roles = inner.frames }) p kind at ≡ finds_at (image_at inner) p kind at
+  pub finds : (kind : Access) (at : ℕ) → finds_at (image_from inner.directories two inner.frames) p kind at ≡ finds_at (image_at inner) p kind at
 
 both_alike : (a b c : Bool) → (a ≡ true → b ≡ c) → (a && b) ≡ (a && c)
 both_alike true b c h = h refl
 both_alike false b c h = refl
 
 -- walks that end alike find frames alike
-finds_alike : (image image' : Image) (p d : ℕ) (kind : Access) (at : ℕ) → directory_of image.directories p ≡ Some d → image'.directories ≡ image.directories
+finds_alike : (image image' : Image) (p d : ℕ) (kind : Access) (at : ℕ) → directory_at image p ≡ Some d → directory_at image' p ≡ directory_at image p
     → (at < 2 ^ 32 → walk_of image'.bytes d at kind ≡ walk_of image.bytes d at kind) → finds_at image' p kind at ≡ finds_at image p kind at
 finds_alike image image' p d kind at live same walks =
     both_alike (nat_lt at 0x100000000) _ _
     (λ test.
     let small : at < 0x100000000 = grind (arith, nat_tests) in
-    ap (λ x. unwrap_or (option_map (λ directory. is_ok (walk_of image'.bytes directory at kind)) (directory_of x p)) false) same
-    ∙ ap (λ x. unwrap_or (option_map (λ directory. is_ok (walk_of image'.bytes directory at kind)) x) false) live
+    ap (λ x. unwrap_or (option_map (λ directory. is_ok (walk_of image'.bytes directory at kind)) x) false) (same ∙ live)
     ∙ ap is_ok (walks (omega (arith, small)))
     ∙ sym (ap (λ x. unwrap_or (option_map (λ directory. is_ok (walk_of image.bytes directory at kind)) x) false) live))
 
@@ -98,7 +97,7 @@ left_by inner p d address v two before live test parts =
       kept = kept_touched inner.directories inner.memory two inner.frames inner.counts.items (stored S slot (offset_number address) (v % 256 ∷ [])) before parts.touched
           (λ q. key-stored S slot (offset_number address) (v % 256 ∷ []) (cell_or_fresh S slot) q
           ∙ kept S slot (cell_or_fresh S slot) (found_mapped inner.directories inner.memory inner.frames p d address Write sound live found.0 found.1) q);
-      finds = λ kind at. finds_alike (image_at inner) (record { directories = inner.directories; bytes = two; roles = inner.frames }) p d kind at live refl (parts.walks at kind);
+      finds = λ kind at. finds_alike (image_at inner) (image_from inner.directories two inner.frames) p d kind at live refl (parts.walks at kind);
     }
 
 pub byte_left : (inner : Inner) (p d address v : ℕ) (two : List ℕ) → IsKeptInside inner → directory_of inner.directories p ≡ Some d → finds_at (image_at inner) p Write address ≡ true

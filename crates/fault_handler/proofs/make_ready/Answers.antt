@@ -1,26 +1,32 @@
-use Rattle.std.proofs.Common.{◌≡◌, refl, sym, subst, ◌∙◌, true}
+use Rattle.std.proofs.Common.{◌≡◌, sym, subst, ◌∙◌, true}
 use Rattle.page_words.specs.Addresses.{EachTouched}
 use Rattle.address_space.specs.Spaces.{at_page}
 use Rattle.address_space.proofs.costs.MapFirst.{touched-there}
 use Rattle.process_table.specs.State.{State, is_mapped}
-use Rattle.fault_handler.proofs.Settled.{second_mapped}
+use Rattle.fault_handler.proofs.Settled.{first_mapped, second_mapped, complete_real}
 use Rattle.fault_handler.proofs.make_ready.Goals as goal
 use Rattle.address_space.proofs.standing.FramesStand.{stays_then, stays_most}
 
-pub fill_pages-requires : goal.fill_pages-requires
-fill_pages-requires c = record {
-  mapped = subst (λ (t : State). EachTouched c.args.address c.args.size
-      (λ page. is_mapped t (at_page c.args.pid page) ≡ true)) (sym c.map_pages.ensures.state)
-      (touched-there c.args.processes.now.state.spaces c.args.pid c.args.address c.args.size);
-}
+pub fill_pages-requires-clause-mapped : goal.fill_pages-requires-clause-mapped
+fill_pages-requires-clause-mapped c = subst (λ (t : State). EachTouched c.args.address c.args.size
+    (λ page. is_mapped t (at_page c.args.pid page) ≡ true)) (sym c.map_pages-mapped.ensures.state)
+    (touched-there c.args.processes.now.state.spaces c.args.pid c.args.address c.args.size)
 
-pub map_pages-requires-clause-second : goal.map_pages-requires-clause-second
-map_pages-requires-clause-second c =
+pub map_pages-mapped-requires-clause-first : goal.map_pages-mapped-requires-clause-first
+map_pages-mapped-requires-clause-first c =
+    first_mapped c.args.processes.now c.args.pid c.args.address c.args.size c.args.access c.in-Ready.first c.in-Ready.second (sym c.in-Ready.is ∙ c.requires.plan)
+
+pub map_pages-mapped-requires-clause-second : goal.map_pages-mapped-requires-clause-second
+map_pages-mapped-requires-clause-second c =
     second_mapped c.args.processes.now c.args.pid c.args.address c.args.size c.args.access c.in-Ready.first c.in-Ready.second (sym c.in-Ready.is ∙ c.requires.plan)
 
 pub returns-in-Write-clause-stay : goal.returns-in-Write-clause-stay
 returns-in-Write-clause-stay c = rw c.in-Write.is
-    (stays_then (stays_most c.map_pages.ensures.stay) c.fill_pages.ensures.stay)
+    (stays_then (stays_most c.map_pages-mapped.ensures.stay) c.fill_pages.ensures.stay)
 
 pub returns-in-Read-clause-stay : goal.returns-in-Read-clause-stay
-returns-in-Read-clause-stay c = stays_most c.map_pages.ensures.stay
+returns-in-Read-clause-stay c = stays_most c.map_pages-mapped.ensures.stay
+
+pub returns-then-is_at_once-clause-real : goal.returns-then-is_at_once-clause-real
+returns-then-is_at_once-clause-real c = λ write.
+    complete_real c.args.processes.now c.args.plan.now c.args.pid c.args.address c.args.size c.args.access c.requires.plan (sym c.is_at_once.ensures ∙ c.if-is_at_once.true) write

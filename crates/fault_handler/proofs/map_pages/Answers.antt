@@ -9,24 +9,24 @@ use Rattle.fault_handler.proofs.Settled.{second_room, mapped_beside}
 use Rattle.fault_handler.proofs.map_pages.Goals as goal
 use Rattle.address_space.proofs.standing.FramesStand.{stays_then}
 
-pub map_by_step-requires-in-Some-clause-room : goal.map_by_step-requires-in-Some-clause-room
-map_by_step-requires-in-Some-clause-room c =
+pub map_behind-requires-clause-room : goal.map_behind-requires-clause-room
+map_behind-requires-clause-room c =
     let s : State = c.args.processes.now.state in
-    subst (λ (t : State). page_need t.spaces c.args.pid c.in-Some.page ≤ room t c.args.pid)
-    (sym (c.map_by_step.ensures.state ∙ ap (λ n. record s { spaces = with_page s.spaces c.args.pid n })
-    c.page_of.ensures.value))
-    (second_room s c.args.pid c.args.address c.args.size c.in-Some.page (sym c.second_page.ensures ∙ c.in-Some.is) c.requires.room)
+    subst (λ (t : State). page_need t.spaces c.args.pid c.in-Some.behind ≤ room t c.args.pid)
+    (sym (c.map_by_step-mapped.ensures.state ∙ ap (λ n. record s { spaces = with_page s.spaces c.args.pid n })
+    c.page_of-page.ensures.value))
+    (second_room s c.args.pid c.args.address c.args.size c.in-Some.behind (sym c.second_page.ensures ∙ c.in-Some.is) c.requires.room)
 
-pub map_by_step-requires-in-Some-clause-how : goal.map_by_step-requires-in-Some-clause-how
-map_by_step-requires-in-Some-clause-how c =
+pub map_behind-requires-clause-how : goal.map_behind-requires-clause-how
+map_behind-requires-clause-how c =
     let s : State = c.args.processes.now.state in
     let there = sym c.second_page.ensures ∙ c.in-Some.is in
-    let next = (crosses c.args.address c.args.size c.in-Some.page there).next in
-    ap (λ (t : State). is_mapped t (at_page c.args.pid c.in-Some.page))
-    (c.map_by_step.ensures.state ∙ ap (λ n. record s { spaces = with_page s.spaces c.args.pid n })
-    c.page_of.ensures.value)
-    ∙ mapped_beside s.spaces c.args.pid (page_number c.args.address) c.in-Some.page (λ e. omega (arith, e, next))
+    let next = (crosses c.args.address c.args.size c.in-Some.behind there).next in
+    ap (λ (t : State). is_mapped t (at_page c.args.pid c.in-Some.behind))
+    (c.map_by_step-mapped.ensures.state ∙ ap (λ n. record s { spaces = with_page s.spaces c.args.pid n })
+    c.page_of-page.ensures.value)
+    ∙ mapped_beside s.spaces c.args.pid (page_number c.args.address) c.in-Some.behind (λ e. omega (arith, e, next))
     ∙ ap (λ (x : Option Bool). unwrap_or x true) (ap (option_map (λ page. is_mapped s (at_page c.args.pid page))) (sym there) ∙ c.requires.second ∙ ap (option_map (λ how. not (maps_page how))) c.unwrap.ensures)
 
 pub returns-in-Some-clause-stay : goal.returns-in-Some-clause-stay
-returns-in-Some-clause-stay c = stays_then c.map_by_step.ensures.stay c.map_by_step-in-Some.ensures.stay
+returns-in-Some-clause-stay c = stays_then c.map_by_step-mapped.ensures.stay c.map_behind.ensures.stay

@@ -12,6 +12,7 @@ use Rattle.address_space.proofs.steps.Steps.{page_map_of}
 use Rattle.address_space.proofs.steps.Copies.{copied_at_first}
 use Rattle.address_space.proofs.steps.RegionCopies.{region_begun, region_ended, regions_copied}
 use Rattle.address_space.proofs.Spaces.copy_space.Goals as goal
+use Rattle.address_space.specs.Image.{image_from}
 
 pub loop-region-init : goal.loop-region-init
 loop-region-init c =
@@ -94,5 +95,5 @@ returns-clause-stay c =
     (
     let so_far = rw (← c.self.view_is) at c.loop-region.invariant.so_far in
     let same = rw (← c.self.view_is) at c.loop-region.invariant.same in
-    subst (λ l. FramesStay none_goes (record { directories = c.self.inside.directories; bytes = c.self.inside.memory; roles = c.self.inside.frames }) (record { directories = l; bytes = c.loop-region.self.bytes; roles = c.loop-region.self.roles })) (sym same)
+    subst (λ l. FramesStay none_goes (image_from c.self.inside.directories c.self.inside.memory c.self.inside.frames) (image_from l c.loop-region.self.bytes c.loop-region.self.roles)) (sym same)
     (frames_stay none_goes c.self.inside.directories c.self.inside.memory c.loop-region.self.bytes c.self.inside.frames c.loop-region.self.roles c.self.invariant.spaces.sound so_far.after.sound so_far.stay))

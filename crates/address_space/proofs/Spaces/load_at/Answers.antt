@@ -6,6 +6,7 @@ use Rattle.address_space.specs.Places.{found_of}
 use Rattle.address_space.proofs.Insides.{spaces_at}
 use Rattle.address_space.proofs.steps.Bytes.{number_in_page}
 use Rattle.address_space.proofs.steps.FoundPages.{found_mapped, found_lies, found_cell, found_loaded}
+use Rattle.address_space.proofs.steps.Neighbours.{loaded_beside}
 use Rattle.address_space.proofs.steps.Placing.{place_found}
 use Rattle.address_space.proofs.Spaces.load_at.Goals as goal
 
@@ -30,3 +31,6 @@ invariant_of-self c = (found_loaded c.self.inside c.args.pid (page_number c.args
 
 pub returns-clause-stay : goal.returns-clause-stay
 returns-clause-stay c = rw (← c.self.view_is) (found_loaded c.self.inside c.args.pid (page_number c.args.address) c.unwrap-found.result c.self.invariant c.requires.user (sym (place_found c.self.inside c.args.pid (page_number c.args.address)) ∙ ap found_of (sym (rw (← c.self.view_is) at c.requires.place)) ∙ sym c.found.ensures ∙ c.unwrap-found.ensures) c.load.new.memory c.load.ensures.entry c.load.ensures.length).stay
+
+pub returns-clause-beside : goal.returns-clause-beside
+returns-clause-beside c = rw (← c.self.view_is) (loaded_beside c.self.inside c.args.pid (page_number c.args.address) c.unwrap-found.result c.self.invariant c.requires.user (sym (place_found c.self.inside c.args.pid (page_number c.args.address)) ∙ ap found_of (sym (rw (← c.self.view_is) at c.requires.place)) ∙ sym c.found.ensures ∙ c.unwrap-found.ensures) c.load.new.memory c.load.ensures.entry)

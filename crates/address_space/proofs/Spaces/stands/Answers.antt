@@ -1,7 +1,7 @@
 use Rattle.std.proofs.Common.{◌≡◌, ℕ, ◌+◌, ◌≤◌, subst, arith, refl, true}
 use Rattle.std.specs.Prelude.{length, is_some}
 use Rattle.alloc_table.proofs.RoleLemmas.{in-use-and-reserved}
-use Rattle.address_space.specs.Image.{StandsFor, LeavesRoom}
+use Rattle.address_space.specs.Image.{StandsFor, LeavesRoom, image_of}
 use Rattle.address_space.specs.View.{View, total_cost, directory_of, entries_in, spaces_in}
 use Rattle.address_space.specs.Cells.{lazy_count, holders_of}
 use Rattle.phys_memory.specs.Bytes.{frame_bytes}
@@ -18,7 +18,7 @@ use Rattle.address_space.proofs.standing.WaysStand.{ways_agree}
 
 pub returns-clause-image : goal.returns-clause-image
 returns-clause-image c =
-    subst (λ (v : View). StandsFor (record { directories = v.directories; bytes = v.bytes; roles = v.roles }) v.spaces) c.self.view_is
+    subst (λ (v : View). StandsFor (image_of v) v.spaces) c.self.view_is
     (image_stands c.self.inside.directories c.self.inside.memory c.self.inside.frames c.self.invariant.spaces)
 
 pub returns-clause-costs : goal.returns-clause-costs
@@ -34,7 +34,7 @@ returns-clause-few c = subst (λ (v : View). length v.roles ≤ 4096) c.self.vie
 
 pub returns-clause-walks : goal.returns-clause-walks
 returns-clause-walks c =
-    subst (λ (v : View). WalksAgree (record { directories = v.directories; bytes = v.bytes; roles = v.roles }) v.spaces) c.self.view_is
+    subst (λ (v : View). WalksAgree (image_of v) v.spaces) c.self.view_is
     (walks_agree c.self.inside.directories c.self.inside.memory c.self.inside.frames c.self.invariant.spaces)
 
 pub returns-clause-used : goal.returns-clause-used
@@ -43,7 +43,7 @@ returns-clause-used c =
     let E = entries_in (directory_of c.self.inside.directories) (frame_bytes c.self.inside.memory) in
     let n = in-use-and-reserved c.self.inside.frames kept.sound.tables.zero_role (λ f count is. (kept.sound.pages.counts f count is).0) in
     let w = kept.weighs in
-    subst (λ (v : View). LeavesRoom (record { directories = v.directories; bytes = v.bytes; roles = v.roles }) (total_cost v.directories v.spaces)) c.self.view_is
+    subst (λ (v : View). LeavesRoom (image_of v) (total_cost v.directories v.spaces)) c.self.view_is
     (record {
       lazy = lazy_count E;
       counted = record { members = holders_of E 0; are = lazy_slots c.self.inside.directories c.self.inside.memory c.self.inside.frames kept.sound; count = refl };
@@ -52,10 +52,10 @@ returns-clause-used c =
 
 pub returns-clause-ways : goal.returns-clause-ways
 returns-clause-ways c =
-    subst (λ (v : View). WaysAgree (record { directories = v.directories; bytes = v.bytes; roles = v.roles })) c.self.view_is
+    subst (λ (v : View). WaysAgree (image_of v)) c.self.view_is
     (ways_agree c.self.inside.directories c.self.inside.memory c.self.inside.frames c.self.invariant.spaces.sound)
 
 pub returns-clause-places : goal.returns-clause-places
 returns-clause-places c =
-    subst (λ (v : View). PlacesTell (record { directories = v.directories; bytes = v.bytes; roles = v.roles }) v.spaces) c.self.view_is
+    subst (λ (v : View). PlacesTell (image_of v) v.spaces) c.self.view_is
     (places_tell c.self.inside c.self.invariant)

@@ -1,9 +1,12 @@
-use Rattle.std.proofs.Common.{ap, sym, ◌∙◌}
+use Rattle.std.proofs.Common.{◌+◌, ◌≤◌, ap, sym, subst, ◌∙◌}
 use Rattle.std.specs.Prelude.{is_some}
-use Rattle.page_words.specs.Addresses.{page_number, offset_number}
+use Rattle.page_words.specs.Addresses.{page_number, offset_number, byte_count}
+use Rattle.address_space.specs.Spaces.{bytes_of}
+use Rattle.address_space.proofs.steps.Bytes.{length-bytes}
 use Rattle.page_words.proofs.Accesses.{stays}
 use Rattle.address_space.specs.Places.{found_of}
 use Rattle.address_space.proofs.steps.FoundPages.{found_mapped, found_lies, found_real, found_stored}
+use Rattle.address_space.proofs.steps.Neighbours.{stored_beside, part_long}
 use Rattle.address_space.proofs.steps.Placing.{place_found}
 use Rattle.address_space.proofs.Spaces.store_at.Goals as goal
 
@@ -24,3 +27,7 @@ returns-clause-lazy c = rw (← c.self.view_is) (found_stored c.self.inside c.ar
 
 pub returns-clause-stay : goal.returns-clause-stay
 returns-clause-stay c = rw (← c.self.view_is) (found_stored c.self.inside c.args.pid (page_number c.args.address) c.unwrap-found.result c.self.invariant c.requires.user (sym (place_found c.self.inside c.args.pid (page_number c.args.address)) ∙ ap found_of (sym (rw (← c.self.view_is) at c.requires.place)) ∙ sym c.found.ensures ∙ c.unwrap-found.ensures) c.store.new.memory (offset_number c.args.address) c.args.size c.args.value (sym (found_real c.self.inside c.args.pid (page_number c.args.address) c.unwrap-found.result c.self.invariant c.requires.user (sym (place_found c.self.inside c.args.pid (page_number c.args.address)) ∙ ap found_of (sym (rw (← c.self.view_is) at c.requires.place)) ∙ sym c.found.ensures ∙ c.unwrap-found.ensures)) ∙ (rw (← c.self.view_is) at c.requires.real)) (stays c.args.address c.args.size c.requires.within) (rw c.offset_of.ensures.value at c.store.ensures)).stay
+
+pub returns-clause-beside : goal.returns-clause-beside
+returns-clause-beside c = rw (← c.self.view_is)
+    (stored_beside c.self.inside c.args.pid (page_number c.args.address) c.unwrap-found.result c.self.invariant c.requires.user (sym (place_found c.self.inside c.args.pid (page_number c.args.address)) ∙ ap found_of (sym (rw (← c.self.view_is) at c.requires.place)) ∙ sym c.found.ensures ∙ c.unwrap-found.ensures) c.store.new.memory (offset_number c.args.address) (bytes_of (byte_count c.args.size) c.args.value) (sym (found_real c.self.inside c.args.pid (page_number c.args.address) c.unwrap-found.result c.self.invariant c.requires.user (sym (place_found c.self.inside c.args.pid (page_number c.args.address)) ∙ ap found_of (sym (rw (← c.self.view_is) at c.requires.place)) ∙ sym c.found.ensures ∙ c.unwrap-found.ensures)) ∙ (rw (← c.self.view_is) at c.requires.real)) (part_long c.self.inside c.args.pid (page_number c.args.address) c.unwrap-found.result c.self.invariant c.requires.user (sym (place_found c.self.inside c.args.pid (page_number c.args.address)) ∙ ap found_of (sym (rw (← c.self.view_is) at c.requires.place)) ∙ sym c.found.ensures ∙ c.unwrap-found.ensures) (offset_number c.args.address) (bytes_of (byte_count c.args.size) c.args.value) (subst (λ n. offset_number c.args.address + n ≤ 4096) (sym (length-bytes (byte_count c.args.size) c.args.value)) (stays c.args.address c.args.size c.requires.within))) (rw c.offset_of.ensures.value at c.store.ensures))

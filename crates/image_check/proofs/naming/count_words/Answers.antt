@@ -2,7 +2,7 @@ use Rattle.std.proofs.Common.{◌≡◌, ◌*◌, ap, subst, ◌∙◌, sym, ari
 use Rattle.std.specs.Prelude.{if◌then◌else◌, None}
 use Rattle.page_words.specs.Words.{is_present}
 use Rattle.page_map.specs.Pages.{counted, count_range}
-use Rattle.memory_image.specs.Words.{own_frame}
+use Rattle.address_space.specs.ImageWords.{own_frame}
 use Rattle.image_check.specs.Counts.{is_this}
 use Rattle.image_check.specs.Adds.{Adds, MayGrow, frame_named}
 use Rattle.image_check.proofs.NamingLemmas.{times_begin, times_go_on, times_room}

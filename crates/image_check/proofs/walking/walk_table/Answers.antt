@@ -5,7 +5,7 @@ use Rattle.page_map.specs.Pages.{counted}
 use Rattle.page_map.proofs.PageLemmas.{count_range-zero, count_word}
 use Rattle.address_space.specs.Image.{word_of}
 use Rattle.memory_image.specs.Image.{memory_of}
-use Rattle.memory_image.specs.Words.{own_frame}
+use Rattle.address_space.specs.ImageWords.{own_frame}
 use Rattle.image_check.specs.Counts.{is_this}
 use Rattle.image_check.specs.Adds.{frame_named}
 use Rattle.image_check.specs.Verdict.{maps_page}

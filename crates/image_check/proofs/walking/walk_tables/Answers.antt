@@ -1,7 +1,7 @@
 use Rattle.std.proofs.Common.{◌≡◌, sym, arith, is_some}
 use Rattle.page_map.proofs.PageLemmas.{count_range-zero, count_slot, count_end}
 use Rattle.address_space.specs.Image.{table_at, page_word}
-use Rattle.address_space.specs.Slots.{at_pid}
+use Rattle.address_space.specs.Spaces.{at_page}
 use Rattle.memory_image.specs.Image.{memory_of}
 use Rattle.image_check.specs.Counts.{is_this, frame_of}
 use Rattle.image_check.specs.Verdict.{table_is_right}
@@ -39,7 +39,7 @@ loop-slot-preserved c =
       all_grows (λ s. table_is_right image (table_at (memory_of image) pid s)) 256 slot c.loop-slot.right more.right (omega arith) was.0 found.right,
       count_goes_on (λ s. is_some (table_at (memory_of image) pid s)) 256 slot c.loop-slot.tables more.tables (omega arith) was.1 found.tables,
       omega (arith, was.2, found.few.0),
-      count_slot (λ page. is_some (page_word (memory_of image) (at_pid pid page))) slot c.loop-slot.pages more.pages (omega arith) was.3 found.pages,
+      count_slot (λ page. is_some (page_word (memory_of image) (at_page pid page))) slot c.loop-slot.pages more.pages (omega arith) was.3 found.pages,
       omega (arith, was.4, found.few.1),
       adds_goes_on (λ f s. is_this f (table_at (memory_of image) pid s)) c.args.names.now c.loop-slot.names c.walk_slot-found.new.names 256 slot (omega arith) was.5 found.names,
       pages_go_on (λ f page. is_this f (frame_of image pid page)) c.args.maps.now c.loop-slot.maps c.walk_slot-found.new.maps slot (omega arith) was.6 found.maps,
@@ -54,7 +54,7 @@ returns-clause-tables c = count_done (λ s. is_some (table_at (memory_of c.args.
 pub returns-clause-pages : goal.returns-clause-pages
 returns-clause-pages c =
     let end : c.loop-slot.slot ≡ 960 = omega arith in
-    count_end (λ page. is_some (page_word (memory_of c.args.image.now) (at_pid c.args.pid page))) c.loop-slot.slot c.loop-slot.pages end c.loop-slot.invariant.3
+    count_end (λ page. is_some (page_word (memory_of c.args.image.now) (at_page c.args.pid page))) c.loop-slot.slot c.loop-slot.pages end c.loop-slot.invariant.3
 
 pub returns-clause-names : goal.returns-clause-names
 returns-clause-names c = adds_done (λ f s. is_this f (table_at (memory_of c.args.image.now) c.args.pid s)) c.args.names.now c.loop-slot.names 256 704 c.loop-slot.slot (omega arith) c.loop-slot.invariant.5

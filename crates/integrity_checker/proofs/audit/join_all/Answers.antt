@@ -3,7 +3,7 @@ use Rattle.std.specs.Option.{option_to_list}
 use Rattle.memory_image.specs.Image.{Image}
 use Rattle.image_check.specs.Draws.{times}
 use Rattle.integrity_checker.specs.Found.{IsFound}
-use Rattle.integrity_checker.specs.Steps.{IsOf, answered}
+use Rattle.integrity_checker.specs.Steps.{IsOf, numbers_answered}
 use Rattle.integrity_checker.specs.declared.draw.About.{About}
 use Rattle.integrity_checker.specs.declared.parts.Helper.{Helper}
 use Rattle.integrity_checker.proofs.Drawing.{joins, totals}
@@ -90,7 +90,7 @@ loop-helper-preserved c =
       ap (λ m. m.0.done) me,
       (let all : ℕ = length c.args.others.items in omega (arith, was, more, long)),
       (λ x.
-          let f : Helper → ℕ = λ h. times x (answered h) in
+          let f : Helper → ℕ = λ h. times x (numbers_answered h) in
           let a : times x c.join_seat.new.seat.me.0.drawn ≡ times x c.loop-helper.seat.me.0.drawn + f helper = ap (times x) drawn ∙ times_append x c.loop-helper.seat.me.0.drawn helper.seat.me.0.drawn in
           let b : sum_by f c.loop-helper.others.items ≡ sum_by f c.pop.new.self.items + f helper = ap (sum_by f) cut ∙ sum_last f c.pop.new.self.items helper in
           let e : times x c.loop-helper.seat.me.0.drawn + sum_by f c.loop-helper.others.items ≡ times x c.args.first.seat.me.0.drawn + sum_by f c.args.others.items = kept.3 x in

@@ -2,7 +2,7 @@ use Rattle.std.proofs.Common.{◌≡◌, ℕ, ◌+◌, ◌-◌, [], ◌∷◌, �
 use Rattle.integrity_checker.specs.declared.draw.Drawer.{Drawer}
 use Rattle.integrity_checker.specs.declared.parts.Helper.{Helper}
 use Rattle.integrity_checker.specs.Drawn.{drawer}
-use Rattle.integrity_checker.specs.Steps.{answered}
+use Rattle.integrity_checker.specs.Steps.{numbers_answered}
 use Rattle.integrity_checker.proofs.Sums.{every_push}
 use Rattle.integrity_checker.proofs.Drawing.{begins}
 use Rattle.integrity_checker.proofs.audit.made.Goals as goal
@@ -25,7 +25,7 @@ loop-number-preserved c =
     let kept = c.loop-number.invariant in
     let cut = c.cut_one-seat.ensures in
     let P : Helper → Type 0 = λ h. (h.seat.table_id ≡ c.in-Ok-opened.table.shared.table_id) × (h.seat.me.0.image ≡ c.args.image) in
-    let Q : Helper → Type 0 = λ h. answered h ≡ [] in
+    let Q : Helper → Type 0 = λ h. numbers_answered h ≡ [] in
     let helper = c.new-in-loop-number.result in
     let seat = c.new-in-loop-number.ensures in
     let grown : c.push.new.seats.items ≡ c.loop-number.seats.items ++ helper ∷ [] = c.in_ok-push.ensures in
@@ -51,6 +51,6 @@ returns-clause-own c =
 pub returns-clause-empty : goal.returns-clause-empty
 returns-clause-empty c =
     let kept = c.loop-number.invariant in
-    let Q : Helper → Type 0 = λ h. answered h ≡ [] in
+    let Q : Helper → Type 0 = λ h. numbers_answered h ≡ [] in
     let grown : c.push-2.new.seats.items ≡ c.loop-number.seats.items ++ c.new-3.result ∷ [] = c.in_ok-push-2.ensures in
     subst (λ (hs : List Helper). All Q hs) (sym grown) (every_push Q c.loop-number.seats.items c.new-3.result kept.5 (ap (λ s. s.me.0.drawn) c.new-3.ensures ∙ ap (λ (v : Drawer). v.drawn) kept.1))

@@ -1,10 +1,34 @@
-use Rattle.std.proofs.Common.{ap, sym, ◌∙◌}
+use Rattle.std.proofs.Common.{ap, sym, ◌∙◌, is_some}
+use Rattle.std.specs.Option.{option_map}
+use Rattle.page_words.specs.Addresses.{page_number, second_page}
+use Rattle.address_space.specs.Places.{place_in}
 use Rattle.table_walk.specs.declared.Access.TheVariants.{Read}
+use Rattle.process_table.proofs.Placed.{has_place, place_known, placed_second}
+use Rattle.process_table.specs.declared.places.Places.{Places}
 use Rattle.fault_handler.specs.Plans.{goes_on, step_at}
 use Rattle.fault_handler.proofs.Settled.{ready, all_user}
 use Rattle.kernel_calls.proofs.decisions.value_by.Goals as goal
 
-pub peek-requires : goal.peek-requires
-peek-requires c =
+pub unwrap-place-requires : goal.unwrap-place-requires
+unwrap-place-requires c =
+    let v = c.args.processes.now in
+    ap (λ (x : Places). is_some x.first) c.requires.places
+    ∙ has_place v c.args.pid (page_number c.args.address) (all_user c.args.address c.args.size (ready (step_at v c.args.pid Read) v.state c.args.pid c.args.address c.args.size Read (sym (ap goes_on c.requires.plan) ∙ ap goes_on c.in-Ready.is)).outside).0
+
+pub peek_at-requires-clause-user : goal.peek_at-requires-clause-user
+peek_at-requires-clause-user c =
     let v = c.args.processes.now in
     all_user c.args.address c.args.size (ready (step_at v c.args.pid Read) v.state c.args.pid c.args.address c.args.size Read (sym (ap goes_on c.requires.plan) ∙ ap goes_on c.in-Ready.is)).outside
+
+pub peek_at-requires-clause-first : goal.peek_at-requires-clause-first
+peek_at-requires-clause-first c =
+    let v = c.args.processes.now in
+    (place_known v c.args.pid (page_number c.args.address) c.unwrap-place.result (sym (ap (λ (x : Places). x.first) c.requires.places) ∙ c.unwrap-place.ensures)).1
+    ∙ (λ i. place_in (sym c.spaces-spaces.ensures.directories i) (sym c.spaces-spaces.ensures.bytes i) c.args.pid (page_number c.args.address))
+
+pub peek_at-requires-clause-second : goal.peek_at-requires-clause-second
+peek_at-requires-clause-second c =
+    let v = c.args.processes.now in
+    let user = all_user c.args.address c.args.size (ready (step_at v c.args.pid Read) v.state c.args.pid c.args.address c.args.size Read (sym (ap goes_on c.requires.plan) ∙ ap goes_on c.in-Ready.is)).outside in
+    ap (λ (x : Places). x.second) c.requires.places ∙ placed_second v c.args.pid (second_page c.args.address c.args.size) user.1
+    ∙ (λ i. option_map (place_in (sym c.spaces-spaces.ensures.directories i) (sym c.spaces-spaces.ensures.bytes i) c.args.pid) (second_page c.args.address c.args.size))

@@ -12,8 +12,8 @@ returns-clause-ends c =
     let now = c.stands.ensures in
     let later = c.stands-2.ensures in
     let e = c.args.decision.now.event in
-    event_ends c.args.self.now c.carry_out.new.processes e
+    event_ends c.args.self.now c.carry.new.processes e
     (standing now.image now.walks now.ways now.well_formed) (standing later.image later.walks later.ways later.well_formed)
-    (subst (λ (v : View). c.carry_out.new.processes.state ≡ next v.state e) c.self.view_is c.carry_out.ensures.state)
-    (subst (λ (v : View). FramesStay (gone_by v.state e) (memory_of v) (memory_of c.carry_out.new.processes)) c.self.view_is
-    c.carry_out.ensures.stay)
+    (subst (λ (v : View). c.carry.new.processes.state ≡ next v.state e) c.self.view_is c.carry.ensures.state)
+    (subst (λ (v : View). FramesStay (gone_by v.state e) (memory_of v) (memory_of c.carry.new.processes)) c.self.view_is
+    c.carry.ensures.stay)

@@ -16,14 +16,14 @@ use Rattle.kernel_calls.proofs.cores.Core.store_first.Goals as goal
 pub returns-then-part-gt1-clause-stored : goal.returns-then-part-gt1-clause-stored
 returns-then-part-gt1-clause-stored c = λ _.
     let s = c.args.self.now.state in
-    let v = c.reply_planned-reply.new.self in
+    let v = c.reply_to-reply.new.self in
     let p = c.args.pid in
     let a = c.args.address in
     let part : List ℕ = c.args.part.now in
     let b : ℕ = slice_index part 0 in
-    let told : c.reply_planned-reply.result ≡ answer s (store_byte p a b) = c.reply_planned-reply.ensures.reply ∙ ap (answer s) c.store_byte.ensures in
+    let told : c.reply_to-reply.result ≡ answer s (store_byte p a b) = c.reply_to-reply.ensures.reply ∙ ap (answer s) c.store_byte.ensures in
     let done : completes (answer s (store_byte p a b)) ≡ true = sym (ap completes told) ∙ sym c.completes.ensures ∙ c.if-not-completes.false in
-    let f = first_stored s v.state p a b done (c.reply_planned-reply.ensures.state ∙ ap (next s) c.store_byte.ensures) in
+    let f = first_stored s v.state p a b done (c.reply_to-reply.ensures.state ∙ ap (next s) c.store_byte.ensures) in
     let more = c.if-part-gt1.true in
     let within = c.requires.within in
     let r = rest_taken s v p a b f c.stands.ensures.image c.stands.ensures.ways (omega (arith, more, within)) in
@@ -41,11 +41,11 @@ returns-then-part-gt1-clause-stay c =
     let s = c.args.self.now.state in
     let b : ℕ = slice_index c.args.part.now 0 in
     stays_then
-    (stays_more (λ slot f stays. ap (λ (x : Event). gone_by s x slot f) c.store_byte.ensures ∙ store_goes s c.args.pid c.args.address b slot f stays) c.reply_planned-reply.ensures.stay)
+    (stays_more (λ slot f stays. ap (λ (x : Event). gone_by s x slot f) c.store_byte.ensures ∙ store_goes s c.args.pid c.args.address b slot f stays) c.reply_to-reply.ensures.stay)
     (stays_most c.store_taken.ensures.stay)
 
 pub returns-clause-stay : goal.returns-clause-stay
 returns-clause-stay c =
     let s = c.args.self.now.state in
     let b : ℕ = slice_index c.args.part.now 0 in
-    stays_more (λ slot f stays. ap (λ (x : Event). gone_by s x slot f) c.store_byte.ensures ∙ store_goes s c.args.pid c.args.address b slot f stays) c.reply_planned-reply.ensures.stay
+    stays_more (λ slot f stays. ap (λ (x : Event). gone_by s x slot f) c.store_byte.ensures ∙ store_goes s c.args.pid c.args.address b slot f stays) c.reply_to-reply.ensures.stay

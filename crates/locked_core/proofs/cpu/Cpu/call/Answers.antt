@@ -1,7 +1,7 @@
 use Rattle.std.proofs.Common.{rules, ◌≡◌, ◌∙◌, ap, sym, subst}
 use Rattle.locked_core.proofs.Entries.{makes, prevents_refuses}
 use Rattle.locked_core.proofs.cpu.Cpu.call.Goals as goal
-use Rattle.locked_core.specs.Held.{Held}
+use Rattle.locked_core.specs.Held.{UnderLock}
 use Rattle.locked_core.specs.Makers.{Maker}
 use Rattle.memory_report.proofs.GuardedHistories.{histories_guarded}
 use Rattle.memory_report.proofs.IsolatedHistories.{histories_isolated}
@@ -13,7 +13,7 @@ returns-in-Err-carry_out-clause-refused g c =
     let before = c.args.self.now in
     let same : c.deref.result.now ≡ c.deref_mut.result.now = search rules in
     let judged : Legal g.N.Name.frames c.deref_mut.result.now.log × (StartsWith c.deref_mut.result.now.log before.seen × (calls_of before.number c.deref_mut.result.now.log ≡ calls_of before.number before.seen)) =
-    subst (λ (h : Held). Legal g.N.Name.frames h.log × (StartsWith h.log before.seen × (calls_of before.number h.log ≡ calls_of before.number before.seen))) same (c.in-Ok.ensures.legal, c.in-Ok.ensures.fits) in (
+    subst (λ (h : UnderLock). Legal g.N.Name.frames h.log × (StartsWith h.log before.seen × (calls_of before.number h.log ≡ calls_of before.number before.seen))) same (c.in-Ok.ensures.legal, c.in-Ok.ensures.fits) in (
       c.deref_mut.result.now.log,
       prevents_refuses g.N.Name.frames c.deref_mut.result.now.log before c.in-Err-carry_out.fault judged.0 judged.1 c.in-Err-carry_out.ensures.prevented,
     )
@@ -25,7 +25,7 @@ returns-clause-made g c =
     let done = c.in-Ok-carry_out.ensures in
     let same : c.deref.result.now ≡ c.deref_mut.result.now = search rules in
     let fits : StartsWith c.deref_mut.result.now.log before.seen × (calls_of before.number c.deref_mut.result.now.log ≡ calls_of before.number before.seen) =
-    subst (λ (h : Held). StartsWith h.log before.seen × (calls_of before.number h.log ≡ calls_of before.number before.seen)) same c.in-Ok.ensures.fits in
+    subst (λ (h : UnderLock). StartsWith h.log before.seen × (calls_of before.number h.log ≡ calls_of before.number before.seen)) same c.in-Ok.ensures.fits in
     makes g.N.Name.frames before c.made.new.self c.args.pid c.args.call c.in-Ok-carry_out.carried.0 c.in-Ok.ready.event c.deref_mut.result.now.log c.carry_out.new.self.log c.in-Ok-carry_out.carried.1
     c.in-Ok.ensures.event fits done.legal done.log done.reply done.front.0 c.made.ensures
 

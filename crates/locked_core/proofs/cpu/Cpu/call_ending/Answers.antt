@@ -4,7 +4,7 @@ use Rattle.kernel_calls.specs.declared.calls.Event.{Event}
 use Rattle.kernel_calls.specs.declared.translations.Ended.{Ended}
 use Rattle.locked_core.proofs.Entries.{makes, prevents_refuses}
 use Rattle.locked_core.proofs.cpu.Cpu.call_ending.Goals as goal
-use Rattle.locked_core.specs.Held.{Held}
+use Rattle.locked_core.specs.Held.{UnderLock}
 use Rattle.locked_core.specs.Makers.{Maker}
 use Rattle.memory_report.proofs.IsolatedHistories.{histories_isolated}
 use Rattle.memory_report.proofs.GuardedHistories.{histories_guarded}
@@ -16,7 +16,7 @@ returns-in-Err-carry_out-clause-refused g c =
     let before = c.args.self.now in
     let same : c.deref.result.now ≡ c.deref_mut.result.now = search rules in
     let judged : Legal g.N.Name.frames c.deref_mut.result.now.log × (StartsWith c.deref_mut.result.now.log before.seen × (calls_of before.number c.deref_mut.result.now.log ≡ calls_of before.number before.seen)) =
-    subst (λ (h : Held). Legal g.N.Name.frames h.log × (StartsWith h.log before.seen × (calls_of before.number h.log ≡ calls_of before.number before.seen))) same (c.in-Ok.ensures.legal, c.in-Ok.ensures.fits) in (
+    subst (λ (h : UnderLock). Legal g.N.Name.frames h.log × (StartsWith h.log before.seen × (calls_of before.number h.log ≡ calls_of before.number before.seen))) same (c.in-Ok.ensures.legal, c.in-Ok.ensures.fits) in (
       c.deref_mut.result.now.log,
       prevents_refuses g.N.Name.frames c.deref_mut.result.now.log before c.in-Err-carry_out.fault judged.0 judged.1 c.in-Err-carry_out.ensures.prevented,
     )
@@ -28,7 +28,7 @@ returns-clause-made g c =
     let done = c.in-Ok-carry_out.ensures in
     let same : c.deref.result.now ≡ c.deref_mut.result.now = search rules in
     let fits : StartsWith c.deref_mut.result.now.log before.seen × (calls_of before.number c.deref_mut.result.now.log ≡ calls_of before.number before.seen) =
-    subst (λ (h : Held). StartsWith h.log before.seen × (calls_of before.number h.log ≡ calls_of before.number before.seen)) same c.in-Ok.ensures.fits in
+    subst (λ (h : UnderLock). StartsWith h.log before.seen × (calls_of before.number h.log ≡ calls_of before.number before.seen)) same c.in-Ok.ensures.fits in
     makes g.N.Name.frames before c.made.new.self c.args.pid c.args.call c.in-Ok-carry_out.carried.0 c.in-Ok.ready.event c.deref_mut.result.now.log c.carry_out.new.self.log c.in-Ok-carry_out.carried.1
     c.in-Ok.ensures.event fits done.legal done.log done.reply done.front.0 c.made.ensures
 
@@ -36,18 +36,18 @@ returns-clause-made g c =
 pub returns-clause-ended : goal.returns-clause-ended
 returns-clause-ended g c =
     let done = c.in-Ok-carry_out.ensures in
-    let held : Held = c.deref_mut.result.now in
+    let held : UnderLock = c.deref_mut.result.now in
     let event : Event = c.in-Ok.ready.event in
     let asked : c.deref-2.result.now ≡ c.deref_mut.result.now = search rules in
     let seen : c.made.new.self.seen ≡ c.carry_out.new.self.log = ap (λ (m : Maker). m.seen) c.made.ensures ∙ done.front.0 in
-    let told : c.ends-ended.result ≡ ended_by held.core event = c.ends-ended.ensures.ended ∙ ap (λ (h : Held). ended_by h.core event) asked in
+    let told : c.ends-ended.result ≡ ended_by held.core event = c.ends-ended.ensures.ended ∙ ap (λ (h : UnderLock). ended_by h.core event) asked in
     record {
       before = held.log;
       last = entry_after g.N.Name.frames held.log event.cpu event.pid event.call;
       grown = seen ∙ done.log;
       old = held.core;
       new = c.carry_out.new.self.core;
-      stood = subst (λ (h : Held). h.core.state ≡ state_after g.N.Name.frames h.log) asked c.ends-ended.ensures.state;
+      stood = subst (λ (h : UnderLock). h.core.state ≡ state_after g.N.Name.frames h.log) asked c.ends-ended.ensures.state;
       stands = done.state ∙ ap (state_after g.N.Name.frames) (sym seen);
       told = told;
       ends = subst (λ (x : Ended). Ends x held.core c.carry_out.new.self.core) (sym told) done.ends;

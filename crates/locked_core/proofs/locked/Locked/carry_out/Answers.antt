@@ -5,7 +5,7 @@ use Rattle.kernel_calls.specs.Machine.{answer, next}
 use Rattle.kernel_calls.specs.declared.calls.Event.{Event}
 use Rattle.locked_core.proofs.CatchingUp.{lags_more}
 use Rattle.locked_core.proofs.Entries.{Stands, judged, logged}
-use Rattle.locked_core.specs.Held.{Held}
+use Rattle.locked_core.specs.Held.{UnderLock}
 use Rattle.locked_core.specs.Pages.{LagsBehind, page}
 use Rattle.memory_report.specs.Histories.{Legal}
 use Rattle.memory_report.specs.declared.entries.LogEntry.{LogEntry}
@@ -14,14 +14,14 @@ use Rattle.locked_core.proofs.locked.Locked.carry_out.Goals as goal
 -- the side that is not published is of this kernel
 pub keep_up-requires-clause-legal : goal.keep_up-requires-clause-legal
 keep_up-requires-clause-legal g c =
-    let h : Held = c.args.self.now in
+    let h : UnderLock = c.args.self.now in
     let event : Event = c.args.ready.event in
     let e : LogEntry = c.entry_of-entry.result in
-    let stands = subst (Stands g.N.Name.frames) c.self.view_is (c.self.invariant.0, c.self.invariant.1) in
-    let ends = judged g.N.Name.frames h c.args.ready.nth event c.carry_out-decision.result.reply c.carry_out-decision.result.used_after e stands c.requires.nth.1 (c.carry_out-decision.ensures.reply ∙ ap (λ (k : Held). answer k.core.state event) c.self.view_is) (c.carry_out-decision.ensures.charge ∙ ap (λ (k : Held). charge_after k.core.state event) c.self.view_is) c.entry_of-entry.ensures in
-    let grown : c.entries.result.now ≡ h.log ++ e ∷ [] = c.entries.ensures ∙ (c.push.ensures.entries ∙ ap (λ l. l ++ e ∷ []) (c.reserve.ensures.entries ∙ ap (λ (k : Held). k.log) c.self.view_is)) in
+    let stands = subst (Stands g.N.Name.frames) c.self.view_is (c.self.invariant.legal, c.self.invariant.stands) in
+    let ends = judged g.N.Name.frames h c.args.ready.nth event c.perform-outcome.result.reply c.perform-outcome.result.used_after e stands c.requires.nth.1 (c.perform-outcome.ensures.reply ∙ ap (λ (k : UnderLock). answer k.core.state event) c.self.view_is) (c.perform-outcome.ensures.charge ∙ ap (λ (k : UnderLock). charge_after k.core.state event) c.self.view_is) c.entry_of-entry.ensures in
+    let grown : c.entries.result.now ≡ h.log ++ e ∷ [] = c.entries.ensures ∙ (c.push.ensures.entries ∙ ap (λ l. l ++ e ∷ []) (c.reserve.ensures.entries ∙ ap (λ (k : UnderLock). k.log) c.self.view_is)) in
     let legal : Legal g.N.Name.frames c.entries.result.now = subst (Legal g.N.Name.frames) (sym grown) ends.1 in
-    rw (c.self.invariant.4.frames) legal
+    rw (c.self.invariant.spare.frames) legal
 
 -- and the side that is published, as a page that lags behind one entry more
 pub keep_up-requires-clause-shown : goal.keep_up-requires-clause-shown
@@ -30,54 +30,54 @@ keep_up-requires-clause-shown g c =
     let new : List LogEntry = c.push.new.self.entries in
     let longer : new ≡ c.self.inside.log.entries ++ e ∷ [] = c.push.ensures.entries ∙ ap (λ l. l ++ e ∷ []) c.reserve.ensures.entries in
     let book_is : c.all.result.book ≡ g.N.Name.book = c.all.ensures.1 in
-    let page_is : page c.self.inside.writer.desk.spare.value.frames c.all.result.book c.entries.result.now ≡ page g.N.Name.frames g.N.Name.book new = λ i. page (c.self.invariant.4.frames i) (book_is i) (c.entries.ensures i) in
-    subst (LagsBehind c.self.inside.writer.desk.shown.value) (sym page_is) (lags_more g.N.Name.frames g.N.Name.book c.self.inside.log.entries new e c.self.inside.writer.desk.shown.value c.self.invariant.6 longer)
+    let page_is : page c.self.inside.writer.desk.spare.value.frames c.all.result.book c.entries.result.now ≡ page g.N.Name.frames g.N.Name.book new = λ i. page (c.self.invariant.spare.frames i) (book_is i) (c.entries.ensures i) in
+    subst (LagsBehind c.self.inside.writer.desk.shown.value) (sym page_is) (lags_more g.N.Name.frames g.N.Name.book c.self.inside.log.entries new e c.self.inside.writer.desk.shown.value c.self.invariant.lags longer)
 
 pub invariant_of-self-2 : goal.invariant_of-self-2
 invariant_of-self-2 g c =
-    let h : Held = c.args.self.now in
+    let h : UnderLock = c.args.self.now in
     let event : Event = c.args.ready.event in
     let e : LogEntry = c.entry_of-entry.result in
     let new : List LogEntry = c.push.new.self.entries in
-    let stands = subst (Stands g.N.Name.frames) c.self.view_is (c.self.invariant.0, c.self.invariant.1) in
-    let ends = judged g.N.Name.frames h c.args.ready.nth event c.carry_out-decision.result.reply c.carry_out-decision.result.used_after e stands c.requires.nth.1 (c.carry_out-decision.ensures.reply ∙ ap (λ (k : Held). answer k.core.state event) c.self.view_is) (c.carry_out-decision.ensures.charge ∙ ap (λ (k : Held). charge_after k.core.state event) c.self.view_is) c.entry_of-entry.ensures in
+    let stands = subst (Stands g.N.Name.frames) c.self.view_is (c.self.invariant.legal, c.self.invariant.stands) in
+    let ends = judged g.N.Name.frames h c.args.ready.nth event c.perform-outcome.result.reply c.perform-outcome.result.used_after e stands c.requires.nth.1 (c.perform-outcome.ensures.reply ∙ ap (λ (k : UnderLock). answer k.core.state event) c.self.view_is) (c.perform-outcome.ensures.charge ∙ ap (λ (k : UnderLock). charge_after k.core.state event) c.self.view_is) c.entry_of-entry.ensures in
     let longer : new ≡ c.self.inside.log.entries ++ e ∷ [] = c.push.ensures.entries ∙ ap (λ l. l ++ e ∷ []) c.reserve.ensures.entries in
-    let grown : new ≡ h.log ++ e ∷ [] = longer ∙ ap (λ (k : Held). k.log ++ e ∷ []) c.self.view_is in
-    let moved : c.carry_out-decision.new.self.state ≡ next h.core.state event = c.carry_out-decision.ensures.state ∙ ap (λ (k : Held). next k.core.state event) c.self.view_is in
-    let all = logged g.N.Name.frames h.log new h.core.state c.carry_out-decision.new.self.state event.cpu event.pid event.call e stands.0 stands.1 ends.0 grown moved in
+    let grown : new ≡ h.log ++ e ∷ [] = longer ∙ ap (λ (k : UnderLock). k.log ++ e ∷ []) c.self.view_is in
+    let moved : c.perform-outcome.new.self.state ≡ next h.core.state event = c.perform-outcome.ensures.state ∙ ap (λ (k : UnderLock). next k.core.state event) c.self.view_is in
+    let all = logged g.N.Name.frames h.log new h.core.state c.perform-outcome.new.self.state event.cpu event.pid event.call e stands.0 stands.1 ends.0 grown moved in
     let book_is : c.all.result.book ≡ g.N.Name.book = c.all.ensures.1 in
-    let page_is : page c.self.inside.writer.desk.spare.value.frames c.all.result.book c.entries.result.now ≡ page g.N.Name.frames g.N.Name.book new = λ i. page (c.self.invariant.4.frames i) (book_is i) (c.entries.ensures i) in
-    let added : c.add.new.self ≡ new = search rules in (
-      all.legal,
-      all.stands,
-      λ watched. c.keep_up.ensures.watched watched ∙ page_is,
-      c.keep_up.ensures.view ∙ c.self.invariant.3,
-      subst (LagsBehind c.keep_up.new.writer.desk.spare.value) page_is c.keep_up.ensures.spare,
-      added,
-      subst (LagsBehind c.keep_up.new.writer.desk.shown.value) page_is c.keep_up.ensures.shown,
-    )
+    let page_is : page c.self.inside.writer.desk.spare.value.frames c.all.result.book c.entries.result.now ≡ page g.N.Name.frames g.N.Name.book new = λ i. page (c.self.invariant.spare.frames i) (book_is i) (c.entries.ensures i) in
+    let added : c.add.new.self ≡ new = search rules in record {
+      legal = all.legal;
+      stands = all.stands;
+      told = added;
+      mine = c.keep_up.ensures.view ∙ c.self.invariant.mine;
+      shown = λ watched. c.keep_up.ensures.watched watched ∙ page_is;
+      lags = subst (LagsBehind c.keep_up.new.writer.desk.shown.value) page_is c.keep_up.ensures.shown;
+      spare = subst (LagsBehind c.keep_up.new.writer.desk.spare.value) page_is c.keep_up.ensures.spare;
+    }
 
 -- the log with its entry is legal
 pub front_of-requires-clause-legal : goal.front_of-requires-clause-legal
 front_of-requires-clause-legal g c =
-    let h : Held = c.args.self.now in
+    let h : UnderLock = c.args.self.now in
     let event : Event = c.args.ready.event in
     let e : LogEntry = c.entry_of-entry.result in
     let new : List LogEntry = c.push.new.self.entries in
-    let stands = subst (Stands g.N.Name.frames) c.self.view_is (c.self.invariant.0, c.self.invariant.1) in
-    let ends = judged g.N.Name.frames h c.args.ready.nth event c.carry_out-decision.result.reply c.carry_out-decision.result.used_after e stands c.requires.nth.1 (c.carry_out-decision.ensures.reply ∙ ap (λ (k : Held). answer k.core.state event) c.self.view_is) (c.carry_out-decision.ensures.charge ∙ ap (λ (k : Held). charge_after k.core.state event) c.self.view_is) c.entry_of-entry.ensures in
-    let grown : new ≡ h.log ++ e ∷ [] = c.push.ensures.entries ∙ ap (λ l. l ++ e ∷ []) c.reserve.ensures.entries ∙ ap (λ (k : Held). k.log ++ e ∷ []) c.self.view_is in
+    let stands = subst (Stands g.N.Name.frames) c.self.view_is (c.self.invariant.legal, c.self.invariant.stands) in
+    let ends = judged g.N.Name.frames h c.args.ready.nth event c.perform-outcome.result.reply c.perform-outcome.result.used_after e stands c.requires.nth.1 (c.perform-outcome.ensures.reply ∙ ap (λ (k : UnderLock). answer k.core.state event) c.self.view_is) (c.perform-outcome.ensures.charge ∙ ap (λ (k : UnderLock). charge_after k.core.state event) c.self.view_is) c.entry_of-entry.ensures in
+    let grown : new ≡ h.log ++ e ∷ [] = c.push.ensures.entries ∙ ap (λ l. l ++ e ∷ []) c.reserve.ensures.entries ∙ ap (λ (k : UnderLock). k.log ++ e ∷ []) c.self.view_is in
     subst (Legal g.N.Name.frames) (sym grown) ends.1
 
 -- the core is in the state after the log with its entry
 pub returns-clause-state : goal.returns-clause-state
 returns-clause-state g c =
-    let h : Held = c.args.self.now in
+    let h : UnderLock = c.args.self.now in
     let event : Event = c.args.ready.event in
     let e : LogEntry = c.entry_of-entry.result in
     let new : List LogEntry = c.push.new.self.entries in
-    let stands = subst (Stands g.N.Name.frames) c.self.view_is (c.self.invariant.0, c.self.invariant.1) in
-    let ends = judged g.N.Name.frames h c.args.ready.nth event c.carry_out-decision.result.reply c.carry_out-decision.result.used_after e stands c.requires.nth.1 (c.carry_out-decision.ensures.reply ∙ ap (λ (k : Held). answer k.core.state event) c.self.view_is) (c.carry_out-decision.ensures.charge ∙ ap (λ (k : Held). charge_after k.core.state event) c.self.view_is) c.entry_of-entry.ensures in
-    let grown : new ≡ h.log ++ e ∷ [] = c.push.ensures.entries ∙ ap (λ l. l ++ e ∷ []) c.reserve.ensures.entries ∙ ap (λ (k : Held). k.log ++ e ∷ []) c.self.view_is in
-    let moved : c.carry_out-decision.new.self.state ≡ next h.core.state event = c.carry_out-decision.ensures.state ∙ ap (λ (k : Held). next k.core.state event) c.self.view_is in
-    (logged g.N.Name.frames h.log new h.core.state c.carry_out-decision.new.self.state event.cpu event.pid event.call e stands.0 stands.1 ends.0 grown moved).stands
+    let stands = subst (Stands g.N.Name.frames) c.self.view_is (c.self.invariant.legal, c.self.invariant.stands) in
+    let ends = judged g.N.Name.frames h c.args.ready.nth event c.perform-outcome.result.reply c.perform-outcome.result.used_after e stands c.requires.nth.1 (c.perform-outcome.ensures.reply ∙ ap (λ (k : UnderLock). answer k.core.state event) c.self.view_is) (c.perform-outcome.ensures.charge ∙ ap (λ (k : UnderLock). charge_after k.core.state event) c.self.view_is) c.entry_of-entry.ensures in
+    let grown : new ≡ h.log ++ e ∷ [] = c.push.ensures.entries ∙ ap (λ l. l ++ e ∷ []) c.reserve.ensures.entries ∙ ap (λ (k : UnderLock). k.log ++ e ∷ []) c.self.view_is in
+    let moved : c.perform-outcome.new.self.state ≡ next h.core.state event = c.perform-outcome.ensures.state ∙ ap (λ (k : UnderLock). next k.core.state event) c.self.view_is in
+    (logged g.N.Name.frames h.log new h.core.state c.perform-outcome.new.self.state event.cpu event.pid event.call e stands.0 stands.1 ends.0 grown moved).stands

@@ -9,12 +9,12 @@ invariant_of-result g c =
     let begun = legal_opening g.N.Name.frames c.args.log.entries c.args.core.state c.requires.size.0 c.requires.size.1 none c.requires.core in
     let w = c.requires.writer in
     let whole : Page = page g.N.Name.frames g.N.Name.book c.args.log.entries in
-    let empty : LagsBehind (page g.N.Name.frames g.N.Name.book []) whole = record { frames = refl; book = refl; begins = (c.args.log.entries, refl) } in (
-      begun.0,
-      begun.1,
-      λ watched. w.0 ∙ ap (page g.N.Name.frames g.N.Name.book) (sym none),
-      w.1,
-      subst (λ (p : Page). LagsBehind p whole) (sym c.requires.spare) empty,
-      c.new.ensures ∙ sym none,
-      subst (λ (p : Page). LagsBehind p whole) (sym w.0) empty,
-    )
+    let empty : LagsBehind (page g.N.Name.frames g.N.Name.book []) whole = record { frames = refl; book = refl; begins = (c.args.log.entries, refl) } in record {
+      legal = begun.0;
+      stands = begun.1;
+      told = c.new.ensures ∙ sym none;
+      mine = w.1;
+      shown = λ watched. w.0 ∙ ap (page g.N.Name.frames g.N.Name.book) (sym none);
+      lags = subst (λ (p : Page). LagsBehind p whole) (sym w.0) empty;
+      spare = subst (λ (p : Page). LagsBehind p whole) (sym c.requires.spare) empty;
+    }

@@ -2,12 +2,13 @@ use Rattle.std.proofs.Common.{◌+◌, ◌≤◌, ap, subst, length, is_some}
 use Rattle.address_space.specs.Image.{LeavesRoom}
 use Rattle.address_space.specs.Walks.{WalksAgree}
 use Rattle.quota_tree.specs.Book.{given, quota_of}
-use Rattle.process_table.specs.Image.{StandsFor, image_of}
+use Rattle.process_table.specs.Image.{StandsFor, image_of, memory_of}
 use Rattle.process_table.specs.View.{View, view_of}
 use Rattle.process_table.specs.WellFormed.{IsWellFormed, total}
 use Rattle.process_table.proofs.ImageStanding.{image_stands}
 use Rattle.process_table.proofs.Ranges.{total-book}
 use Rattle.process_table.proofs.processes.Processes.stands.Goals as goal
+use Rattle.address_space.specs.Places.{PlacesTell}
 use Rattle.address_space.specs.Stays.{WaysAgree}
 
 pub returns-clause-image : goal.returns-clause-image
@@ -19,7 +20,7 @@ returns-clause-image c =
     (λ p live. subst (λ n. n + given v.state.book p ≤ quota_of v.state.book p) (c.self.invariant.kept.charged p live) (c.within.ensures.quota p live)))
 
 pub returns-clause-walks : goal.returns-clause-walks
-returns-clause-walks c = subst (λ (v : View). WalksAgree (record { directories = v.directories; bytes = v.bytes; roles = v.roles }) v.state.spaces) c.self.view_is c.stands.ensures.walks
+returns-clause-walks c = subst (λ (v : View). WalksAgree (memory_of v) v.state.spaces) c.self.view_is c.stands.ensures.walks
 
 pub returns-clause-total : goal.returns-clause-total
 returns-clause-total c =
@@ -33,9 +34,13 @@ returns-clause-well_formed c = subst (λ (v : View). IsWellFormed v.state) c.sel
 pub returns-clause-used : goal.returns-clause-used
 returns-clause-used c =
     let v : View = view_of c.self.inside.spaces c.self.inside.quotas c.self.inside.offers in
-    subst (λ (v : View). LeavesRoom (record { directories = v.directories; bytes = v.bytes; roles = v.roles }) (total v.state)) c.self.view_is
-    (subst (LeavesRoom (record { directories = v.directories; bytes = v.bytes; roles = v.roles })) (total-book v.directories v.state c.self.invariant.kept.live c.within.ensures.numbers) c.stands.ensures.used)
+    subst (λ (v : View). LeavesRoom (memory_of v) (total v.state)) c.self.view_is
+    (subst (LeavesRoom (memory_of v)) (total-book v.directories v.state c.self.invariant.kept.live c.within.ensures.numbers) c.stands.ensures.used)
 
 pub returns-clause-ways : goal.returns-clause-ways
 returns-clause-ways c = subst (λ (v : View). WaysAgree
-    (record { directories = v.directories; bytes = v.bytes; roles = v.roles })) c.self.view_is c.stands.ensures.ways
+    (memory_of v)) c.self.view_is c.stands.ensures.ways
+
+pub returns-clause-places : goal.returns-clause-places
+returns-clause-places c = subst (λ (v : View). PlacesTell
+    (memory_of v) v.state.spaces) c.self.view_is c.stands.ensures.places

@@ -1,0 +1,28 @@
+use Rattle.std.proofs.Common.{ap, sym, ◌∙◌, arith}
+use Rattle.std.specs.Prelude.{is_some, slice_index}
+use Rattle.page_words.specs.Addresses.{page_number, offset_number}
+use Rattle.page_words.proofs.OptionLemmas.{no_value}
+use Rattle.address_space.specs.Spaces.{Cell, slot_at}
+use Rattle.address_space.proofs.steps.Looks.{zero_byte}
+use Rattle.address_space.proofs.steps.FoundPages.{found_mapped, found_lies, found_cell}
+use Rattle.address_space.proofs.steps.Placing.{place_found}
+use Rattle.address_space.specs.Places.{found_of}
+use Rattle.address_space.proofs.Insides.{spaces_at}
+use Rattle.address_space.proofs.Spaces.byte_at.Goals as goal
+
+pub byte_of-requires-clause-frame : goal.byte_of-requires-clause-frame
+byte_of-requires-clause-frame c = (found_lies c.self.inside c.args.pid (page_number c.args.address) c.in-Some.found c.self.invariant c.requires.user (sym (place_found c.self.inside c.args.pid (page_number c.args.address)) ∙ ap found_of (sym (rw (← c.self.view_is) at c.requires.place)) ∙ sym c.found.ensures ∙ c.in-Some.is)).frame
+
+pub returns-in-Some : goal.returns-in-Some
+returns-in-Some c =
+    rw (← c.self.view_is)
+    ((rw c.offset_of.ensures.value at c.byte_of.ensures)
+    ∙ sym (ap (λ (x : Cell). slice_index x.bytes (offset_number c.args.address)) (found_cell c.self.inside c.args.pid (page_number c.args.address) c.in-Some.found c.self.invariant c.requires.user (sym (place_found c.self.inside c.args.pid (page_number c.args.address)) ∙ ap found_of (sym (rw (← c.self.view_is) at c.requires.place)) ∙ sym c.found.ensures ∙ c.in-Some.is))))
+
+pub returns-in-None : goal.returns-in-None
+returns-in-None c =
+    rw (← c.self.view_is)
+    (sym (zero_byte (spaces_at c.self.inside) (slot_at c.args.pid c.args.address) (offset_number c.args.address)
+    (no_value _ (sym (found_mapped c.self.inside c.args.pid (page_number c.args.address) c.self.invariant c.requires.user)
+    ∙ ap is_some (sym (place_found c.self.inside c.args.pid (page_number c.args.address)) ∙ ap found_of (sym (rw (← c.self.view_is) at c.requires.place)) ∙ sym c.found.ensures ∙ c.in-None.is)))
+    (omega arith)))

@@ -1,0 +1,13 @@
+use Rattle.std.proofs.Common.{◌≡◌, ap, sym, ◌∙◌, is_some}
+use Rattle.std.specs.Option.{option_map}
+use Rattle.page_words.specs.Addresses.{second_page}
+use Rattle.address_space.specs.Places.{place_in}
+use Rattle.address_space.proofs.steps.Neighbours.{second_there}
+use Rattle.address_space.proofs.Spaces.read_at.Goals as goal
+
+pub unwrap-second-requires : goal.unwrap-second-requires
+unwrap-second-requires c = ap is_some (c.requires.second ∙ ap (option_map (place_in c.args.self.now.directories c.args.self.now.bytes c.args.pid)) (sym c.second_page.ensures ∙ c.in-Some.is))
+
+pub load_over-requires-clause-second : goal.load_over-requires-clause-second
+load_over-requires-clause-second c =
+    second_there c.args.self.now.directories c.args.self.now.bytes c.args.pid c.in-Some.behind (second_page c.args.address c.args.size) c.args.second.now c.unwrap-second.result c.requires.second (sym c.second_page.ensures ∙ c.in-Some.is) c.unwrap-second.ensures

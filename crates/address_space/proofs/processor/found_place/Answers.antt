@@ -1,0 +1,14 @@
+use Rattle.std.proofs.Common.{◌+◌, ◌*◌, ap, sym, ◌∙◌, arith}
+use Rattle.page_words.specs.Addresses.{offset_number}
+use Rattle.address_space.proofs.steps.WalkSteps.{walk_inside, walk_named}
+use Rattle.address_space.proofs.processor.found_place.Goals as goal
+
+pub prove-unreachable-requires : goal.prove-unreachable-requires
+prove-unreachable-requires c =
+    let inside = walk_inside c.args.memory.now c.args.directory c.args.address c.unwrap-frame.result c.args.access (sym c.walk.ensures ∙ c.unwrap-frame.ensures) in
+    let same = c.frame.view_is in
+    omega (arith, inside, same, c.frames-frames.ensures.length, c.if-prove.true)
+
+pub returns-clause-place : goal.returns-clause-place
+returns-clause-place c =
+    c.place_in.ensures ∙ ap (λ f. 4096 * f + offset_number c.args.address) (walk_named c.args.memory.now c.args.directory c.args.address c.unwrap-frame.result c.args.access (sym c.walk.ensures ∙ c.unwrap-frame.ensures))

@@ -1,0 +1,101 @@
+-- The places of a process's other pages, after an access through one.
+use Rattle.std.proofs.Common.{◌≡◌, ◌≢◌, ◌+◌, ◌<◌, ◌≤◌, ◌^◌, ℕ, true, false, List, length, refl, ap, sym, ◌∙◌, inl, inr, Option, Some, None, arith}
+use Rattle.std.specs.Prelude.{slice_get}
+use Rattle.std.specs.Option.{option_map, option_and_then}
+use Rattle.page_words.specs.Addresses.{slot_number, index_number, IsUserPage}
+use Rattle.phys_memory.specs.Bytes.{frame_bytes, word_in}
+use Rattle.phys_memory.proofs.Frames.{length-frame}
+use Rattle.alloc_table.specs.declared.Role.{Role}
+use Rattle.page_map.specs.declared.PageEntry.{PageEntry}
+use Rattle.page_map.specs.Entries.{Frames, table_of, entry_at, word_entry, entry_word, with_entry}
+use Rattle.page_map.proofs.WordLaws.{entry_word-lt}
+use Rattle.address_space.specs.declared.Spaces.TheInside.{Inside as Inner}
+use Rattle.address_space.specs.declared.place.Found.{Found}
+use Rattle.address_space.specs.declared.place.Place.{Place}
+use Rattle.address_space.specs.Spaces.{Slot, at_page, write_at}
+use Rattle.address_space.specs.View.{Directories, directory_of, table_in, entry_in}
+use Rattle.address_space.specs.Finds.{found_by, EntryIs, BytesStored}
+use Rattle.address_space.specs.Places.{place_by, place_there, place_in}
+use Rattle.address_space.specs.Sound.{IsSound}
+use Rattle.address_space.proofs.Insides.{IsKeptInside, found_at}
+use Rattle.address_space.proofs.entries.EntrySteps.{entry_by_table, tables_kept, entry_other}
+use Rattle.address_space.proofs.steps.FoundPages.{found_known, found_lies}
+use Rattle.address_space.proofs.steps.Stores.{frame_written, length-write_at, stored_place}
+
+-- a place is that of its table and its entry
+place_same : (D : Directories) (m m' : Frames) (p page : ℕ) → table_in D m' p (slot_number page) ≡ table_in D m p (slot_number page)
+    → entry_in D m' (at_page p page) ≡ entry_in D m (at_page p page) → place_by m' page (table_in D m' p (slot_number page)) ≡ place_by m page (table_in D m p (slot_number page))
+place_same D m m' p page tables entries = by (table_in D m p (slot_number page)) (table_in D m' p (slot_number page)) tables
+    (sym (entry_by_table D m' (at_page p page)) ∙ entries ∙ entry_by_table D m (at_page p page))
+  where
+    read : Frames → ℕ → Option PageEntry
+    read n t = word_entry (word_in (n t) (index_number page))
+
+    by : (x y : Option ℕ) → y ≡ x → option_and_then (read m') y ≡ option_and_then (read m) x → place_by m' page y ≡ place_by m page x
+    by None None same h = refl
+    by (Some t) None same h = cc
+    by None (Some t) same h = cc
+    by (Some t) (Some u) same h =
+        let e : Some u ≡ Some t = same in
+        let is : u ≡ t = cc in
+        (λ i. place_there (is i) (option_map (λ e. record { page = page; table = is i; entry = e }) (h i)))
+
+-- where an entry is written at another page
+entry_beside : (directories : List (Option ℕ)) (one two : List ℕ) (roles : List Role) (p d page : ℕ) (f : Found) (e : PageEntry) → IsSound directories one roles → directory_of directories p ≡ Some d
+    → table_of (frame_bytes one) d (slot_number page) ≡ Some f.table → f.page ≡ page → e.frame < 2 ^ 20 → EntryIs one f e two
+    → (other : ℕ) → other ≢ page → place_in directories two p other ≡ place_in directories one p other
+entry_beside directories one two roles p d page f e sound live table same small (inl stays) other differ = ap (λ bytes. place_in directories bytes p other) stays.1
+entry_beside directories one two roles p d page f e sound live table same small (inr written) other differ =
+    let D : Directories = directory_of directories in
+    let m : Frames = frame_bytes one in
+    let is : frame_bytes two ≡ with_entry m f.table page e = written ∙ ap (λ n. with_entry m f.table n e) same in
+    let lt = entry_word-lt e small in
+    place_same D m (frame_bytes two) p other
+    (ap (λ n. table_in D n p (slot_number other)) is ∙ tables_kept D m (slice_get roles) sound.tables p d page f.table (entry_word e) live table lt p (slot_number other))
+    (ap (λ n. entry_in D n (at_page p other)) is ∙ entry_other D m (slice_get roles) sound.tables p d page f.table (entry_word e) live table lt (at_page p other) (λ k. differ (ap (λ (s : Slot). s.page) k)))
+
+module _ (inner : Inner) (p page : ℕ) (f : Found) (before : IsKeptInside inner) (user : IsUserPage page) (is : found_at inner p page ≡ Some f) where
+  -- a load
+  pub loaded_beside : (two : List ℕ) → EntryIs inner.memory f (record f.entry { accessed = true }) two
+      → (other : ℕ) → other ≢ page → place_in inner.directories two p other ≡ place_in inner.directories inner.memory p other
+  loaded_beside two put =
+      let there = found_known inner p page f before user is in
+      entry_beside inner.directories inner.memory two inner.frames p there.directory page f (record f.entry { accessed = true }) before.spaces.sound there.live there.table there.same_page (found_lies inner p page f before user is).frame.small put
+
+  -- its frame has 4,096 bytes, after a part was written too
+  pub part_long : (at : ℕ) (new : List ℕ) → at + length new ≤ 4096 → length (write_at (frame_bytes inner.memory f.entry.frame) at new) ≡ 4096
+  part_long at new inside =
+      let long = length-frame inner.memory f.entry.frame (found_lies inner p page f before user is).frame.fits in
+      length-write_at (frame_bytes inner.memory f.entry.frame) at new (omega (arith, long, inside)) ∙ long
+
+  -- a store
+  pub stored_beside : (two : List ℕ) (at : ℕ) (new : List ℕ) → f.entry.lazy ≡ false → length (write_at (frame_bytes inner.memory f.entry.frame) at new) ≡ 4096 → BytesStored inner.memory f at new two
+      → (other : ℕ) → other ≢ page → place_in inner.directories two p other ≡ place_in inner.directories inner.memory p other
+  stored_beside two at new real long s other differ =
+      let there = found_known inner p page f before user is in
+      let D : Directories = directory_of inner.directories in
+      let place = stored_place inner.directories inner.memory inner.frames p there.directory page f.entry before.spaces.sound there.live user.0 user.1 there.here real in
+      let w = frame_written inner.directories inner.memory s.between inner.frames f.entry.frame (write_at (frame_bytes inner.memory f.entry.frame) at new) before.spaces.sound place.loose long s.written s.between_long in
+      let table : table_of (frame_bytes s.between) there.directory (slot_number page) ≡ Some f.table =
+      sym (ap (option_and_then (λ x. table_of (frame_bytes s.between) x (slot_number page))) there.live)
+      ∙ w.tables p (slot_number page) ∙ ap (option_and_then (λ x. table_of (frame_bytes inner.memory) x (slot_number page))) there.live ∙ there.table in
+      entry_beside inner.directories s.between two inner.frames p there.directory page f (record f.entry { accessed = true; dirty = true }) w.sound there.live table there.same_page (found_lies inner p page f before user is).frame.small s.entry other differ
+      ∙ place_same D (frame_bytes inner.memory) (frame_bytes s.between) p other (w.tables p (slot_number other))
+      (ap (option_and_then (λ x. entry_at (frame_bytes s.between) x other)) there.live ∙ w.entry p there.directory other there.live ∙ sym (ap (option_and_then (λ x. entry_at (frame_bytes inner.memory) x other)) there.live))
+
+-- ---- The second page of an access
+
+pub no_second : (directories : List (Option ℕ)) (bytes : List ℕ) (p : ℕ) (x : Option ℕ) → option_map (place_in directories bytes p) x ≡ None → x ≡ None
+no_second directories bytes p None h = refl
+no_second directories bytes p (Some page) h = cc
+
+pub second_there : (directories : List (Option ℕ)) (bytes : List ℕ) (p page : ℕ) (x : Option ℕ) (y : Option Place) (place : Place) → y ≡ option_map (place_in directories bytes p) x → x ≡ Some page → y ≡ Some place
+    → place ≡ place_in directories bytes p page
+second_there directories bytes p page x y place at is found =
+    let e : Some place ≡ Some (place_in directories bytes p page) = sym found ∙ at ∙ ap (option_map (place_in directories bytes p)) is in
+    cc
+
+pub second_is : (directories : List (Option ℕ)) (bytes : List ℕ) (p : ℕ) (x : Option ℕ) (place : Place) → Some place ≡ option_map (place_in directories bytes p) x
+    → (page : ℕ) × (x ≡ Some page) × (place ≡ place_in directories bytes p page)
+second_is directories bytes p None place h = cc
+second_is directories bytes p (Some page) place h = let e : Some place ≡ Some (place_in directories bytes p page) = h in (page, refl, cc)

@@ -1,0 +1,23 @@
+//! How many frames a machine may have, and the texts of its faults.
+use page_words::{MachineFault, is_frame_count};
+use std::process::Abort;
+
+/// A fault has that text.
+fn check_text<R: AllocGlobal + Abort>(rt: &R, fault: MachineFault, expected: &str) {
+    let text = format!(in rt.alloc(); "{fault}").expect(rt, "memory");
+    assert_eq!(rt; text.as_str(), expected);
+}
+
+#[test]
+fn faults_of_a_machine_have_texts(rt: HostRuntime) {
+    check_text(&rt, MachineFault::BadSize, "not 16 to 4096 frames");
+    check_text(&rt, MachineFault::NoMemory, "out of memory");
+}
+
+#[test]
+fn a_machine_has_16_to_4096_frames(rt: HostRuntime) {
+    assert_eq!(rt;
+        [15, 16, 4096, 4097].map(|frames| is_frame_count(frames)),
+        [false, true, true, false]
+    );
+}

@@ -1,0 +1,255 @@
+//! Accesses, each by one call: what completes as memory stands, in one page, and any other by its plan.
+
+ghost use Rattle.std.specs.Prelude.{◌≡◌, ◌↔◌, true, IfSome, IsSome, IsNone, IsOk, IsErr, Some, None};
+ghost use Rattle.page_words.specs.Addresses.{page_number, second_page, IsUserPage};
+ghost use Rattle.address_space.specs.Places.{place_in};
+ghost use Rattle.address_space.specs.Stays.{FramesStay, none_goes};
+ghost use Rattle.process_table.specs.Calls.{access_value, after_access, after_load, after_store, loaded};
+ghost use Rattle.process_table.specs.Image.{memory_of};
+ghost use Rattle.process_table.specs.State.{container_of, is_live};
+ghost use Rattle.fault_handler.specs.Fills.{lazy_written};
+ghost use Rattle.fault_handler.specs.Plans.{access_result, at_once, plan_at};
+ghost use Rattle.fault_handler.specs.declared.plans.Plan.TheVariants as plan;
+
+use crate::looks::look_at;
+use crate::planning::{by_looks, plan_by};
+use crate::plans::{PageStep, Plan, Stop};
+use crate::{map_by_step, settle_at};
+use address_space::Place;
+use page_words::{Pid, Size, Vaddr, in_user_range, page_of, second_page};
+use process_table::{Cause, Processes};
+use quota_tree::Container;
+use table_walk::Access;
+
+/// Whether the bytes of an access lie in one page of the user range.
+#[inline(always)]
+fn is_in_page(address: Vaddr, size: Size) -> bool
+    ensures within { result ≡ true → second_page address size ≡ None }
+    ensures user { result ≡ true → IsUserPage (page_number address) }
+{
+    in_user_range(page_of(address)) && second_page(address, size).is_none()
+}
+
+/// A load in one page of the user range, where it completes as memory stands: the page is mapped. The value read; None
+/// where it doesn't, and nothing changes.
+#[inline(never)]
+fn try_load(processes: &mut Processes, pid: Pid, address: Vaddr, size: Size) -> Option<u32>
+    requires within { second_page address size ≡ None }
+    requires user { IsUserPage (page_number address) }
+    ensures live { IsSome result → is_live processes.old.state pid ≡ true }
+    ensures plan { IsSome result ↔ plan_at processes.old pid address size Access.Read ≡ at_once }
+    ensures value { IfSome result (λ value. value ≡ loaded processes.old.state pid address size) }
+    ensures state { IsSome result → processes.new.state ≡ after_load processes.old.state pid address size }
+    ensures stay { FramesStay none_goes (memory_of processes.old) (memory_of processes.new) }
+    ensures none { IsNone result → processes.new ≡ processes.old }
+{
+    let page = page_of(address);
+    let place = processes.spaces().place(pid, page);
+    processes.tells(pid, page, &place);
+    if place.is_mapped() {
+        Some(processes.load_at(pid, address, size, &place))
+    } else {
+        None
+    }
+}
+
+/// A store in one page of the user range, where it completes as memory stands: the page is mapped with the right to
+/// write, and isn't lazy. 0; None where it doesn't, and nothing changes.
+#[inline(never)]
+fn try_store(
+    processes: &mut Processes,
+    pid: Pid,
+    address: Vaddr,
+    size: Size,
+    value: u32,
+) -> Option<u32>
+    requires within { second_page address size ≡ None }
+    requires user { IsUserPage (page_number address) }
+    ensures live { IsSome result → is_live processes.old.state pid ≡ true }
+    ensures plan { IsSome result ↔ plan_at processes.old pid address size Access.Write ≡ at_once }
+    ensures value { IfSome result (λ value. value ≡ 0) }
+    ensures state { IsSome result → processes.new.state ≡ after_store processes.old.state pid address size value }
+    ensures stay { FramesStay none_goes (memory_of processes.old) (memory_of processes.new) }
+    ensures none { IsNone result → processes.new ≡ processes.old }
+{
+    let page = page_of(address);
+    let place = processes.spaces().place(pid, page);
+    processes.tells(pid, page, &place);
+    if !place.takes_stores() {
+        return None;
+    }
+    processes.store_at(pid, address, size, value, &place);
+    Some(0)
+}
+
+/// An access in one page of the user range that completes as memory stands, which is nearly each: it is the one look. The
+/// value read, or 0 after a write; None where it is no such access, and nothing changes.
+#[inline(always)]
+pub fn try_access(
+    processes: &mut Processes,
+    pid: Pid,
+    address: Vaddr,
+    size: Size,
+    access: Access,
+    value: u32,
+) -> Option<u32>
+    ensures live { IsSome result → is_live processes.old.state pid ≡ true }
+    ensures plan { IsSome result → plan_at processes.old pid address size access ≡ at_once }
+    ensures value { IfSome result (λ value. value ≡ access_value processes.old.state pid address size access) }
+    ensures state { IsSome result → processes.new.state ≡ after_access processes.old.state pid address size access value }
+    ensures stay { FramesStay none_goes (memory_of processes.old) (memory_of processes.new) }
+    ensures none { IsNone result → processes.new ≡ processes.old }
+{
+    if !is_in_page(address, size) {
+        return None;
+    }
+    match access {
+        Access::Read => try_load(processes, pid, address, size),
+        Access::Write => try_store(processes, pid, address, size, value),
+    }
+}
+
+/// What an access in one page of the user range comes to, by what stands at the page. The container is the process's.
+fn plan_in_page(
+    processes: &Processes,
+    pid: Pid,
+    address: Vaddr,
+    size: Size,
+    access: Access,
+    container: &Container,
+    place: &Place,
+) -> Plan
+    requires live { is_live processes.now.state pid ≡ true }
+    requires container { container_of processes.now.state pid ≡ Some container.now }
+    requires within { second_page address size ≡ None }
+    requires user { IsUserPage (page_number address) }
+    requires place { place.now ≡ place_in processes.now.directories processes.now.bytes pid (page_number address) }
+    ensures { result ≡ plan_at processes.now pid address size access }
+{
+    processes.stands();
+    processes.spaces().stands();
+    let look = look_at(processes, pid, access, address, place);
+    by_looks(access, &look, &None, container).plan
+}
+
+/// Carries out an access in one page, which completes by this step of the page, whose place this is: the value read, or 0
+/// after a write.
+fn settle_in_page(
+    processes: &mut Processes,
+    how: PageStep,
+    pid: Pid,
+    address: Vaddr,
+    size: Size,
+    access: Access,
+    value: u32,
+    place: &Place,
+) -> u32
+    requires plan { plan.Ready how None ≡ plan_at processes.old pid address size access }
+    requires within { second_page address size ≡ None }
+    requires user { IsUserPage (page_number address) }
+    requires place { place.now ≡ place_in processes.old.directories processes.old.bytes pid (page_number address) }
+    ensures value { result ≡ access_value processes.old.state pid address size access }
+    ensures state { processes.new.state ≡ after_access processes.old.state pid address size access value }
+    ensures stay { FramesStay (lazy_written access pid address size) (memory_of processes.old) (memory_of processes.new) }
+{
+    let page = page_of(address);
+    let mapped = map_by_step(processes, pid, page, how, place);
+    match access {
+        Access::Read => processes.load_at(pid, address, size, &mapped),
+        Access::Write => {
+            let real = processes.fill_at(pid, page, &mapped);
+            processes.store_at(pid, address, size, value, &real);
+            0
+        }
+    }
+}
+
+/// Plans an access in one page, which is looked up, and carries it out by that place where it goes on.
+#[inline(never)]
+fn plan_and_settle(
+    processes: &mut Processes,
+    pid: Pid,
+    address: Vaddr,
+    size: Size,
+    access: Access,
+    value: u32,
+) -> Result<u32, Stop>
+    requires within { second_page address size ≡ None }
+    requires user { IsUserPage (page_number address) }
+    ensures result { result ≡ access_result processes.old pid address size access }
+    ensures state { IsOk result → processes.new.state ≡ after_access processes.old.state pid address size access value }
+    ensures stay { FramesStay (lazy_written access pid address size) (memory_of processes.old) (memory_of processes.new) }
+    ensures kept { IsErr result → processes.new ≡ processes.old }
+{
+    let Some(container) = processes.container(pid) else {
+        return Err(Stop::Refused(Cause::NoProcess));
+    };
+    let place = processes.spaces().place(pid, page_of(address));
+    match plan_in_page(processes, pid, address, size, access, &container, &place) {
+        Plan::Ready { first, .. } => Ok(settle_in_page(
+            processes, first, pid, address, size, access, value, &place,
+        )),
+        Plan::Fault(fault) => Err(Stop::Fault(fault)),
+        Plan::Refused(cause) => Err(Stop::Refused(cause)),
+    }
+}
+
+/// An access over two pages, or outside the user range, as `access` makes it.
+#[inline(never)]
+fn access_over(
+    processes: &mut Processes,
+    pid: Pid,
+    address: Vaddr,
+    size: Size,
+    access: Access,
+    value: u32,
+) -> Result<u32, Stop>
+    ensures result { result ≡ access_result processes.old pid address size access }
+    ensures state { IsOk result → processes.new.state ≡ after_access processes.old.state pid address size access value }
+    ensures stay { FramesStay (lazy_written access pid address size) (memory_of processes.old) (memory_of processes.new) }
+    ensures kept { IsErr result → processes.new ≡ processes.old }
+{
+    let Some(container) = processes.container(pid) else {
+        return Err(Stop::Refused(Cause::NoProcess));
+    };
+    let places = processes.access_places(pid, address, size);
+    let planned = plan_by(processes, pid, address, size, access, &container, &places);
+    match planned.plan {
+        Plan::Ready { .. } => Ok(settle_at(
+            processes,
+            &planned.plan,
+            pid,
+            address,
+            size,
+            access,
+            value,
+            &places,
+        )),
+        Plan::Fault(fault) => Err(Stop::Fault(fault)),
+        Plan::Refused(cause) => Err(Stop::Refused(cause)),
+    }
+}
+
+/// An access, by its plan: the value read, or 0 after a write.
+///
+/// The first that applies: Refused(NoProcess) for a process that isn't live, and else what stops its plan: a page fault, or
+/// Refused(Quota). Then nothing changes.
+pub fn access(
+    processes: &mut Processes,
+    pid: Pid,
+    address: Vaddr,
+    size: Size,
+    access: Access,
+    value: u32,
+) -> Result<u32, Stop>
+    ensures result { result ≡ access_result processes.old pid address size access }
+    ensures state { IsOk result → processes.new.state ≡ after_access processes.old.state pid address size access value }
+    ensures stay { FramesStay (lazy_written access pid address size) (memory_of processes.old) (memory_of processes.new) }
+    ensures kept { IsErr result → processes.new ≡ processes.old }
+{
+    if is_in_page(address, size) {
+        plan_and_settle(processes, pid, address, size, access, value)
+    } else {
+        access_over(processes, pid, address, size, access, value)
+    }
+}

@@ -1,0 +1,25 @@
+use Rattle.std.proofs.Common.{◌≡◌, subst}
+use Rattle.address_space.specs.Stays.{FramesStay}
+use Rattle.process_table.specs.Image.{memory_of}
+use Rattle.process_table.specs.View.{View}
+use Rattle.kernel_calls.specs.Gone.{gone_by}
+use Rattle.kernel_calls.specs.Machine.{next}
+use Rattle.kernel_calls.proofs.Leaving.{event_ends, standing}
+use Rattle.kernel_calls.proofs.cores.Core.reply_call.Goals as goal
+
+pub returns-clause-ends : goal.returns-clause-ends
+returns-clause-ends c =
+    let now = c.stands.ensures in
+    let later = c.stands-2.ensures in
+    let new = c.carry_call.new.processes in
+    let e = c.args.event.now in
+    event_ends c.args.self.now new e
+    (standing now.image now.walks now.ways now.well_formed) (standing later.image later.walks later.ways later.well_formed)
+    (subst (λ (v : View). new.state ≡ next v.state e) c.self.view_is c.carry_call.ensures.state)
+    (subst (λ (v : View). FramesStay (gone_by v.state e) (memory_of v) (memory_of new)) c.self.view_is c.carry_call.ensures.stay)
+
+pub returns-clause-stay : goal.returns-clause-stay
+returns-clause-stay c =
+    let new = c.carry_call.new.processes in
+    let e = c.args.event.now in
+    subst (λ (v : View). FramesStay (gone_by v.state e) (memory_of v) (memory_of new)) c.self.view_is c.carry_call.ensures.stay

@@ -1,0 +1,8 @@
+-- The texts of a machine's faults.
+use Rattle.std.specs.Prelude.{ℕ, List, codes}
+use Rattle.page_words.specs.declared.faults.MachineFault.{MachineFault}
+use Rattle.page_words.specs.declared.faults.MachineFault.TheVariants.{BadSize, NoMemory}
+
+abbrev pub fault_text : MachineFault → List ℕ
+fault_text BadSize = codes "not 16 to 4096 frames"
+fault_text NoMemory = codes "out of memory"

@@ -1,0 +1,27 @@
+use Rattle.std.proofs.Common.{◌≡◌, true, sym, subst, refl, ap}
+use Rattle.process_table.specs.State.{State, is_mapped}
+use Rattle.process_table.specs.View.{View, state_of}
+use Rattle.process_table.proofs.Charged.{charged-same}
+use Rattle.process_table.proofs.Keeping.{whole}
+use Rattle.process_table.proofs.SharingLaws.{mapped_user}
+use Rattle.address_space.specs.Spaces.{cost, at_page}
+use Rattle.address_space.specs.Image.{image_of}
+use Rattle.address_space.specs.Stays.{FramesStay, of_lazy}
+use Rattle.process_table.specs.Image.{memory_of}
+use Rattle.process_table.proofs.processes.Processes.fill_at.Goals as goal
+
+pub fill_at-requires-clause-user : goal.fill_at-requires-clause-user
+fill_at-requires-clause-user c =
+    let s : State = state_of c.self.inside.spaces c.self.inside.quotas c.self.inside.offers in
+    let slot = at_page c.args.pid c.args.page in
+    mapped_user s slot c.self.invariant.well_formed (subst (λ (v : View). is_mapped v.state slot ≡ true) (sym c.self.view_is) c.requires.mapped)
+
+pub returns-clause-stay : goal.returns-clause-stay
+returns-clause-stay c = subst (λ (v : View). FramesStay (of_lazy c.args.pid c.args.page) (memory_of v)
+    (image_of c.fill_at.new.self)) c.self.view_is c.fill_at.ensures.stay
+
+pub invariant_of-self : goal.invariant_of-self
+invariant_of-self c =
+    let s : State = state_of c.self.inside.spaces c.self.inside.quotas c.self.inside.offers in
+    let kept = charged-same c.self.inside.spaces c.fill_at.new.self c.self.inside.quotas c.self.invariant.kept c.fill_at.ensures.directories c.fill_at.ensures.frames (λ q. ap (λ S. cost S q) c.fill_at.ensures.spaces) in
+    whole c.fill_at.new.self c.self.inside.quotas c.self.inside.offers s kept c.fill_at.ensures.spaces refl refl c.self.invariant.well_formed

@@ -1,0 +1,53 @@
+use Rattle.std.proofs.Common.{◌≡◌, ◌∙◌, ap, sym, subst, length, true}
+use Rattle.page_words.specs.Addresses.{offset_number, byte_count}
+use Rattle.address_space.specs.Image.{image_of, takes_stores}
+use Rattle.address_space.specs.Spaces.{Spaces, cost, slot_at, bytes_of}
+use Rattle.address_space.specs.Stays.{FramesStay, none_goes}
+use Rattle.address_space.proofs.costs.MapFirst.{store_in_page}
+use Rattle.address_space.proofs.costs.Totals.{cost-stored_of}
+use Rattle.process_table.specs.Calls.{after_store}
+use Rattle.process_table.specs.Image.{memory_of}
+use Rattle.process_table.specs.State.{State}
+use Rattle.process_table.specs.View.{View, state_of}
+use Rattle.process_table.specs.WellFormed.{IsWellFormed}
+use Rattle.process_table.proofs.Charged.{charged-same}
+use Rattle.process_table.proofs.Keeping.{keeps-store_in_page}
+use Rattle.process_table.proofs.Placed.{takes_mapped, takes_real}
+use Rattle.process_table.proofs.processes.Processes.store_at.Goals as goal
+
+pub store_at-requires-clause-mapped : goal.store_at-requires-clause-mapped
+store_at-requires-clause-mapped c =
+    takes_mapped c.self.inside.spaces.spaces (image_of c.self.inside.spaces) (slot_at c.args.pid c.args.address)
+    (subst (λ (v : View). takes_stores v.state.spaces (memory_of v) (slot_at c.args.pid c.args.address) ≡ true) (sym c.self.view_is) c.requires.takes)
+
+pub store_at-requires-clause-real : goal.store_at-requires-clause-real
+store_at-requires-clause-real c =
+    takes_real c.self.inside.spaces.spaces (image_of c.self.inside.spaces) (slot_at c.args.pid c.args.address)
+    (subst (λ (v : View). takes_stores v.state.spaces (memory_of v) (slot_at c.args.pid c.args.address) ≡ true) (sym c.self.view_is) c.requires.takes)
+
+pub invariant_of-self : goal.invariant_of-self
+invariant_of-self c =
+    let s : State = state_of c.self.inside.spaces c.self.inside.quotas c.self.inside.offers in
+    let mapped = takes_mapped c.self.inside.spaces.spaces (image_of c.self.inside.spaces) (slot_at c.args.pid c.args.address)
+    (subst (λ (v : View). takes_stores v.state.spaces (memory_of v) (slot_at c.args.pid c.args.address) ≡ true) (sym c.self.view_is) c.requires.takes) in
+    let after = c.store_at.ensures.spaces in
+    record {
+      kept = charged-same c.self.inside.spaces c.store_at.new.self c.self.inside.quotas c.self.invariant.kept c.store_at.ensures.directories (ap length c.store_at.ensures.roles)
+          (λ q. ap (λ S. cost S q) after ∙ cost-stored_of c.self.inside.spaces.spaces (slot_at c.args.pid c.args.address) (offset_number c.args.address) (bytes_of (byte_count c.args.size) c.args.value) q mapped);
+      well_formed = subst IsWellFormed (λ i. record s { spaces = sym after i })
+          (keeps-store_in_page s c.args.pid c.args.address c.args.size c.args.value c.self.invariant.well_formed c.requires.within mapped);
+    }
+
+pub returns-clause-state : goal.returns-clause-state
+returns-clause-state c =
+    let S = c.self.inside.spaces.spaces in
+    let s : State = state_of c.self.inside.spaces c.self.inside.quotas c.self.inside.offers in
+    let mapped = takes_mapped S (image_of c.self.inside.spaces) (slot_at c.args.pid c.args.address)
+    (subst (λ (v : View). takes_stores v.state.spaces (memory_of v) (slot_at c.args.pid c.args.address) ≡ true) (sym c.self.view_is) c.requires.takes) in
+    ap (λ (T : Spaces). record s { spaces = T })
+    (c.store_at.ensures.spaces ∙ sym (store_in_page S c.args.pid c.args.address c.args.size c.args.value c.requires.within mapped))
+    ∙ ap (λ (v : View). after_store v.state c.args.pid c.args.address c.args.size c.args.value) c.self.view_is
+
+pub returns-clause-stay : goal.returns-clause-stay
+returns-clause-stay c = subst (λ (v : View). FramesStay none_goes (memory_of v) (image_of c.store_at.new.self))
+    c.self.view_is c.store_at.ensures.stay

@@ -1,6 +1,0 @@
-use Rattle.std.proofs.Common.{ap, ◌∙◌}
-use Rattle.address_space.specs.Places.{need_of}
-use Rattle.process_table.proofs.processes.need_at.Goals as goal
-
-pub returns-clause-value : goal.returns-clause-value
-returns-clause-value c = c.need.ensures.value ∙ ap need_of c.requires.place ∙ c.stands.ensures.places.need c.args.pid c.args.page c.requires.user

@@ -1,0 +1,192 @@
+//! Accesses through mapped pages, and lazy pages that get their frames.
+
+ghost use Rattle.std.specs.Prelude.{◌≡◌, ℕ, true, false, is_some};
+ghost use Rattle.page_words.specs.Addresses.{page_number, second_page, EachTouched, IsUserPage};
+ghost use Rattle.address_space.specs.Spaces.{Slot, cost, cell_or_fresh, at_page, slot_at};
+ghost use Rattle.std.specs.Option.{option_map};
+ghost use Rattle.quota_tree.specs.Containers.{Containers};
+ghost use Rattle.process_table.specs.State.{State, is_live, is_mapped};
+ghost use Rattle.process_table.specs.Calls.{loaded, after_load, after_store, after_access, access_value};
+ghost use Rattle.process_table.specs.View.{IsProcesses};
+ghost use Rattle.process_table.specs.Image.{memory_of};
+ghost use Rattle.address_space.specs.Image.{is_lazy_at, takes_stores};
+ghost use Rattle.address_space.specs.Stays.{FramesStay, none_goes, of_lazy};
+ghost use Rattle.address_space.specs.Places.{place_in};
+ghost use Rattle.process_table.specs.Places.{access_places};
+ghost use Rattle.page_words.specs.FiniteMap as map;
+ghost use Rattle.address_space.specs.Image as memory;
+
+use crate::charges::charge_at;
+use crate::places::Places;
+use crate::processes::Processes;
+use address_space::{Place, Spaces};
+use page_words::{Page, Pid, Size, Vaddr};
+use table_walk::Access;
+
+/// An access through mapped pages, whose places these are.
+#[inline(always)]
+fn complete_access(
+    spaces: &mut Spaces,
+    pid: Pid,
+    address: Vaddr,
+    size: Size,
+    access: Access,
+    value: u32,
+    first: &Place,
+    second: &Option<Place>,
+) -> u32
+    requires user { EachTouched address size IsUserPage }
+    requires mapped { EachTouched address size (λ page. is_some (map.get spaces.old.spaces (at_page pid page)) ≡ true) }
+    requires real { access ≡ Access.Write → EachTouched address size (λ page. is_lazy_at (memory.image_of spaces.old) (at_page pid page) ≡ false) }
+    requires first { first.now ≡ place_in spaces.old.directories spaces.old.bytes pid (page_number address) }
+    requires second { second.now ≡ option_map (place_in spaces.old.directories spaces.old.bytes pid) (second_page address size) }
+    ensures kept { (quotas : Containers) → IsProcesses spaces.old quotas → IsProcesses spaces.new quotas }
+    ensures stay { FramesStay none_goes (memory.image_of spaces.old) (memory.image_of spaces.new) }
+    ensures value { (s : State) → s.spaces ≡ spaces.old.spaces → result ≡ access_value s pid address size access }
+    ensures state { (s : State) → s.spaces ≡ spaces.old.spaces → record s { spaces = spaces.new.spaces } ≡ after_access s pid address size access value }
+    ensures roles { spaces.new.roles ≡ spaces.old.roles }
+{
+    match access {
+        Access::Read => spaces.read_at(pid, address, size, first, second),
+        Access::Write => {
+            spaces.write_at(pid, address, size, value, first, second);
+            0
+        }
+    }
+}
+
+impl Processes {
+    /// What a live process is charged for after a load or a store that completes, once each page that it touches is
+    /// mapped. They lie in the user range.
+    pub fn access_charge(&self, pid: Pid, address: Vaddr, size: Size) -> u32
+        requires live { is_live self.now.state pid ≡ true }
+        requires user { EachTouched address size IsUserPage }
+        ensures load { result ≡ cost (after_load self.now.state pid address size).spaces pid }
+        ensures store { (value : ℕ) → result ≡ cost (after_store self.now.state pid address size value).spaces pid }
+    {
+        charge_at(self, pid, address, size)
+    }
+
+    /// An access through mapped pages, one or two by where its bytes lie, that the process may access so: the value
+    /// read, and accessed is set; or the low bytes of the value are written, accessed and dirty are set, and the
+    /// result is 0.
+    pub fn access(
+        &mut self,
+        pid: Pid,
+        address: Vaddr,
+        size: Size,
+        access: Access,
+        value: u32,
+    ) -> u32
+        requires mapped { EachTouched address size (λ page. is_mapped self.old.state (at_page pid page) ≡ true) }
+        requires right { access ≡ Access.Write → EachTouched address size (λ page. (cell_or_fresh self.old.state.spaces (at_page pid page)).write ≡ true) }
+        requires real { access ≡ Access.Write → EachTouched address size (λ page. is_lazy_at (memory_of self.old) (at_page pid page) ≡ false) }
+        ensures value { result ≡ access_value self.old.state pid address size access }
+        ensures state { self.new.state ≡ after_access self.old.state pid address size access value }
+        ensures stay { FramesStay none_goes (memory_of self.old) (memory_of self.new) }
+        ensures roles { self.new.roles ≡ self.old.roles }
+    {
+        let places = self.access_places(pid, address, size);
+        self.access_at(pid, address, size, access, value, &places)
+    }
+
+    /// An access through mapped pages, as `access` does it. The places are those of the pages that it touches.
+    #[inline(always)]
+    pub fn access_at(
+        &mut self,
+        pid: Pid,
+        address: Vaddr,
+        size: Size,
+        access: Access,
+        value: u32,
+        places: &Places,
+    ) -> u32
+        requires mapped { EachTouched address size (λ page. is_mapped self.old.state (at_page pid page) ≡ true) }
+        requires right { access ≡ Access.Write → EachTouched address size (λ page. (cell_or_fresh self.old.state.spaces (at_page pid page)).write ≡ true) }
+        requires real { access ≡ Access.Write → EachTouched address size (λ page. is_lazy_at (memory_of self.old) (at_page pid page) ≡ false) }
+        requires places { places.now ≡ access_places self.old pid address size }
+        ensures value { result ≡ access_value self.old.state pid address size access }
+        ensures state { self.new.state ≡ after_access self.old.state pid address size access value }
+        ensures stay { FramesStay none_goes (memory_of self.old) (memory_of self.new) }
+        ensures roles { self.new.roles ≡ self.old.roles }
+    {
+        self.stands();
+        let place = places.first.unwrap();
+        complete_access(
+            &mut self.spaces,
+            pid,
+            address,
+            size,
+            access,
+            value,
+            &place,
+            &places.second,
+        )
+    }
+
+    /// Loads, as `access` does, bytes that lie in one page, which is mapped and whose place this is.
+    #[inline(always)]
+    pub fn load_at(&mut self, pid: Pid, address: Vaddr, size: Size, place: &Place) -> u32
+        requires within { second_page address size ≡ None }
+        requires user { IsUserPage (page_number address) }
+        requires mapped { is_mapped self.old.state (slot_at pid address) ≡ true }
+        requires place { place.now ≡ place_in self.old.directories self.old.bytes pid (page_number address) }
+        ensures value { result ≡ loaded self.old.state pid address size }
+        ensures state { self.new.state ≡ after_load self.old.state pid address size }
+        ensures stay { FramesStay none_goes (memory_of self.old) (memory_of self.new) }
+        ensures roles { self.new.roles ≡ self.old.roles }
+    {
+        self.spaces.load_at(pid, address, size, place)
+    }
+
+    /// Stores, as `access` does, bytes that lie in one page, which takes a store as memory stands and whose place this
+    /// is: it is mapped, with the right to write, and isn't lazy.
+    #[inline(always)]
+    pub fn store_at(&mut self, pid: Pid, address: Vaddr, size: Size, value: u32, place: &Place)
+        requires within { second_page address size ≡ None }
+        requires user { IsUserPage (page_number address) }
+        requires takes { takes_stores self.old.state.spaces (memory_of self.old) (slot_at pid address) ≡ true }
+        requires place { place.now ≡ place_in self.old.directories self.old.bytes pid (page_number address) }
+        ensures state { self.new.state ≡ after_store self.old.state pid address size value }
+        ensures stay { FramesStay none_goes (memory_of self.old) (memory_of self.new) }
+        ensures roles { self.new.roles ≡ self.old.roles }
+    {
+        self.spaces.store_at(pid, address, size, value, place);
+    }
+
+    /// Whether a process's page is lazy: it has no frame of its own yet.
+    pub fn is_lazy(&self, pid: Pid, page: Page) -> bool
+        requires user { IsUserPage page }
+        ensures { result ≡ is_lazy_at (memory_of self.now) (at_page pid page) }
+    {
+        self.spaces.is_lazy(pid, page)
+    }
+
+    /// Gives a mapped page a frame of its own, where it is lazy; no other page becomes lazy. The state stays.
+    pub fn fill(&mut self, pid: Pid, page: Page)
+        requires mapped { is_mapped self.old.state (at_page pid page) ≡ true }
+        ensures state { self.new.state ≡ self.old.state }
+        ensures stay { FramesStay (of_lazy pid page) (memory_of self.old) (memory_of self.new) }
+        ensures real { is_lazy_at (memory_of self.new) (at_page pid page) ≡ false }
+        ensures others { (slot : Slot) → is_lazy_at (memory_of self.old) slot ≡ false → is_lazy_at (memory_of self.new) slot ≡ false }
+    {
+        self.stands();
+        let place = self.spaces.place(pid, page);
+        self.fill_at(pid, page, &place);
+    }
+
+    /// Gives a mapped page a frame of its own, as `fill` does. The place is the page's, and the result the place that it
+    /// is at then.
+    #[inline(always)]
+    pub fn fill_at(&mut self, pid: Pid, page: Page, place: &Place) -> Place
+        requires mapped { is_mapped self.old.state (at_page pid page) ≡ true }
+        requires place { place.now ≡ place_in self.old.directories self.old.bytes pid page }
+        ensures state { self.new.state ≡ self.old.state }
+        ensures stay { FramesStay (of_lazy pid page) (memory_of self.old) (memory_of self.new) }
+        ensures real { is_lazy_at (memory_of self.new) (at_page pid page) ≡ false }
+        ensures others { (slot : Slot) → is_lazy_at (memory_of self.old) slot ≡ false → is_lazy_at (memory_of self.new) slot ≡ false }
+        ensures place { result ≡ place_in self.new.directories self.new.bytes pid page }
+    {
+        self.spaces.fill_at(pid, page, place)
+    }
+}
