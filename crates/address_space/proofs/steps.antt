@@ -2,6 +2,7 @@
 pub mod Bytes
 pub mod Copies
 pub mod RegionCopies
+pub mod RegionDrops
 pub mod CountSteps
 pub mod Departures
 pub mod DirWords

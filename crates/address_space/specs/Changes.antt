@@ -1,20 +1,21 @@
 -- What each change of directories, memory and roles leaves.
 use Rattle.std.specs.Option.{option_map}
 use Rattle.std.specs.Prelude.{◌≡◌, ◌≢◌, ◌⊎◌, ℕ, ◌+◌, ◌-◌, ◌*◌, ◌<◌, ◌≤◌, Bool, true, false, not, ◌&&◌, List, length, Option, Some, None, is_some}
-use Rattle.page_words.specs.Addresses.{slot_number}
+use Rattle.page_words.specs.Addresses.{slot_number, index_number}
 use Rattle.page_words.specs.Words.{frame_number, is_present}
 use Rattle.phys_memory.specs.Bytes.{frame_bytes, word_in}
 use Rattle.alloc_table.specs.declared.Role.{Role}
 use Rattle.alloc_table.specs.Roles.{IsReleased}
 use Rattle.page_map.specs.declared.PageEntry.{PageEntry}
 use Rattle.page_map.specs.Pages.{count_range}
-use Rattle.page_map.specs.Entries.{dir_word, table_of, entry_at, with_entry, is_lazy_entry}
+use Rattle.page_map.specs.Entries.{Frames, dir_word, table_of, entry_at, with_entry, is_lazy_entry}
 use Rattle.page_words.specs.FiniteMap as map
 use Rattle.page_words.specs.FiniteSet as set
-use Rattle.address_space.specs.Spaces.{cell_or_fresh, Slot, Spaces, cost, need, fresh, joined, without, is_slot, at_page, copy_of, copied}
+use Rattle.address_space.specs.Spaces.{cell_or_fresh, Slot, Spaces, cost, need, fresh, joined, without, is_slot, is_of, at_page, copy_of, copied}
 use Rattle.address_space.specs.Cells.{holders_of}
-use Rattle.address_space.specs.Stays.{PlacesStay, none_goes, of_page, of_lazy}
-use Rattle.address_space.specs.View.{table_in, total_cost, spaces_in, entries_in, entry_in, directory_of}
+use Rattle.address_space.specs.Stays.{FramesStay, PlacesStay, none_goes, of_page, of_lazy, of_process}
+use Rattle.address_space.specs.Image.{image_of}
+use Rattle.address_space.specs.View.{View, table_in, total_cost, spaces_in, entries_in, entry_in, directory_of}
 use Rattle.address_space.specs.Sound.{InUse, IsSound, InUseAt, weight_in, IsSpaces}
 
 -- how many frames a slot without a table needs more
@@ -89,6 +90,9 @@ pub record PageFilled (directories : List (Option ℕ)) (p page : ℕ) (bytes : 
   -- no other slot became lazy
   pub fewer : (q : Slot) → set.contains (holders_of (entries_in (directory_of directories) (frame_bytes bytes)) 0) q ≡ false → set.contains (holders_of (entries_in (directory_of directories) (frame_bytes bytes')) 0) q ≡ false
   pub stay : PlacesStay (of_lazy p page) (directory_of directories) (frame_bytes bytes) (directory_of directories) (frame_bytes bytes')
+  -- no other entry changed, and no table
+  pub tables : (q r : ℕ) → table_in (directory_of directories) (frame_bytes bytes') q r ≡ table_in (directory_of directories) (frame_bytes bytes) q r
+  pub others : (q : Slot) → q ≢ at_page p page → entry_in (directory_of directories) (frame_bytes bytes') q ≡ entry_in (directory_of directories) (frame_bytes bytes) q
   pub length : length roles' ≡ length roles
 
 -- a process got a blank directory
@@ -198,3 +202,21 @@ pub record PagesCopied (directories : List (Option ℕ)) (from to : ℕ) (bytes 
   pub lazy : (page : ℕ) → is_lazy_entry (entry_in (directory_of directories) (frame_bytes bytes') (at_page to page)) ≡ is_lazy_entry (entry_in (directory_of directories) (frame_bytes bytes) (at_page from page))
   pub stay : PlacesStay none_goes (directory_of directories) (frame_bytes bytes) (directory_of directories) (frame_bytes bytes')
   pub length : length roles' ≡ length roles
+
+-- ---- The pages of a process leave, from the lowest on
+
+-- an entry went from a table, whose other words stay; it stays linked, or no word of it is present
+pub record EntryGone (m : Frames) (directory table page : ℕ) (m' : Frames) : Type 0 where
+  pub words : (i : ℕ) → i ≢ index_number page → word_in (m' table) i ≡ word_in (m table) i
+  pub linked : (table_of m' directory (slot_number page) ≡ Some table)
+      ⊎ ((table_of m' directory (slot_number page) ≡ None) × ((i : ℕ) → i < 1024 → is_present (word_in (m' table) i) ≡ false))
+
+-- the pages of a process below one have left their groups
+pub record DroppedBelow (v : View) (p from : ℕ) (v' : View) : Type 0 where
+  pub directories : v'.directories ≡ v.directories
+  pub spaces : without v'.spaces (is_of p) ≡ without v.spaces (is_of p)
+  pub stay : FramesStay (of_process p) (image_of v) (image_of v')
+  pub below : (page : ℕ) → page < from → map.get v'.spaces (at_page p page) ≡ None
+  pub length : length v'.roles ≡ length v.roles
+  pub low : 0x40000 ≤ from
+  pub high : from ≤ 0xf0000

@@ -54,7 +54,7 @@ fn copy_of(memory: &mut Memory, frames: &mut FrameTable, entry: PageEntry) -> Pa
 
 /// The first entry of a table from an index on, where so many are left there; None where none is, and then it looks at
 /// no word.
-fn next_left(memory: &Memory, table: Frame, first: u32, left: u32) -> Option<Listed>
+pub fn next_left(memory: &Memory, table: Frame, first: u32, left: u32) -> Option<Listed>
     requires inside { 4096 * table + 4096 ≤ length memory.now }
     requires left { left ≡ words_left memory.now table first }
     ensures within { IfSome result (λ listed. (first ≤ listed.index) × (listed.index < 1024)) }
@@ -98,8 +98,7 @@ impl Spaces {
     }
 
     /// Copies the pages of a region, by the table that a process has there, to the same pages of another process, which
-    /// has none there. It reads each word of that table up to the last that is present once, and one directory word of
-    /// the other process.
+    /// has none there, and so no table. It reads each word of that table up to the last that is present once.
     fn copy_region(&mut self, to: Pid, target: Frame, slot: u32, table: Frame)
         requires copying { IsCopying self.old.directories to slot table self.old.bytes self.old.roles }
         requires target { directory_of self.old.directories to ≡ Some target }
@@ -108,7 +107,7 @@ impl Spaces {
         ensures directories { self.new.directories ≡ self.old.directories }
     {
         let mut left = count_at(&self.counts, table);
-        let mut linked = page_map::table(&self.memory, target, slot);
+        let mut linked = None;
         let mut index = 0;
         while let Some(listed) = next_left(&self.memory, table, index, left) {
             let page = Page(1024 * slot + listed.index);

@@ -47,9 +47,10 @@ impl Spaces {
             page,
         );
         count_page(&mut self.counts, table);
-        page_map::put_entry(&mut self.memory, table, page, fresh_entry(write));
         let entry = fresh_entry(write);
-        Place::Mapped(Found { page, table, entry })
+        let found = Found { page, table, entry };
+        page_map::put_entry(&mut self.memory, table, page, found.entry);
+        Place::Mapped(found)
     }
 
     /// Maps a page of zeros, which is lazy: it takes no frame but one for its table, where that is missing.
@@ -206,8 +207,10 @@ pub fn give_frame(memory: &mut Memory, frames: &mut FrameTable, found: &Found) -
 {
     let frame = take(frames, Role::Page { count: 1 });
     memory.zero_frame(frame);
-    page_map::put_entry(memory, found.table, found.page, filled(found.entry, frame));
-    filled(found.entry, frame)
+    let entry = filled(found.entry, frame);
+    let given = Found { entry, ..*found };
+    page_map::put_entry(memory, found.table, found.page, given.entry);
+    given.entry
 }
 
 /// The count of a table.

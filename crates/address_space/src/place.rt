@@ -337,6 +337,7 @@ impl Spaces {
         ensures real { is_lazy_at (image_of self.new) (at_page pid page) ≡ false }
         ensures others { (slot : Slot) → is_lazy_at (image_of self.old) slot ≡ false → is_lazy_at (image_of self.new) slot ≡ false }
         ensures frames { length self.new.roles ≡ length self.old.roles }
+        ensures beside { (p other : ℕ) → at_page p other ≢ at_page pid page → place_in self.new.directories self.new.bytes p other ≡ place_in self.old.directories self.old.bytes p other }
         ensures place { result ≡ place_in self.new.directories self.new.bytes pid page }
     {
         self.stands();

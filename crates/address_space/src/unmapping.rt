@@ -1,18 +1,22 @@
 //! Pages and whole spaces that go, and the blank directory that a process begins with.
 
-ghost use Rattle.std.specs.Prelude.{◌≡◌, ◌≢◌, ℕ, ◌+◌, ◌≤◌, Some, None, length, is_some, true, false, slice_set};
+ghost use Rattle.std.specs.Prelude.{◌≡◌, ◌≢◌, ℕ, ◌+◌, ◌*◌, ◌<◌, ◌≤◌, Some, None, length, is_some, true, false, slice_set};
 ghost use Rattle.page_words.specs.Addresses.{IsUserPage};
 ghost use Rattle.alloc_table.specs.Roles.{IsInUse};
 ghost use Rattle.address_space.specs.Spaces.{without, is_slot, at_page, is_of};
-ghost use Rattle.address_space.specs.View.{directory_of, total_cost};
-ghost use Rattle.address_space.specs.Changes.{TableFreed, EntryLeft, IsEmptySpace};
+ghost use Rattle.phys_memory.specs.Bytes.{frame_bytes};
+ghost use Rattle.page_map.specs.Entries.{table_of};
+ghost use Rattle.address_space.specs.Finds.{found_in};
+ghost use Rattle.address_space.specs.View.{View, directory_of, total_cost};
+ghost use Rattle.address_space.specs.Changes.{TableFreed, EntryLeft, IsEmptySpace, EntryGone, DroppedBelow};
 ghost use Rattle.address_space.specs.Stays.{FramesStay, none_goes, of_page, of_process};
 ghost use Rattle.address_space.specs.Image.{image_of};
 ghost use Rattle.address_space.specs.Places.{place_in};
 ghost use Rattle.page_words.specs.FiniteMap as map;
 
-use crate::mapping::uncount_page;
-use crate::place::Place;
+use crate::copies::next_left;
+use crate::mapping::{count_at, uncount_page};
+use crate::place::{Found, Place};
 use crate::{Directories, Spaces, home, take};
 use alloc_table::{FrameTable, Role};
 use page_map::{FIRST_SLOT, PageEntry};
@@ -39,6 +43,32 @@ pub fn leave(frames: &mut FrameTable, entry: PageEntry)
 }
 
 impl Spaces {
+    /// Takes a slot out of its group, by its process's directory and what was found at the page.
+    #[inline(always)]
+    fn unmap_found(&mut self, pid: Pid, page: Page, directory: Frame, found: &Found)
+        requires home { directory_of self.old.directories pid ≡ Some directory }
+        requires user { IsUserPage page }
+        requires found { found_in (directory_of self.old.directories) (frame_bytes self.old.bytes) pid page ≡ Some found.now }
+        ensures spaces { self.new.spaces ≡ without self.old.spaces (is_slot pid page) }
+        ensures stay { FramesStay (of_page pid page) (image_of self.old) (image_of self.new) }
+        ensures words { EntryGone (frame_bytes self.old.bytes) directory found.now.table page (frame_bytes self.new.bytes) }
+        ensures long { length self.new.bytes ≡ length self.old.bytes }
+        ensures directories { self.new.directories ≡ self.old.directories }
+        ensures frames { length self.new.roles ≡ length self.old.roles }
+    {
+        let _ = &self.memory;
+        let mapped = uncount_page(&mut self.counts, found.table);
+        let freed = page_map::clear_found_entry(
+            &mut self.memory,
+            directory,
+            found.table,
+            page,
+            mapped,
+        );
+        leave(&mut self.frames, found.entry);
+        free_table(&mut self.frames, freed);
+    }
+
     /// Takes a slot out of its group, whose place this is.
     #[inline(always)]
     pub fn unmap_at(&mut self, pid: Pid, page: Page, place: &Place)
@@ -53,16 +83,7 @@ impl Spaces {
         let _ = &self.memory;
         let found = place.found().unwrap();
         let directory = home(&self.directories, pid);
-        let mapped = uncount_page(&mut self.counts, found.table);
-        let freed = page_map::clear_found_entry(
-            &mut self.memory,
-            directory,
-            found.table,
-            page,
-            mapped,
-        );
-        leave(&mut self.frames, found.entry);
-        free_table(&mut self.frames, freed);
+        self.unmap_found(pid, page, directory, &found);
     }
 
     /// Takes a slot out of its group.
@@ -103,7 +124,29 @@ fn forget(directories: &mut Directories, pid: Pid)
 }
 
 impl Spaces {
-    /// Takes each page of a process out of its group.
+    /// Takes each page of a region out of its group, by the table that the process has there. It reads each word of the
+    /// table up to the last that is present once.
+    fn drop_region(&mut self, pid: Pid, directory: Frame, slot: u32, table: Frame)
+        requires home { directory_of self.old.directories pid ≡ Some directory }
+        requires table { table_of (frame_bytes self.old.bytes) directory slot ≡ Some table }
+        requires low { 256 ≤ slot }
+        requires high { slot < 960 }
+        ensures dropped { (v : View) → DroppedBelow v pid (1024 * slot) self.old → DroppedBelow v pid (1024 * slot + 1024) self.new }
+        ensures directories { self.new.directories ≡ self.old.directories }
+    {
+        let mut left = count_at(&self.counts, table);
+        let mut index = 0;
+        while let Some(listed) = next_left(&self.memory, table, index, left) {
+            let page = Page(1024 * slot + listed.index);
+            let entry = listed.entry;
+            self.unmap_found(pid, page, directory, &Found { page, table, entry });
+            index = listed.index + 1;
+            left -= 1;
+        }
+    }
+
+    /// Takes each page of a process out of its group, region by region. It reads each directory word of the
+    /// user range once.
     fn drop_pages(&mut self, pid: Pid, directory: Frame)
         requires { directory_of self.old.directories pid ≡ Some directory }
         ensures spaces { self.new.spaces ≡ without self.old.spaces (is_of pid) }
@@ -113,10 +156,10 @@ impl Spaces {
         ensures frames { length self.new.roles ≡ length self.old.roles }
     {
         let _ = &self.memory;
-        let mut from = FIRST_SLOT * 1024;
-        while let Some(page) = page_map::next_page(&self.memory, directory, Page(from)) {
-            self.unmap(pid, page);
-            from = page.0 + 1;
+        let mut first = FIRST_SLOT;
+        while let Some(region) = page_map::next_region(&self.memory, directory, first) {
+            self.drop_region(pid, directory, region.slot, region.table);
+            first = region.slot + 1;
         }
     }
 

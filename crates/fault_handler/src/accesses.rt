@@ -26,6 +26,7 @@ use table_walk::Access;
 fn is_in_page(address: Vaddr, size: Size) -> bool
     ensures within { result ≡ true → second_page address size ≡ None }
     ensures user { result ≡ true → IsUserPage (page_number address) }
+    ensures both { IsUserPage (page_number address) → second_page address size ≡ None → result ≡ true }
 {
     in_user_range(page_of(address)) && second_page(address, size).is_none()
 }
@@ -94,7 +95,7 @@ pub fn try_access(
     value: u32,
 ) -> Option<u32>
     ensures live { IsSome result → is_live processes.old.state pid ≡ true }
-    ensures plan { IsSome result → plan_at processes.old pid address size access ≡ at_once }
+    ensures plan { IsSome result ↔ plan_at processes.old pid address size access ≡ at_once }
     ensures value { IfSome result (λ value. value ≡ access_value processes.old.state pid address size access) }
     ensures state { IsSome result → processes.new.state ≡ after_access processes.old.state pid address size access value }
     ensures stay { FramesStay none_goes (memory_of processes.old) (memory_of processes.new) }

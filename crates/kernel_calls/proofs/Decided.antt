@@ -1,16 +1,12 @@
 -- What is decided of an event goes on exactly where its reply is neither a refusal nor a fault.
-use Rattle.std.proofs.Common.{◌≡◌, ℕ, Bool, true, false, refl, ap, sym, ◌∙◌, Option, Some, None, unwrap_or}
-use Rattle.std.specs.Prelude.{if◌then◌else◌, IsOk}
-use Rattle.std.specs.Option.{option_map}
-use Rattle.page_words.specs.FiniteMap as map
+use Rattle.std.proofs.Common.{◌≡◌, ℕ, Bool, true, false, refl, ap, sym, ◌∙◌, Option, Some, None}
+use Rattle.std.specs.Prelude.{if◌then◌else◌, Result, Ok, Err}
 use Rattle.address_space.specs.Spaces.{cost, at_page}
-use Rattle.quota_tree.specs.declared.Container.{Container}
-use Rattle.quota_tree.specs.Book.{Member}
-use Rattle.process_table.specs.State.{State, is_live, child_of, container_of, as_container}
-use Rattle.process_table.specs.Calls.{map_refusal, protect_refusal, offer_refusal, spawn_refusal, fork_refusal, after_map, after_protect, after_fork}
+use Rattle.process_table.specs.State.{State, is_live, child_of}
+use Rattle.process_table.specs.Calls.{map_refusal, protect_refusal, offer_refusal, accept_refusal, spawn_refusal, fork_refusal, after_map, after_protect, after_accept, after_fork}
 use Rattle.address_space.proofs.costs.Totals.{cost-protected_of}
 use Rattle.process_table.proofs.Refusals.{may_protect}
-use Rattle.process_table.specs.TestAnswers.{first_cause, number_unless, child_unless, map_answer, protect_answer, offer_answer, spawn_answer, fork_answer}
+use Rattle.process_table.specs.TestAnswers.{first_cause, number_unless, child_unless, map_answer, protect_answer, offer_answer, accept_answer, spawn_answer, fork_answer}
 use Rattle.process_table.specs.declared.causes.Cause.{Cause}
 use Rattle.process_table.specs.declared.causes.Cause.TheVariants as cause
 use Rattle.process_table.specs.View.{View}
@@ -80,23 +76,41 @@ next-stays s e h = ap (λ b. if b then after s e.pid e.call else s) h
 pub next-goes : (s : State) (e : Event) → completes (answer s e) ≡ true → next s e ≡ after s e.pid e.call
 next-goes s e h = ap (λ b. if b then after s e.pid e.call else s) h
 
--- a spawn that goes on may be
-pub spawn-ok : (v : View) (e : Event) (quota : ℕ) → e.call ≡ call.Spawn quota → goes_on (plan_of_event v e) ≡ true → IsOk (spawn_answer v.state e.pid quota)
-spawn-ok v e quota is g = by (is_live v.state e.pid) (spawn_refusal v.state e.pid quota) (sym (ap (λ c. goes_on (if is_live v.state e.pid then plan_of_call v e.pid c else plan.Refused cause.NoProcess)) is) ∙ g)
-  where
-    by : (b : Bool) (x : Option Cause) → goes_on (if b then refused_plan x else plan.Refused cause.NoProcess) ≡ true → IsOk (child_unless (if b then x else Some cause.NoProcess) (child_of v.state))
-    by true None h = refl
-    by true (Some k) h = cc
-    by false x h = cc
+-- a call for a child that goes on is told the child that its test gives
+goes-child : (live : Bool) (x : Option Cause) (child : ℕ) → goes_on (if live then refused_plan x else plan.Refused cause.NoProcess) ≡ true
+    → ((if live then refused_or x (reply.Child child) else reply.Refused cause.NoProcess) ≡ reply.Child child) × (child_unless (if live then x else Some cause.NoProcess) child ≡ Ok child)
+goes-child true None child h = (refl, refl)
+goes-child true (Some k) child h = cc
+goes-child false x child h = cc
 
--- and so may a fork
-pub fork-goes : (v : View) (e : Event) (quota : ℕ) → e.call ≡ call.Fork quota → goes_on (plan_of_event v e) ≡ true → IsOk (fork_answer v.state e.pid quota)
-fork-goes v e quota is g = by (is_live v.state e.pid) (fork_refusal v.state e.pid quota) (sym (ap (λ c. goes_on (if is_live v.state e.pid then plan_of_call v e.pid c else plan.Refused cause.NoProcess)) is) ∙ g)
+pub spawn-goes : (v : View) (e : Event) (quota : ℕ) → e.call ≡ call.Spawn quota → goes_on (plan_of_event v e) ≡ true → (answer v.state e ≡ reply.Child (child_of v.state)) × (spawn_answer v.state e.pid quota ≡ Ok (child_of v.state))
+spawn-goes v e quota is g =
+    let both = goes-child (is_live v.state e.pid) (spawn_refusal v.state e.pid quota) (child_of v.state) (sym (ap (λ c. goes_on (if is_live v.state e.pid then plan_of_call v e.pid c else plan.Refused cause.NoProcess)) is) ∙ g) in
+    (ap (λ c. if is_live v.state e.pid then answer_of v.state e.pid c else reply.Refused cause.NoProcess) is ∙ both.0, both.1)
+
+pub fork-goes : (v : View) (e : Event) (quota : ℕ) → e.call ≡ call.Fork quota → goes_on (plan_of_event v e) ≡ true → (answer v.state e ≡ reply.Child (child_of v.state)) × (fork_answer v.state e.pid quota ≡ Ok (child_of v.state))
+fork-goes v e quota is g =
+    let both = goes-child (is_live v.state e.pid) (fork_refusal v.state e.pid quota) (child_of v.state) (sym (ap (λ c. goes_on (if is_live v.state e.pid then plan_of_call v e.pid c else plan.Refused cause.NoProcess)) is) ∙ g) in
+    (ap (λ c. if is_live v.state e.pid then answer_of v.state e.pid c else reply.Refused cause.NoProcess) is ∙ both.0, both.1)
+
+-- two names of one child
+pub same-child : (r : Reply) (x y : ℕ) → r ≡ reply.Child x → r ≡ reply.Child y → x ≡ y
+same-child r x y h k = cc
+
+-- the reply to a call that is done or refused, by what its test answers
+abbrev pub done_by : Result ℕ Cause → Reply
+done_by (Ok charge) = reply.Done
+done_by (Err cause) = reply.Refused cause
+
+pub accept-told : (v : View) (e : Event) (giver giver_page page : ℕ) → e.call ≡ call.Accept giver giver_page page → done_by (accept_answer v.state e.pid giver giver_page page) ≡ answer v.state e
+accept-told v e giver giver_page page is =
+    by (is_live v.state e.pid) (accept_refusal v.state e.pid giver giver_page page) (cost (after_accept v.state e.pid giver giver_page page).spaces e.pid)
+    ∙ sym (ap (λ c. if is_live v.state e.pid then answer_of v.state e.pid c else reply.Refused cause.NoProcess) is)
   where
-    by : (b : Bool) (x : Option Cause) → goes_on (if b then refused_plan x else plan.Refused cause.NoProcess) ≡ true → IsOk (child_unless (if b then x else Some cause.NoProcess) (child_of v.state))
-    by true None h = refl
-    by true (Some k) h = cc
-    by false x h = cc
+    by : (b : Bool) (x : Option Cause) (n : ℕ) → done_by (number_unless (if b then x else Some cause.NoProcess) n) ≡ (if b then refused_or x reply.Done else reply.Refused cause.NoProcess)
+    by true None n = refl
+    by true (Some k) n = refl
+    by false x n = refl
 
 -- ---- Decisions by the test of a call
 

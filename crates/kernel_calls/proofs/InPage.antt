@@ -9,7 +9,7 @@ use Rattle.address_space.proofs.standing.FramesStand.{stays_more}
 use Rattle.table_walk.specs.declared.Access.{Access}
 use Rattle.table_walk.specs.declared.Access.TheVariants.{Read, Write}
 use Rattle.process_table.specs.Calls.{access_value}
-use Rattle.process_table.specs.State.{State, is_live}
+use Rattle.process_table.specs.State.{is_live}
 use Rattle.process_table.specs.View.{View}
 use Rattle.process_table.specs.declared.causes.Cause.TheVariants as cause
 use Rattle.fault_handler.specs.Fills.{lazy_written}

@@ -1,6 +1,6 @@
 -- What kept translations that the walks give still make of an access.
-use Rattle.std.proofs.Common.{◌≡◌, ℕ, ◌+◌, ◌*◌, ◌<◌, ◌^◌, Bool, true, false, List, refl, ap, sym, ◌∙◌, subst, arith, Option, Some, None}
-use Rattle.std.specs.Prelude.{◌&&◌, if◌then◌else◌, is_some, nat_lt, IfSome, Ok, slice_index}
+use Rattle.std.proofs.Common.{◌≡◌, ℕ, ◌+◌, ◌*◌, ◌<◌, ◌^◌, Bool, true, false, refl, ap, sym, ◌∙◌, subst, arith, Option, Some, None}
+use Rattle.std.specs.Prelude.{◌&&◌, is_some, nat_lt, IfSome, Ok, slice_index}
 use Rattle.std.specs.Option.{option_map, unwrap_or}
 use Rattle.std.specs.Result.{is_ok}
 use Rattle.std.proofs.lemmas.Bool.Decides.{nat_tests}
@@ -13,7 +13,7 @@ use Rattle.table_walk.specs.Walk.{walk_of}
 use Rattle.address_space.specs.ByWalk.{finds_at, finds, byte_place}
 use Rattle.address_space.specs.Image.{directory_at}
 use Rattle.address_space.specs.Kept.{is_marked, LeadTo, kept_place}
-use Rattle.address_space.specs.Spaces.{Slot, Cell, Spaces, at_page, accessed, all_accessed, with_pages, cell_or_fresh, fresh, value_of}
+use Rattle.address_space.specs.Spaces.{Slot, Cell, Spaces, at_page, accessed, all_accessed, cell_or_fresh, fresh, value_of}
 use Rattle.address_space.proofs.costs.MapFirst.{IsThere, with_touched-same}
 use Rattle.address_space.proofs.entries.Refinement.{insert_there}
 use Rattle.address_space.proofs.steps.Bytes.{each_byte}
@@ -23,12 +23,11 @@ use Rattle.process_table.specs.Image.{memory_of}
 use Rattle.process_table.specs.State.{State}
 use Rattle.process_table.specs.View.{View}
 use Rattle.fault_handler.proofs.Settled.{each_page}
-use Rattle.kernel_calls.specs.Kept.{Serves, ServesCall, ServesEvent, reply_kept, StoresMarked, IsLoad, IsStore, KeptFind, KeptReply, KeptLoads, KeptStores}
+use Rattle.kernel_calls.specs.Kept.{Serves, ServesCall, reply_kept, StoresMarked, IsLoad, IsStore, KeptFind, KeptReply, KeptLoads, KeptStores}
 use Rattle.kernel_calls.specs.Machine.{answer, after, next, completes}
 use Rattle.kernel_calls.specs.Walked.{finds_call, reply_found}
 use Rattle.kernel_calls.specs.declared.calls.Call.{Call}
 use Rattle.kernel_calls.specs.declared.calls.Call.TheVariants as call
-use Rattle.kernel_calls.specs.declared.calls.Event.{Event}
 use Rattle.kernel_calls.specs.declared.calls.Reply.TheVariants as reply
 use Rattle.kernel_calls.proofs.Decided.{next-stays, next-goes}
 

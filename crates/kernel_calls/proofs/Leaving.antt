@@ -1,27 +1,22 @@
 -- What an event leaves of all that processors may keep.
-use Rattle.std.proofs.Common.{◌≡◌, ◌≢◌, ◌<◌, ◌^◌, ℕ, Bool, true, false, ◌&&◌, ◌||◌, ◌==◌, eq-eqb, List, [], ◌∷◌, refl, ap, sym, ◌∙◌, subst, inl, inr, arith, Option, Some, None}
-use Rattle.std.specs.Prelude.{◌⊎◌, if◌then◌else◌, is_some, MatchBool, Ok}
-use Rattle.std.specs.Option.{option_map, unwrap_or}
-use Rattle.page_words.specs.Addresses.{page_number, slot_number, start_number, second_page}
-use Rattle.page_words.specs.declared.addresses.Size.{Size}
+use Rattle.std.proofs.Common.{◌≡◌, ◌<◌, ◌^◌, ℕ, Bool, true, false, ◌&&◌, ◌||◌, ◌==◌, eq-eqb, List, [], ◌∷◌, refl, ap, sym, ◌∙◌, subst, arith, Option, Some, None}
+use Rattle.std.specs.Prelude.{if◌then◌else◌, is_some}
+use Rattle.page_words.specs.Addresses.{page_number, slot_number, start_number}
 use Rattle.page_words.specs.FiniteMap as map
 use Rattle.page_words.proofs.MapLemmas.{same-true}
 use Rattle.std.proofs.lemmas.Bool.{ne_eqb}
-use Rattle.table_walk.specs.declared.Access.{Access}
 use Rattle.table_walk.specs.declared.Access.TheVariants.{Read, Write}
-use Rattle.table_walk.specs.Walk.{walk_of}
-use Rattle.address_space.specs.Image.{directory_at, table_at, page_word, is_lazy_at, takes_stores, SlotStands}
-use Rattle.address_space.specs.Spaces.{Slot, slot_order, Cell, Spaces, at_page, slot_at, is_slot, is_of, cell_or_fresh, without}
-use Rattle.address_space.specs.Image as memory
-use Rattle.address_space.specs.Stays.{Gone, FramesStay, WaysAgree, none_goes}
-use Rattle.address_space.specs.Walks.{FindsBytes, WalkEndsBy, WalksAgree}
+use Rattle.address_space.specs.Image.{table_at}
+use Rattle.address_space.specs.Spaces.{Slot, slot_order, Cell, at_page, slot_at, is_slot, is_of, cell_or_fresh}
+use Rattle.address_space.specs.Stays.{FramesStay, WaysAgree, none_goes}
+use Rattle.address_space.specs.Walks.{WalksAgree}
 use Rattle.process_table.specs.Image.{StandsFor, image_of, memory_of}
 use Rattle.process_table.specs.State.{State}
 use Rattle.process_table.specs.View.{View}
 use Rattle.process_table.specs.WellFormed.{IsWellFormed}
 use Rattle.kernel_calls.specs.Gone.{gone_by}
-use Rattle.kernel_calls.specs.Machine.{answer, answer_of, after, next, completes}
-use Rattle.kernel_calls.specs.Translations.{is_ended, is_all_of, of_call, ended_by, FindsFrame, EndsFound, SlotsStay, FlagsStay, Ends, Translation, IsGiven, Kept, translation, directory_entry, IsRead, AreRead, ends_in_region, is_invalidated, left_by, left_by_all, Keeping, nothing, event, walk, KeptAreGiven, EndAlong, KeptThroughRuns}
+use Rattle.kernel_calls.specs.Machine.{answer, after, next, completes}
+use Rattle.kernel_calls.specs.Translations.{is_ended, ended_by, FlagsStay, Ends, Translation, IsGiven, Kept, translation, directory_entry, IsRead, AreRead, ends_in_region, is_invalidated, left_by, Keeping, nothing, event, walk, KeptAreGiven, KeptThroughRuns}
 use Rattle.kernel_calls.specs.declared.calls.Call.{Call}
 use Rattle.kernel_calls.specs.declared.calls.Call.TheVariants as call
 use Rattle.kernel_calls.specs.declared.calls.Event.{Event}

@@ -1,6 +1,6 @@
 -- Which directories and tables an event leaves.
-use Rattle.std.proofs.Common.{◌≡◌, ◌≢◌, ℕ, ◌*◌, ◌+◌, ◌<◌, Bool, true, false, ◌&&◌, ◌||◌, ◌==◌, eq-eqb, length, refl, ap, sym, ◌∙◌, arith, inl, inr, Option, Some, None}
-use Rattle.std.specs.Prelude.{if◌then◌else◌, is_some, nat_lt, slice_get}
+use Rattle.std.proofs.Common.{◌≡◌, ℕ, ◌*◌, ◌+◌, ◌<◌, Bool, true, false, ◌&&◌, ◌||◌, ◌==◌, eq-eqb, length, refl, ap, sym, ◌∙◌, arith, inl, inr, Option, Some, None}
+use Rattle.std.specs.Prelude.{if◌then◌else◌, is_some, nat_lt}
 use Rattle.std.specs.Option.{option_map, option_and_then}
 use Rattle.std.proofs.lemmas.Option.{slice_get_within}
 use Rattle.std.proofs.lemmas.Bool.{ne_eqb}
@@ -21,7 +21,7 @@ use Rattle.process_table.specs.View.{View}
 use Rattle.fault_handler.specs.Fills.{lazy_second, lazy_touched}
 use Rattle.kernel_calls.specs.Gone.{gone_of_call, gone_by}
 use Rattle.kernel_calls.specs.Machine.{answer, completes}
-use Rattle.kernel_calls.specs.Translations.{is_ended, is_all_of, of_call, ended_by, DirectoriesStay, TablesStay, MapsInRegion, TablesMap}
+use Rattle.kernel_calls.specs.Translations.{is_all_of, of_call, ended_by, DirectoriesStay, TablesStay, TablesMap}
 use Rattle.kernel_calls.specs.declared.calls.Call.{Call}
 use Rattle.kernel_calls.specs.declared.calls.Call.TheVariants as call
 use Rattle.kernel_calls.specs.declared.calls.Event.{Event}

@@ -1,34 +1,5 @@
 -- Which walks find the same frame after an event.
-use Rattle.std.proofs.Common.{
-  ◌≡◌,
-  ◌≢◌,
-  ◌<◌,
-  ◌^◌,
-  ℕ,
-  Bool,
-  true,
-  false,
-  not,
-  ◌&&◌,
-  ◌||◌,
-  ◌==◌,
-  List,
-  [],
-  ◌∷◌,
-  refl,
-  ap,
-  sym,
-  ◌∙◌,
-  subst,
-  arith,
-  inl,
-  inr,
-  Option,
-  Some,
-  None,
-  eqb-true,
-  eq-eqb,
-}
+use Rattle.std.proofs.Common.{◌≡◌, ◌<◌, ◌^◌, ℕ, Bool, true, false, not, ◌&&◌, ◌||◌, ◌==◌, refl, ap, sym, ◌∙◌, subst, inl, inr, Option, Some, None, eqb-true, eq-eqb}
 use Rattle.std.specs.Prelude.{◌⊎◌, if◌then◌else◌, is_some, MatchBool, Ok}
 use Rattle.std.specs.Option.{option_map, option_and_then, unwrap_or}
 use Rattle.page_words.specs.Addresses.{IsUserPage, page_number, slot_number, index_number, second_page}
@@ -39,20 +10,8 @@ use Rattle.page_words.specs.Words.{frame_number, is_lazy}
 use Rattle.table_walk.specs.declared.Access.{Access}
 use Rattle.table_walk.specs.declared.Access.TheVariants.{Read, Write}
 use Rattle.table_walk.specs.Walk.{walk_of, is_write, not_present, not_allowed}
-use Rattle.address_space.specs.Image as memory
 use Rattle.address_space.specs.Image.{directory_at, word_of, named_by, present_word, page_word, is_lazy_at, takes_stores, SlotStands}
-use Rattle.address_space.specs.Spaces.{
-  Slot,
-  slot_order,
-  Cell,
-  Spaces,
-  at_page,
-  slot_at,
-  is_slot,
-  is_of,
-  cell_or_fresh,
-  fresh,
-}
+use Rattle.address_space.specs.Spaces.{Slot, slot_order, Cell, at_page, slot_at, is_slot, cell_or_fresh, fresh}
 use Rattle.address_space.specs.Stays.{way_of, FramesStay, WaysAgree, of_lazy}
 use Rattle.address_space.specs.Walks.{FindsBytes, WalkEndsBy, WalksAgree}
 use Rattle.address_space.proofs.standing.FramesStand.{way_parts}
@@ -87,7 +46,6 @@ use Rattle.kernel_calls.specs.Translations.{
   EndsFound,
   SlotsStay,
 }
-use Rattle.kernel_calls.specs.declared.translations.Ended.{Ended}
 use Rattle.kernel_calls.specs.Gone.{gone_of_call, gone_by}
 use Rattle.kernel_calls.specs.declared.calls.Call.{Call}
 use Rattle.kernel_calls.specs.declared.calls.Call.TheVariants as call
@@ -95,17 +53,7 @@ use Rattle.kernel_calls.specs.declared.calls.Event.{Event}
 use Rattle.kernel_calls.specs.declared.calls.Reply.TheVariants as reply
 use Rattle.kernel_calls.specs.declared.translations.Ended.TheVariants as end
 use Rattle.kernel_calls.proofs.Decided.{goes-event, goes-decided, next-stays, next-goes}
-use Rattle.kernel_calls.proofs.Flags.{
-  IsFlag,
-  has,
-  not_refused,
-  own,
-  right_is_flag,
-  accessed_is_flag,
-  dirty_is_flag,
-  Spared,
-  keeps_call,
-}
+use Rattle.kernel_calls.proofs.Flags.{IsFlag, has, not_refused, own, right_is_flag, Spared, keeps_call}
 
 -- ---- Tests
 

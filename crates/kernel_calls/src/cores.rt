@@ -28,6 +28,7 @@ ghost use Rattle.kernel_calls.specs.Gone.{gone_of_call, gone_by};
 ghost use Rattle.kernel_calls.specs.Translations.{ended_by, EndAlong, Ends};
 ghost use Rattle.kernel_calls.specs.Walked.{finds_event, reply_found, bytes_accessed};
 ghost use Rattle.kernel_calls.specs.Kept.{ServesEvent, StoresMarked, bytes_kept};
+ghost use Rattle.kernel_calls.specs.declared.calls.Call.TheVariants as call;
 ghost use Rattle.kernel_calls.specs.declared.calls.Reply.TheVariants as reply;
 
 use crate::calls::{Call, Decision, Event, Outcome, Reply};
@@ -86,10 +87,23 @@ fn complete_access(processes: &mut Processes, event: &Event, plan: &Plan, places
     }
 }
 
-/// Carries out any other call that is not refused.
+/// The child that a reply names.
 #[inline(always)]
-fn complete_call(processes: &mut Processes, event: &Event)
+fn child_of(told: &Reply) -> Pid
+    requires { (child : ℕ) × (told.now ≡ reply.Child child) }
+    ensures { told.now ≡ reply.Child result }
+{
+    match told {
+        Reply::Child(child) => *child,
+        _ => unreachable!(),
+    }
+}
+
+/// Carries out any other call that is not refused, by its reply.
+#[inline(always)]
+fn complete_call(processes: &mut Processes, event: &Event, told: &Reply)
     requires call { is_access event.now.call ≡ false }
+    requires told { told.now ≡ answer processes.old.state event.now }
     requires completes { goes_on (plan_of_event processes.old event.now) ≡ true }
     ensures state { processes.new.state ≡ after processes.old.state event.now.pid event.now.call }
     ensures stay { FramesStay (gone_of_call event.now.pid event.now.call) (memory_of processes.old) (memory_of processes.new) }
@@ -112,10 +126,10 @@ fn complete_call(processes: &mut Processes, event: &Event)
             page,
         } => processes.accept(pid, giver, giver_page, page),
         Call::Spawn { quota } => {
-            processes.spawn(pid, quota);
+            processes.spawn_as(pid, quota, child_of(told));
         }
         Call::Fork { quota } => {
-            processes.fork(pid, quota);
+            processes.fork_as(pid, quota, child_of(told));
         }
         Call::Exit => processes.exit(pid),
         Call::Quota => {}
@@ -171,9 +185,31 @@ fn at_once(processes: &mut Processes, event: &Event) -> Option<Reply>
     }
 }
 
-/// The reply to a load or a store. None, and nothing changes, for any other call.
+/// The reply to an accept.
 #[inline(always)]
-fn try_access(processes: &mut Processes, event: &Event) -> Option<Reply>
+fn reply_accept(
+    processes: &mut Processes,
+    event: &Event,
+    giver: Pid,
+    giver_page: Page,
+    page: Page,
+) -> Reply
+    requires { event.now.call ≡ call.Accept giver giver_page page }
+    ensures reply { result ≡ answer processes.old.state event.now }
+    ensures state { processes.new.state ≡ next processes.old.state event.now }
+    ensures stay { FramesStay (gone_by processes.old.state event.now) (memory_of processes.old) (memory_of processes.new) }
+    ensures kept { completes result ≡ false → processes.new ≡ processes.old }
+{
+    match processes.try_accept(event.pid, giver, giver_page, page) {
+        Ok(_) => Reply::Done,
+        Err(cause) => Reply::Refused(cause),
+    }
+}
+
+/// The reply to a load, a store or an accept, each of which is tested and carried out by one call. None, and nothing
+/// changes, for any other call.
+#[inline(always)]
+fn reply_by_one_call(processes: &mut Processes, event: &Event) -> Option<Reply>
     ensures reply { IfSome result (λ reply. reply ≡ answer processes.old.state event.now) }
     ensures state { IsSome result → processes.new.state ≡ next processes.old.state event.now }
     ensures stay { IsSome result → FramesStay (gone_by processes.old.state event.now) (memory_of processes.old) (memory_of processes.new) }
@@ -190,6 +226,11 @@ fn try_access(processes: &mut Processes, event: &Event) -> Option<Reply>
             let write = Access::Write;
             Some(reply_access(processes, event, addr, size, write, value))
         }
+        Call::Accept {
+            giver,
+            giver_page,
+            page,
+        } => Some(reply_accept(processes, event, giver, giver_page, page)),
         _ => None,
     }
 }
@@ -211,10 +252,11 @@ fn carry_access(processes: &mut Processes, event: &Event, plan: &Plan, places: &
     }
 }
 
-/// Carries out any other call by its plan.
+/// Carries out any other call by its plan and its reply.
 #[inline(always)]
-fn carry_call(processes: &mut Processes, event: &Event, plan: &Plan)
+fn carry_call(processes: &mut Processes, event: &Event, plan: &Plan, told: &Reply)
     requires call { is_access event.now.call ≡ false }
+    requires told { told.now ≡ answer processes.old.state event.now }
     requires decided { plan.now ≡ plan_of_event processes.old event.now }
     ensures state { processes.new.state ≡ next processes.old.state event.now }
     ensures stay { FramesStay (gone_by processes.old.state event.now) (memory_of processes.old) (memory_of processes.new) }
@@ -223,13 +265,14 @@ fn carry_call(processes: &mut Processes, event: &Event, plan: &Plan)
     match plan {
         Plan::Refused(_) => (),
         Plan::Fault(_) => (),
-        Plan::Ready { .. } => complete_call(processes, event),
+        Plan::Ready { .. } => complete_call(processes, event, told),
     }
 }
 
-/// Carries out an event by its plan, an access by what stands at its pages.
+/// Carries out an event by its plan, an access by what stands at its pages, any other call by its reply.
 #[inline(always)]
-fn carry(processes: &mut Processes, event: &Event, plan: &Plan, places: &Places)
+fn carry(processes: &mut Processes, event: &Event, plan: &Plan, told: &Reply, places: &Places)
+    requires told { told.now ≡ answer processes.old.state event.now }
     requires decided { plan.now ≡ plan_of_event processes.old event.now }
     requires places { places.now ≡ places_of processes.old event.now }
     ensures state { processes.new.state ≡ next processes.old.state event.now }
@@ -239,7 +282,7 @@ fn carry(processes: &mut Processes, event: &Event, plan: &Plan, places: &Places)
     if is_access(event) {
         carry_access(processes, event, plan, places);
     } else {
-        carry_call(processes, event, plan);
+        carry_call(processes, event, plan, told);
     }
 }
 
@@ -316,12 +359,13 @@ impl Core {
             &mut self.processes,
             &decision.event,
             &decision.plan,
+            &decision.reply,
             &decision.places,
         );
         self.stands();
     }
 
-    /// The reply to any other call, which looks where it is tested and where it is carried out.
+    /// The reply to a call that has a test and a change, each with a look of its own where it needs one.
     #[inline(never)]
     fn reply_call(&mut self, event: &Event) -> Reply
         requires { is_access event.now.call ≡ false }
@@ -334,7 +378,7 @@ impl Core {
     {
         self.stands();
         let judged = judge_call(&self.processes, event);
-        carry_call(&mut self.processes, event, &judged.plan);
+        carry_call(&mut self.processes, event, &judged.plan, &judged.reply);
         self.stands();
         judged.reply
     }
@@ -350,7 +394,7 @@ impl Core {
         ensures kept { completes result ≡ false → self.new ≡ self.old }
     {
         self.stands();
-        if let Some(reply) = try_access(&mut self.processes, event) {
+        if let Some(reply) = reply_by_one_call(&mut self.processes, event) {
             self.stands();
             return reply;
         }

@@ -41,7 +41,7 @@ fn refusal(cause: Cause, used: u32) -> Judgement
     }
 }
 
-/// A reply to a call that completes as memory stands, with the charge afterwards.
+/// A reply to a call that is neither refused nor a fault, with the charge afterwards.
 fn answered(reply: Reply, used_after: u32) -> Judgement
     ensures { result ≡ reply_of reply used_after }
 {
@@ -391,7 +391,9 @@ fn decide_call(processes: &Processes, event: &Event, container: &Container) -> J
             let test = test_accept(processes, container, pid, giver, giver_page, page);
             done_or_refused(test, used)
         }
-        Call::Spawn { quota } => child_or_refused(processes.spawn_test(pid, quota), used),
+        Call::Spawn { quota } => {
+            child_or_refused(processes.child_test(container, pid, quota), used)
+        }
         Call::Fork { quota } => {
             child_or_refused(processes.fork_test(container, pid, quota), used)
         }
@@ -415,7 +417,7 @@ pub(crate) fn judge_access(processes: &Processes, event: &Event, places: &Places
     decide_access(processes, event, &container, places)
 }
 
-/// What is decided of any other call, which looks at its pages where it is tested.
+/// What is decided of any other call, whose page, where its test asks for one, is looked up for that.
 #[inline(always)]
 pub(crate) fn judge_call(processes: &Processes, event: &Event) -> Judgement
     requires { is_access event.now.call ≡ false }

@@ -1,5 +1,5 @@
 //! A process's memory in and out, as copyin and copyout are: what the accesses of one byte each come to, up to the
-//! first that is refused or faults. Each page is looked up once, and its bytes go as one slice.
+//! first that is refused or faults. A page that is ready is looked up once, and its bytes go as one slice.
 
 ghost use Rattle.std.specs.Prelude.{◌≡◌, ◌+◌, ◌++◌, ◌<◌, ◌≤◌, Some, None, IfSome, IsSome, IsNone, false, length, drop, slice_index};
 ghost use Rattle.page_words.specs.Addresses.{page_number, offset_number, IsUserPage};

@@ -22,6 +22,34 @@ pub struct Listed {
     pub entry: PageEntry,
 }
 
+/// The region of a slot, where it has a table.
+fn region_at(memory: &Memory, directory: Frame, place: usize) -> Option<Region>
+    requires place { place < 1024 }
+    requires map { IsPageMap memory.now directory }
+    ensures slot { IfSome result (λ region. region.slot ≡ place) }
+    ensures table { IfSome result (λ region. table_of (frame_bytes memory.now) directory place ≡ Some region.table) }
+    ensures none { IfNone result (table_of (frame_bytes memory.now) directory place ≡ None) }
+{
+    let slot = place as u32;
+    let table = table(memory, directory, slot)?;
+    Some(Region { slot, table })
+}
+
+/// The first region of two slots, one behind the other, that has a table; None where none has.
+fn region_of_two(memory: &Memory, directory: Frame, place: usize) -> Option<Region>
+    requires place { place < 1023 }
+    requires map { IsPageMap memory.now directory }
+    ensures within { IfSome result (λ region. (place ≤ region.slot) × (region.slot < place + 2)) }
+    ensures table { IfSome result (λ region. table_of (frame_bytes memory.now) directory region.slot ≡ Some region.table) }
+    ensures least { IfSome result (λ region. (slot : ℕ) → place ≤ slot → slot < region.slot → table_of (frame_bytes memory.now) directory slot ≡ None) }
+    ensures none { IfNone result ((slot : ℕ) → place ≤ slot → slot < place + 2 → table_of (frame_bytes memory.now) directory slot ≡ None) }
+{
+    match region_at(memory, directory, place) {
+        Some(region) => Some(region),
+        None => region_at(memory, directory, place + 1),
+    }
+}
+
 /// The first region from a slot on, below the end of the user range, that has a table; None where none has. It reads
 /// each directory word from that slot on once, up to the one that it finds.
 pub fn next_region(memory: &Memory, directory: Frame, first: u32) -> Option<Region>
@@ -31,11 +59,16 @@ pub fn next_region(memory: &Memory, directory: Frame, first: u32) -> Option<Regi
     ensures least { IfSome result (λ region. (slot : ℕ) → first ≤ slot → slot < region.slot → table_of (frame_bytes memory.now) directory slot ≡ None) }
     ensures none { IfNone result ((slot : ℕ) → first ≤ slot → slot < 960 → table_of (frame_bytes memory.now) directory slot ≡ None) }
 {
-    // Over places of the machine's width, so that no turn widens one.
-    for place in first as usize..SLOT_END as usize {
-        let slot = place as u32;
-        if let Some(table) = table(memory, directory, slot) {
-            return Some(Region { slot, table });
+    // Two by two, and over places of the machine's width, so that a slot without a table takes few instructions.
+    let first = first as usize;
+    if first % 2 == 1 && first < SLOT_END as usize {
+        if let Some(region) = region_at(memory, directory, first) {
+            return Some(region);
+        }
+    }
+    for pair in (first + 1) / 2..SLOT_END as usize / 2 {
+        if let Some(region) = region_of_two(memory, directory, 2 * pair) {
+            return Some(region);
         }
     }
     None

@@ -1,6 +1,7 @@
 -- What lists of offers answer as a map, and what they keep after an offer more and after some less.
 use Rattle.std.proofs.Common.{◌≡◌, ◌≢◌, ℕ, zero, suc, ◌+◌, ◌<◌, ◌≤◌, ◌-◌, inl, inr, Bool, true, false, cond, not, ◌&&◌, ◌||◌, ◌==◌, nat_le, List, [], ◌∷◌, ◌++◌, length, filter, is_some, refl, sym, ap, ◌∙◌, Option, Some, None, arith, subst, drop, length-append, length-set}
-use Rattle.std.specs.Prelude.{find, IsOk}
+use Rattle.std.specs.Prelude.{find, position, remove, slice_get, IsOk}
+use Rattle.std.specs.List.{position_or_len}
 use Rattle.std.specs.Option.{option_map, option_or}
 use Rattle.std.specs.Ordering.{nat_cmp, ordering_then}
 use Rattle.std.specs.Cmp.{unsigned_tied, tied_then}
@@ -8,7 +9,8 @@ use Rattle.std.proofs.lemmas.List.{get_or-set_same, get_or-set_other, get_or_pas
 use Rattle.std.proofs.lemmas.List.Elements.{All-from_get_or}
 use Rattle.std.proofs.lemmas.List.Sums.{sum_by-le, get_or-le-sum_by}
 use Rattle.std.proofs.lemmas.List.Filters.{length-filter_both}
-use Rattle.std.proofs.lemmas.List.Folds.{find-append}
+use Rattle.std.proofs.lemmas.List.Folds.{find-append, find_at}
+use Rattle.std.proofs.lemmas.Grind.{common_steps}
 use Rattle.std.proofs.lemmas.Bool.{eqb-true, eq-eqb, ne_eqb, cases_lt}
 use Rattle.std.proofs.lemmas.Bool.Decides.{nat_tests}
 use Rattle.arrayvec.specs.ArrayVec.{ArrayVec}
@@ -268,6 +270,52 @@ module _ (t : ℕ → ℕ → Bool) where
         ∙ (λ i. cond (sym (own page target) i) (sym (get-offers_in lists (offer_key p page target)) i) None)
         ∙ sym (get-retain_keys (offers_in lists) u (offer_key p page target)))
         (λ key apart. sym (get-retain_keys (offers_in lists) u key ∙ ap (λ b. cond b (map.get (offers_in lists) key) None) (others key apart)))
+
+-- ---- The place of an offer
+
+none_past : (offers : List Offer) (n : ℕ) → length offers ≤ n → slice_get offers n ≡ None
+none_past [] n h = refl
+none_past (o ∷ offers) zero h = absurd (omega arith)
+none_past (o ∷ offers) (suc n) h = none_past offers n (omega arith)
+
+module _ (page target : ℕ) where
+  none_less : (offers : List Offer) → find (is_of page target) offers ≡ None → filter (λ offer. not (is_of page target offer)) offers ≡ offers
+  none_less [] e = refl
+  none_less (o ∷ offers) e = by (is_of page target o) e (none_less offers)
+    where
+      by : (b : Bool) → cond b (Some o) (find (is_of page target) offers) ≡ None → (find (is_of page target) offers ≡ None → filter (λ offer. not (is_of page target offer)) offers ≡ offers)
+          → cond (not b) (o ∷ filter (λ offer. not (is_of page target offer)) offers) (filter (λ offer. not (is_of page target offer)) offers) ≡ o ∷ offers
+      by true e rest = cc
+      by false e rest = ap (λ xs. o ∷ xs) (rest e)
+
+  -- as no two are alike, the first that is taken out is the only one that goes
+  first_goes : (offers : List Offer) → IsDistinct offers → remove offers (position_or_len (is_of page target) offers) ≡ filter (λ offer. not (is_of page target offer)) offers
+  first_goes [] h = refl
+  first_goes (o ∷ offers) h = by (is_of page target o) refl (first_goes offers h.1)
+    where
+      by : (b : Bool) → is_of page target o ≡ b → remove offers (position_or_len (is_of page target) offers) ≡ filter (λ offer. not (is_of page target offer)) offers
+          → remove (o ∷ offers) (cond (not b) (1 + position_or_len (is_of page target) offers) 0) ≡ cond (not b) (o ∷ filter (λ offer. not (is_of page target offer)) offers) (filter (λ offer. not (is_of page target offer)) offers)
+      by true is rest = (let e = of_one page target o is in sym (none_less offers ((λ i. find (is_of (sym e.0 i) (sym e.1 i)) offers) ∙ h.0)))
+      by false is rest =
+          let n = position_or_len (is_of page target) offers in
+          let next : 1 + n ≡ suc n = omega arith in
+          ap (remove (o ∷ offers)) next ∙ ap (λ xs. o ∷ xs) rest
+
+  module _ (offers : List Offer) where
+    pub none_at : position (is_of page target) offers ≡ None → find (is_of page target) offers ≡ None
+    none_at e =
+        let past : length offers ≤ position_or_len (is_of page target) offers = grind (arith, common_steps, e) in
+        find_at (is_of page target) offers ∙ none_past offers (position_or_len (is_of page target) offers) past
+
+    module _ (i : ℕ) (at : position (is_of page target) offers ≡ Some i) where
+      first : position_or_len (is_of page target) offers ≡ i
+      first = grind (arith, common_steps, at)
+
+      pub found_at : find (is_of page target) offers ≡ slice_get offers i
+      found_at = find_at (is_of page target) offers ∙ ap (slice_get offers) first
+
+      pub removed_at : IsDistinct offers → remove offers i ≡ filter (λ offer. not (is_of page target offer)) offers
+      removed_at h = ap (remove offers) (sym first) ∙ first_goes offers h
 
 -- ---- What goes: one offer, the offers of a page, all of a process, those to a process
 

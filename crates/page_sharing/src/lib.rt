@@ -4,7 +4,7 @@
 //! goes with it. A process has at most 32 offers pending, which stand in a list of its own.
 #![tactic(auto)]
 
-ghost use Rattle.std.specs.Prelude.{◌≡◌, ℕ, ◌+◌, ◌<◌, ◌≤◌, ◌==◌, ◌&&◌, ◌↔◌, not, false, [], ◌∷◌, ◌++◌, IsErrOf, IfErr, IfOk, IsOk, OnOk, OnErr, Some, filter, find, length, nat_le};
+ghost use Rattle.std.specs.Prelude.{◌≡◌, ℕ, ◌+◌, ◌<◌, ◌≤◌, ◌==◌, ◌&&◌, ◌↔◌, not, false, [], ◌∷◌, ◌++◌, IsErrOf, IfErr, IfOk, IsOk, OnOk, OnErr, Some, filter, find, position, remove, slice_get, length, nat_le};
 ghost use Rattle.std.specs.Option.{option_map};
 ghost use Rattle.page_words.specs.FiniteMap as map;
 ghost use Rattle.page_sharing.specs.Offers.{offer_key, offer_answer, pending, without_page, without_process};
@@ -95,14 +95,11 @@ fn right_of(offers: &[Offer], page: Page, target: Pid) -> Option<bool>
         .map(|offer| offer.write)
 }
 
-/// Takes one offer out of a list, and gives how many went.
-fn keep_other_offers(offers: &mut OfferList, page: Page, target: Pid) -> u32
-    ensures kept { offers.new.items ≡ filter (λ offer. not (is_of page target offer)) offers.old.items }
-    ensures gone { result + length offers.new.items ≡ length offers.old.items }
+/// The place of an offer in a list; None where it isn't there.
+fn place_of(offers: &[Offer], page: Page, target: Pid) -> Option<usize>
+    ensures { result ≡ position (is_of page target) offers.now }
 {
-    let before = offers.len();
-    offers.retain(|offer| !offer.is_of(page, target));
-    (before - offers.len()) as u32
+    offers.iter().position(|offer| offer.is_of(page, target))
 }
 
 /// Takes the offers of a page out of a list, and gives how many went.
@@ -168,13 +165,15 @@ fn add_offer(lists: &mut OfferLists, giver: Pid, offer: Offer)
     lists[giver.number() as usize].push(offer);
 }
 
-/// Takes an offer out, and gives how many went.
-fn remove_offer(lists: &mut OfferLists, giver: Pid, page: Page, target: Pid) -> u32
+/// Takes out the offer at a place in the list of a process, and gives its right.
+fn remove_at(lists: &mut OfferLists, giver: Pid, place: usize) -> bool
+    requires { place < length (offers_by lists.old giver) }
     ensures listed { giver < length lists.old }
-    ensures list { lists.new ≡ with_list lists.old giver (filter (λ offer. not (is_of page target offer)) (offers_by lists.old giver)) }
-    ensures gone { result + all_pending lists.new ≡ all_pending lists.old }
+    ensures right { option_map (λ offer. offer.write) (slice_get (offers_by lists.old giver) place) ≡ Some result }
+    ensures list { lists.new ≡ with_list lists.old giver (remove (offers_by lists.old giver) place) }
+    ensures gone { 1 + all_pending lists.new ≡ all_pending lists.old }
 {
-    keep_other_offers(&mut lists[giver.number() as usize], page, target)
+    lists[giver.number() as usize].remove(place).write
 }
 
 /// Takes the offers of a page out, and gives how many went.
@@ -305,11 +304,11 @@ impl Offers {
         ensures fault { IfErr result (λ fault. fault ≡ OfferFault.NoOffer) }
         ensures kept { OnErr result (self.new ≡ self.old) }
     {
-        let Some(write) = self.get(giver, page, target) else {
+        let Some(place) = place_of(list_by(&self.lists, giver), page, target) else {
             return Err(OfferFault::NoOffer);
         };
-        self.count -= remove_offer(&mut self.lists, giver, page, target);
-        Ok(write)
+        self.count -= 1;
+        Ok(remove_at(&mut self.lists, giver, place))
     }
 
     /// Drops the offers of a page of a process.

@@ -1,6 +1,6 @@
 -- What the test of a fork answers, and what a copy of a process leaves of charges and of states.
-use Rattle.std.proofs.Common.{◌≡◌, ◌≢◌, ℕ, ◌+◌, ◌-◌, ◌≤◌, ◌==◌, Bool, true, false, cond, refl, sym, ap, subst, ◌∙◌, inl, inr, Option, Some, None, unwrap_or, is_some, is_none, Ok, arith}
-use Rattle.std.specs.Prelude.{if◌then◌else◌, nat_lt, IsOk}
+use Rattle.std.proofs.Common.{◌≡◌, ◌≢◌, ℕ, ◌+◌, ◌≤◌, ◌==◌, Bool, true, false, cond, refl, sym, ap, subst, ◌∙◌, inl, inr, Option, Some, None, unwrap_or, is_some, is_none, Ok, arith}
+use Rattle.std.specs.Prelude.{if◌then◌else◌, nat_lt}
 use Rattle.std.specs.Option.{option_map}
 use Rattle.std.proofs.lemmas.Bool.{cases_eq}
 use Rattle.std.proofs.lemmas.Option.{same_Some}
@@ -11,7 +11,6 @@ use Rattle.page_words.proofs.OptionLemmas.{some_value, no_value}
 use Rattle.address_space.specs.Spaces.{Slot, Cell, Spaces, cost, copy_of, copied, at_page}
 use Rattle.address_space.proofs.costs.Copied.{copied-own, copied-other, cost-copied, cost-copied_other}
 use Rattle.quota_tree.specs.Book.{Member, given, quota_of, next_number}
-use Rattle.quota_tree.specs.Containers.{Containers, IsLive, used_of, room_of, after_split}
 use Rattle.quota_tree.proofs.Sums.{given-insert, given-none}
 use Rattle.quota_tree.proofs.BookFacts.{child_no}
 use Rattle.process_table.specs.State.{State, is_live, room, child_of}
@@ -69,23 +68,20 @@ may_fork s p quota h = by (quota == 0) (next_number s.book) (nat_lt quota (cost 
     }
 
 -- where the test is Ok, the process is live and nothing is against it
-pub fork-ok : (s : State) (p quota : ℕ) → IsOk (fork_answer s p quota) → (is_live s p ≡ true) × (fork_refusal s p quota ≡ None)
-fork-ok s p quota ok = by (is_live s p) (fork_refusal s p quota) ok refl refl
+pub fork-ok : (s : State) (p quota child : ℕ) → fork_answer s p quota ≡ Ok child → (is_live s p ≡ true) × (fork_refusal s p quota ≡ None)
+fork-ok s p quota child is = by (is_live s p) (fork_refusal s p quota) is refl refl
   where
-    by : (live : Bool) (x : Option Cause) → IsOk (child_unless (if live then x else Some cause.NoProcess) (child_of s)) → is_live s p ≡ live → fork_refusal s p quota ≡ x → (is_live s p ≡ true) × (fork_refusal s p quota ≡ None)
+    by : (live : Bool) (x : Option Cause) → child_unless (if live then x else Some cause.NoProcess) (child_of s) ≡ Ok child → is_live s p ≡ live → fork_refusal s p quota ≡ x → (is_live s p ≡ true) × (fork_refusal s p quota ≡ None)
     by true None h live is = (live, is)
     by true (Some c) h live is = cc
     by false x h live is = cc
 
--- the number that it answers then
-pub fork-number : (s : State) (p quota : ℕ) → is_live s p ≡ true → fork_refusal s p quota ≡ None → fork_answer s p quota ≡ Ok (child_of s)
-fork-number s p quota live none = λ i. child_unless (if live i then none i else Some cause.NoProcess) (child_of s)
-
--- and a spawn may be then
-pub fork-spawns : (s : State) (p quota : ℕ) → is_live s p ≡ true → fork_refusal s p quota ≡ None → IsOk (spawn_answer s p quota)
-fork-spawns s p quota live none =
-    let e : Ok (child_of s) ≡ spawn_answer s p quota = sym (λ i. child_unless (if live i then (may_fork s p quota none).spawn i else Some cause.NoProcess) (child_of s)) in
-    subst IsOk e refl
+-- and a spawn may be then, of the same child
+pub fork-spawns : (s : State) (p quota child : ℕ) → fork_answer s p quota ≡ Ok child → spawn_answer s p quota ≡ Ok child
+fork-spawns s p quota child is =
+    let ok = fork-ok s p quota child is in
+    (λ i. child_unless (if ok.0 i then (may_fork s p quota ok.1).spawn i else Some cause.NoProcess) (child_of s))
+    ∙ sym (λ i. child_unless (if ok.0 i then ok.1 i else Some cause.NoProcess) (child_of s)) ∙ is
 
 -- ---- States
 
@@ -193,23 +189,3 @@ module _ (s : State) (p quota : ℕ) (w : IsWellFormed s) (live : is_live s p �
   -- it leaves the root's entry
   pub root-fork : map.get (after_fork s p quota).book 0 ≡ map.get s.book 0
   root-fork = root-spawn s p quota w live may.spawn
-
--- ---- Charges
-
--- the child of a split is charged for its directory
-pub child-used : (c : Containers) (p asked child : ℕ) → used_of (after_split c p asked child) child ≡ 1
-child-used c p asked child = ap (λ x. unwrap_or x 0) (get-insert c.used child 1 child ∙ ap (λ b. cond b (Some 1) (map.get c.used child)) (same_itself nat_order child))
-
--- the child of a split gives nothing, so that all of its quota but its directory is room
-pub child-room : (c : Containers) (p asked child : ℕ) → map.contains_key c.book child ≡ false → IsLive c p → ((q : ℕ) (member : Member) → map.get c.book q ≡ Some member → IsLive c member.parent)
-    → room_of (after_split c p asked child) child ≡ asked - 1
-child-room c p asked child absent live parents =
-    let none = no_value (map.get c.book child) absent in
-    let apart : p ≢ child = (λ e. let t : map.contains_key c.book child ≡ true = ap (map.contains_key c.book) (sym e) ∙ live in cc) in
-    let member : Member = record { parent = p; quota = asked } in
-    let a = given-insert c.book child member none child ∙ ap (λ b. cond b asked 0 + given c.book child) (child_no p child child asked apart) in
-    let b = given-none c.book child none (λ q m h. some_value (map.get c.book m.parent) (parents q m h)) in
-    let given_is : given (after_split c p asked child).book child ≡ 0 = omega (arith, a, b) in
-    let used_is : used_of (after_split c p asked child) child ≡ 1 = child-used c p asked child in
-    let quota_is : quota_of (after_split c p asked child).book child ≡ asked = ap (λ (o : Option Member). unwrap_or (option_map (λ m. m.quota) o) 0) (get-insert c.book child member child ∙ ap (λ b. cond b (Some member) (map.get c.book child)) (same_itself nat_order child)) in
-    omega (arith, given_is, used_is, quota_is)

@@ -1,24 +1,28 @@
 -- Each call whose test passes keeps states well formed.
-use Rattle.std.proofs.Common.{◌≡◌, ℕ, Bool, true, false, refl, sym, subst, Option, Some, None}
+use Rattle.std.proofs.Common.{◌≡◌, ℕ, Bool, true, false, refl, sym, ap, subst, ◌∙◌, length, Option, Some, None}
 use Rattle.std.specs.Prelude.{if◌then◌else◌, IsOk, IfSome}
+use Rattle.std.specs.Option.{option_map}
+use Rattle.page_words.specs.FiniteMap as map
 use Rattle.page_words.specs.Addresses.{byte_count, page_number, offset_number, second_page, touched, EachTouched}
 use Rattle.address_space.proofs.steps.Bytes.{stored_in_page}
 use Rattle.page_words.specs.declared.addresses.Size.{Size}
-use Rattle.address_space.specs.Spaces.{Spaces, slot_at, stored, with_pages, all_accessed, all_stored, bytes_of}
-use Rattle.address_space.proofs.costs.MapFirst.{IsThere, with_touched-same, bytes_there}
+use Rattle.address_space.specs.Spaces.{Spaces, cost, slot_at, stored, with_pages, all_accessed, all_stored, bytes_of}
+use Rattle.address_space.proofs.costs.MapFirst.{IsThere, with_touched-same, bytes_there, key-all_accessed, key-all_stored}
+use Rattle.address_space.proofs.costs.AccessCosts.{cost-same}
 use Rattle.address_space.specs.View as frames
 use Rattle.quota_tree.specs.Containers.{Containers}
 use Rattle.page_sharing.specs.Offers.{Offers}
 use Rattle.table_walk.specs.declared.Access.{Access}
 use Rattle.table_walk.specs.declared.Access.TheVariants.{Read, Write}
-use Rattle.process_table.specs.State.{State, is_live, child_of}
+use Rattle.process_table.specs.State.{State, is_live, child_of, as_container, container_of}
 use Rattle.process_table.specs.Calls.{map_refusal, protect_refusal, offer_refusal, accept_refusal, spawn_refusal, exit_refusal, after_map, after_protect, after_offer, after_accept, after_spawn, after_exit, after_access}
 use Rattle.process_table.specs.TestAnswers.{child_unless, map_answer, protect_answer, offer_answer, accept_answer, spawn_answer, exit_answer}
-use Rattle.process_table.specs.View.{IsProcesses, IsWhole}
+use Rattle.process_table.specs.View.{IsProcesses, IsWhole, state_of}
 use Rattle.process_table.specs.WellFormed.{IsWellFormed}
 use Rattle.process_table.specs.declared.causes.Cause.{Cause}
 use Rattle.process_table.specs.declared.causes.Cause.TheVariants.{NoProcess}
 use Rattle.process_table.proofs.BookLaws.{well_formed-spawn, well_formed-exit}
+use Rattle.process_table.proofs.Charged.{charged-same}
 use Rattle.process_table.proofs.Refusals.{no_cause}
 use Rattle.process_table.proofs.SharingLaws.{well_formed-protect, well_formed-offer, well_formed-accept}
 use Rattle.process_table.proofs.SpaceLaws.{well_formed-map, well_formed-loaded, well_formed-bytes}
@@ -62,6 +66,31 @@ keeps-access s p address size access value w there = by access
     by : (access : Access) → IsWellFormed (after_access s p address size access value)
     by Read = subst (λ (T : Spaces). IsWellFormed (record s { spaces = all_accessed T p (touched address size) })) same (well_formed-loaded s p address size w there)
     by Write = subst (λ (T : Spaces). IsWellFormed (record s { spaces = all_stored T p address (bytes_of (byte_count size) value) })) same (well_formed-bytes s p address (byte_count size) value w (bytes_there s.spaces p address size there))
+
+-- nobody's cost changes by it
+pub cost-access : (s : State) (p address : ℕ) (size : Size) (access : Access) (value : ℕ) → EachTouched address size (IsThere s.spaces p) → (q : ℕ) → cost (after_access s p address size access value).spaces q ≡ cost s.spaces q
+cost-access s p address size Read value there q =
+    ap (λ T. cost (all_accessed T p (touched address size)) q) (with_touched-same s.spaces p address size there)
+    ∙ cost-same (all_accessed s.spaces p (touched address size)) s.spaces q (key-all_accessed s.spaces p address size there)
+cost-access s p address size Write value there q =
+    ap (λ T. cost (all_stored T p address (bytes_of (byte_count size) value)) q) (with_touched-same s.spaces p address size there)
+    ∙ cost-same (all_stored s.spaces p address (bytes_of (byte_count size) value)) s.spaces q (key-all_stored s.spaces p address (byte_count size) value (bytes_there s.spaces p address size there))
+
+-- nor what else is told of anybody
+pub container-access : (s t : State) (p address : ℕ) (size : Size) (access : Access) (value : ℕ) → EachTouched address size (IsThere s.spaces p) → t ≡ after_access s p address size access value → (q : ℕ) → container_of t q ≡ container_of s q
+container-access s t p address size access value there is q = ap (λ (t : State). container_of t q) is ∙ by access (cost-access s p address size access value there q)
+  where
+    by : (access : Access) → cost (after_access s p address size access value).spaces q ≡ cost s.spaces q → container_of (after_access s p address size access value) q ≡ container_of s q
+    by Read same = ap (λ used. option_map (λ m. record (as_container s q m) { used = used }) (map.get s.book q)) same
+    by Write same = ap (λ used. option_map (λ m. record (as_container s q m) { used = used }) (map.get s.book q)) same
+
+-- and the parts stay whole
+pub whole-access : (v w : frames.View) (c : Containers) (o : Offers) (p address : ℕ) (size : Size) (access : Access) (value : ℕ) → IsWhole v c o → EachTouched address size (IsThere v.spaces p)
+    → w.directories ≡ v.directories → w.roles ≡ v.roles → state_of w c o ≡ after_access (state_of v c o) p address size access value → IsWhole w c o
+whole-access v w c o p address size access value is there directories roles state = record {
+  kept = charged-same v w c is.kept directories (ap length roles) (λ q. ap (λ (s : State). cost s.spaces q) state ∙ cost-access (state_of v c o) p address size access value there q);
+  well_formed = subst IsWellFormed (sym state) (keeps-access (state_of v c o) p address size access value is.well_formed there);
+}
 
 -- what holds of the one page of an access that stays in it
 pub alone : (address : ℕ) (size : Size) (P : ℕ → Type 0) → second_page address size ≡ None → P (page_number address) → EachTouched address size P

@@ -1,5 +1,5 @@
 -- What the place of a page tells where there is one.
-use Rattle.std.proofs.Common.{◌≡◌, ℕ, Bool, true, false, not, refl, ap, sym, ◌∙◌, ◌&&◌, ◌≤◌, Option, Some, None, unwrap_or, arith}
+use Rattle.std.proofs.Common.{◌≡◌, ℕ, Bool, true, false, not, refl, ap, ◌&&◌, ◌≤◌, Option, Some, None, unwrap_or, arith}
 use Rattle.std.proofs.lemmas.Bool.{and_parts, not-true}
 use Rattle.std.proofs.lemmas.Bool.Decides.{nat_tests}
 use Rattle.std.specs.Prelude.{if◌then◌else◌, is_some, nat_le, IfSome}
@@ -47,10 +47,6 @@ place_known v p page place = by (is_user_page page) refl
 pub placed_second : (v : View) (p : ℕ) (x : Option ℕ) → IfSome x IsUserPage → option_and_then (place_at v p) x ≡ option_map (place_in v.directories v.bytes p) x
 placed_second v p None user = refl
 placed_second v p (Some page) user = placed v p page (page_is_user page user)
-
--- what a place is that was unwrapped, seen by the parts of a view
-pub place_is : (v w : View) (p page : ℕ) (place : Place) (x : Option Place) → w ≡ v → x ≡ place_at v p page → x ≡ Some place → place ≡ place_in w.directories w.bytes p page
-place_is v w p page place x same at is = (place_known v p page place (sym at ∙ is)).1 ∙ ap (λ (u : View). place_in u.directories u.bytes p page) (sym same)
 
 -- ---- What the flags of a place are
 

@@ -1,6 +1,6 @@
 -- What the test of a spawn answers, and what a child's charge is.
 use Rattle.std.proofs.Common.{◌≡◌, ◌≢◌, ℕ, ◌+◌, ◌-◌, ◌<◌, ◌≤◌, ◌==◌, Bool, true, false, cond, not, refl, sym, ap, subst, ◌∙◌, inl, inr, List, [], ◌∷◌, Option, Some, None, unwrap_or, is_some, is_none, length, Result, Ok, Err, arith}
-use Rattle.std.specs.Prelude.{if◌then◌else◌, nat_lt, IsOk}
+use Rattle.std.specs.Prelude.{if◌then◌else◌, nat_lt}
 use Rattle.std.specs.List.{find, range_with_len}
 use Rattle.std.specs.Option.{option_map}
 use Rattle.page_words.specs.declared.addresses.Pid.{Pid}
@@ -13,10 +13,11 @@ use Rattle.address_space.specs.View as frames
 use Rattle.address_space.specs.View.{directory_of, live_cost, total_cost}
 use Rattle.quota_tree.specs.declared.QuotaFault.{QuotaFault}
 use Rattle.quota_tree.specs.declared.QuotaFault.TheVariants as quota
-use Rattle.quota_tree.specs.Book.{Book, Member, given, quota_of, next_number}
+use Rattle.quota_tree.specs.Book.{Book, Member, given, quota_of, number_of_children, next_number}
 use Rattle.quota_tree.specs.Containers.{Containers, IsLive, used_of, room_of, total_used, fitting, split_answer, after_split, opening}
+use Rattle.quota_tree.specs.Containers as quotas
 use Rattle.page_sharing.specs.Offers.{Offers}
-use Rattle.process_table.specs.State.{room, child_of}
+use Rattle.process_table.specs.State.{room, child_of, as_container, container_of}
 use Rattle.process_table.specs.Calls.{spawn_refusal}
 use Rattle.process_table.specs.TestAnswers.{translated, child_unless, spawn_answer}
 use Rattle.process_table.specs.View.{state_of, IsProcesses}
@@ -47,18 +48,18 @@ spawn-split v c o p asked kept live =
     by false (Some child) true is = ap (λ b. translated (if b then Err quota.NoRoom else Ok child)) (sym is)
     by false (Some child) false is = ap (λ b. translated (if b then Err quota.NoRoom else Ok child)) (sym is)
 
--- where a spawn may be, its process is live and the quotas can be split
-pub spawn-may : (v : frames.View) (c : Containers) (o : Offers) (p asked : ℕ) → IsProcesses v c → IsOk (spawn_answer (state_of v c o) p asked) → (IsLive c p) × IsOk (split_answer c p asked)
-spawn-may v c o p asked kept ok = by (map.contains_key c.book p) refl ok
+-- where a spawn may be, its process is live, and the quotas' split has that child
+pub spawn-may : (v : frames.View) (c : Containers) (o : Offers) (p asked child : ℕ) → IsProcesses v c → spawn_answer (state_of v c o) p asked ≡ Ok child → (IsLive c p) × (split_answer c p asked ≡ Ok child)
+spawn-may v c o p asked child kept is = by (map.contains_key c.book p) refl is
   where
-    whole : (r : Result Pid QuotaFault) → IsOk (translated r) → IsOk r
-    whole (Ok child) h = h
+    whole : (r : Result Pid QuotaFault) → translated r ≡ Ok child → r ≡ Ok child
+    whole (Ok k) h = let same : k ≡ child = cc in ap Ok same
     whole (Err quota.BadQuota) h = cc
     whole (Err quota.TableFull) h = cc
     whole (Err quota.NoRoom) h = cc
 
-    by : (b : Bool) → map.contains_key c.book p ≡ b → IsOk (child_unless (if b then spawn_refusal (state_of v c o) p asked else Some cause.NoProcess) (child_of (state_of v c o))) → (IsLive c p) × IsOk (split_answer c p asked)
-    by true live h = (live, whole (split_answer c p asked) (subst IsOk (spawn-split v c o p asked kept live) ok))
+    by : (b : Bool) → map.contains_key c.book p ≡ b → child_unless (if b then spawn_refusal (state_of v c o) p asked else Some cause.NoProcess) (child_of (state_of v c o)) ≡ Ok child → (IsLive c p) × (split_answer c p asked ≡ Ok child)
+    by true live h = (live, whole (split_answer c p asked) (sym (spawn-split v c o p asked kept live) ∙ is))
     by false dead h = cc
 
 -- ---- The child's number
@@ -121,12 +122,14 @@ cost-child v p stands none = cost-no_pages v.spaces p (λ page. nothing-mapped (
 root_not : (c : Containers) (child : ℕ) → IsLive c 0 → map.contains_key c.book child ≡ false → 0 ≢ child
 root_not c child live absent e = let a : map.contains_key c.book child ≡ true = ap (map.contains_key c.book) (sym e) ∙ live in cc
 
-module _ (v : frames.View) (c : Containers) (p asked child : ℕ) (kept : IsProcesses v c) (root : IsLive c 0) (is : split_answer c p asked ≡ Ok child) where
+-- where the child's container says that it uses u, and the others use what they did
+module _ (v : frames.View) (c : Containers) (p asked child : ℕ) (kept : IsProcesses v c) (root : IsLive c 0) (is : split_answer c p asked ≡ Ok child)
+    (used : map.Map nat_order ℕ) (u : ℕ) (as_before : (q : ℕ) → same nat_order q child ≡ false → map.get used q ≡ map.get c.used q) where
   absent : map.contains_key c.book child ≡ false
   absent = child-absent c p asked child is
 
   abbrev pub after : Containers
-  after = after_split c p asked child
+  after = record { book = map.insert c.book child (record { parent = p; quota = asked }); used = map.insert used child u }
 
   member-other : (q : ℕ) → same nat_order q child ≡ false → map.get after.book q ≡ map.get c.book q
   member-other q n = get-insert c.book child (record { parent = p; quota = asked }) q ∙ ap (λ b. cond b (Some (record { parent = p; quota = asked })) (map.get c.book q)) n
@@ -134,11 +137,11 @@ module _ (v : frames.View) (c : Containers) (p asked child : ℕ) (kept : IsProc
   member-child : map.get after.book child ≡ Some (record { parent = p; quota = asked })
   member-child = get-insert c.book child (record { parent = p; quota = asked }) child ∙ ap (λ b. cond b (Some (record { parent = p; quota = asked })) (map.get c.book child)) (same_itself nat_order child)
 
-  used-child : used_of after child ≡ 1
-  used-child = ap (λ x. unwrap_or x 0) (get-insert c.used child 1 child ∙ ap (λ b. cond b (Some 1) (map.get c.used child)) (same_itself nat_order child))
+  used-child : used_of after child ≡ u
+  used-child = ap (λ x. unwrap_or x 0) (get-insert used child u child ∙ ap (λ b. cond b (Some u) (map.get used child)) (same_itself nat_order child))
 
   used-others : (q : ℕ) → same nat_order q child ≡ false → used_of after q ≡ used_of c q
-  used-others q n = ap (λ x. unwrap_or x 0) (get-insert c.used child 1 q ∙ ap (λ b. cond b (Some 1) (map.get c.used q)) n)
+  used-others q n = ap (λ x. unwrap_or x 0) (get-insert used child u q ∙ ap (λ b. cond b (Some u) (map.get used q)) n ∙ as_before q n)
 
   apart : (q : ℕ) → q ≢ child → same nat_order q child ≡ false
   apart q n = elim (same_or_not nat_order q child) [
@@ -149,32 +152,47 @@ module _ (v : frames.View) (c : Containers) (p asked child : ℕ) (kept : IsProc
   root-quota : quota_of after.book 0 ≡ quota_of c.book 0
   root-quota = ap (λ (x : Option Member). unwrap_or (option_map (λ m. m.quota) x) 0) (member-other 0 (apart 0 (root_not c child root absent)))
 
-  -- there is a frame for the child's directory
-  pub room-child : child < 64 → ((q : ℕ) → map.contains_key after.book q ≡ true → q < 64) → total_used after ≤ quota_of after.book 0 → 2 + total_cost v.directories v.spaces ≤ length v.roles
-  room-child low small within =
-      let r = room-for v c after child 1 kept low small
-      (ap (found (λ _. used_of after child)) member-child ∙ used-child ∙ sym (ap (λ d. (if is_some d then cost v.spaces child else 0) + 1) (child-has_none v c p asked child kept is)))
-      (λ q n. member-other q (apart q n)) (λ q n. used-others q (apart q n)) root-quota within in
-      omega (arith, r)
+  -- there are the frames that the child is charged for
+  pub room-child : ((q : ℕ) → map.contains_key after.book q ≡ true → q < 64) → total_used after ≤ quota_of after.book 0 → 1 + total_cost v.directories v.spaces + u ≤ length v.roles
+  room-child small within =
+      let none : 0 + u ≡ u = omega arith in
+      room-for v c after child u kept (small child (ap is_some member-child)) small
+      (ap (found (λ _. used_of after child)) member-child ∙ used-child ∙ sym (ap (λ d. (if is_some d then cost v.spaces child else 0) + u) (child-has_none v c p asked child kept is) ∙ none))
+      (λ q n. member-other q (apart q n)) (λ q n. used-others q (apart q n)) root-quota within
 
-  -- the child has a directory and is charged for it
-  pub charged-child : (w : frames.View) → StandsFor (image_of v) v.spaces → w.spaces ≡ v.spaces → length w.roles ≡ length v.roles
-      → is_some (directory_of w.directories child) ≡ true → ((q : ℕ) → q ≢ child → directory_of w.directories q ≡ directory_of v.directories q) → IsProcesses w after
-  charged-child w stands spaces long live others = record {
+  -- the child has a directory and is charged what it costs
+  pub charged-child : (w : frames.View) → length w.roles ≡ length v.roles
+      → is_some (directory_of w.directories child) ≡ true → ((q : ℕ) → q ≢ child → directory_of w.directories q ≡ directory_of v.directories q)
+      → u ≡ cost w.spaces child → ((q : ℕ) → q ≢ child → cost w.spaces q ≡ cost v.spaces q) → IsProcesses w after
+  charged-child w long live others own costs = record {
     live = λ q. elim (same_or_not nat_order q child) [
       | inl h ↦ ap (λ x. is_some (directory_of w.directories x)) h.0 ∙ live ∙ sym (ap (map.contains_key after.book) h.0 ∙ ap is_some member-child)
       | inr h ↦ ap is_some (others q (differ q child h)) ∙ kept.live q ∙ sym (ap is_some (member-other q h))
     ];
     charged = λ q l. elim (same_or_not nat_order q child) [
-      | inl h ↦ ap (used_of after) h.0 ∙ used-child ∙ sym (ap (cost w.spaces) h.0 ∙ ap (λ S. cost S child) spaces ∙ cost-child v child stands (child-has_none v c p asked child kept is))
-      | inr h ↦ used-others q h ∙ kept.charged q (sym (ap is_some (member-other q h)) ∙ l) ∙ sym (ap (λ S. cost S q) spaces)
+      | inl h ↦ ap (used_of after) h.0 ∙ used-child ∙ own ∙ ap (cost w.spaces) (sym h.0)
+      | inr h ↦ used-others q h ∙ kept.charged q (sym (ap is_some (member-other q h)) ∙ l) ∙ sym (costs q (differ q child h))
     ];
     root = ap (λ n. 1 + n) root-quota ∙ kept.root ∙ sym long;
   }
 
--- the child is live
-pub now_live : (c : Containers) (p asked child : ℕ) → map.contains_key (after_split c p asked child).book child ≡ true
-now_live c p asked child = ap is_some (get-insert c.book child (record { parent = p; quota = asked }) child ∙ ap (λ b. cond b (Some (record { parent = p; quota = asked })) (map.get c.book child)) (same_itself nat_order child))
+-- what others use, where the child was charged for its directory alone
+pub used-before : (c : Containers) (p asked child q : ℕ) → same nat_order q child ≡ false → map.get (after_split c p asked child).used q ≡ map.get c.used q
+used-before c p asked child q n = get-insert c.used child 1 q ∙ ap (λ b. cond b (Some 1) (map.get c.used q)) n
+
+-- the containers and the state tell the same of a process
+pub container-same : (v : frames.View) (c : Containers) (o : Offers) (p : ℕ) → IsProcesses v c → quotas.container_of c p ≡ container_of (state_of v c o) p
+container-same v c o p kept = by (map.get c.book p) (λ l. kept.charged p l)
+  where
+    by : (x : Option Member) → (is_some x ≡ true → used_of c p ≡ cost v.spaces p) → option_map (quotas.as_container c p) x ≡ option_map (as_container (state_of v c o) p) x
+    by None charged = refl
+    by (Some m) charged = λ i. Some (record {
+      parent = m.parent;
+      quota = m.quota;
+      used = charged refl i;
+      given = given c.book p;
+      children = number_of_children c.book p;
+    })
 
 -- ---- Process 0 alone
 

@@ -1,59 +1,22 @@
 //! Accesses through mapped pages, and lazy pages that get their frames.
 
-ghost use Rattle.std.specs.Prelude.{◌≡◌, ℕ, true, false, is_some};
+ghost use Rattle.std.specs.Prelude.{◌≡◌, ℕ, true, false};
 ghost use Rattle.page_words.specs.Addresses.{page_number, second_page, EachTouched, IsUserPage};
 ghost use Rattle.address_space.specs.Spaces.{Slot, cost, cell_or_fresh, at_page, slot_at};
-ghost use Rattle.std.specs.Option.{option_map};
-ghost use Rattle.quota_tree.specs.Containers.{Containers};
-ghost use Rattle.process_table.specs.State.{State, is_live, is_mapped};
+ghost use Rattle.process_table.specs.State.{is_live, is_mapped};
 ghost use Rattle.process_table.specs.Calls.{loaded, after_load, after_store, after_access, access_value};
-ghost use Rattle.process_table.specs.View.{IsProcesses};
 ghost use Rattle.process_table.specs.Image.{memory_of};
 ghost use Rattle.address_space.specs.Image.{is_lazy_at, takes_stores};
 ghost use Rattle.address_space.specs.Stays.{FramesStay, none_goes, of_lazy};
 ghost use Rattle.address_space.specs.Places.{place_in};
 ghost use Rattle.process_table.specs.Places.{access_places};
-ghost use Rattle.page_words.specs.FiniteMap as map;
-ghost use Rattle.address_space.specs.Image as memory;
 
 use crate::charges::charge_at;
 use crate::places::Places;
 use crate::processes::Processes;
-use address_space::{Place, Spaces};
+use address_space::Place;
 use page_words::{Page, Pid, Size, Vaddr};
 use table_walk::Access;
-
-/// An access through mapped pages, whose places these are.
-#[inline(always)]
-fn complete_access(
-    spaces: &mut Spaces,
-    pid: Pid,
-    address: Vaddr,
-    size: Size,
-    access: Access,
-    value: u32,
-    first: &Place,
-    second: &Option<Place>,
-) -> u32
-    requires user { EachTouched address size IsUserPage }
-    requires mapped { EachTouched address size (λ page. is_some (map.get spaces.old.spaces (at_page pid page)) ≡ true) }
-    requires real { access ≡ Access.Write → EachTouched address size (λ page. is_lazy_at (memory.image_of spaces.old) (at_page pid page) ≡ false) }
-    requires first { first.now ≡ place_in spaces.old.directories spaces.old.bytes pid (page_number address) }
-    requires second { second.now ≡ option_map (place_in spaces.old.directories spaces.old.bytes pid) (second_page address size) }
-    ensures kept { (quotas : Containers) → IsProcesses spaces.old quotas → IsProcesses spaces.new quotas }
-    ensures stay { FramesStay none_goes (memory.image_of spaces.old) (memory.image_of spaces.new) }
-    ensures value { (s : State) → s.spaces ≡ spaces.old.spaces → result ≡ access_value s pid address size access }
-    ensures state { (s : State) → s.spaces ≡ spaces.old.spaces → record s { spaces = spaces.new.spaces } ≡ after_access s pid address size access value }
-    ensures roles { spaces.new.roles ≡ spaces.old.roles }
-{
-    match access {
-        Access::Read => spaces.read_at(pid, address, size, first, second),
-        Access::Write => {
-            spaces.write_at(pid, address, size, value, first, second);
-            0
-        }
-    }
-}
 
 impl Processes {
     /// What a live process is charged for after a load or a store that completes, once each page that it touches is
@@ -111,17 +74,16 @@ impl Processes {
         ensures roles { self.new.roles ≡ self.old.roles }
     {
         self.stands();
-        let place = places.first.unwrap();
-        complete_access(
-            &mut self.spaces,
-            pid,
-            address,
-            size,
-            access,
-            value,
-            &place,
-            &places.second,
-        )
+        let first = places.first.unwrap();
+        let second = &places.second;
+        match access {
+            Access::Read => self.spaces.read_at(pid, address, size, &first, second),
+            Access::Write => {
+                self.spaces
+                    .write_at(pid, address, size, value, &first, second);
+                0
+            }
+        }
     }
 
     /// Loads, as `access` does, bytes that lie in one page, which is mapped and whose place this is.

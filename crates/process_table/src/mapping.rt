@@ -1,71 +1,20 @@
 //! Pages of a process that are mapped, unmapped and protected: of each call its test and its change.
 
-ghost use Rattle.std.specs.Prelude.{◌≡◌, ◌≤◌, true, Some, None, IsOk, is_some};
-ghost use Rattle.page_words.specs.Addresses.{IsUserPage};
-ghost use Rattle.address_space.specs.Spaces.{need, fresh, without, is_slot, at_page};
-ghost use Rattle.quota_tree.specs.Containers.{IsLive, room_of};
+ghost use Rattle.std.specs.Prelude.{◌≡◌, true, Some, None, IsOk};
 ghost use Rattle.process_table.specs.State.{is_live, container_of};
 ghost use Rattle.process_table.specs.Calls.{after_map, after_unmap, after_protect, protect_refusal};
 ghost use Rattle.process_table.specs.TestAnswers.{map_answer, unmap_answer, protect_answer};
-ghost use Rattle.process_table.specs.View.{IsProcesses};
 ghost use Rattle.process_table.specs.Image.{memory_of};
 ghost use Rattle.address_space.specs.Stays.{FramesStay, none_goes, of_page};
 ghost use Rattle.address_space.specs.Places.{place_in};
 ghost use Rattle.process_table.specs.Places.{place_at};
-ghost use Rattle.page_words.specs.FiniteMap as map;
-ghost use Rattle.address_space.specs.Image as memory;
 
 use crate::causes::Cause;
 use crate::charges::{charge_or, charge_with, charge_without, need_at, take_room};
 use crate::processes::Processes;
-use address_space::{Place, Spaces};
+use address_space::Place;
 use page_words::{Page, Pid};
-use quota_tree::{Container, Quotas};
-
-/// Maps a page of zeros: its place then.
-#[inline(always)]
-fn add_page(
-    spaces: &mut Spaces,
-    quotas: &mut Quotas,
-    pid: Pid,
-    page: Page,
-    write: bool,
-    place: &Place,
-) -> Place
-    requires kept { IsProcesses spaces.old quotas.old }
-    requires live { IsLive quotas.old pid }
-    requires user { IsUserPage page }
-    requires unmapped { map.get spaces.old.spaces (at_page pid page) ≡ None }
-    requires room { need spaces.old.spaces pid page ≤ room_of quotas.old pid }
-    requires place { place.now ≡ place_in spaces.old.directories spaces.old.bytes pid page }
-    ensures kept { IsProcesses spaces.new quotas.new }
-    ensures stay { FramesStay none_goes (memory.image_of spaces.old) (memory.image_of spaces.new) }
-    ensures spaces { spaces.new.spaces ≡ map.insert spaces.old.spaces (at_page pid page) (fresh (at_page pid page) write) }
-    ensures book { quotas.new.book ≡ quotas.old.book }
-    ensures place { result ≡ place_in spaces.new.directories spaces.new.bytes pid page }
-{
-    let need = need_at(spaces, pid, page, place);
-    take_room(quotas, pid, need);
-    spaces.map_at(pid, page, write, place)
-}
-
-/// Takes a mapped page away.
-#[inline(always)]
-fn remove_page(spaces: &mut Spaces, quotas: &mut Quotas, pid: Pid, page: Page, place: &Place)
-    requires kept { IsProcesses spaces.old quotas.old }
-    requires live { IsLive quotas.old pid }
-    requires user { IsUserPage page }
-    requires mapped { is_some (map.get spaces.old.spaces (at_page pid page)) ≡ true }
-    requires place { place.now ≡ place_in spaces.old.directories spaces.old.bytes pid page }
-    ensures kept { IsProcesses spaces.new quotas.new }
-    ensures stay { FramesStay (of_page pid page) (memory.image_of spaces.old) (memory.image_of spaces.new) }
-    ensures spaces { spaces.new.spaces ≡ without spaces.old.spaces (is_slot pid page) }
-    ensures book { quotas.new.book ≡ quotas.old.book }
-{
-    let relief = spaces.relief_at(pid, page, place);
-    spaces.unmap_at(pid, page, place);
-    quotas.refund(pid, relief);
-}
+use quota_tree::Container;
 
 impl Processes {
     /// What a process would be charged for once it has mapped a page, or the first cause against it:
@@ -120,7 +69,9 @@ impl Processes {
         ensures stay { FramesStay none_goes (memory_of self.old) (memory_of self.new) }
         ensures place { result ≡ place_in self.new.directories self.new.bytes pid page }
     {
-        add_page(&mut self.spaces, &mut self.quotas, pid, page, write, place)
+        let need = need_at(&self.spaces, pid, page, place);
+        take_room(&mut self.quotas, pid, need);
+        self.spaces.map_at(pid, page, write, place)
     }
 
     /// What a process would be charged for once a page is unmapped, or the first cause against it:
@@ -174,7 +125,9 @@ impl Processes {
         ensures state { self.new.state ≡ after_unmap self.old.state pid page }
         ensures stay { FramesStay (of_page pid page) (memory_of self.old) (memory_of self.new) }
     {
-        remove_page(&mut self.spaces, &mut self.quotas, pid, page, place);
+        let relief = self.spaces.relief_at(pid, page, place);
+        self.spaces.unmap_at(pid, page, place);
+        self.quotas.refund(pid, relief);
         self.offers.drop_page(pid, page);
     }
 

@@ -1,108 +1,36 @@
 //! Offers of pages, and pages that are accepted: of each call its test and its change.
 
-ghost use Rattle.std.specs.Prelude.{◌≡◌, ◌≤◌, true, false, Some, None, IsOk, length, is_some, if◌then◌else◌, nat_le};
+ghost use Rattle.std.specs.Prelude.{◌≡◌, true, false, Some, None, IsOk, IsErr, if◌then◌else◌, nat_le};
 ghost use Rattle.page_words.specs.Addresses.{IsUserPage};
-ghost use Rattle.address_space.specs.Spaces.{need, joined, at_page};
+ghost use Rattle.address_space.specs.Spaces.{at_page};
 ghost use Rattle.page_sharing.specs.Offers.{offer_key, pending};
-ghost use Rattle.std.specs.Option.{unwrap_or};
-ghost use Rattle.quota_tree.specs.Containers.{IsLive, room_of};
-ghost use Rattle.process_table.specs.State.{is_live, container_of};
+ghost use Rattle.process_table.specs.State.{is_live, is_mapped, has_no_room, container_of};
 ghost use Rattle.process_table.specs.Calls.{after_offer, after_withdraw, after_accept, offer_refusal, withdraw_refusal};
 ghost use Rattle.process_table.specs.TestAnswers.{offer_answer, withdraw_answer, accept_answer};
-ghost use Rattle.process_table.specs.View.{IsProcesses};
 ghost use Rattle.process_table.specs.Image.{memory_of};
-ghost use Rattle.address_space.specs.Image.{is_lazy_at};
 ghost use Rattle.address_space.specs.Stays.{FramesStay, none_goes, of_lazy};
 ghost use Rattle.address_space.specs.Places.{place_in};
 ghost use Rattle.process_table.specs.Places.{place_at};
 ghost use Rattle.page_words.specs.FiniteMap as map;
-ghost use Rattle.address_space.specs.Image as memory;
 ghost use Rattle.process_table.specs.declared.causes.Cause.TheVariants as cause;
 
 use crate::causes::Cause;
 use crate::charges::{charge_or, charge_with, need_at, take_room};
 use crate::processes::Processes;
-use address_space::{Place, Spaces};
-use page_sharing::Offers;
+use address_space::Place;
+use page_sharing::{OfferFault, Offers};
 use page_words::{Page, Pid, in_user_range};
-use quota_tree::{Container, Quotas};
-
-/// Takes out a pending offer, and gives its right.
-fn take_offer(offers: &mut Offers, giver: Pid, page: Page, target: Pid) -> bool
-    requires { map.contains_key offers.old (offer_key giver page target) ≡ true }
-    ensures right { result ≡ unwrap_or (map.get offers.old (offer_key giver page target)) false }
-    ensures offers { offers.new ≡ map.remove offers.old (offer_key giver page target) }
-{
-    offers.take(giver, page, target).unwrap()
-}
-
-/// A page of a process, and what stands there.
-#[derive(Clone, Copy, Debug, PartialEq, Eq)]
-struct PageOf {
-    pid: Pid,
-    page: Page,
-    place: Place,
-}
-
-/// Gives a page a frame of its own, where it is lazy: its place then, and that of another page.
-#[inline(always)]
-fn make_real(spaces: &mut Spaces, page: &PageOf, other: &PageOf) -> (Place, Place)
-    requires mapped { is_some (map.get spaces.old.spaces (at_page page.now.pid page.now.page)) ≡ true }
-    requires user { IsUserPage page.now.page }
-    requires other { IsUserPage other.now.page }
-    requires place { page.now.place ≡ place_in spaces.old.directories spaces.old.bytes page.now.pid page.now.page }
-    requires beside { other.now.place ≡ place_in spaces.old.directories spaces.old.bytes other.now.pid other.now.page }
-    ensures spaces { spaces.new.spaces ≡ spaces.old.spaces }
-    ensures stay { FramesStay (of_lazy page.now.pid page.now.page) (memory.image_of spaces.old) (memory.image_of spaces.new) }
-    ensures directories { spaces.new.directories ≡ spaces.old.directories }
-    ensures real { is_lazy_at (memory.image_of spaces.new) (at_page page.now.pid page.now.page) ≡ false }
-    ensures frames { length spaces.new.roles ≡ length spaces.old.roles }
-    ensures place { result.0 ≡ place_in spaces.new.directories spaces.new.bytes page.now.pid page.now.page }
-    ensures beside { result.1 ≡ place_in spaces.new.directories spaces.new.bytes other.now.pid other.now.page }
-{
-    spaces.stands();
-    if !page.place.is_lazy() {
-        return (page.place, other.place);
-    }
-    let place = spaces.fill_at(page.pid, page.page, &page.place);
-    (place, spaces.place(other.pid, other.page))
-}
-
-/// Adds a page of a process to the group of another's, with this right.
-#[inline(always)]
-fn join_page(spaces: &mut Spaces, quotas: &mut Quotas, giver: &PageOf, own: &PageOf, right: bool)
-    requires kept { IsProcesses spaces.old quotas.old }
-    requires live { IsLive quotas.old own.now.pid }
-    requires given { is_some (map.get spaces.old.spaces (at_page giver.now.pid giver.now.page)) ≡ true }
-    requires from { IsUserPage giver.now.page }
-    requires user { IsUserPage own.now.page }
-    requires unmapped { map.get spaces.old.spaces (at_page own.now.pid own.now.page) ≡ None }
-    requires room { need spaces.old.spaces own.now.pid own.now.page ≤ room_of quotas.old own.now.pid }
-    requires place { giver.now.place ≡ place_in spaces.old.directories spaces.old.bytes giver.now.pid giver.now.page }
-    requires own { own.now.place ≡ place_in spaces.old.directories spaces.old.bytes own.now.pid own.now.page }
-    ensures kept { IsProcesses spaces.new quotas.new }
-    ensures stay { FramesStay (of_lazy giver.now.pid giver.now.page) (memory.image_of spaces.old) (memory.image_of spaces.new) }
-    ensures spaces { spaces.new.spaces ≡ joined spaces.old.spaces (at_page giver.now.pid giver.now.page) (at_page own.now.pid own.now.page) right }
-    ensures book { quotas.new.book ≡ quotas.old.book }
-{
-    let need = need_at(spaces, own.pid, own.page, &own.place);
-    take_room(quotas, own.pid, need);
-    let (given, place) = make_real(spaces, giver, own);
-    spaces.join_at(
-        giver.pid, giver.page, &given, own.pid, own.page, &place, right,
-    );
-}
+use quota_tree::Container;
 
 /// Why no further offer of that page to that process may be pending, where none may.
 fn pending_check(offers: &Offers, pid: Pid, page: Page, target: Pid) -> Option<Cause>
     ensures { result ≡ (if map.contains_key offers.now (offer_key pid page target) then Some cause.OfferPending else if nat_le 32 (map.len (pending offers.now pid)) then Some cause.TooManyOffers else None) }
 {
-    if offers.get(pid, page, target).is_some() {
-        Some(Cause::OfferPending)
-    } else if offers.can_offer(pid, page, target).is_err() {
-        Some(Cause::TooManyOffers)
-    } else {
-        None
+    match offers.can_offer(pid, page, target) {
+        Ok(()) => None,
+        Err(OfferFault::OfferPending) => Some(Cause::OfferPending),
+        Err(OfferFault::TooManyOffers) => Some(Cause::TooManyOffers),
+        Err(OfferFault::NoOffer) => unreachable!(),
     }
 }
 
@@ -230,7 +158,7 @@ impl Processes {
         ensures state { self.new.state ≡ after_withdraw self.old.state pid page target }
         ensures stay { FramesStay none_goes (memory_of self.old) (memory_of self.new) }
     {
-        take_offer(&mut self.offers, pid, page, target);
+        self.offers.take(pid, page, target).unwrap();
     }
 
     /// What a process would be charged for once it has accepted an offer at a page of its own, or the
@@ -286,37 +214,74 @@ impl Processes {
         ensures state { self.new.state ≡ after_accept self.old.state pid giver giver_page page }
         ensures stay { FramesStay (of_lazy giver giver_page) (memory_of self.old) (memory_of self.new) }
     {
-        self.stands();
-        let own = self.spaces.place(pid, page);
-        let given = self.spaces.place(giver, giver_page);
-        self.accept_at(pid, giver, giver_page, page, &own, &given);
+        let _ = self.try_accept(pid, giver, giver_page, page);
     }
 
-    /// Accepts an offer, as `accept` does. The places are the own page's and the giver's.
-    #[inline(always)]
-    pub fn accept_at(
+    /// Accepts an offer, where nothing is against it: what the process is charged for then, or the first cause against
+    /// it, as `can_accept` gives it. Each page is looked up once, and so is the offer.
+    #[inline(never)]
+    pub fn try_accept(
+        &mut self,
+        pid: Pid,
+        giver: Pid,
+        giver_page: Page,
+        page: Page,
+    ) -> Result<u32, Cause>
+        ensures result { result ≡ accept_answer self.old.state pid giver giver_page page }
+        ensures state { IsOk result → self.new.state ≡ after_accept self.old.state pid giver giver_page page }
+        ensures stay { FramesStay (of_lazy giver giver_page) (memory_of self.old) (memory_of self.new) }
+        ensures kept { IsErr result → self.new ≡ self.old }
+    {
+        let Some(container) = self.container(pid) else {
+            return Err(Cause::NoProcess);
+        };
+        let Some(own) = self.place(pid, page) else {
+            return Err(Cause::BadPage);
+        };
+        match charge_with(self, &container, pid, page, &own) {
+            Ok(charge) => {
+                if self.accept_offered(pid, giver, giver_page, page, &own) {
+                    Ok(charge)
+                } else {
+                    Err(Cause::NoOffer)
+                }
+            }
+            Err(cause) => match self.offers().get(giver, giver_page, pid) {
+                Some(_) => Err(cause),
+                None => Err(Cause::NoOffer),
+            },
+        }
+    }
+
+    /// Accepts an offer, where it is pending, at a page that the process may map and whose place this is. Whether it is
+    /// pending; where it isn't, nothing changes.
+    fn accept_offered(
         &mut self,
         pid: Pid,
         giver: Pid,
         giver_page: Page,
         page: Page,
         own: &Place,
-        given: &Place,
-    )
-        requires may { IsOk (accept_answer self.old.state pid giver giver_page page) }
+    ) -> bool
+        requires live { is_live self.old.state pid ≡ true }
+        requires user { IsUserPage page }
+        requires unmapped { is_mapped self.old.state (at_page pid page) ≡ false }
+        requires room { has_no_room self.old.state (at_page pid page) ≡ false }
         requires own { own.now ≡ place_in self.old.directories self.old.bytes pid page }
-        requires given { given.now ≡ place_in self.old.directories self.old.bytes giver giver_page }
-        ensures state { self.new.state ≡ after_accept self.old.state pid giver giver_page page }
+        ensures there { result ≡ map.contains_key self.old.state.offers (offer_key giver giver_page pid) }
+        ensures state { result ≡ true → self.new.state ≡ after_accept self.old.state pid giver giver_page page }
         ensures stay { FramesStay (of_lazy giver giver_page) (memory_of self.old) (memory_of self.new) }
+        ensures none { result ≡ false → self.new ≡ self.old }
     {
-        let right = take_offer(&mut self.offers, giver, giver_page, pid);
-        let place = *own;
-        let own = PageOf { pid, page, place };
-        let giver = PageOf {
-            pid: giver,
-            page: giver_page,
-            place: *given,
+        let Ok(right) = self.offers.take(giver, giver_page, pid) else {
+            return false;
         };
-        join_page(&mut self.spaces, &mut self.quotas, &giver, &own, right);
+        let need = need_at(&self.spaces, pid, page, own);
+        take_room(&mut self.quotas, pid, need);
+        let given = self.spaces.place(giver, giver_page);
+        let given = self.spaces.fill_at(giver, giver_page, &given);
+        self.spaces
+            .join_at(giver, giver_page, &given, pid, page, own, right);
+        true
     }
 }

@@ -1,73 +1,20 @@
 //! Accesses that a processor makes by itself: by the walk of a process's directory, or by translations that it kept.
 
-ghost use Rattle.std.specs.Prelude.{◌≡◌, ℕ, true, Some, is_some};
+ghost use Rattle.std.specs.Prelude.{◌≡◌, ℕ, true, Some};
 ghost use Rattle.page_words.specs.Addresses.{byte_count, EachTouched, IsUserPage};
-ghost use Rattle.page_words.specs.FiniteMap as map;
 ghost use Rattle.address_space.specs.ByWalk.{finds, value_found, after_walked, with_walked};
 ghost use Rattle.address_space.specs.Kept.{is_marked, written_at, LeadTo};
-ghost use Rattle.address_space.specs.Image as memory;
 ghost use Rattle.address_space.specs.Image.{takes_stores};
-ghost use Rattle.address_space.specs.Spaces.{cost, at_page, bytes_of};
+ghost use Rattle.address_space.specs.Spaces.{at_page, bytes_of};
 ghost use Rattle.address_space.specs.Stays.{FramesStay, none_goes};
 ghost use Rattle.address_space.specs.View.{directory_of};
-ghost use Rattle.quota_tree.specs.Containers.{Containers};
 ghost use Rattle.process_table.specs.Calls.{after_access, access_value};
 ghost use Rattle.process_table.specs.Image.{memory_of};
-ghost use Rattle.process_table.specs.State.{State, is_live, is_mapped, container_of};
-ghost use Rattle.process_table.specs.View.{IsProcesses};
+ghost use Rattle.process_table.specs.State.{is_live, is_mapped, container_of};
 
 use crate::processes::Processes;
-use address_space::Spaces;
 use page_words::{Page, Pid, Size, Vaddr};
 use table_walk::Access;
-
-/// An access by the walk.
-fn walk_access(
-    spaces: &mut Spaces,
-    pid: Pid,
-    address: Vaddr,
-    size: Size,
-    access: Access,
-    value: u32,
-) -> u32
-    requires finds { finds (memory.image_of spaces.old) pid address size access ≡ true }
-    ensures kept { (quotas : Containers) → IsProcesses spaces.old quotas → IsProcesses spaces.new quotas }
-    ensures stay { FramesStay none_goes (memory.image_of spaces.old) (memory.image_of spaces.new) }
-    ensures mapped { EachTouched address size (λ page. is_some (map.get spaces.old.spaces (at_page pid page)) ≡ true) }
-    ensures takes { access ≡ Access.Write → EachTouched address size (λ page. takes_stores spaces.old.spaces (memory.image_of spaces.old) (at_page pid page) ≡ true) }
-    ensures value { (s : State) → s.spaces ≡ spaces.old.spaces → result ≡ access_value s pid address size access }
-    ensures state { (s : State) → s.spaces ≡ spaces.old.spaces → record s { spaces = spaces.new.spaces } ≡ after_access s pid address size access value }
-    ensures directories { spaces.new.directories ≡ spaces.old.directories }
-    ensures roles { spaces.new.roles ≡ spaces.old.roles }
-    ensures bytes { (directory : ℕ) → directory_of spaces.old.directories pid ≡ Some directory → spaces.new.bytes ≡ after_walked spaces.old.bytes directory address size access value }
-    ensures found { (directory : ℕ) → directory_of spaces.old.directories pid ≡ Some directory → result ≡ value_found spaces.old.bytes directory address size access }
-    ensures costs { (p : ℕ) → cost spaces.new.spaces p ≡ cost spaces.old.spaces p }
-{
-    match access {
-        Access::Read => spaces.load_by_walk(pid, address, size),
-        Access::Write => {
-            spaces.store_by_walk(pid, address, size, value);
-            0
-        }
-    }
-}
-
-/// A store by translations that were kept.
-fn store_by_kept(spaces: &mut Spaces, pid: Pid, address: Vaddr, size: Size, value: u32)
-    requires finds { finds (memory.image_of spaces.old) pid address size Access.Write ≡ true }
-    requires marked { EachTouched address size (λ page. is_marked spaces.old.spaces (at_page pid page) ≡ true) }
-    ensures kept { (quotas : Containers) → IsProcesses spaces.old quotas → IsProcesses spaces.new quotas }
-    ensures stay { FramesStay none_goes (memory.image_of spaces.old) (memory.image_of spaces.new) }
-    ensures mapped { EachTouched address size (λ page. is_some (map.get spaces.old.spaces (at_page pid page)) ≡ true) }
-    ensures takes { EachTouched address size (λ page. takes_stores spaces.old.spaces (memory.image_of spaces.old) (at_page pid page) ≡ true) }
-    ensures state { (s : State) → s.spaces ≡ spaces.old.spaces → record s { spaces = spaces.new.spaces } ≡ after_access s pid address size Access.Write value }
-    ensures directories { spaces.new.directories ≡ spaces.old.directories }
-    ensures roles { spaces.new.roles ≡ spaces.old.roles }
-    ensures bytes { (directory : ℕ) (frames : ℕ → ℕ) → directory_of spaces.old.directories pid ≡ Some directory → LeadTo spaces.old.bytes directory Access.Write frames address size → spaces.new.bytes ≡ written_at frames spaces.old.bytes address (bytes_of (byte_count size) value) }
-    ensures costs { (p : ℕ) → cost spaces.new.spaces p ≡ cost spaces.old.spaces p }
-{
-    spaces.store_kept(pid, address, size, value);
-}
 
 impl Processes {
     /// Whether a processor makes an access of a process by itself: the walk of the process's directory finds a
@@ -103,7 +50,13 @@ impl Processes {
         ensures found { (directory : ℕ) → directory_of self.old.directories pid ≡ Some directory → result ≡ value_found self.old.bytes directory address size access }
         ensures containers { (p : ℕ) → container_of self.new.state p ≡ container_of self.old.state p }
     {
-        walk_access(&mut self.spaces, pid, address, size, access, value)
+        match access {
+            Access::Read => self.spaces.load_by_walk(pid, address, size),
+            Access::Write => {
+                self.spaces.store_by_walk(pid, address, size, value);
+                0
+            }
+        }
     }
 
     /// Sets or clears accessed in the directory word that leads to a page of a live process, where it is present.
@@ -137,6 +90,6 @@ impl Processes {
         ensures bytes { (directory : ℕ) (frames : ℕ → ℕ) → directory_of self.old.directories pid ≡ Some directory → LeadTo self.old.bytes directory Access.Write frames address size → self.new.bytes ≡ written_at frames self.old.bytes address (bytes_of (byte_count size) value) }
         ensures containers { (p : ℕ) → container_of self.new.state p ≡ container_of self.old.state p }
     {
-        store_by_kept(&mut self.spaces, pid, address, size, value);
+        self.spaces.store_kept(pid, address, size, value);
     }
 }

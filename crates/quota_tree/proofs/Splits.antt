@@ -1,6 +1,6 @@
 -- What a split answers, and what it leaves.
-use Rattle.std.proofs.Common.{◌≡◌, ◌≢◌, ℕ, ◌+◌, ◌-◌, ◌<◌, ◌≤◌, ◌⊎◌, inl, inr, Bool, true, false, cond, ◌==◌, List, length, get_or, is_some, refl, sym, ap, ◌∙◌, Option, Some, None, arith, subst, length-set}
-use Rattle.std.specs.Prelude.{slice_set, nat_lt, Ok, Err, IsOk}
+use Rattle.std.proofs.Common.{◌≡◌, ◌≢◌, ℕ, ◌+◌, ◌-◌, ◌<◌, ◌≤◌, ◌⊎◌, inl, inr, Bool, true, false, cond, not, ◌==◌, List, length, get_or, is_some, refl, sym, ap, ◌∙◌, Option, Some, None, arith, subst, length-set}
+use Rattle.std.specs.Prelude.{slice_set, nat_lt, position, Ok, Err}
 use Rattle.std.specs.Option.{option_map}
 use Rattle.std.proofs.lemmas.Bool.Decides.{nat_tests}
 use Rattle.page_words.specs.FiniteMap as map
@@ -9,13 +9,13 @@ use Rattle.quota_tree.specs.declared.Container.{Container}
 use Rattle.quota_tree.specs.declared.QuotaFault.TheVariants.{BadQuota, NoRoom}
 use Rattle.quota_tree.specs.Book.{Book, is_child, given, number_of_children, next_number}
 use Rattle.quota_tree.specs.Collected.{collected}
-use Rattle.quota_tree.specs.Containers.{Containers, giver_after_split, room_of, opened_container, split_answer, fitting, after_split}
+use Rattle.quota_tree.specs.Containers.{Containers, giver_after_split, room_of, opened_container, charged_with, with_used, split_answer, fitting, after_split}
 use Rattle.quota_tree.specs.Kept.{member_of, seen_as, IsBooked, IsQuotas}
 use Rattle.quota_tree.proofs.CollectedLemmas.{get-collected, collected-set}
 use Rattle.quota_tree.proofs.Sums.{given-insert, number-insert, given-none, number-none, number-given}
-use Rattle.quota_tree.proofs.Views.{live-container, parents_live, each_quota, room_of-container, within_places, absent_at}
+use Rattle.quota_tree.proofs.Views.{live-container, parents_live, each_quota, room_of-container, within_places, absent_at, next_number-position}
 use Rattle.quota_tree.proofs.BookFacts.{child_yes, child_no, contains_key-insert, get-insert_other}
-use Rattle.quota_tree.proofs.Writes.{after_set, insert_same, book-set, live_and_absent, only_if}
+use Rattle.quota_tree.proofs.Writes.{after_set, insert_same, insert_twice, book-set, live_and_absent, only_if}
 use Rattle.std.proofs.lemmas.Option.{same_Some}
 
 -- ---- What a split answers
@@ -42,32 +42,14 @@ module _ (c : Containers) (parent quota : ℕ) where
             room = grind (arith, nat_tests);
           }
 
-  -- where one may be, its child has the next number
-  pub split_is : (child : ℕ) → IsOk (split_answer c parent quota) → next_number c.book ≡ Some child → split_answer c parent quota ≡ Ok child
-  split_is child = by (quota == 0) (next_number c.book)
-    where
-      fits : (k : ℕ) (over : Bool) → IsOk (cond over (Err NoRoom) (Ok k)) → Some k ≡ Some child → cond over (Err NoRoom) (Ok k) ≡ Ok child
-      fits k true ok is = cc
-      fits k false ok is = cc
-
-      by : (none : Bool) (next : Option ℕ) → IsOk (cond none (Err BadQuota) (fitting c parent quota next)) → next ≡ Some child → cond none (Err BadQuota) (fitting c parent quota next) ≡ Ok child
-      by true next ok is = cc
-      by false None ok is = cc
-      by false (Some k) ok is = fits k (nat_lt (room_of c parent) quota) ok is
-
-  -- and there is one
-  pub next_there : IsOk (split_answer c parent quota) → is_some (next_number c.book) ≡ true
-  next_there = by (quota == 0) (next_number c.book)
-    where
-      by : (none : Bool) (next : Option ℕ) → IsOk (cond none (Err BadQuota) (fitting c parent quota next)) → is_some next ≡ true
-      by true next ok = cc
-      by false None ok = cc
-      by false (Some k) ok = refl
-
 -- ---- A split: a parent gives a part of its room to a child that wasn't there
 
 module _ (cs : List (Option Container)) (kept : IsQuotas cs) (p k q : ℕ) (p_in : p < length cs) (k_in : k < length cs)
-    (g : Container) (hg : get_or cs p None ≡ Some g) (hk : get_or cs k None ≡ None) (some : 1 ≤ q) (room : q ≤ g.quota - g.used - g.given) where
+    (g : Container) (hg : get_or cs p None ≡ Some g) (hk : get_or cs k None ≡ None) (u : ℕ) (some : 1 ≤ u) (fits : u ≤ q) (room : q ≤ g.quota - g.used - g.given) where
+  -- the child's container
+  abbrev child : Container
+  child = charged_with (opened_container p q) u
+
   given_first : collected member_of (slice_set cs p (Some (giver_after_split g q))) ≡ collected member_of cs
   given_first = book-set cs kept p p_in g (giver_after_split g q) hg refl
 
@@ -86,16 +68,16 @@ module _ (cs : List (Option Container)) (kept : IsQuotas cs) (p k q : ℕ) (p_in
   length_first : length (slice_set cs p (Some (giver_after_split g q))) ≡ length cs
   length_first = length-set cs p (Some (giver_after_split g q))
 
-  book_after_split : collected member_of (slice_set (slice_set cs p (Some (giver_after_split g q))) k (Some (opened_container p q))) ≡ book2
+  book_after_split : collected member_of (slice_set (slice_set cs p (Some (giver_after_split g q))) k (Some child)) ≡ book2
   book_after_split =
-      collected-set member_of (slice_set cs p (Some (giver_after_split g q))) k (opened_container p q) (omega (arith, length_first, k_in))
+      collected-set member_of (slice_set cs p (Some (giver_after_split g q))) k child (omega (arith, length_first, k_in))
       ∙ ap (λ b. map.insert b k (record { parent = p; quota = q })) given_first
 
-  pub seen_as-split : seen_as (slice_set (slice_set cs p (Some (giver_after_split g q))) k (Some (opened_container p q))) ≡ after_split (seen_as cs) p q k
+  pub seen_as-split : seen_as (slice_set (slice_set cs p (Some (giver_after_split g q))) k (Some child)) ≡ record { book = (after_split (seen_as cs) p q k).book; used = map.insert (seen_as cs).used k u }
   seen_as-split =
-      let used = collected-set (λ c. c.used) (slice_set cs p (Some (giver_after_split g q))) k (opened_container p q) (omega (arith, length_first, k_in)) in
+      let used = collected-set (λ c. c.used) (slice_set cs p (Some (giver_after_split g q))) k child (omega (arith, length_first, k_in)) in
       let same_used = collected-set (λ c. c.used) cs p (giver_after_split g q) p_in ∙ insert_same (collected (λ c. c.used) cs) p g.used (get-collected (λ c. c.used) cs p ∙ ap (option_map (λ c. c.used)) hg) in
-      λ i. record { book = book_after_split i; used = (used ∙ ap (λ m. map.insert m k 1) same_used) i }
+      λ i. record { book = book_after_split i; used = (used ∙ ap (λ m. map.insert m k u) same_used) i }
 
   given2 : (x : ℕ) → given book2 x ≡ only_if (is_child x (k, record { parent = p; quota = q })) q + given (collected member_of cs) x
   given2 x = given-insert (collected member_of cs) k (record { parent = p; quota = q }) absent x
@@ -103,7 +85,7 @@ module _ (cs : List (Option Container)) (kept : IsQuotas cs) (p k q : ℕ) (p_in
   number2 : (x : ℕ) → number_of_children book2 x ≡ only_if (is_child x (k, record { parent = p; quota = q })) 1 + number_of_children (collected member_of cs) x
   number2 x = number-insert (collected member_of cs) k (record { parent = p; quota = q }) absent x
 
-  child_kept : IsBooked book2 k (opened_container p q)
+  child_kept : IsBooked book2 k child
   child_kept =
       let no = child_no p k k q p_not_k in
       let a = given2 k in
@@ -116,8 +98,8 @@ module _ (cs : List (Option Container)) (kept : IsQuotas cs) (p k q : ℕ) (p_in
         parent = contains_key-insert (collected member_of cs) k (record { parent = p; quota = q }) p (live-container cs p g hg);
         given = omega (arith, a, c, e);
         children = omega (arith, b, d, f);
-        used = omega arith;
-        within = some;
+        used = some;
+        within = omega (arith, fits);
       }
 
   giver_kept : IsBooked book2 p (giver_after_split g q)
@@ -157,51 +139,62 @@ module _ (cs : List (Option Container)) (kept : IsQuotas cs) (p k q : ℕ) (p_in
         within = old.within;
       }
 
-  pub quotas-split : IsQuotas (slice_set (slice_set cs p (Some (giver_after_split g q))) k (Some (opened_container p q)))
+  pub quotas-split : IsQuotas (slice_set (slice_set cs p (Some (giver_after_split g q))) k (Some child))
   quotas-split = record {
-    places = length-set (slice_set cs p (Some (giver_after_split g q))) k (Some (opened_container p q)) ∙ length_first ∙ kept.places;
+    places = length-set (slice_set cs p (Some (giver_after_split g q))) k (Some child) ∙ length_first ∙ kept.places;
     root = record {
       quota = kept.root.quota;
       is = ap (λ b. map.get b 0) book_after_split ∙ get-insert_other (collected member_of cs) k (record { parent = p; quota = q }) 0 (λ e. k_not_0 (sym e)) ∙ kept.root.is;
     };
-    each = λ x c at. subst (λ (b : Book). IsBooked b x c) (sym book_after_split) (new x c (after_set (slice_set cs p (Some (giver_after_split g q))) k (Some (opened_container p q)) x c (omega (arith, length_first, k_in)) at));
+    each = λ x c at. subst (λ (b : Book). IsBooked b x c) (sym book_after_split) (new x c (after_set (slice_set cs p (Some (giver_after_split g q))) k (Some child) x c (omega (arith, length_first, k_in)) at));
   }
     where
       kept_at : (x y : ℕ) (c d : Container) → x ≡ y → Some d ≡ Some c → IsBooked book2 y d → IsBooked book2 x c
       kept_at x y c d e f h = subst (λ (n : ℕ). IsBooked book2 n c) (sym e) (subst (λ (z : Container). IsBooked book2 y z) (same_Some d c f) h)
 
-      new : (x : ℕ) (c : Container) → ((x ≡ k) × (Some (opened_container p q) ≡ Some c)) ⊎ ((x ≢ k) × (get_or (slice_set cs p (Some (giver_after_split g q))) x None ≡ Some c)) → IsBooked book2 x c
-      new x c (inl is) = kept_at x k c (opened_container p q) is.0 is.1 child_kept
+      new : (x : ℕ) (c : Container) → ((x ≡ k) × (Some child ≡ Some c)) ⊎ ((x ≢ k) × (get_or (slice_set cs p (Some (giver_after_split g q))) x None ≡ Some c)) → IsBooked book2 x c
+      new x c (inl is) = kept_at x k c child is.0 is.1 child_kept
       new x c (inr other) = elim (after_set cs p (Some (giver_after_split g q)) x c p_in other.1) [
         | inl is ↦ kept_at x p c (giver_after_split g q) is.0 is.1 giver_kept
         | inr rest ↦ other_kept x c rest.0 rest.1
       ]
 
--- the same, from what the split answers
-module _ (cs : List (Option Container)) (kept : IsQuotas cs) (p q k : ℕ) (answer : split_answer (seen_as cs) p q ≡ Ok k) (g : Container) (hg : get_or cs p None ≡ Some g) where
-  can : CanSplit (seen_as cs) p q k
-  can = can_split-of_answer (seen_as cs) p q k answer
+-- ---- The same, from what the split answers
 
-  in_room : q ≤ g.quota - g.used - g.given
-  in_room = let a = can.room in omega (arith, a, room_of-container cs kept p g hg)
+module _ (cs : List (Option Container)) (kept : IsQuotas cs) (p q k : ℕ) (is : split_answer (seen_as cs) p q ≡ Ok k) where
+  pub can : CanSplit (seen_as cs) p q k
+  can = can_split-of_answer (seen_as cs) p q k is
 
-  pub giver_room : g.given + q ≤ g.quota
-  giver_room = let a = in_room in let w = (kept.each p g hg).within in omega arith
+  pub place_there : position (λ c. not (is_some c)) cs ≡ Some k
+  place_there = sym (next_number-position cs kept) ∙ can.next
 
-  pub giver_children : g.children + 1 ≤ g.quota
-  giver_children =
-      let some = can.some in
-      let old = kept.each p g hg in
-      let number = old.children in
-      let gives = old.given in
-      omega (arith, some, number, gives, giver_room, number-given (collected member_of cs) (each_quota cs kept) p)
+  module _ (g : Container) (hg : get_or cs p None ≡ Some g) where
+    in_room : q ≤ g.quota - g.used - g.given
+    in_room = let a = can.room in omega (arith, a, room_of-container cs kept p g hg)
 
-  pub quotas-split_answer : IsQuotas (slice_set (slice_set cs p (Some (giver_after_split g q))) k (Some (opened_container p q)))
-  quotas-split_answer =
-      let absent_there = absent_at cs kept k can.next in
-      quotas-split cs kept p k q (within_places cs kept p g hg) absent_there.0 g hg absent_there.1 can.some in_room
+    pub giver_room : g.given + q ≤ g.quota
+    giver_room = let a = in_room in let w = (kept.each p g hg).within in omega arith
 
-  pub seen_as-split_answer : seen_as (slice_set (slice_set cs p (Some (giver_after_split g q))) k (Some (opened_container p q))) ≡ after_split (seen_as cs) p q k
-  seen_as-split_answer =
-      let absent_there = absent_at cs kept k can.next in
-      seen_as-split cs kept p k q (within_places cs kept p g hg) absent_there.0 g hg absent_there.1 can.some in_room
+    pub giver_children : g.children + 1 ≤ g.quota
+    giver_children =
+        let some = can.some in
+        let old = kept.each p g hg in
+        let number = old.children in
+        let gives = old.given in
+        omega (arith, some, number, gives, giver_room, number-given (collected member_of cs) (each_quota cs kept) p)
+
+    module _ (u : ℕ) (some : 1 ≤ u) (fits : u ≤ q) where
+      absent_there : (k < length cs) × (get_or cs k None ≡ None)
+      absent_there = absent_at cs kept k can.next
+
+      pub quotas-child : IsQuotas (slice_set (slice_set cs p (Some (giver_after_split g q))) k (Some (charged_with (opened_container p q) u)))
+      quotas-child = quotas-split cs kept p k q (within_places cs kept p g hg) absent_there.0 g hg absent_there.1 u some fits in_room
+
+      pub seen_as-child : seen_as (slice_set (slice_set cs p (Some (giver_after_split g q))) k (Some (charged_with (opened_container p q) u))) ≡ with_used (after_split (seen_as cs) p q k) k u
+      seen_as-child =
+          seen_as-split cs kept p k q (within_places cs kept p g hg) absent_there.0 g hg absent_there.1 u some fits in_room
+          ∙ (λ i. record { book = (after_split (seen_as cs) p q k).book; used = sym (insert_twice (seen_as cs).used k 1 u) i })
+
+-- a child that uses 1
+pub with_used-split : (c : Containers) (p q k : ℕ) → with_used (after_split c p q k) k 1 ≡ after_split c p q k
+with_used-split c p q k = λ i. record { book = (after_split c p q k).book; used = insert_twice c.used k 1 1 i }

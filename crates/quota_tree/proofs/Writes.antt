@@ -32,6 +32,18 @@ insert_same m k v h = same_map (map.insert m k v) m (λ q. get-insert m k v q �
   | inr other ↦ rw other.1 refl
 ])
 
+-- the later of two values at one key is what stands there
+pub insert_twice : {X : Type 0} (m : Map nat_order X) (k : ℕ) (v w : X) → map.insert (map.insert m k v) k w ≡ map.insert m k w
+insert_twice {X} m k v w = same_map (map.insert (map.insert m k v) k w) (map.insert m k w) (λ q.
+    get-insert (map.insert m k v) k w q
+    ∙ ap (cond (same nat_order q k) (Some w)) (get-insert m k v q)
+    ∙ twice (same nat_order q k) (map.get m q)
+    ∙ sym (get-insert m k w q))
+  where
+    twice : (b : Bool) (o : Option X) → cond b (Some w) (cond b (Some v) o) ≡ cond b (Some w) o
+    twice true o = refl
+    twice false o = refl
+
 -- ---- A charge changes what a process uses
 
 module _ (cs : List (Option Container)) (kept : IsQuotas cs) (p : ℕ) (within : p < length cs) (c d : Container) (h : get_or cs p None ≡ Some c) (same_member : member_of d ≡ member_of c) where

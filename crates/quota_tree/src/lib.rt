@@ -66,14 +66,14 @@ fn root_pid() -> Pid
     Pid::new(0).unwrap()
 }
 
-/// A container of a new child.
-fn opened(parent: Pid, quota: u32) -> Container
-    ensures { result ≡ opened_container parent quota }
+/// A container that gives nothing, and uses that many frames.
+fn opened(parent: Pid, quota: u32, used: u32) -> Container
+    ensures { result ≡ charged_with (opened_container parent quota) used }
 {
     Container {
         parent,
         quota,
-        used: 1,
+        used,
         given: 0,
         children: 0,
     }
@@ -168,6 +168,25 @@ fn first_number(containers: &[Option<Container>; 64]) -> Option<Pid>
     Pid::new(place as u8)
 }
 
+/// Gives a part of a parent's room to a new child, which has the least number that isn't live, and uses that many frames
+/// of it. The container is the parent's.
+fn add_child(
+    containers: &mut [Option<Container>; 64],
+    parent: Pid,
+    giver: Container,
+    quota: u32,
+    child: Pid,
+    used: u32,
+)
+    requires child { position (λ container. not (is_some container)) containers.old ≡ Some child }
+    requires given { giver.given + quota < 2 ^ 32 }
+    requires children { giver.children + 1 < 2 ^ 32 }
+    ensures { containers.new ≡ slice_set (slice_set containers.old parent (Some (giver_after_split giver quota))) child (Some (charged_with (opened_container parent quota) used)) }
+{
+    put(containers, parent, Some(with_child(giver, quota)));
+    put(containers, child, Some(opened(parent, quota, used)));
+}
+
 impl Quotas {
     /// The least number that isn't live.
     fn next_number(&self) -> Option<Pid>
@@ -176,13 +195,30 @@ impl Quotas {
         first_number(&self.containers)
     }
 
+    /// The container of a live process.
+    fn live(&self, pid: Pid) -> Container
+        requires { IsLive self.now pid }
+        ensures { container_of self.now pid ≡ Some result }
+    {
+        live(&self.containers, pid)
+    }
+
+    /// How many frames a process may still use or give. The container is the process's.
+    fn left_of(&self, container: &Container, pid: Pid) -> u32
+        requires { container_of self.now pid ≡ Some container.now }
+        ensures { result ≡ room_of self.now pid }
+    {
+        let _ = &self.containers;
+        left_of(*container)
+    }
+
     /// Process 0 alone, with that quota, of which it uses one frame. The quota is at least 1.
     pub fn new(root: u32) -> Quotas
         requires { 1 ≤ root }
         ensures { result ≡ opening root }
     {
         let mut containers = [None; 64];
-        containers[0] = Some(opened(root_pid(), root));
+        containers[0] = Some(opened(root_pid(), root, 1));
         Quotas { containers }
     }
 
@@ -194,13 +230,26 @@ impl Quotas {
         requires { IsLive self.now parent }
         ensures { result ≡ split_answer self.now parent quota }
     {
+        self.split_test(&self.live(parent), parent, quota)
+    }
+
+    /// As `can_split`, where the caller has the parent's container.
+    pub fn split_test(
+        &self,
+        container: &Container,
+        parent: Pid,
+        quota: u32,
+    ) -> Result<Pid, QuotaFault>
+        requires container { container_of self.now parent ≡ Some container.now }
+        ensures { result ≡ split_answer self.now parent quota }
+    {
         if quota == 0 {
             return Err(QuotaFault::BadQuota);
         }
         let Some(child) = self.next_number() else {
             return Err(QuotaFault::TableFull);
         };
-        if quota > self.room(parent) {
+        if quota > self.left_of(container, parent) {
             return Err(QuotaFault::NoRoom);
         }
         Ok(child)
@@ -214,11 +263,31 @@ impl Quotas {
         ensures child { split_answer self.old parent quota ≡ Ok result }
         ensures containers { self.new ≡ after_split self.old parent quota result }
     {
-        let child = self.next_number().unwrap();
-        let giver = live(&self.containers, parent);
-        put(&mut self.containers, parent, Some(with_child(giver, quota)));
-        put(&mut self.containers, child, Some(opened(parent, quota)));
+        let child = self.can_split(parent, quota).unwrap();
+        self.split_as(parent, quota, child);
         child
+    }
+
+    /// As `split`, where the caller has the child's number.
+    pub fn split_as(&mut self, parent: Pid, quota: u32, child: Pid)
+        requires live { IsLive self.old parent }
+        requires can { split_answer self.old parent quota ≡ Ok child }
+        ensures { self.new ≡ after_split self.old parent quota child }
+    {
+        let giver = live(&self.containers, parent);
+        add_child(&mut self.containers, parent, giver, quota, child, 1);
+    }
+
+    /// As `split_as`, but the child uses as many frames as its parent, which is at most its quota.
+    pub fn fork_as(&mut self, parent: Pid, quota: u32, child: Pid)
+        requires live { IsLive self.old parent }
+        requires can { split_answer self.old parent quota ≡ Ok child }
+        requires large { used_of self.old parent ≤ quota }
+        ensures { self.new ≡ with_used (after_split self.old parent quota child) child (used_of self.old parent) }
+    {
+        let giver = live(&self.containers, parent);
+        let used = giver.used;
+        add_child(&mut self.containers, parent, giver, quota, child, used);
     }
 
     /// Charges a live process for that many frames more, at most its room.
@@ -261,7 +330,7 @@ impl Quotas {
         requires { IsLive self.now pid }
         ensures { result ≡ room_of self.now pid }
     {
-        left_of(live(&self.containers, pid))
+        self.left_of(&self.live(pid), pid)
     }
 
     /// The container of a process; None where it isn't live.

@@ -3,7 +3,6 @@ use Rattle.std.proofs.Common.{◌≡◌, ℕ, false, List, refl, ap, sym, ◌∙
 use Rattle.std.specs.Option.{option_map, option_and_then}
 use Rattle.page_words.specs.Words.{frame_number}
 use Rattle.page_words.specs.Addresses.{slot_number}
-use Rattle.page_words.specs.FiniteMap as map
 use Rattle.phys_memory.specs.Bytes.{frame_bytes}
 use Rattle.alloc_table.specs.declared.Role.{Role}
 use Rattle.page_map.specs.declared.PageEntry.{PageEntry}

@@ -40,7 +40,6 @@ use Rattle.address_space.proofs.steps.Stores.{get_user, entry_rules}
 use Rattle.address_space.proofs.steps.Departures.{no_cell_outside, no_cell_unmapped}
 use Rattle.address_space.proofs.steps.Openings.{empty_cost}
 use Rattle.address_space.proofs.standing.Standing.{same_entry, read_entry}
-use Rattle.page_map.proofs.PageLemmas.{get-entries_user}
 use Rattle.std.proofs.lemmas.Bool.{cases_eq, cases_lt}
 use borrow.Author.Tests.{eq-eqb}
 use Rattle.page_words.specs.Addresses.{IsUserPage}
@@ -345,10 +344,7 @@ copied_past directories bytes one roles roles1 from source to next beyond empty 
     unmapped : (page : ℕ) → next ≤ page → page < beyond → map.get (spaces_in directories bytes) (at_page from page) ≡ None
     unmapped page above less = elim (cases_eq from to) [
       | inl same ↦ ap (λ n. map.get (spaces_in directories bytes) (at_page n page)) same ∙ empty page
-      | inr differ ↦
-          let low = so_far.low in
-          let user : IsUserPage page = (omega (arith, low, above), omega (arith, high, less)) in
-          sym (so_far.others (at_page from page) differ) ∙ no_cell_unmapped directories one from source page home user.0 user.1 (ap is_some (get-entries_user (frame_bytes one) source page user ∙ none page above less))
+      | inr differ ↦ sym (so_far.others (at_page from page) differ) ∙ no_cell_unmapped directories one from source page home (none page above less)
     ]
 
 module _ (directories : List (Option ℕ)) (bytes one : List ℕ) (roles roles1 : List Role) (from source to target page : ℕ) (so_far : CopiedBelow directories from to page bytes roles one roles1)

@@ -4,7 +4,7 @@ use Rattle.std.specs.Prelude.{◌⊎◌, is_some, slice_get, slice_set, if◌the
 use Rattle.std.specs.Option.{option_and_then, option_map, unwrap_or}
 use Rattle.std.specs.List.{list_any}
 use Rattle.std.proofs.lemmas.Bool.{cases_eq, cases_lt}
-use Rattle.page_words.specs.Addresses.{slot_number, index_number, IsUserPage}
+use Rattle.page_words.specs.Addresses.{slot_number, index_number}
 use Rattle.page_words.specs.FiniteMap as map
 use Rattle.page_words.specs.FiniteMap.{same}
 use Rattle.page_words.specs.FiniteSet as set
@@ -17,14 +17,12 @@ use Rattle.alloc_table.specs.Roles.{frames_weight, weight, IsReleased, released}
 use Rattle.alloc_table.proofs.RoleLemmas.{weight-set, get-set_same, get-set_other}
 use Rattle.page_map.specs.declared.PageEntry.{PageEntry}
 use Rattle.page_map.specs.Entries.{Frames, word_table, word_entry, table_of, entry_at}
-use Rattle.page_map.specs.Pages.{is_mapped}
-use Rattle.page_map.proofs.PageLemmas.{get-entries_user}
 use Rattle.address_space.specs.Spaces.{Slot, slot_order, Cell, Spaces, cost, need, pages_of, regions_of, without, with_holders, is_slot, is_of, at_page}
 use Rattle.address_space.specs.Slots.{user_slots}
 use Rattle.address_space.specs.Cells.{Entries, lazy_count, cell_of, spaces_of}
 use Rattle.address_space.specs.View.{View, Directories, Roles, directory_of, table_in, entry_in, entries_in, spaces_in, live_cost, total_cost}
 use Rattle.address_space.specs.Sound.{Tables, Pages, IsSound, IsSpaces}
-use Rattle.address_space.specs.Changes.{IsEmptySpace, DirectoryDropped}
+use Rattle.address_space.specs.Changes.{IsEmptySpace, DroppedBelow, DirectoryDropped}
 use Rattle.address_space.proofs.costs.Costs.{contains-pages_of}
 use Rattle.address_space.proofs.costs.CostSteps.{sum_one}
 use Rattle.address_space.proofs.entries.EntrySteps.{get-entries_in, entry_by_table}
@@ -35,11 +33,10 @@ use Rattle.address_space.proofs.entries.Refinement.{get-spaces_of, leave_refines
 use Rattle.address_space.proofs.standing.Standing.{past_end}
 use Rattle.address_space.proofs.steps.Steps.{live_small, none_before, role_own, role_other}
 use borrow.Author.Tests.{eqb-true, eq-eqb}
-use Rattle.page_words.proofs.OptionLemmas.{no_value}
-use Rattle.address_space.specs.Stays.{FramesStay, none_goes, of_page, of_process}
+use Rattle.address_space.specs.Stays.{FramesStay, none_goes, of_page}
 use Rattle.address_space.specs.Image.{image_of}
 use Rattle.address_space.specs.declared.Spaces.TheInside.{Inside as Inner}
-use Rattle.address_space.proofs.Insides.{IsKeptInside, spaces_at, image_at, view_of}
+use Rattle.address_space.proofs.Insides.{IsKeptInside, spaces_at, view_of}
 use Rattle.address_space.proofs.standing.FramesStand.{stays_same, stays_then, stays_more}
 use Rattle.address_space.proofs.entries.Staying.{stay_same, places_by}
 
@@ -154,30 +151,14 @@ no_cell_outside directories bytes roles p page sound out =
     no_cell_by D m (at_page p page)
     (entry_by_table D m (at_page p page) ∙ ap (option_and_then (λ table. word_entry (word_in (m table) (index_number page)))) (no_table_outside directories bytes roles p (slot_number page) sound (elim out [ inl l ↦ inl (omega arith) | inr l ↦ inr (omega arith) ])))
 
--- a page of the user range that is not mapped
-pub no_cell_unmapped : (directories : List (Option ℕ)) (bytes : List ℕ) (p d page : ℕ) → directory_of directories p ≡ Some d → 0x40000 ≤ page → page < 0xf0000 → is_mapped (frame_bytes bytes) d page ≡ false
+-- a page without an entry
+pub no_cell_unmapped : (directories : List (Option ℕ)) (bytes : List ℕ) (p d page : ℕ) → directory_of directories p ≡ Some d → entry_at (frame_bytes bytes) d page ≡ None
     → map.get (spaces_in directories bytes) (at_page p page) ≡ None
 unfolding spaces_in
-no_cell_unmapped directories bytes p d page live low high unmapped =
-    let m : Frames = frame_bytes bytes in
-    no_cell_by (directory_of directories) m (at_page p page)
-    (ap (option_and_then (λ d. entry_at m d page)) live ∙ no_value (entry_at m d page) (ap is_some (sym (get-entries_user m d page (low, high))) ∙ unmapped))
-
--- a page that the map has, has an entry
-pub entry_mapped : (m : Frames) (d page : ℕ) → IsUserPage page → is_mapped m d page ≡ true → is_some (entry_at m d page) ≡ true
-entry_mapped m d page user mapped = ap is_some (sym (get-entries_user m d page user)) ∙ mapped
+no_cell_unmapped directories bytes p d page live none =
+    no_cell_by (directory_of directories) (frame_bytes bytes) (at_page p page) (ap (option_and_then (λ d. entry_at (frame_bytes bytes) d page)) live ∙ none)
 
 -- ---- The pages of a process leave, from the lowest on
-
--- the pages of a process below one have left their groups
-pub record DroppedBelow (v : View) (p from : ℕ) (v' : View) : Type 0 where
-  pub directories : v'.directories ≡ v.directories
-  pub spaces : without v'.spaces (is_of p) ≡ without v.spaces (is_of p)
-  pub stay : FramesStay (of_process p) (image_of v) (image_of v')
-  pub below : (page : ℕ) → page < from → map.get v'.spaces (at_page p page) ≡ None
-  pub length : length v'.roles ≡ length v.roles
-  pub low : 0x40000 ≤ from
-  pub high : from ≤ 0xf0000
 
 pub dropped_at_first : (inner : Inner) (p : ℕ) → IsKeptInside inner → DroppedBelow (view_of inner) p 0x40000 (view_of inner)
 dropped_at_first inner p before = record {
@@ -190,23 +171,37 @@ dropped_at_first inner p before = record {
   high = omega arith;
 }
 
-pub dropped_next : (v : View) (inner : Inner) (two : View) (p d from page : ℕ) → DroppedBelow v p from (view_of inner) → directory_of inner.directories p ≡ Some d
-    → from ≤ page → page < 0xf0000 → ((other : ℕ) → from ≤ other → other < page → is_mapped (frame_bytes inner.memory) d other ≡ false)
-    → two.spaces ≡ without (spaces_at inner) (is_slot p page) → FramesStay (of_page p page) (image_at inner) (image_of two) → two.directories ≡ inner.directories → length two.roles ≡ length inner.frames
+-- over pages without an entry
+pub dropped_past : (v : View) (inner : Inner) (p d from beyond : ℕ) → DroppedBelow v p from (view_of inner) → directory_of inner.directories p ≡ Some d → from ≤ beyond → beyond ≤ 0xf0000
+    → ((page : ℕ) → from ≤ page → page < beyond → entry_at (frame_bytes inner.memory) d page ≡ None) → DroppedBelow v p beyond (view_of inner)
+dropped_past v inner p d from beyond so_far live up high none =
+    let low = so_far.low in
+    record {
+      directories = so_far.directories;
+      spaces = so_far.spaces;
+      stay = so_far.stay;
+      below = λ page l. elim (cases_lt page from) [
+        | inl below ↦ so_far.below page below
+        | inr above ↦ no_cell_unmapped inner.directories inner.memory p d page live (none page above l)
+      ];
+      length = so_far.length;
+      low = omega arith;
+      high = high;
+    }
+
+-- and one page more
+pub dropped_next : (v one two : View) (p page : ℕ) → DroppedBelow v p page one → page < 0xf0000
+    → two.spaces ≡ without one.spaces (is_slot p page) → FramesStay (of_page p page) (image_of one) (image_of two) → two.directories ≡ one.directories → length two.roles ≡ length one.roles
     → DroppedBelow v p (page + 1) two
-dropped_next v inner two p d from page so_far live up high least spaces stay directories long =
-    let S : Spaces = spaces_at inner in
+dropped_next v one two p page so_far high spaces stay directories long =
     let low = so_far.low in
     record {
       directories = directories ∙ so_far.directories;
-      spaces = ap (λ x. without x (is_of p)) spaces ∙ without-without S (is_slot p page) (is_of p) (slot_of_process p page) ∙ so_far.spaces;
+      spaces = ap (λ x. without x (is_of p)) spaces ∙ without-without one.spaces (is_slot p page) (is_of p) (slot_of_process p page) ∙ so_far.spaces;
       stay = stays_then so_far.stay (stays_more (λ q f stays. slot_of_process p page q stays) stay);
-      below = λ other l. ap (λ x. map.get x (at_page p other)) spaces ∙ get-without S (is_slot p page) (at_page p other) ∙ elim (cases_eq other page) [
-        | inl same_page ↦ ap (λ b. cond (not b) (option_map (left (is_slot p page)) (map.get S (at_page p other))) None) (ap (λ n. same slot_order (at_page p page) (at_page p n)) same_page ∙ same_itself slot_order (at_page p page))
-        | inr differ ↦ nothing_if (not (is_slot p page (at_page p other))) (left (is_slot p page)) (map.get S (at_page p other)) (elim (cases_lt other from) [
-          | inl below ↦ so_far.below other below
-          | inr above ↦ no_cell_unmapped inner.directories inner.memory p d other live (omega arith) (omega arith) (least other above (omega arith))
-        ])
+      below = λ other l. ap (λ x. map.get x (at_page p other)) spaces ∙ get-without one.spaces (is_slot p page) (at_page p other) ∙ elim (cases_eq other page) [
+        | inl same_page ↦ ap (λ b. cond (not b) (option_map (left (is_slot p page)) (map.get one.spaces (at_page p other))) None) (ap (λ n. same slot_order (at_page p page) (at_page p n)) same_page ∙ same_itself slot_order (at_page p page))
+        | inr differ ↦ nothing_if (not (is_slot p page (at_page p other))) (left (is_slot p page)) (map.get one.spaces (at_page p other)) (so_far.below other (omega (arith, l, differ)))
       ];
       length = long ∙ so_far.length;
       low = omega arith;
@@ -218,16 +213,11 @@ pub record PagesDropped (v : View) (p : ℕ) (v' : View) : Type 0 where
   pub spaces : v'.spaces ≡ without v.spaces (is_of p)
   pub empty : IsEmptySpace v'.spaces p
 
-pub dropped_at_last : (v : View) (inner : Inner) (p d from : ℕ) → IsKeptInside inner → DroppedBelow v p from (view_of inner) → directory_of inner.directories p ≡ Some d
-    → ((other : ℕ) → from ≤ other → is_mapped (frame_bytes inner.memory) d other ≡ false) → PagesDropped v p (view_of inner)
-dropped_at_last v inner p d from before so_far live none =
-    let low = so_far.low in
-    let empty : IsEmptySpace (spaces_at inner) p = λ page. elim (cases_lt page from) [
-      | inl below ↦ so_far.below page below
-      | inr above ↦ elim (cases_lt page 0xf0000) [
-        | inl inside ↦ no_cell_unmapped inner.directories inner.memory p d page live (omega arith) inside (none page above)
-        | inr past ↦ no_cell_outside inner.directories inner.memory inner.frames p page before.spaces.sound (inr past)
-      ]
+pub dropped_at_last : (v : View) (inner : Inner) (p : ℕ) → IsKeptInside inner → DroppedBelow v p 0xf0000 (view_of inner) → PagesDropped v p (view_of inner)
+dropped_at_last v inner p before so_far =
+    let empty : IsEmptySpace (spaces_at inner) p = λ page. elim (cases_lt page 0xf0000) [
+      | inl inside ↦ so_far.below page inside
+      | inr past ↦ no_cell_outside inner.directories inner.memory inner.frames p page before.spaces.sound (inr past)
     ] in
     record { spaces = sym (nothing_leaves inner.directories inner.memory p empty) ∙ so_far.spaces; empty = empty }
 

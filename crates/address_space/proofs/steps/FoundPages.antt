@@ -36,8 +36,6 @@ use Rattle.address_space.specs.Shown.{shown}
 use Rattle.address_space.specs.declared.Cell.{Cell as Shown}
 use Rattle.address_space.proofs.steps.Openings.{no_cell}
 use Rattle.address_space.proofs.steps.Steps.{page_map_of, live_small, table_by_word, map_kept, zeroed, inside, free_loose}
-use Rattle.page_map.specs.Pages.{is_mapped}
-use Rattle.address_space.proofs.steps.Departures.{entry_mapped}
 use Rattle.address_space.proofs.steps.LazyFilling.{page_filled, room_to_fill}
 use Rattle.address_space.proofs.steps.CountSteps.{counts_kept, alike_taken}
 use Rattle.alloc_table.specs.declared.Role.{Role}
@@ -364,9 +362,3 @@ filled_real directories bytes bytes' roles roles' p page filled = same_lazy dire
 pub filled_others : (directories : List (Option ℕ)) (bytes bytes' : List ℕ) (roles roles' : List Role) (p page : ℕ) → IsSound directories bytes roles → PageFilled directories p page bytes roles bytes' roles'
     → (q : Slot) → is_lazy_at (image_from directories bytes roles) q ≡ false → is_lazy_at (image_from directories bytes' roles') q ≡ false
 filled_others directories bytes bytes' roles roles' p page sound filled = real_kept directories bytes bytes' roles roles' sound filled.after.sound filled.fewer
-
--- a page that a directory maps is one of its process
-pub page_there : (directories : List (Option ℕ)) (bytes : List ℕ) (p d page : ℕ) → length directories ≡ 64 → directory_of directories p ≡ Some d → IsUserPage page → is_mapped (frame_bytes bytes) d page ≡ true
-    → is_some (map.get (spaces_in directories bytes) (at_page p page)) ≡ true
-page_there directories bytes p d page long live user mapped =
-    mapped_read directories bytes p d page live (live_small directories p d long live) user.0 user.1 ∙ entry_mapped (frame_bytes bytes) d page user mapped

@@ -1,5 +1,5 @@
 -- What a lazy page that got a frame of its own leaves.
-use Rattle.std.proofs.Common.{◌≡◌, ◌≢◌, ℕ, ◌+◌, ◌*◌, ◌^◌, ◌<◌, ◌≤◌, true, false, List, length, replicate, refl, ap, sym, ◌∙◌, subst, arith, inr, Option, Some, length-set}
+use Rattle.std.proofs.Common.{◌≡◌, ◌≢◌, ℕ, ◌+◌, ◌*◌, ◌^◌, ◌<◌, ◌≤◌, true, false, List, length, replicate, refl, ap, sym, ◌∙◌, subst, arith, inr, Option, Some, None, length-set}
 use Rattle.std.specs.Prelude.{slice_get}
 use Rattle.std.specs.Option.{option_and_then}
 use Rattle.std.proofs.lemmas.List.{length-replicate}
@@ -22,7 +22,7 @@ use Rattle.address_space.specs.View.{Directories, Roles, directory_of, table_in,
 use Rattle.address_space.specs.Sound.{Tables, Pages, IsSpaces, InUseAt}
 use Rattle.address_space.specs.Changes.{PageFilled}
 use Rattle.address_space.proofs.costs.Costed.{free_where_light}
-use Rattle.address_space.proofs.entries.EntrySteps.{entries-insert, entry_own, tables-entry, tables_kept, use_kept}
+use Rattle.address_space.proofs.entries.EntrySteps.{entries-insert, entry_own, entry_other, tables-entry, tables_kept, use_kept}
 use Rattle.address_space.proofs.frames.FrameSteps.{tables-role}
 use Rattle.address_space.proofs.frames.PageSteps.{same_bytes, pages-more, unused, unused_count, no_free, no_table, lazy-filled, lazy-fewer, holders-less}
 use Rattle.address_space.proofs.entries.Refinement.{fill_refines}
@@ -97,6 +97,7 @@ page_filled directories bytes one two roles roles' p d page f e s live low high 
     let total : total_cost directories (spaces_of (entries_in D (frame_bytes two)) (frame_bytes two)) ≡ total_cost directories (spaces_of E m) = ap (total_cost directories) spaces in
     let weight : frames_weight roles' ≡ frames_weight roles + 1 = weight-taken roles roles' f (Page 1) taken in
     let less : lazy_count (entries_in D (frame_bytes two)) + 1 ≡ lazy_count E = ap (λ x. lazy_count x + 1) E2 ∙ lazy-filled E slot e e' there zero (λ z. omega (arith, z, up)) in
+    let tables : (q r : ℕ) → table_in D (frame_bytes two) q r ≡ table_in D m q r = λ q r. ap (λ x. table_in D x q r) is ∙ tables_kept D m1 R' Tb p d page t (entry_word e') live here.there (entry_word-lt e' small) q r ∙ w.tables q r in
     let weighs = s.weighs in
     let within = s.within in
     record {
@@ -119,11 +120,16 @@ page_filled directories bytes one two roles roles' p d page f e s live low high 
           (stay_then (of_lazy p page) E (map.insert E slot e') (entries_in D (frame_bytes two))
           (stay_filled E p page e e' there zero) (stay_same (of_lazy p page) (map.insert E slot e')
           (entries_in D (frame_bytes two)) E2))
-          (λ q r g found. ap (λ x. table_in D x q r) is
-          ∙ tables_kept D m1 R' Tb p d page t (entry_word e') live here.there (entry_word-lt e' small) q r
-          ∙ w.tables q r ∙ found);
+          (λ q r g found. tables q r ∙ found);
+      tables = tables;
+      others = λ q n. ap (λ x. entry_in D x q) is ∙ entry_other D m1 R' Tb p d page t (entry_word e') live here.there (entry_word-lt e' small) q n ∙ kept q.pid q.page (w.entry q.pid) (D q.pid) refl;
       length = same_length;
     }
   where
+    kept : (p page : ℕ) → ((d page : ℕ) → directory_of directories p ≡ Some d → entry_at (frame_bytes one) d page ≡ entry_at (frame_bytes bytes) d page) → (x : Option ℕ) → directory_of directories p ≡ x
+        → entry_in (directory_of directories) (frame_bytes one) (at_page p page) ≡ entry_in (directory_of directories) (frame_bytes bytes) (at_page p page)
+    kept p page same None is = ap (option_and_then (λ d. entry_at (frame_bytes one) d page)) is ∙ sym (ap (option_and_then (λ d. entry_at (frame_bytes bytes) d page)) is)
+    kept p page same (Some d) is = ap (option_and_then (λ d. entry_at (frame_bytes one) d page)) is ∙ same d page is ∙ sym (ap (option_and_then (λ d. entry_at (frame_bytes bytes) d page)) is)
+
     above : Tables (directory_of directories) (frame_bytes bytes) (slice_get roles) → slice_get roles f ≡ Some Free → 1 ≤ f
     above T free = let n : f ≢ 0 = (λ is. let a = T.zero_role in let k : slice_get roles 0 ≡ slice_get roles f = ap (slice_get roles) (sym is) in cc) in omega arith

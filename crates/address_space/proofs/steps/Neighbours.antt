@@ -14,6 +14,7 @@ use Rattle.address_space.specs.declared.place.Found.{Found}
 use Rattle.address_space.specs.declared.place.Place.{Place}
 use Rattle.address_space.specs.Spaces.{Slot, at_page, write_at}
 use Rattle.address_space.specs.View.{Directories, directory_of, table_in, entry_in}
+use Rattle.address_space.specs.Changes.{PageFilled}
 use Rattle.address_space.specs.Finds.{found_by, EntryIs, BytesStored}
 use Rattle.address_space.specs.Places.{place_by, place_there, place_in}
 use Rattle.address_space.specs.Sound.{IsSound}
@@ -82,6 +83,12 @@ module _ (inner : Inner) (p page : ℕ) (f : Found) (before : IsKeptInside inner
       entry_beside inner.directories s.between two inner.frames p there.directory page f (record f.entry { accessed = true; dirty = true }) w.sound there.live table there.same_page (found_lies inner p page f before user is).frame.small s.entry other differ
       ∙ place_same D (frame_bytes inner.memory) (frame_bytes s.between) p other (w.tables p (slot_number other))
       (ap (option_and_then (λ x. entry_at (frame_bytes s.between) x other)) there.live ∙ w.entry p there.directory other there.live ∙ sym (ap (option_and_then (λ x. entry_at (frame_bytes inner.memory) x other)) there.live))
+
+-- and of every process, after a lazy page got its frame
+pub filled_beside : {directories : List (Option ℕ)} {bytes bytes' : List ℕ} {roles roles' : List Role} {p page : ℕ} → PageFilled directories p page bytes roles bytes' roles'
+    → (q other : ℕ) → at_page q other ≢ at_page p page → place_in directories bytes' q other ≡ place_in directories bytes q other
+filled_beside {directories} {bytes} {bytes'} {roles} {roles'} filled q other differ =
+    place_same (directory_of directories) (frame_bytes bytes) (frame_bytes bytes') q other (filled.tables q (slot_number other)) (filled.others (at_page q other) differ)
 
 -- ---- The second page of an access
 

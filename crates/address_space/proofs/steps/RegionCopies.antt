@@ -14,8 +14,8 @@ use Rattle.page_map.specs.Pages.{counted, count_range}
 use Rattle.page_map.proofs.PageLemmas.{count_range-add, count_range-none, count_range-same, count-table, mapped_in_table}
 use Rattle.page_map.proofs.Counting.{count_none}
 use Rattle.address_space.specs.Spaces.{Slot, cost, at_page, cell_or_fresh, copy_of}
-use Rattle.address_space.specs.View.{directory_of, table_in, spaces_in, total_cost}
-use Rattle.address_space.specs.Sound.{IsSpaces}
+use Rattle.address_space.specs.View.{directory_of, spaces_in, total_cost}
+use Rattle.address_space.specs.Sound.{IsSound, IsSpaces}
 use Rattle.address_space.specs.Counts.{IsCounted}
 use Rattle.address_space.specs.Changes.{IsEmptySpace, PageCopied, CopiedBelow, CopyIn, PagesCopied, words_left}
 use Rattle.address_space.proofs.costs.Costed.{Room}
@@ -77,11 +77,11 @@ left_behind bytes table index left (Some listed) all within entry least = all �
 -- ---- Regions
 
 -- no page of a region without a table has an entry
-no_entry_there : (m : Frames) (source page : ℕ) → table_of m source (slot_number page) ≡ None → entry_at m source page ≡ None
+pub no_entry_there : (m : Frames) (source page : ℕ) → table_of m source (slot_number page) ≡ None → entry_at m source page ≡ None
 no_entry_there m source page none = ap (option_and_then (λ t. word_entry (word_in (m t) (index_number page)))) none
 
 -- the entry of a page is that of its word
-listed_entry : (m : Frames) (source slot table index : ℕ) (x : Option PageEntry) → index < 1024 → table_of m source slot ≡ Some table → word_entry (word_in (m table) index) ≡ x → entry_at m source (1024 * slot + index) ≡ x
+pub listed_entry : (m : Frames) (source slot table index : ℕ) (x : Option PageEntry) → index < 1024 → table_of m source slot ≡ Some table → word_entry (word_in (m table) index) ≡ x → entry_at m source (1024 * slot + index) ≡ x
 listed_entry m source slot table index x few there is =
     let s : slot_number (1024 * slot + index) ≡ slot = omega arith in
     let i : index_number (1024 * slot + index) ≡ index = omega arith in
@@ -98,24 +98,34 @@ present_mapped directories memory from source slot table index long home inside 
     ∙ sym (mapped_in_table (frame_bytes memory) source slot table (1024 * slot + index) s there)
     ∙ sym (mapped_read directories memory from source (1024 * slot + index) home (live_small directories from source long home) (omega (arith, low)) (omega (arith, high, inside)))
 
+first_slot : (slot : ℕ) → slot_number (1024 * slot) ≡ slot
+first_slot slot = omega arith
+
+-- the count of a region's table is how many words are present in it
+module _ {directories : List (Option ℕ)} {bytes : List ℕ} {roles : List Role} {d slot table : ℕ} (counts : List ℕ) (p : ℕ) (sound : IsSound directories bytes roles) (live : directory_of directories p ≡ Some d) (low : 256 ≤ slot) (high : slot < 960)
+    (there : table_of (frame_bytes bytes) d slot ≡ Some table) (C : IsCounted (spaces_in directories bytes) roles counts) where
+  pub region_there : table < length counts
+  region_there = count_there directories bytes roles counts p d (1024 * slot) table 0 sound live (omega (arith, low), omega (arith, high)) (ap (table_of (frame_bytes bytes) d) (first_slot slot) ∙ there) C
+
+  pub region_words : (n : ℕ) → slice_get counts table ≡ Some n → n ≡ words_left bytes table 0
+  region_words n is =
+      count_by_entries directories bytes roles counts p d (1024 * slot) table n sound live (omega (arith, low), omega (arith, high)) (ap (table_of (frame_bytes bytes) d) (first_slot slot) ∙ there) C is
+      ∙ ap (λ s. count_range (λ other. is_some (entry_at (frame_bytes bytes) d other)) (1024 * s) 1024) (first_slot slot)
+      ∙ sym (count-table (frame_bytes bytes) d slot table there)
+
+-- a process without a page in a region has no table there
+pub no_table_there : {directories : List (Option ℕ)} {bytes : List ℕ} {roles : List Role} {d slot : ℕ} (p : ℕ) → IsSpaces directories bytes roles → directory_of directories p ≡ Some d → 256 ≤ slot → slot < 960
+    → ((i : ℕ) → i < 1024 → map.get (spaces_in directories bytes) (at_page p (1024 * slot + i)) ≡ None) → table_of (frame_bytes bytes) d slot ≡ None
+no_table_there {directories} {bytes} {roles} {d} {slot} p spaces live low high bare = by (table_of (frame_bytes bytes) d slot) refl
+  where
+    by : (x : Option ℕ) → table_of (frame_bytes bytes) d slot ≡ x → table_of (frame_bytes bytes) d slot ≡ None
+    by None is = is
+    by (Some t) is =
+        let used = spaces.in_use p slot t (ap (option_and_then (λ d. table_of (frame_bytes bytes) d slot)) live ∙ is) in
+        let mapped = sym used.2 ∙ present_mapped directories bytes p d slot t used.0 spaces.sound.pids live used.1 low high is ∙ ap is_some (bare used.0 used.1) in
+        cc
+
 module _ {directories : List (Option ℕ)} {bytes one : List ℕ} {roles roles1 : List Role} {from source to slot table : ℕ} where
-  -- the count of a region's table is how many words are present in it
-  module _ (counts : List ℕ) (copy : CopyIn directories from source to slot table 0 bytes roles one roles1) (few : slot < 960) (C : IsCounted (spaces_in directories one) roles1 counts) where
-    first : slot_number (1024 * slot) ≡ slot
-    first = omega arith
-
-    user : IsUserPage (1024 * slot)
-    user = let low = copy.so_far.low in (omega (arith, low), omega (arith, few))
-
-    pub region_there : table < length counts
-    region_there = count_there directories one roles1 counts from source (1024 * slot) table 0 copy.so_far.after.sound copy.home user (ap (table_of (frame_bytes one) source) first ∙ copy.there) C
-
-    pub region_words : (n : ℕ) → slice_get counts table ≡ Some n → n ≡ words_left one table 0
-    region_words n is =
-        count_by_entries directories one roles1 counts from source (1024 * slot) table n copy.so_far.after.sound copy.home user (ap (table_of (frame_bytes one) source) first ∙ copy.there) C is
-        ∙ ap (λ s. count_range (λ other. is_some (entry_at (frame_bytes one) source other)) (1024 * s) 1024) first
-        ∙ sym (count-table (frame_bytes one) source slot table copy.there)
-
   -- a copy comes to a region over those without a table
   pub region_begun : {first : ℕ} → directory_of directories from ≡ Some source → IsSpaces directories bytes roles → IsEmptySpace (spaces_in directories bytes) to
       → cost (spaces_in directories bytes) from + total_cost directories (spaces_in directories bytes) ≤ length roles → CopiedBelow directories from to (1024 * first) bytes roles one roles1

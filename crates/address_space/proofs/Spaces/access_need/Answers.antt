@@ -4,7 +4,7 @@ use Rattle.page_words.specs.Addresses.{second_page, IsUserPage}
 use Rattle.page_words.proofs.Accesses.{crosses}
 use Rattle.address_space.specs.Places.{found_of, need_of}
 use Rattle.address_space.specs.Spaces.{page_need, with_page}
-use Rattle.address_space.proofs.costs.AccessNeeds.{need-in_one, need-in_two, page_need_at, second_need_at}
+use Rattle.address_space.proofs.costs.AccessNeeds.{need-in_two, page_need_at, second_need_at}
 use Rattle.address_space.proofs.Spaces.access_need.Goals as goal
 
 pub returns-clause-value : goal.returns-clause-value

@@ -9,24 +9,27 @@ use Rattle.address_space.specs.View.{View, directory_of, spaces_in}
 use Rattle.address_space.specs.Changes.{PageCopied, CopyIn, words_left}
 use Rattle.address_space.proofs.costs.Costed.{Room}
 use Rattle.address_space.proofs.steps.Steps.{page_map_of}
-use Rattle.address_space.proofs.steps.RegionCopies.{region_there, region_words, copy_passed, copy_entry, copy_unmapped, copy_room, copy_stepped, words_kept}
+use Rattle.address_space.proofs.steps.RegionCopies.{region_there, region_words, no_table_there, copy_passed, copy_entry, copy_unmapped, copy_room, copy_stepped, words_kept}
 use Rattle.address_space.proofs.Spaces.copy_region.Goals as goal
 
-pub table-linked-requires-clause-map : goal.table-linked-requires-clause-map
-table-linked-requires-clause-map c =
-    page_map_of c.self.inside.directories c.self.inside.memory c.self.inside.frames c.args.to c.args.target c.self.invariant.spaces.sound (rw (← c.self.view_is) at c.requires.target)
-
 pub count_at-left-requires : goal.count_at-left-requires
-count_at-left-requires c = region_there c.self.inside.counts.items (rw (← c.self.view_is) at c.requires.copying).begun c.requires.slot c.self.invariant.counted
+count_at-left-requires c =
+    let begun = (rw (← c.self.view_is) at c.requires.copying).begun in
+    let low = begun.so_far.low in
+    region_there c.self.inside.counts.items (rw (← c.self.view_is) at c.requires.copying).from begun.so_far.after.sound begun.home (omega (arith, low)) c.requires.slot begun.there c.self.invariant.counted
 
 pub loop-listed-init : goal.loop-listed-init
-loop-listed-init c = record {
-  so_far = λ from source bytes roles begun. begun;
-  same = refl;
-  linked = rw (← c.self.view_is) c.table-linked.ensures;
-  left = rw (← c.self.view_is) (region_words c.self.inside.counts.items (rw (← c.self.view_is) at c.requires.copying).begun c.requires.slot c.self.invariant.counted c.count_at-left.result c.count_at-left.ensures);
-  within = omega arith;
-}
+loop-listed-init c =
+    let begun = (rw (← c.self.view_is) at c.requires.copying).begun in
+    let low = begun.so_far.low in
+    let inside : 256 ≤ c.args.slot = omega (arith, low) in
+    record {
+      so_far = λ from source bytes roles begun. begun;
+      same = refl;
+      linked = sym (rw (← c.self.view_is) (no_table_there c.args.to begun.so_far.after (rw (← c.self.view_is) at c.requires.target) inside c.requires.slot (λ i few. begun.so_far.rest (1024 * c.args.slot + i) (omega arith))));
+      left = rw (← c.self.view_is) (region_words c.self.inside.counts.items (rw (← c.self.view_is) at c.requires.copying).from begun.so_far.after.sound begun.home inside c.requires.slot begun.there c.self.invariant.counted c.count_at-left.result c.count_at-left.ensures);
+      within = omega arith;
+    }
 
 pub next_left-requires-clause-inside : goal.next_left-requires-clause-inside
 next_left-requires-clause-inside c =

@@ -1,4 +1,4 @@
-use Rattle.std.proofs.Common.{◌≡◌, ◌+◌, ◌<◌, ◌≤◌, ◌∙◌, ℕ, List, Option, Some, None, ap, sym, subst, refl}
+use Rattle.std.proofs.Common.{◌≡◌, ◌<◌, ◌≤◌, ◌∙◌, ℕ, List, Option, Some, None, ap, sym, subst, refl}
 use Rattle.phys_memory.specs.Bytes.{frame_bytes}
 use Rattle.page_map.specs.Entries.{table_of, is_lazy_entry, IsPageMap}
 use Rattle.address_space.specs.Spaces.{at_page}

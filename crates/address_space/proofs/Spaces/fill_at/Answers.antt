@@ -4,6 +4,7 @@ use Rattle.address_space.specs.Finds.{lazy_found}
 use Rattle.address_space.specs.Places.{found_of, lazy_place}
 use Rattle.address_space.proofs.steps.Placing.{place_found, place_mapped}
 use Rattle.address_space.proofs.steps.FoundPages.{found_lies, room_found, found_filled, filled_kept, filled_real, filled_others, filled_stay, filled_found}
+use Rattle.address_space.proofs.steps.Neighbours.{filled_beside}
 use Rattle.address_space.proofs.Spaces.fill_at.Goals as goal
 
 pub give_frame-entry-requires-clause-lies : goal.give_frame-entry-requires-clause-lies
@@ -48,3 +49,8 @@ pub returns-clause-place : goal.returns-clause-place
 returns-clause-place c =
     sym (place_mapped c.self.inside.directories c.give_frame-entry.new.memory c.args.pid c.args.page (record { page = c.args.page; table = c.unwrap-found.result.table; entry = c.give_frame-entry.result })
     (filled_found c.self.inside c.args.pid c.args.page c.unwrap-found.result c.self.invariant c.requires.user (sym (place_found c.self.inside c.args.pid c.args.page) ∙ ap found_of (sym (rw (← c.self.view_is) at c.requires.place)) ∙ sym c.found.ensures ∙ c.unwrap-found.ensures) c.give_frame-entry.result c.give_frame-entry.new.memory c.give_frame-entry.new.frames c.give_frame-entry.ensures))
+
+pub returns-clause-beside : goal.returns-clause-beside
+returns-clause-beside c =
+    rw (← c.self.view_is)
+    (filled_beside (found_filled c.self.inside c.args.pid c.args.page c.unwrap-found.result c.self.invariant c.requires.user (sym (place_found c.self.inside c.args.pid c.args.page) ∙ ap found_of (sym (rw (← c.self.view_is) at c.requires.place)) ∙ sym c.found.ensures ∙ c.unwrap-found.ensures) c.give_frame-entry.result c.give_frame-entry.new.memory c.give_frame-entry.new.frames c.if-not-found.false c.give_frame-entry.ensures))

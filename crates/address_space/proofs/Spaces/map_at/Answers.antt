@@ -42,7 +42,7 @@ put_entry-requires-clause-inside c =
 pub returns-clause-spaces : goal.returns-clause-spaces
 returns-clause-spaces c =
     rw (← c.self.view_is)
-    (let written = c.put_entry.ensures.frames ∙ ap (with_entry (frame_bytes c.give_table-table.new.memory) c.give_table-table.result c.args.page) c.fresh_entry.ensures in
+    (let written = c.put_entry.ensures.frames ∙ ap (with_entry (frame_bytes c.give_table-table.new.memory) c.give_table-table.result c.args.page) c.fresh_entry-entry.ensures in
     let added =
     zero_added c.self.inside.directories c.self.inside.memory c.self.inside.frames c.args.pid c.home-directory.result c.args.page c.give_table-table.result c.give_table-table.new.memory c.give_table-table.new.frames c.self.invariant.spaces c.requires.user c.home-directory.ensures
     c.give_table-table.ensures c.args.write c.put_entry.new.memory (rw (← c.self.view_is) at c.requires.unmapped) written c.put_entry.ensures.length in
@@ -51,7 +51,7 @@ returns-clause-spaces c =
 
 pub returns-clause-lazy : goal.returns-clause-lazy
 returns-clause-lazy c =
-    (let written = c.put_entry.ensures.frames ∙ ap (with_entry (frame_bytes c.give_table-table.new.memory) c.give_table-table.result c.args.page) c.fresh_entry.ensures in
+    (let written = c.put_entry.ensures.frames ∙ ap (with_entry (frame_bytes c.give_table-table.new.memory) c.give_table-table.result c.args.page) c.fresh_entry-entry.ensures in
     let added =
     zero_added c.self.inside.directories c.self.inside.memory c.self.inside.frames c.args.pid c.home-directory.result c.args.page c.give_table-table.result c.give_table-table.new.memory c.give_table-table.new.frames c.self.invariant.spaces c.requires.user c.home-directory.ensures
     c.give_table-table.ensures c.args.write c.put_entry.new.memory (rw (← c.self.view_is) at c.requires.unmapped) written c.put_entry.ensures.length in
@@ -59,7 +59,7 @@ returns-clause-lazy c =
 
 pub invariant_of-self : goal.invariant_of-self
 invariant_of-self c =
-    let written = c.put_entry.ensures.frames ∙ ap (with_entry (frame_bytes c.give_table-table.new.memory) c.give_table-table.result c.args.page) c.fresh_entry.ensures in
+    let written = c.put_entry.ensures.frames ∙ ap (with_entry (frame_bytes c.give_table-table.new.memory) c.give_table-table.result c.args.page) c.fresh_entry-entry.ensures in
     let added =
     zero_added c.self.inside.directories c.self.inside.memory c.self.inside.frames c.args.pid c.home-directory.result c.args.page c.give_table-table.result c.give_table-table.new.memory c.give_table-table.new.frames c.self.invariant.spaces c.requires.user c.home-directory.ensures
     c.give_table-table.ensures c.args.write c.put_entry.new.memory (rw (← c.self.view_is) at c.requires.unmapped) written c.put_entry.ensures.length in
@@ -74,13 +74,13 @@ returns-clause-place c =
     let there = ready_table c.self.inside.directories c.self.inside.memory c.self.inside.frames c.args.pid c.home-directory.result c.args.page c.give_table-table.result c.give_table-table.new.memory c.give_table-table.new.frames c.self.invariant.spaces c.requires.user c.home-directory.ensures c.give_table-table.ensures in
     let found =
     found_written c.self.inside.directories c.give_table-table.new.memory c.put_entry.new.memory c.give_table-table.new.frames c.args.pid c.home-directory.result c.args.page c.give_table-table.result c.fresh_entry-entry.result given.sound c.home-directory.ensures there
-    (subst (λ (e : PageEntry). e.frame < 2 ^ 20) (sym c.fresh_entry-entry.ensures) (omega arith)) (c.put_entry.ensures.frames ∙ ap (with_entry (frame_bytes c.give_table-table.new.memory) c.give_table-table.result c.args.page) (c.fresh_entry.ensures ∙ sym c.fresh_entry-entry.ensures)) in
+    (subst (λ (e : PageEntry). e.frame < 2 ^ 20) (sym c.fresh_entry-entry.ensures) (omega arith)) c.put_entry.ensures.frames in
     sym (place_mapped c.self.inside.directories c.put_entry.new.memory c.args.pid c.args.page (record { page = c.args.page; table = c.give_table-table.result; entry = c.fresh_entry-entry.result }) found)
 
 pub returns-clause-stay : goal.returns-clause-stay
 returns-clause-stay c =
     rw (← c.self.view_is)
-    (let written = c.put_entry.ensures.frames ∙ ap (with_entry (frame_bytes c.give_table-table.new.memory) c.give_table-table.result c.args.page) c.fresh_entry.ensures in
+    (let written = c.put_entry.ensures.frames ∙ ap (with_entry (frame_bytes c.give_table-table.new.memory) c.give_table-table.result c.args.page) c.fresh_entry-entry.ensures in
     let added =
     zero_added c.self.inside.directories c.self.inside.memory c.self.inside.frames c.args.pid c.home-directory.result c.args.page c.give_table-table.result c.give_table-table.new.memory c.give_table-table.new.frames c.self.invariant.spaces c.requires.user c.home-directory.ensures
     c.give_table-table.ensures c.args.write c.put_entry.new.memory (rw (← c.self.view_is) at c.requires.unmapped) written c.put_entry.ensures.length in

@@ -1,4 +1,4 @@
-use Rattle.std.proofs.Common.{◌≡◌, ◌∙◌, ap, sym, arith}
+use Rattle.std.proofs.Common.{◌∙◌, ap, sym, arith}
 use Rattle.page_words.specs.Addresses.{second_page}
 use Rattle.page_words.proofs.Accesses.{crosses, stays}
 use Rattle.address_space.specs.Places.{place_in}

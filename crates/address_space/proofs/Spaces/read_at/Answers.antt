@@ -1,4 +1,4 @@
-use Rattle.std.proofs.Common.{◌≡◌, ap, sym, ◌∙◌, is_some}
+use Rattle.std.proofs.Common.{ap, sym, ◌∙◌, is_some}
 use Rattle.std.specs.Option.{option_map}
 use Rattle.page_words.specs.Addresses.{second_page}
 use Rattle.address_space.specs.Places.{place_in}

@@ -1,8 +1,8 @@
-use Rattle.std.proofs.Common.{◌≡◌, true, false, not, ap, sym, ◌∙◌, ◌&&◌}
+use Rattle.std.proofs.Common.{not, ap, sym, ◌∙◌, ◌&&◌}
 use Rattle.std.proofs.lemmas.Bool.{and_parts, not-true}
 use Rattle.page_words.specs.Addresses.{page_number}
 use Rattle.page_words.specs.FiniteMap as map
-use Rattle.address_space.specs.Image.{image_of, is_lazy_at, takes_stores}
+use Rattle.address_space.specs.Image.{image_of, is_lazy_at}
 use Rattle.address_space.specs.Places.{takes_place}
 use Rattle.address_space.specs.Spaces.{slot_at, cell_or_fresh}
 use Rattle.address_space.proofs.Spaces.try_write_part.Goals as goal

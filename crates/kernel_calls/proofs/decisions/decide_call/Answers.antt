@@ -15,7 +15,7 @@ pub returns-in-Spawn : goal.returns-in-Spawn
 returns-in-Spawn c =
     let s = c.args.processes.now.state in
     let e = c.args.event.now in
-    c.child_or_refused.ensures ∙ ap (λ t. spawned t c.args.container.now.used) c.spawn_test.ensures
+    c.child_or_refused.ensures ∙ ap (λ t. spawned t c.args.container.now.used) c.child_test.ensures
     ∙ decided-spawn c.args.processes.now e c.in-Spawn.quota c.args.container.now.used c.in-Spawn.is c.requires.live (used-container s e.pid c.args.container.now c.requires.container)
 
 pub returns-in-Fork : goal.returns-in-Fork

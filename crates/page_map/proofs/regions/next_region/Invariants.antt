@@ -1,7 +1,7 @@
-use Rattle.std.proofs.Common.{◌≡◌, ℕ, ◌<◌, ◌≤◌, None}
+use Rattle.std.proofs.Common.{◌≡◌, ℕ, ◌*◌, ◌<◌, ◌≤◌, None}
 use Rattle.phys_memory.specs.Bytes.{frame_bytes}
 use Rattle.page_map.specs.Entries.{table_of}
 use Rattle.page_map.proofs.regions.next_region.Given as goal
 
-abbrev pub invariant-loop-place : goal.invariant-loop-place
-invariant-loop-place l = (s : ℕ) → l.fn.first ≤ s → s < l.place → table_of (frame_bytes l.memory) l.fn.directory s ≡ None
+abbrev pub invariant-loop-pair : goal.invariant-loop-pair
+invariant-loop-pair l = (s : ℕ) → l.fn.first ≤ s → s < 2 * l.pair → s < 960 → table_of (frame_bytes l.memory) l.fn.directory s ≡ None

@@ -1,25 +1,30 @@
-use Rattle.std.proofs.Common.{refl, sym, subst}
-use Rattle.process_table.specs.State.{State}
-use Rattle.process_table.specs.View.{state_of, View}
-use Rattle.process_table.specs.WellFormed.{IsWellFormed}
+use Rattle.std.proofs.Common.{rules}
+use Rattle.table_walk.specs.declared.Access.TheVariants.{Read, Write}
+use Rattle.process_table.specs.View.{state_of}
+use Rattle.process_table.proofs.Keeping.{whole-access, container-access}
 use Rattle.process_table.proofs.SharingLaws.{touched_user}
-use Rattle.process_table.proofs.Keeping.{keeps-access}
-use Rattle.address_space.specs.Image.{image_of}
-use Rattle.address_space.specs.Stays.{FramesStay, none_goes}
-use Rattle.process_table.specs.Image.{memory_of}
 use Rattle.process_table.proofs.processes.Processes.access_by_walk.Goals as goal
 
 pub invariant_of-self : goal.invariant_of-self
 invariant_of-self c =
-    let s : State = state_of c.self.inside.spaces c.self.inside.quotas c.self.inside.offers in
-    record {
-      kept = c.walk_access.ensures.kept c.self.inside.quotas c.self.invariant.kept;
-      well_formed = subst IsWellFormed (sym (c.walk_access.ensures.state s refl)) (keeps-access s c.args.pid c.args.address c.args.size c.args.access c.args.value c.self.invariant.well_formed c.walk_access.ensures.mapped);
-    }
+    whole-access c.self.inside.spaces c.load_by_walk.new.self c.self.inside.quotas c.self.inside.offers c.args.pid c.args.address c.args.size Read c.args.value c.self.invariant c.load_by_walk.ensures.mapped
+    c.load_by_walk.ensures.directories c.load_by_walk.ensures.roles (search rules)
 
-pub returns-clause-user : goal.returns-clause-user
-returns-clause-user c = touched_user (state_of c.self.inside.spaces c.self.inside.quotas c.self.inside.offers) c.args.pid c.args.address c.args.size c.self.invariant.well_formed c.walk_access.ensures.mapped
+pub invariant_of-self-in-Write : goal.invariant_of-self-in-Write
+invariant_of-self-in-Write c =
+    whole-access c.self.inside.spaces c.store_by_walk.new.self c.self.inside.quotas c.self.inside.offers c.args.pid c.args.address c.args.size Write c.args.value c.self.invariant (search rules)
+    c.store_by_walk.ensures.directories c.store_by_walk.ensures.roles (search rules)
 
-pub returns-clause-stay : goal.returns-clause-stay
-returns-clause-stay c = subst (λ (v : View). FramesStay none_goes (memory_of v) (image_of c.walk_access.new.spaces))
-    c.self.view_is c.walk_access.ensures.stay
+pub returns-in-Read-clause-user : goal.returns-in-Read-clause-user
+returns-in-Read-clause-user c = touched_user (state_of c.self.inside.spaces c.self.inside.quotas c.self.inside.offers) c.args.pid c.args.address c.args.size c.self.invariant.well_formed c.load_by_walk.ensures.mapped
+
+pub returns-in-Write-clause-user : goal.returns-in-Write-clause-user
+returns-in-Write-clause-user c = touched_user (state_of c.self.inside.spaces c.self.inside.quotas c.self.inside.offers) c.args.pid c.args.address c.args.size c.self.invariant.well_formed (search rules)
+
+pub returns-in-Read-clause-containers : goal.returns-in-Read-clause-containers
+returns-in-Read-clause-containers c =
+    container-access c.args.self.now.state (state_of c.load_by_walk.new.self c.self.inside.quotas c.self.inside.offers) c.args.pid c.args.address c.args.size Read c.args.value (search rules) (search rules)
+
+pub returns-in-Write-clause-containers : goal.returns-in-Write-clause-containers
+returns-in-Write-clause-containers c =
+    container-access c.args.self.now.state (state_of c.store_by_walk.new.self c.self.inside.quotas c.self.inside.offers) c.args.pid c.args.address c.args.size Write c.args.value (search rules) (search rules)

@@ -7,5 +7,5 @@ use Rattle.process_table.proofs.processes.Processes.fork_test.Goals as goal
 
 pub returns : goal.returns
 returns c =
-    c.copy_number.ensures ∙ (λ i. for_copy (nat_lt c.args.quota (used-container c.args.self.now.state c.args.pid c.args.container.now c.requires.container i)) (c.spawn_test.ensures i))
+    c.copy_number.ensures ∙ (λ i. for_copy (nat_lt c.args.quota (used-container c.args.self.now.state c.args.pid c.args.container.now c.requires.container i)) (c.child_test.ensures i))
     ∙ sym (fork-by c.args.self.now.state c.args.pid c.args.quota c.requires.live)

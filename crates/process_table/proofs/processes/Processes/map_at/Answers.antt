@@ -1,10 +1,16 @@
-use Rattle.std.proofs.Common.{refl, sym, subst}
+use Rattle.std.proofs.Common.{rules, refl, sym, subst, ap, ◌+◌, ◌∙◌}
 use Rattle.std.specs.Prelude.{IsOk}
+use Rattle.address_space.specs.Spaces.{Slot, cost, fresh, at_page}
+use Rattle.address_space.proofs.costs.Costs.{cost-insert}
+use Rattle.address_space.proofs.costs.Totals.{cost-insert_other}
+use Rattle.quota_tree.specs.Containers.{used_of}
 use Rattle.process_table.specs.State.{State}
 use Rattle.process_table.specs.TestAnswers.{map_answer}
-use Rattle.process_table.specs.Calls.{after_map}
-use Rattle.process_table.specs.View.{View, state_of}
+use Rattle.process_table.specs.Calls.{after_map, map_refusal}
+use Rattle.process_table.specs.View.{View, IsProcesses, state_of}
+use Rattle.process_table.proofs.Charged.{charged-one}
 use Rattle.process_table.proofs.Keeping.{whole, keeps-map}
+use Rattle.process_table.proofs.Refusals.{no_cause, may_map}
 use Rattle.address_space.specs.Image.{image_of}
 use Rattle.address_space.specs.Stays.{FramesStay, none_goes}
 use Rattle.process_table.specs.Image.{memory_of}
@@ -12,13 +18,23 @@ use Rattle.process_table.proofs.processes.Processes.map_at.Goals as goal
 
 pub invariant_of-self : goal.invariant_of-self
 invariant_of-self c =
-    let s : State = state_of c.self.inside.spaces c.self.inside.quotas c.self.inside.offers in
+    let v = c.self.inside.spaces in
+    let q = c.self.inside.quotas in
     let p = c.args.pid in
     let page = c.args.page in
+    let s : State = state_of v q c.self.inside.offers in
     let ok : IsOk (map_answer s p page) = subst (λ (v : View). IsOk (map_answer v.state p page)) (sym c.self.view_is) c.requires.may in
-    whole c.add_page.new.spaces c.add_page.new.quotas c.self.inside.offers (after_map s p page c.args.write) c.add_page.ensures.kept c.add_page.ensures.spaces c.add_page.ensures.book refl
+    let free = no_cause s p (map_refusal s p page) _ ok in
+    let slot : Slot = at_page p page in
+    let cell = fresh slot c.args.write in
+    let used = used_of q p + c.need_at-need.result in
+    let kept = subst (IsProcesses c.map_at.new.self) (sym c.take_room.ensures.quotas)
+    (charged-one v c.map_at.new.self q p used c.self.invariant.kept c.map_at.ensures.directories c.map_at.ensures.frames
+    ((λ i. c.self.invariant.kept.charged p free.0 i + c.need_at-need.ensures.value i) ∙ sym (cost-insert v.spaces slot cell (may_map s p page free.1).none) ∙ sym (ap (λ S. cost S p) c.map_at.ensures.spaces))
+    (λ other n. ap (λ S. cost S other) c.map_at.ensures.spaces ∙ cost-insert_other v.spaces slot cell other n)) in
+    whole c.map_at.new.self c.take_room.new.quotas c.self.inside.offers (after_map s p page c.args.write) kept c.map_at.ensures.spaces (search rules) refl
     (keeps-map s p page c.args.write c.self.invariant.well_formed ok)
 
 pub returns-clause-stay : goal.returns-clause-stay
-returns-clause-stay c = subst (λ (v : View). FramesStay none_goes (memory_of v) (image_of c.add_page.new.spaces))
-    c.self.view_is c.add_page.ensures.stay
+returns-clause-stay c = subst (λ (v : View). FramesStay none_goes (memory_of v) (image_of c.map_at.new.self))
+    c.self.view_is c.map_at.ensures.stay

@@ -1,25 +1,42 @@
+use Rattle.std.proofs.Common.{rules, ◌≡◌, ℕ, ◌+◌, ◌-◌, sym, subst, ap, ◌∙◌, arith}
+use Rattle.std.proofs.lemmas.Bool.{ne_eqb}
+use Rattle.std.specs.Prelude.{IsOk}
+use Rattle.address_space.specs.Spaces.{cost, without, is_slot, at_page}
+use Rattle.address_space.proofs.steps.Departures.{slot_of_process}
+use Rattle.address_space.proofs.costs.Totals.{cost-without_other}
+use Rattle.quota_tree.specs.Containers.{used_of}
 use Rattle.process_table.specs.State.{State}
-use Rattle.process_table.specs.Calls.{after_unmap}
-use Rattle.process_table.specs.View.{View, state_of}
+use Rattle.process_table.specs.TestAnswers.{unmap_answer}
+use Rattle.process_table.specs.Calls.{after_unmap, unmap_refusal}
+use Rattle.process_table.specs.View.{View, IsProcesses, state_of}
 use Rattle.process_table.proofs.BookLaws.{well_formed-unmap}
+use Rattle.process_table.proofs.Charged.{charged-one}
 use Rattle.process_table.proofs.Keeping.{whole}
-use Rattle.std.proofs.Common.{subst, ap, ◌∙◌}
+use Rattle.process_table.proofs.Refusals.{no_cause}
 use Rattle.address_space.specs.Image.{image_of}
 use Rattle.address_space.specs.Stays.{FramesStay, of_page}
 use Rattle.process_table.specs.Image.{memory_of}
 use Rattle.process_table.proofs.processes.Processes.unmap_at.Goals as goal
 
+less : (u k n m : ℕ) → u ≡ n → m + k ≡ n → u - k ≡ m
+less u k n m a b = omega arith
+
 pub invariant_of-self : goal.invariant_of-self
 invariant_of-self c =
-    let s : State = state_of c.self.inside.spaces c.self.inside.quotas c.self.inside.offers in
-    whole c.remove_page.new.spaces c.remove_page.new.quotas c.drop_page.new.self (after_unmap s c.args.pid c.args.page) c.remove_page.ensures.kept c.remove_page.ensures.spaces c.remove_page.ensures.book c.drop_page.ensures
-    (well_formed-unmap s c.args.pid c.args.page c.self.invariant.well_formed)
+    let v = c.self.inside.spaces in
+    let q = c.self.inside.quotas in
+    let p = c.args.pid in
+    let page = c.args.page in
+    let s : State = state_of v q c.self.inside.offers in
+    let ok : IsOk (unmap_answer s p page) = subst (λ (v : View). IsOk (unmap_answer v.state p page)) (sym c.self.view_is) c.requires.may in
+    let live = (no_cause s p (unmap_refusal s p page) _ ok).0 in
+    let kept = subst (IsProcesses c.unmap_at.new.self) (sym c.refund.ensures)
+    (charged-one v c.unmap_at.new.self q p (used_of q p - c.relief_at-relief.result) c.self.invariant.kept c.unmap_at.ensures.directories c.unmap_at.ensures.frames
+    (less (used_of q p) c.relief_at-relief.result (cost v.spaces p) (cost (without v.spaces (is_slot p page)) p) (c.self.invariant.kept.charged p live) c.relief_at-relief.ensures ∙ sym (ap (λ S. cost S p) c.unmap_at.ensures.spaces))
+    (λ other n. ap (λ S. cost S other) c.unmap_at.ensures.spaces ∙ cost-without_other v.spaces (is_slot p page) other (λ at. slot_of_process p page (at_page other at) (ne_eqb other p n)))) in
+    whole c.unmap_at.new.self c.refund.new.self c.drop_page.new.self (after_unmap s p page) kept c.unmap_at.ensures.spaces (search rules) c.drop_page.ensures
+    (well_formed-unmap s p page c.self.invariant.well_formed)
 
 pub returns-clause-stay : goal.returns-clause-stay
 returns-clause-stay c = subst (λ (v : View). FramesStay (of_page c.args.pid c.args.page) (memory_of v)
-    (image_of c.remove_page.new.spaces)) c.self.view_is c.remove_page.ensures.stay
-
-pub returns-clause-state : goal.returns-clause-state
-returns-clause-state c =
-    (λ i. record { spaces = c.remove_page.ensures.spaces i; book = c.remove_page.ensures.book i; offers = c.drop_page.ensures i })
-    ∙ ap (λ (v : View). after_unmap v.state c.args.pid c.args.page) c.self.view_is
+    (image_of c.unmap_at.new.self)) c.self.view_is c.unmap_at.ensures.stay

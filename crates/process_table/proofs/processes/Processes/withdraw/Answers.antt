@@ -1,4 +1,4 @@
-use Rattle.std.proofs.Common.{refl}
+use Rattle.std.proofs.Common.{rules, refl}
 use Rattle.process_table.specs.State.{State}
 use Rattle.process_table.specs.Calls.{after_withdraw}
 use Rattle.process_table.specs.View.{state_of}
@@ -9,5 +9,5 @@ use Rattle.process_table.proofs.processes.Processes.withdraw.Goals as goal
 pub invariant_of-self : goal.invariant_of-self
 invariant_of-self c =
     let s : State = state_of c.self.inside.spaces c.self.inside.quotas c.self.inside.offers in
-    whole c.self.inside.spaces c.self.inside.quotas c.take_offer.new.offers (after_withdraw s c.args.pid c.args.page c.args.target) c.self.invariant.kept refl refl c.take_offer.ensures.offers
+    whole c.self.inside.spaces c.self.inside.quotas c.take.new.self (after_withdraw s c.args.pid c.args.page c.args.target) c.self.invariant.kept refl refl (search rules)
     (well_formed-withdraw s c.args.pid c.args.page c.args.target c.self.invariant.well_formed)

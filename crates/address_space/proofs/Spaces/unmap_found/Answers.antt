@@ -1,0 +1,79 @@
+use Rattle.std.proofs.Common.{ap, arith}
+use Rattle.std.specs.Prelude.{is_some}
+use Rattle.address_space.proofs.steps.Steps.{page_map_of}
+use Rattle.address_space.proofs.steps.GonePages.{home_table, home_entry, home_count, home_positive, home_counts, home_in_use, gone_table, gone_page, gone_kept}
+use Rattle.phys_memory.specs.Bytes.{frame_bytes}
+use Rattle.address_space.proofs.steps.RegionDrops.{entry_gone}
+use Rattle.address_space.proofs.Spaces.unmap_found.Goals as goal
+use Rattle.address_space.specs.Stays.{of_page}
+use Rattle.address_space.proofs.standing.FramesStand.{frames_stay}
+
+pub uncount_page-mapped-requires-clause-inside : goal.uncount_page-mapped-requires-clause-inside
+uncount_page-mapped-requires-clause-inside c =
+    home_count c.self.inside c.args.pid c.args.directory c.args.page c.args.found.now c.self.invariant c.requires.user (rw (← c.self.view_is) at c.requires.found) (rw (← c.self.view_is) at c.requires.home)
+
+pub uncount_page-mapped-requires-clause-some : goal.uncount_page-mapped-requires-clause-some
+uncount_page-mapped-requires-clause-some c =
+    home_positive c.self.inside c.args.pid c.args.directory c.args.page c.args.found.now c.self.invariant c.requires.user (rw (← c.self.view_is) at c.requires.found) (rw (← c.self.view_is) at c.requires.home)
+
+pub clear_found_entry-freed-requires-clause-map : goal.clear_found_entry-freed-requires-clause-map
+clear_found_entry-freed-requires-clause-map c =
+    page_map_of c.self.inside.directories c.self.inside.memory c.self.inside.frames c.args.pid c.args.directory c.self.invariant.spaces.sound (rw (← c.self.view_is) at c.requires.home)
+
+pub clear_found_entry-freed-requires-clause-table : goal.clear_found_entry-freed-requires-clause-table
+clear_found_entry-freed-requires-clause-table c =
+    home_table c.self.inside c.args.pid c.args.directory c.args.page c.args.found.now c.self.invariant c.requires.user (rw (← c.self.view_is) at c.requires.found) (rw (← c.self.view_is) at c.requires.home)
+
+pub clear_found_entry-freed-requires-clause-entry : goal.clear_found_entry-freed-requires-clause-entry
+clear_found_entry-freed-requires-clause-entry c =
+    ap is_some (home_entry c.self.inside c.args.pid c.args.directory c.args.page c.args.found.now c.self.invariant c.requires.user (rw (← c.self.view_is) at c.requires.found) (rw (← c.self.view_is) at c.requires.home))
+
+pub clear_found_entry-freed-requires-clause-mapped : goal.clear_found_entry-freed-requires-clause-mapped
+clear_found_entry-freed-requires-clause-mapped c =
+    home_counts c.self.inside c.args.pid c.args.directory c.args.page c.args.found.now c.self.invariant c.requires.user (rw (← c.self.view_is) at c.requires.found) (rw (← c.self.view_is) at c.requires.home) c.uncount_page-mapped.result c.uncount_page-mapped.ensures.mapped
+
+pub leave-requires : goal.leave-requires
+leave-requires c =
+    home_in_use c.self.inside c.args.pid c.args.directory c.args.page c.args.found.now c.self.invariant c.requires.user (rw (← c.self.view_is) at c.requires.found) (rw (← c.self.view_is) at c.requires.home)
+
+pub free_table-requires : goal.free_table-requires
+free_table-requires c =
+    gone_table c.self.inside c.args.pid c.args.directory c.args.page c.args.found.now c.self.invariant c.requires.user (rw (← c.self.view_is) at c.requires.found) (rw (← c.self.view_is) at c.requires.home)
+    c.clear_found_entry-freed.new.memory c.leave.new.frames c.clear_found_entry-freed.result c.clear_found_entry-freed.ensures.cleared c.leave.ensures
+
+pub returns-clause-spaces : goal.returns-clause-spaces
+returns-clause-spaces c =
+    rw (← c.self.view_is)
+    ((gone_page c.self.inside c.args.pid c.args.directory c.args.page c.args.found.now c.self.invariant c.requires.user (rw (← c.self.view_is) at c.requires.found) (rw (← c.self.view_is) at c.requires.home)
+    c.clear_found_entry-freed.new.memory c.leave.new.frames c.clear_found_entry-freed.result c.clear_found_entry-freed.ensures.cleared c.leave.ensures c.free_table.new.frames c.clear_found_entry-freed.ensures.length c.free_table.ensures).spaces)
+
+pub invariant_of-self : goal.invariant_of-self
+invariant_of-self c =
+    gone_kept c.self.inside c.args.pid c.args.directory c.args.page c.args.found.now c.self.invariant c.requires.user (rw (← c.self.view_is) at c.requires.found) (rw (← c.self.view_is) at c.requires.home)
+    c.clear_found_entry-freed.new.memory c.leave.new.frames c.clear_found_entry-freed.result c.clear_found_entry-freed.ensures.cleared c.leave.ensures c.free_table.new.frames c.clear_found_entry-freed.ensures.length c.free_table.ensures
+    c.uncount_page-mapped.result c.uncount_page-mapped.new.counts.items c.uncount_page-mapped.ensures.mapped c.uncount_page-mapped.ensures.left c.clear_found_entry-freed.ensures.last
+
+pub returns-clause-frames : goal.returns-clause-frames
+returns-clause-frames c =
+    rw (← c.self.view_is)
+    ((gone_page c.self.inside c.args.pid c.args.directory c.args.page c.args.found.now c.self.invariant c.requires.user (rw (← c.self.view_is) at c.requires.found) (rw (← c.self.view_is) at c.requires.home)
+    c.clear_found_entry-freed.new.memory c.leave.new.frames c.clear_found_entry-freed.result c.clear_found_entry-freed.ensures.cleared c.leave.ensures c.free_table.new.frames c.clear_found_entry-freed.ensures.length c.free_table.ensures).length)
+
+pub returns-clause-stay : goal.returns-clause-stay
+returns-clause-stay c =
+    rw (← c.self.view_is)
+    (let gone = gone_page c.self.inside c.args.pid c.args.directory c.args.page c.args.found.now c.self.invariant c.requires.user (rw (← c.self.view_is) at c.requires.found) (rw (← c.self.view_is) at c.requires.home)
+    c.clear_found_entry-freed.new.memory c.leave.new.frames c.clear_found_entry-freed.result c.clear_found_entry-freed.ensures.cleared c.leave.ensures c.free_table.new.frames c.clear_found_entry-freed.ensures.length c.free_table.ensures in
+    frames_stay (of_page c.args.pid c.args.page) c.self.inside.directories c.self.inside.memory c.clear_found_entry-freed.new.memory c.self.inside.frames c.free_table.new.frames c.self.invariant.spaces.sound gone.after.sound gone.stay)
+
+pub returns-clause-words : goal.returns-clause-words
+returns-clause-words c =
+    rw (← c.self.view_is)
+    (entry_gone c.self.inside.memory c.args.directory c.args.found.now.table c.args.page c.clear_found_entry-freed.result (frame_bytes c.clear_found_entry-freed.new.memory)
+    (page_map_of c.self.inside.directories c.self.inside.memory c.self.inside.frames c.args.pid c.args.directory c.self.invariant.spaces.sound (rw (← c.self.view_is) at c.requires.home))
+    (let user = c.requires.user in omega (arith, user.1))
+    (home_table c.self.inside c.args.pid c.args.directory c.args.page c.args.found.now c.self.invariant c.requires.user (rw (← c.self.view_is) at c.requires.found) (rw (← c.self.view_is) at c.requires.home))
+    c.clear_found_entry-freed.ensures.cleared)
+
+pub returns-clause-long : goal.returns-clause-long
+returns-clause-long c = rw (← c.self.view_is) c.clear_found_entry-freed.ensures.length

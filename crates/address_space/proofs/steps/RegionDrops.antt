@@ -1,0 +1,131 @@
+-- The pages of a process leave from region to region, and those of a region by its table.
+use Rattle.std.proofs.Common.{◌≡◌, ◌≢◌, ◌⊎◌, ℕ, ◌+◌, ◌-◌, ◌*◌, ◌<◌, ◌≤◌, false, List, length, refl, ap, sym, ◌∙◌, subst, arith, inl, inr, Option, Some, None}
+use Rattle.std.specs.Option.{option_and_then, option_map}
+use Rattle.page_words.specs.Addresses.{slot_number, index_number}
+use Rattle.page_words.specs.Words.{is_present, frame_number}
+use Rattle.phys_memory.specs.Bytes.{frame_bytes, word_in}
+use Rattle.phys_memory.proofs.Frames.{with_frame-same, with_frame-other, word_in_same, word_in_other}
+use Rattle.page_map.specs.declared.PageEntry.{PageEntry}
+use Rattle.page_map.specs.Entries.{Frames, IsPageMap, IsCleared, dir_word, table_of, entry_at, word_table, word_entry, without_entry, without_table}
+use Rattle.page_map.proofs.PageLemmas.{count_range-same, count_range-none}
+use Rattle.address_space.specs.declared.place.Found.{Found}
+use Rattle.address_space.specs.declared.Spaces.TheInside.{Inside as Inner}
+use Rattle.address_space.specs.Changes.{EntryGone, DroppedBelow, words_left}
+use Rattle.address_space.specs.Finds.{found_in}
+use Rattle.address_space.specs.View.{View, directory_of}
+use Rattle.address_space.proofs.Insides.{view_of}
+use Rattle.address_space.proofs.steps.Departures.{dropped_past}
+use Rattle.address_space.proofs.steps.RegionCopies.{no_entry_there, listed_entry}
+use Rattle.address_space.proofs.steps.Steps.{table_by_word}
+
+-- what an entry that went leaves of its table
+pub entry_gone : (bytes : List ℕ) (d t page : ℕ) (freed : Option ℕ) (m' : Frames) → IsPageMap bytes d → slot_number page < 1024 → table_of (frame_bytes bytes) d (slot_number page) ≡ Some t
+    → IsCleared (frame_bytes bytes) d page freed m' → EntryGone (frame_bytes bytes) d t page m'
+entry_gone bytes d t page freed m' apart few there cleared = by freed refl
+  where
+    m : Frames
+    m = frame_bytes bytes
+
+    gone : Frames
+    gone = without_entry m t page
+
+    named : frame_number (dir_word m d (slot_number page)) ≡ t
+    named = table_by_word (dir_word m d (slot_number page)) t there
+
+    differ : t ≢ d
+    differ = apart.apart (slot_number page) t few there
+
+    back : d ≢ t
+    back e = differ (sym e)
+
+    words : (i : ℕ) → i ≢ index_number page → word_in (gone t) i ≡ word_in (m t) i
+    words i n =
+        ap (λ l. word_in l i) (with_frame-same m t _)
+        ∙ word_in_other (m t) (index_number page) i 0 (apart.long t (apart.tables_inside (slot_number page) t few there)) (omega arith) n
+
+    by : (x : Option ℕ) → freed ≡ x → EntryGone m d t page m'
+    by None is =
+        let now : m' ≡ gone = (cleared.kept is).0 ∙ ap (λ f. without_entry m f page) named in
+        record {
+          words = λ i n. ap (λ (g : Frames). word_in (g t) i) now ∙ words i n;
+          linked = inl (ap (λ (g : Frames). table_of g d (slot_number page)) now ∙ ap (λ l. word_table (word_in l (slot_number page))) (with_frame-other m t d _ back) ∙ there);
+        }
+    by (Some u) is =
+        let un = cleared.unlinked u is in
+        let same : u ≡ t = un.0 ∙ named in
+        let now : m' ≡ without_table gone d (slot_number page) = un.1 ∙ ap (λ f. without_table (without_entry m f page) d (slot_number page)) same in
+        let table_now : m' t ≡ gone t = ap (λ (g : Frames). g t) now ∙ with_frame-other gone d t _ differ in
+        record {
+          words = λ i n. ap (λ l. word_in l i) table_now ∙ words i n;
+          linked = inr (
+            ap (λ (g : Frames). table_of g d (slot_number page)) now ∙ ap (λ l. word_table (word_in l (slot_number page))) (with_frame-same gone d _)
+                ∙ ap word_table (word_in_same (gone d) (slot_number page) 0 (ap length (with_frame-other m t d _ back) ∙ apart.long d apart.directory_inside) few (omega arith)),
+            λ i l. ap (λ l. is_present (word_in l i)) table_now ∙ subst (λ f. is_present (word_in (without_entry m f page f) i) ≡ false) same (un.2 i l),
+          );
+        }
+
+-- what is found at a page whose word was listed
+pub listed_found : (directories : List (Option ℕ)) (bytes : List ℕ) (p slot : ℕ) {d table index : ℕ} {e : PageEntry} → directory_of directories p ≡ Some d → table_of (frame_bytes bytes) d slot ≡ Some table → index < 1024
+    → word_entry (word_in (frame_bytes bytes table) index) ≡ Some e → found_in (directory_of directories) (frame_bytes bytes) p (1024 * slot + index) ≡ Some (record { page = 1024 * slot + index; table = table; entry = e })
+listed_found directories bytes p slot {d} {table} {index} {e} live there few is =
+    let s : slot_number (1024 * slot + index) ≡ slot = omega arith in
+    let i : index_number (1024 * slot + index) ≡ index = omega arith in
+    let found : ℕ → ℕ → Option Found = λ t k. option_map (λ e. record { page = 1024 * slot + index; table = t; entry = e }) (word_entry (word_in (frame_bytes bytes t) k)) in
+    ap (option_and_then (λ t. found t (index_number (1024 * slot + index)))) (ap (option_and_then (λ d. table_of (frame_bytes bytes) d (slot_number (1024 * slot + index)))) live ∙ ap (table_of (frame_bytes bytes) d) s ∙ there)
+    ∙ ap (found table) i ∙ ap (option_map (λ e. record { page = 1024 * slot + index; table = table; entry = e })) is
+
+-- how many words of the table are left then, and that it is linked while there is one
+pub record RegionLeft (bytes : List ℕ) (d slot table index left : ℕ) : Type 0 where
+  pub words : left ≡ words_left bytes table index
+  pub linked : (table_of (frame_bytes bytes) d slot ≡ Some table) ⊎ ((table_of (frame_bytes bytes) d slot ≡ None) × (left ≡ 0))
+
+-- a word that is left is of a table that is linked
+pub left_linked : {bytes : List ℕ} {d slot table index left : ℕ} (more : ℕ) → RegionLeft bytes d slot table index left → left ≡ more + 1 → table_of (frame_bytes bytes) d slot ≡ Some table
+left_linked more l some = elim l.linked [
+  | inl there ↦ there
+  | inr gone ↦ (let none = gone.1 in absurd (omega (arith, none, some)))
+]
+
+-- one goes
+pub left_next : {bytes bytes' : List ℕ} {d slot table index found left : ℕ} → RegionLeft bytes d slot table index left → found < 1024 → left ≡ words_left bytes table (found + 1) + 1
+    → EntryGone (frame_bytes bytes) d table (1024 * slot + found) (frame_bytes bytes') → RegionLeft bytes' d slot table (found + 1) (left - 1)
+left_next {bytes} {bytes'} {d} {slot} {table} {index} {found} {left} l few some gone =
+    let kept : words_left bytes' table (found + 1) ≡ words_left bytes table (found + 1) = count_range-same (λ i. is_present (word_in (frame_bytes bytes' table) i)) (λ i. is_present (word_in (frame_bytes bytes table) i)) (found + 1) (found + 1) (1024 - (found + 1))
+    (λ i l. ap is_present (gone.words (found + 1 + i) (λ e. absurd (omega (arith, e, few))))) in
+    record {
+      words = omega (arith, some, kept);
+      linked = elim gone.linked [
+        | inl there ↦ inl (subst (λ n. table_of (frame_bytes bytes') d n ≡ Some table) s there)
+        | inr none ↦
+            let empty : words_left bytes' table (found + 1) ≡ 0 = count_range-none (λ i. is_present (word_in (frame_bytes bytes' table) i)) (found + 1) (1024 - (found + 1)) (λ i l. none.1 (found + 1 + i) (omega (arith, l, few))) in
+            inr (subst (λ n. table_of (frame_bytes bytes') d n ≡ None) s none.0, omega (arith, empty, some, kept))
+      ];
+    }
+  where
+    s : slot_number (1024 * slot + found) ≡ slot
+    s = omega (arith, few)
+
+-- the pages of a region leave over words without an entry
+pub region_passed : {v : View} (inner : Inner) {p d slot table index left : ℕ} (beyond : ℕ) → DroppedBelow v p (1024 * slot + index) (view_of inner) → directory_of inner.directories p ≡ Some d
+    → RegionLeft inner.memory d slot table index left → slot < 960 → index ≤ beyond → beyond ≤ 1024
+    → ((i : ℕ) → index ≤ i → i < beyond → word_entry (word_in (frame_bytes inner.memory table) i) ≡ None) → DroppedBelow v p (1024 * slot + beyond) (view_of inner)
+region_passed {v} inner {p} {d} {slot} {table} {index} {left} beyond so_far live l few up most none =
+    dropped_past v inner p d (1024 * slot + index) (1024 * slot + beyond) so_far live (omega (arith, up)) (omega (arith, few, most)) absent
+  where
+    absent : (page : ℕ) → 1024 * slot + index ≤ page → page < 1024 * slot + beyond → entry_at (frame_bytes inner.memory) d page ≡ None
+    absent page low high = elim l.linked [
+      | inl there ↦
+          let is : 1024 * slot + (page - 1024 * slot) ≡ page = omega (arith, low) in
+          subst (λ n. entry_at (frame_bytes inner.memory) d n ≡ None) is
+          (listed_entry (frame_bytes inner.memory) d slot table (page - 1024 * slot) None (omega (arith, low, high, most)) there (none (page - 1024 * slot) (omega (arith, low)) (omega (arith, low, high))))
+      | inr gone ↦
+          let s : slot_number page ≡ slot = omega (arith, low, high, most) in
+          no_entry_there (frame_bytes inner.memory) d page (ap (table_of (frame_bytes inner.memory) d) s ∙ gone.0)
+    ]
+
+-- and over regions without a table
+pub regions_passed : {v : View} (inner : Inner) {p d first : ℕ} (beyond : ℕ) → DroppedBelow v p (1024 * first) (view_of inner) → directory_of inner.directories p ≡ Some d → first ≤ beyond → beyond ≤ 960
+    → ((slot : ℕ) → first ≤ slot → slot < beyond → table_of (frame_bytes inner.memory) d slot ≡ None) → DroppedBelow v p (1024 * beyond) (view_of inner)
+regions_passed {v} inner {p} {d} {first} beyond so_far live up most none =
+    dropped_past v inner p d (1024 * first) (1024 * beyond) so_far live (omega (arith, up)) (omega (arith, most))
+    (λ page low high. no_entry_there (frame_bytes inner.memory) d page (none (slot_number page) (omega (arith, low)) (omega (arith, high))))

@@ -1,0 +1,92 @@
+use Rattle.std.proofs.Common.{◌≡◌, ◌≢◌, ℕ, ◌+◌, true, false, refl, Some, None, rules, sym, ap, subst, ◌∙◌}
+use Rattle.std.specs.Prelude.{IsOk, Ok, Err, is_some, if◌then◌else◌}
+use Rattle.process_table.specs.declared.causes.Cause.TheVariants.{Mapped, Quota}
+use Rattle.page_words.specs.Addresses.{IsUserPage}
+use Rattle.page_sharing.specs.Offers.{offer_key}
+use Rattle.process_table.specs.State.{is_live, is_mapped, has_no_room}
+use Rattle.process_table.proofs.Placed.{page_is_user}
+use Rattle.page_words.specs.FiniteMap as map
+use Rattle.address_space.specs.Places.{place_in}
+use Rattle.address_space.specs.Spaces.{Slot, cost, need, joined, at_page}
+use Rattle.address_space.proofs.costs.Totals.{cost-joined, cost-joined_other}
+use Rattle.address_space.proofs.standing.FramesStand.{stays_then, stays_most}
+use Rattle.quota_tree.specs.Containers.{used_of}
+use Rattle.process_table.specs.State.{State}
+use Rattle.process_table.specs.TestAnswers.{accept_answer}
+use Rattle.process_table.specs.Calls.{accept_refusal, after_accept}
+use Rattle.process_table.specs.View.{View, IsProcesses, state_of}
+use Rattle.process_table.specs.WellFormed.{IsWellFormed}
+use Rattle.process_table.proofs.Charged.{charged-one}
+use Rattle.process_table.proofs.Keeping.{whole, keeps-accept}
+use Rattle.process_table.proofs.Refusals.{no_cause, may_accept, test_accept}
+use Rattle.process_table.proofs.SharingLaws.{giver_mapped}
+use Rattle.address_space.specs.Image.{image_of}
+use Rattle.address_space.specs.Stays.{FramesStay, of_lazy}
+use Rattle.process_table.specs.Image.{memory_of}
+use Rattle.process_table.proofs.processes.Processes.accept_offered.Goals as goal
+
+-- what is known of the accept of an offer that is pending: nothing is against it, and the giver's page is a user page and
+-- another than the own one
+record Joins (s : State) (p from from_page page : ℕ) : Type 0 where
+  ok : IsOk (accept_answer s p from from_page page)
+  user : IsUserPage from_page
+  apart : at_page p page ≢ at_page from from_page
+
+joins : {w v : View} (p from from_page page : ℕ) → w ≡ v → IsWellFormed w.state → is_live v.state p ≡ true → IsUserPage page → is_mapped v.state (at_page p page) ≡ false → has_no_room v.state (at_page p page) ≡ false
+    → map.contains_key w.state.offers (offer_key from from_page p) ≡ true → Joins w.state p from from_page page
+joins {w} {v} p from from_page page is well live user unmapped room there =
+    let s = w.state in
+    let back = sym is in
+    let live' = subst (λ (x : View). is_live x.state p ≡ true) back live in
+    let gone = subst (λ (x : View). is_mapped x.state (at_page p page) ≡ false) back unmapped in
+    let roomy = subst (λ (x : View). has_no_room x.state (at_page p page) ≡ false) back room in
+    let ok = subst IsOk (test_accept s p from from_page page live' (page_is_user page user) there)
+    (subst IsOk (sym (λ i. if gone i then Err Mapped else if roomy i then Err Quota else Ok (cost s.spaces p + need s.spaces p page))) refl) in
+    let none = (may_accept s p from from_page page (no_cause s p (accept_refusal s p from from_page page) _ ok).1).none in
+    let g = giver_mapped s p from from_page well there in
+    record {
+      ok = ok;
+      user = (well.cells (at_page from from_page) g.0 g.1).user;
+      apart = λ e. (let x : None ≡ Some g.0 = sym none ∙ ap (map.get s.spaces) e ∙ g.1 in cc);
+    }
+
+pub place-given-requires : goal.place-given-requires
+place-given-requires c = (joins c.args.pid c.args.giver c.args.giver_page c.args.page c.self.view_is c.self.invariant.well_formed c.requires.live c.requires.user c.requires.unmapped c.requires.room (ap is_some c.in-Ok.ensures.right)).user
+
+pub fill_at-given-requires-clause-user : goal.fill_at-given-requires-clause-user
+fill_at-given-requires-clause-user c = (joins c.args.pid c.args.giver c.args.giver_page c.args.page c.self.view_is c.self.invariant.well_formed c.requires.live c.requires.user c.requires.unmapped c.requires.room (ap is_some c.in-Ok.ensures.right)).user
+
+pub join_at-requires-clause-from : goal.join_at-requires-clause-from
+join_at-requires-clause-from c = (joins c.args.pid c.args.giver c.args.giver_page c.args.page c.self.view_is c.self.invariant.well_formed c.requires.live c.requires.user c.requires.unmapped c.requires.room (ap is_some c.in-Ok.ensures.right)).user
+
+pub join_at-requires-clause-own : goal.join_at-requires-clause-own
+join_at-requires-clause-own c =
+    c.requires.own ∙ ap (λ (v : View). place_in v.directories v.bytes c.args.pid c.args.page) (sym c.self.view_is)
+    ∙ sym (c.fill_at-given.ensures.beside c.args.pid c.args.page (joins c.args.pid c.args.giver c.args.giver_page c.args.page c.self.view_is c.self.invariant.well_formed c.requires.live c.requires.user c.requires.unmapped c.requires.room (ap is_some c.in-Ok.ensures.right)).apart)
+
+pub invariant_of-self-2 : goal.invariant_of-self-2
+invariant_of-self-2 c =
+    let v = c.self.inside.spaces in
+    let q = c.self.inside.quotas in
+    let s : State = state_of v q c.self.inside.offers in
+    let p = c.args.pid in
+    let from = c.args.giver in
+    let from_page = c.args.giver_page in
+    let page = c.args.page in
+    let ok = (joins c.args.pid c.args.giver c.args.giver_page c.args.page c.self.view_is c.self.invariant.well_formed c.requires.live c.requires.user c.requires.unmapped c.requires.room (ap is_some c.in-Ok.ensures.right)).ok in
+    let free = no_cause s p (accept_refusal s p from from_page page) _ ok in
+    let giver : Slot = at_page from from_page in
+    let slot : Slot = at_page p page in
+    let right = c.in-Ok.right in
+    let used = used_of q p + c.need_at-need.result in
+    let spaces : c.join_at.new.self.spaces ≡ joined v.spaces giver slot right = c.join_at.ensures.spaces ∙ ap (λ S. joined S giver slot right) c.fill_at-given.ensures.spaces in
+    let kept = subst (IsProcesses c.join_at.new.self) (sym c.take_room.ensures.quotas)
+    (charged-one v c.join_at.new.self q p used c.self.invariant.kept (c.join_at.ensures.directories ∙ c.fill_at-given.ensures.directories) (c.join_at.ensures.frames ∙ c.fill_at-given.ensures.frames)
+    ((λ i. c.self.invariant.kept.charged p free.0 i + c.need_at-need.ensures.value i) ∙ sym (cost-joined v.spaces giver slot right (may_accept s p from from_page page free.1).none) ∙ sym (ap (λ S. cost S p) spaces))
+    (λ other n. ap (λ S. cost S other) spaces ∙ cost-joined_other v.spaces giver slot right other n)) in
+    whole c.join_at.new.self c.take_room.new.quotas c.take.new.self (after_accept s p from from_page page) kept (spaces ∙ ap (joined v.spaces giver slot) (search rules)) (search rules) (search rules)
+    (keeps-accept s p from from_page page c.self.invariant.well_formed ok)
+
+pub returns-clause-stay : goal.returns-clause-stay
+returns-clause-stay c = subst (λ (v : View). FramesStay (of_lazy c.args.giver c.args.giver_page) (memory_of v)
+    (image_of c.join_at.new.self)) c.self.view_is (stays_then c.fill_at-given.ensures.stay (stays_most c.join_at.ensures.stay))

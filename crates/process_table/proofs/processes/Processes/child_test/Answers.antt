@@ -1,0 +1,21 @@
+use Rattle.std.proofs.Common.{◌≡◌, true, ap, sym, ◌∙◌, subst}
+use Rattle.process_table.specs.State.{is_live, container_of}
+use Rattle.process_table.specs.TestAnswers.{spawn_answer}
+use Rattle.process_table.specs.View.{View}
+use Rattle.process_table.proofs.Spawns.{spawn-split, container-same}
+use Rattle.process_table.proofs.processes.Processes.child_test.Goals as goal
+
+pub child_number-requires : goal.child_number-requires
+child_number-requires c = record {
+  container = container-same c.self.inside.spaces c.self.inside.quotas c.self.inside.offers c.args.pid c.self.invariant.kept
+      ∙ ap (λ (v : View). container_of v.state c.args.pid) c.self.view_is
+      ∙ c.requires.container;
+}
+
+pub returns : goal.returns
+returns c =
+    let p = c.args.pid in
+    let live = subst (λ (v : View). is_live v.state p ≡ true) (sym c.self.view_is) c.requires.live in
+    c.child_number.ensures
+    ∙ sym (spawn-split c.self.inside.spaces c.self.inside.quotas c.self.inside.offers p c.args.quota c.self.invariant.kept live)
+    ∙ ap (λ (v : View). spawn_answer v.state p c.args.quota) c.self.view_is

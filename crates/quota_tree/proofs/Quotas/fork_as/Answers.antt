@@ -1,0 +1,45 @@
+use Rattle.std.proofs.Common.{ap, sym, ◌∙◌, arith}
+use Rattle.page_words.specs.FiniteMap as map
+use Rattle.quota_tree.specs.Containers.{split_answer, after_split, with_used, used_of}
+use Rattle.quota_tree.specs.Kept.{seen_as}
+use Rattle.quota_tree.proofs.Splits.{place_there, giver_room, giver_children, quotas-child, seen_as-child}
+use Rattle.quota_tree.proofs.Views.{is_some-live, used_of-container}
+use Rattle.quota_tree.proofs.Quotas.fork_as.Goals as goal
+
+pub live-giver-requires : goal.live-giver-requires
+live-giver-requires c = is_some-live c.self.inside.containers c.args.parent (ap (λ view. map.contains_key view.book c.args.parent) c.self.view_is ∙ c.requires.live)
+
+pub add_child-requires-clause-child : goal.add_child-requires-clause-child
+add_child-requires-clause-child c =
+    let cs = c.self.inside.containers in
+    place_there cs c.self.invariant c.args.parent c.args.quota c.args.child (ap (λ view. split_answer view c.args.parent c.args.quota) c.self.view_is ∙ c.requires.can)
+
+pub add_child-requires-clause-given : goal.add_child-requires-clause-given
+add_child-requires-clause-given c =
+    let cs = c.self.inside.containers in
+    let can = ap (λ view. split_answer view c.args.parent c.args.quota) c.self.view_is ∙ c.requires.can in
+    omega (arith, giver_room cs c.self.invariant c.args.parent c.args.quota c.args.child can c.live-giver.result c.live-giver.ensures.container, c.live-giver.ensures.fits)
+
+pub add_child-requires-clause-children : goal.add_child-requires-clause-children
+add_child-requires-clause-children c =
+    let cs = c.self.inside.containers in
+    let can = ap (λ view. split_answer view c.args.parent c.args.quota) c.self.view_is ∙ c.requires.can in
+    omega (arith, giver_children cs c.self.invariant c.args.parent c.args.quota c.args.child can c.live-giver.result c.live-giver.ensures.container, c.live-giver.ensures.fits)
+
+pub invariant_of-self : goal.invariant_of-self
+invariant_of-self c =
+    let cs = c.self.inside.containers in
+    let is = ap (λ view. split_answer view c.args.parent c.args.quota) c.self.view_is ∙ c.requires.can in
+    let some = (c.self.invariant.each c.args.parent c.live-giver.result c.live-giver.ensures.container).used in
+    let used = sym (used_of-container cs c.args.parent c.live-giver.result c.live-giver.ensures.container) ∙ ap (λ view. used_of view c.args.parent) c.self.view_is in
+    rw c.add_child.ensures (quotas-child cs c.self.invariant c.args.parent c.args.quota c.args.child is c.live-giver.result c.live-giver.ensures.container c.live-giver.result.used some (omega (arith, used, c.requires.large)))
+
+pub returns : goal.returns
+returns c =
+    let cs = c.self.inside.containers in
+    let is = ap (λ view. split_answer view c.args.parent c.args.quota) c.self.view_is ∙ c.requires.can in
+    let some = (c.self.invariant.each c.args.parent c.live-giver.result c.live-giver.ensures.container).used in
+    let used = sym (used_of-container cs c.args.parent c.live-giver.result c.live-giver.ensures.container) ∙ ap (λ view. used_of view c.args.parent) c.self.view_is in
+    ap seen_as c.add_child.ensures
+    ∙ seen_as-child cs c.self.invariant c.args.parent c.args.quota c.args.child is c.live-giver.result c.live-giver.ensures.container c.live-giver.result.used some (omega (arith, used, c.requires.large))
+    ∙ (λ i. with_used (after_split (c.self.view_is i) c.args.parent c.args.quota c.args.child) c.args.child (used i))
