@@ -142,7 +142,8 @@ class Core:
 
     def __init__(self, library, frames):
         self.library, self.frames, self.handle = library, frames, Tower(False, None)
-        status = library.tower_boot(ctypes.c_uint32(frames), ctypes.byref(self.handle))
+        boot = library.tower_boot if frames <= 4096 else library.tower_boot_wide
+        status = boot(ctypes.c_uint32(frames), ctypes.byref(self.handle))
         if status:
             raise RuntimeError(f"a boot of {frames} frames answers {status}")
         block = Block()

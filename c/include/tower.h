@@ -35,6 +35,7 @@ extern "C" {
 #define TOWER_FRAME_BYTES 4096
 #define TOWER_MIN_FRAMES 16
 #define TOWER_MAX_FRAMES 4096
+#define TOWER_WIDE_FRAMES 1048576 /* of tower_boot_wide: 4 GiB, all that a page word can name */
 #define TOWER_PROCESSES 64
 #define TOWER_OFFERS 32 /* pending, for each offerer */
 #define TOWER_FIRST_PAGE 0x40000
@@ -53,7 +54,7 @@ struct tower {
 /* What tower_boot answers. All but the first leave the handle as it was. */
 enum tower_status {
     TOWER_BOOTED = 0,
-    TOWER_BAD_SIZE = 1,     /* the number of frames is not 16 to 4,096 */
+    TOWER_BAD_SIZE = 1,     /* the number of frames is not 16 to 4,096; of a wide boot, not 16 to 1,048,576 */
     TOWER_NO_MEMORY = 2,
     TOWER_HAS_CORE = 3,     /* the handle has a core already */
 };
@@ -267,6 +268,9 @@ uint32_t tower_version(void);
 
 /* A status. Only this function asks for memory, and only tower_free and a boot that fails give it back. */
 uint32_t tower_boot(uint32_t frames, struct tower *tower);
+
+/* The same, of 16 to TOWER_WIDE_FRAMES frames. */
+uint32_t tower_boot_wide(uint32_t frames, struct tower *tower);
 
 /* Carries out one event. False where the handle has no core: nothing is written then. */
 bool tower_step(struct tower *tower, const struct tower_event *event, struct tower_reply *reply);

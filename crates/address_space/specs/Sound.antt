@@ -40,7 +40,7 @@ pub record Pages (E : Entries) (R : Roles) : Type 0 where
 -- the frames of memory, without the costs
 pub record IsSound (directories : List (Option ℕ)) (bytes : List ℕ) (roles : List Role) : Type 0 where
   pub size : length bytes ≡ 4096 * length roles
-  pub few : length roles ≤ 4096
+  pub few : length roles ≤ 1048576
   pub pids : length directories ≡ 64
   pub tables : Tables (directory_of directories) (frame_bytes bytes) (slice_get roles)
   pub pages : Pages (entries_in (directory_of directories) (frame_bytes bytes)) (slice_get roles)

@@ -36,7 +36,7 @@ fn table_count(memory: &Memory, directory: Frame, slot: u32) -> u32
 
 /// A process's directory, tables and pages together.
 fn sum(tables: u32, pages: u32) -> u32
-    requires { 1 + tables + pages ≤ 4096 }
+    requires { 1 + tables + pages ≤ 1048576 }
     ensures { result ≡ 1 + tables + pages }
 {
     tables + pages + 1

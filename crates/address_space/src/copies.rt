@@ -38,7 +38,7 @@ fn copied_entry(entry: PageEntry, frame: Frame) -> PageEntry
 fn copy_of(memory: &mut Memory, frames: &mut FrameTable, entry: PageEntry) -> PageEntry
     requires frame { Inside memory.old entry.frame }
     requires size { length memory.old ≡ 4096 * length frames.old }
-    requires few { length frames.old ≤ 4096 }
+    requires few { length frames.old ≤ 1048576 }
     requires free { 0 < free_frames frames.old }
     ensures copied { EntryCopied memory.old frames.old entry result memory.new frames.new }
     ensures length { length memory.new ≡ length memory.old }

@@ -27,7 +27,9 @@ mod processor;
 mod unmapping;
 
 use alloc_table::{FrameTable, Role};
-use page_words::{Frame, MachineFault, Pid, Size, Vaddr, page_of, second_page, start_of};
+use page_words::{
+    Frame, MachineFault, Pid, Size, Vaddr, is_frame_count, page_of, second_page, start_of,
+};
 use phys_memory::Memory;
 pub use place::{Found, Place};
 use std::alloc::Global;
@@ -89,7 +91,7 @@ fn opened(memory: Memory, table: FrameTable, counts: Vec<u32>, frames: u32) -> S
     requires roles { table ≡ opening_roles frames }
     requires counts { counts.items ≡ replicate frames 0 }
     requires least { 16 ≤ frames }
-    requires most { frames ≤ 4096 }
+    requires most { frames ≤ 1048576 }
     ensures spaces { result.spaces ≡ map.empty }
     ensures directories { result.directories ≡ replicate 64 None }
     ensures roles { result.roles ≡ opening_roles frames }
@@ -132,8 +134,23 @@ impl Spaces {
         ensures costs { IfOk result (λ new. total_cost new.directories new.spaces ≡ 0) }
         ensures size { IsErrOf result MachineFault.BadSize ↔ (16 ≤ frames → frames ≤ 4096 → ⊥) }
     {
-        let memory = Memory::new(alloc, frames)?;
-        let table = FrameTable::new(alloc, frames)?;
+        if !is_frame_count(frames) {
+            return Err(MachineFault::BadSize);
+        }
+        Spaces::wide(alloc, frames)
+    }
+
+    /// As `new`, over up to 1,048,576 frames: BadSize for another number than 16 to 1,048,576.
+    pub fn wide(alloc: Global, frames: u32) -> Result<Spaces, MachineFault>
+        ensures spaces { IfOk result (λ new. new.spaces ≡ map.empty) }
+        ensures directories { IfOk result (λ new. new.directories ≡ replicate 64 None) }
+        ensures roles { IfOk result (λ new. new.roles ≡ opening_roles frames) }
+        ensures frames { IfOk result (λ new. length new.roles ≡ frames) }
+        ensures costs { IfOk result (λ new. total_cost new.directories new.spaces ≡ 0) }
+        ensures size { IsErrOf result MachineFault.BadSize ↔ (16 ≤ frames → frames ≤ 1048576 → ⊥) }
+    {
+        let memory = Memory::wide(alloc, frames)?;
+        let table = FrameTable::wide(alloc, frames)?;
         let Ok(counts) = vec![in alloc; 0u32; frames as usize] else {
             return Err(MachineFault::NoMemory);
         };
@@ -152,7 +169,7 @@ impl Spaces {
         ensures roles { length self.now.roles ≡ result }
         ensures bytes { length self.now.bytes ≡ 4096 * result }
         ensures least { 16 ≤ result }
-        ensures most { result ≤ 4096 }
+        ensures most { result ≤ 1048576 }
     {
         self.memory.frames()
     }
@@ -180,7 +197,7 @@ impl Spaces {
         ensures ways { WaysAgree (image_of self.now) }
         ensures costs { 1 + total_cost self.now.directories self.now.spaces ≤ length self.now.roles }
         ensures each { (p : ℕ) → is_some (directory_of self.now.directories p) ≡ true → 1 + cost self.now.spaces p ≤ length self.now.roles }
-        ensures few { length self.now.roles ≤ 4096 }
+        ensures few { length self.now.roles ≤ 1048576 }
         ensures used { LeavesRoom (image_of self.now) (total_cost self.now.directories self.now.spaces) }
         ensures places { PlacesTell (image_of self.now) self.now.spaces }
     {

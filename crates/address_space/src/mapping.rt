@@ -201,7 +201,7 @@ fn filled(entry: PageEntry, frame: Frame) -> PageEntry
 pub fn give_frame(memory: &mut Memory, frames: &mut FrameTable, found: &Found) -> PageEntry
     requires lies { LiesIn memory.old found.now }
     requires size { length memory.old ≡ 4096 * length frames.old }
-    requires few { length frames.old ≤ 4096 }
+    requires few { length frames.old ≤ 1048576 }
     requires free { 0 < free_frames frames.old }
     ensures { FrameGiven memory.old frames.old found.now result memory.new frames.new }
 {

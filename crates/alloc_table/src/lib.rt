@@ -9,7 +9,7 @@ ghost use Rattle.alloc_table.specs.Roles.{CanBeTaken, IsTaken, IsPageBelow, IsHe
 ghost use Rattle.alloc_table.specs.Weights.{TakingAddsTheRole, HoldingAddsOne, ReleasingTakesOne, FreeOrWeighed};
 
 use frame_ledger::Ledger;
-use page_words::{Frame, MAX_FRAMES, MIN_FRAMES, MachineFault, Pid};
+use page_words::{Frame, MAX_FRAMES, MIN_FRAMES, MachineFault, Pid, WIDE_FRAMES, is_frame_count};
 use std::alloc::Global;
 use std::marker::Model;
 
@@ -83,7 +83,18 @@ impl FrameTable {
         ensures roles { IfOk result (λ table. table ≡ opening_roles frames) }
         ensures bad_size { IsErrOf result MachineFault.BadSize ↔ (MIN_FRAMES ≤ frames → frames ≤ MAX_FRAMES → ⊥) }
     {
-        let ledger = Ledger::new(alloc, frames)?;
+        if !is_frame_count(frames) {
+            return Err(MachineFault::BadSize);
+        }
+        FrameTable::wide(alloc, frames)
+    }
+
+    /// As `new`, of up to 1,048,576 frames: BadSize where `frames` is outside 16 to 1,048,576.
+    pub fn wide(alloc: Global, frames: u32) -> Result<FrameTable, MachineFault>
+        ensures roles { IfOk result (λ table. table ≡ opening_roles frames) }
+        ensures bad_size { IsErrOf result MachineFault.BadSize ↔ (MIN_FRAMES ≤ frames → frames ≤ WIDE_FRAMES → ⊥) }
+    {
+        let ledger = Ledger::wide(alloc, frames)?;
         match vec![in alloc; Role::Free; frames as usize] {
             Ok(mut roles) => {
                 roles[0] = Role::Reserved;
@@ -148,11 +159,11 @@ impl FrameTable {
         self.ledger.free_count()
     }
 
-    /// There are 16 to 4,096 frames, of which frame 0 is reserved. With what the frames in use weigh,
+    /// There are 16 to 1,048,576 frames, of which frame 0 is reserved. With what the frames in use weigh,
     /// the free ones are at least as many as there are frames.
     pub fn within(&self)
         ensures fewest { MIN_FRAMES ≤ length self.now }
-        ensures most { length self.now ≤ MAX_FRAMES }
+        ensures most { length self.now ≤ WIDE_FRAMES }
         ensures reserved { slice_get self.now 0 ≡ Some Role.Reserved }
         ensures weighed { length self.now ≤ free_frames self.now + frames_weight self.now }
     {

@@ -1,5 +1,5 @@
 //! How many frames a machine may have, and the texts of its faults.
-use page_words::{MachineFault, is_frame_count};
+use page_words::{MachineFault, is_frame_count, is_wide_frame_count};
 use std::process::Abort;
 
 /// A fault has that text.
@@ -19,5 +19,13 @@ fn a_machine_has_16_to_4096_frames(rt: HostRuntime) {
     assert_eq!(rt;
         [15, 16, 4096, 4097].map(|frames| is_frame_count(frames)),
         [false, true, true, false]
+    );
+}
+
+#[test]
+fn a_wide_machine_has_16_to_1048576_frames(rt: HostRuntime) {
+    assert_eq!(rt;
+        [15, 16, 4097, 1048576, 1048577].map(|frames| is_wide_frame_count(frames)),
+        [false, true, true, true, false]
     );
 }

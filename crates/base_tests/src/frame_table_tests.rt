@@ -61,6 +61,22 @@ fn frees_a_table(rt: HostRuntime) -> Result<(), Fail> {
 }
 
 #[test]
+fn takes_more_frames_where_it_is_wide(rt: HostRuntime) {
+    let sizes = [15, 4097, 1048576, 1048577].map(|frames| FrameTable::wide(rt.alloc(), frames).map(
+        |table| table.free_count(),
+    ));
+    assert_eq!(rt;
+        sizes,
+        [
+            Err(MachineFault::BadSize),
+            Ok(4096),
+            Ok(1048575),
+            Err(MachineFault::BadSize)
+        ]
+    );
+}
+
+#[test]
 fn takes_16_to_4096_frames(rt: HostRuntime) {
     let sizes = [15, 16, 4096, 4097].map(|frames| FrameTable::new(rt.alloc(), frames).map(
         |table| table.free_count(),

@@ -47,6 +47,21 @@ fn has_16_to_4096_frames(rt: HostRuntime) {
     );
 }
 
+#[test]
+fn has_more_frames_where_it_is_wide(rt: HostRuntime) {
+    let sizes = [15, 5000, 1048577].map(|frames| Memory::wide(rt.alloc(), frames).map(
+        |memory| memory.frames(),
+    ));
+    assert_eq!(rt;
+        sizes,
+        [
+            Err(MemoryFault::BadSize),
+            Ok(5000),
+            Err(MemoryFault::BadSize)
+        ]
+    );
+}
+
 /// `rt try --test --fail-alloc N` refuses the Nth allocation of this test alone, and each is one of
 /// `new`. A call that meets it answers NoMemory, the same call with memory then succeeds, and a line
 /// is printed that says so.

@@ -40,6 +40,27 @@ fn boots_16_to_4096_frames(rt: HostRuntime) {
     );
 }
 
+/// The root's quota on a wide core of so many frames.
+fn booted_wide<R: AllocGlobal + Abort>(rt: &R, frames: u32) -> Result<u32, BootFault> {
+    let core = Core::boot_wide(rt.alloc(), frames)?;
+    let container = core.container(root(rt));
+    Ok(container.map(|container| container.quota).unwrap_or(0))
+}
+
+#[test]
+fn boots_wide_past_4096_frames(rt: HostRuntime) {
+    same(
+        &rt,
+        &[15, 16, 5000, 1048577].map(|frames| booted_wide(&rt, frames)),
+        &[
+            Err(BootFault::BadSize),
+            Ok(15),
+            Ok(4999),
+            Err(BootFault::BadSize),
+        ],
+    );
+}
+
 #[test]
 fn maps_stores_loads_and_unmaps(rt: HostRuntime) -> Result<(), Fail> {
     let mut core = Core::boot(rt.alloc(), 16)?;

@@ -149,6 +149,22 @@ fn check_lazy(rt: &impl Abort, processes: &Processes, pid: Pid, page: Page, lazy
 }
 
 #[test]
+fn takes_more_frames_where_it_is_wide(rt: HostRuntime) {
+    let sizes = [15, 5000, 1048577].map(|frames| Processes::wide(rt.alloc(), frames).map(
+        |processes| processes.spaces().frames(),
+    ));
+    same(
+        &rt,
+        &sizes,
+        &[
+            Err(MachineFault::BadSize),
+            Ok(5000),
+            Err(MachineFault::BadSize),
+        ],
+    );
+}
+
+#[test]
 fn takes_16_to_4096_frames(rt: HostRuntime) {
     let sizes = [15, 4096, 4097].map(|frames| Processes::new(rt.alloc(), frames).map(
         |processes| processes.spaces().frames(),

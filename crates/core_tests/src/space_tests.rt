@@ -161,6 +161,22 @@ fn takes_16_to_4096_frames(rt: HostRuntime) {
 }
 
 #[test]
+fn takes_more_frames_where_it_is_wide(rt: HostRuntime) {
+    let sizes = [15, 5000, 1048577].map(|frames| Spaces::wide(rt.alloc(), frames).map(
+        |spaces| spaces.frames(),
+    ));
+    same(
+        &rt,
+        &sizes,
+        &[
+            Err(MachineFault::BadSize),
+            Ok(5000),
+            Err(MachineFault::BadSize),
+        ],
+    );
+}
+
+#[test]
 fn maps_writes_reads_and_unmaps(rt: HostRuntime) -> Result<(), Fail> {
     let mut spaces = Spaces::new(rt.alloc(), 16)?;
     let root = process(&rt, 0);

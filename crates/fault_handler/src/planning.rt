@@ -52,7 +52,7 @@ fn planned(plan: Plan, charge: u32) -> Planned
 fn by_room(first: &Look, second: &Option<Look>, container: &Container) -> Planned
     requires first { first.now.need ≤ 2 }
     requires second { IfSome second.now (λ look. look.need ≤ 2) }
-    requires used { container.now.used < 4096 }
+    requires used { container.now.used < 1048576 }
     ensures { result ≡ roomy_by first.now second.now container.now }
 {
     let need = need_by(first, second);
@@ -72,7 +72,7 @@ pub(crate) fn by_looks(
 ) -> Planned
     requires first { first.now.need ≤ 2 }
     requires second { IfSome second.now (λ look. look.need ≤ 2) }
-    requires used { container.now.used < 4096 }
+    requires used { container.now.used < 1048576 }
     ensures { result ≡ planned_by_looks access first.now second.now container.now }
 {
     match barred(access, first, second) {

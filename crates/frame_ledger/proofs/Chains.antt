@@ -88,7 +88,7 @@ contains-seen_as places f = contains-marked (map is_link places) f ∙ link_at p
     link_at (n ∷ places) zero = refl
     link_at (n ∷ places) (suc f) = link_at places f
 
-unmarked : (n : ℕ) → n ≤ 4096 → is_link n ≡ true
+unmarked : (n : ℕ) → n ≤ 1048576 → is_link n ≡ true
 unmarked n h = ap not (ne_eqb n IN_USE (omega arith))
 
 -- what a ledger's places, head and count say of its free frames
@@ -106,7 +106,7 @@ module _ (places : List ℕ) (head count : ℕ) (ledger : IsLedger places head c
   count_is =
       ledger.chain.2 ∙ sym (len-members ledger.chain.0 ledger.chain.1.once) ∙ ap set.len ledger.chain.1.each
 
-  pub count_within : count ≤ 4096
+  pub count_within : count ≤ 1048576
   count_within =
       omega (arith, count_is, len-marked (map is_link places), count_by-le-length (λ mark. mark) (map is_link places), length-map places is_link, ledger.most)
 
@@ -134,7 +134,7 @@ module _ (places : List ℕ) (head count : ℕ) (ledger : IsLedger places head c
   pub some_free : head ≢ END → set.len (seen_as places).free ≢ 0
   some_free more none = let e : true ≡ false = sym (head_is_free more) ∙ contains-no_members (seen_as places).free none head in cc
 
-  head_number : head ≤ 4096
+  head_number : head ≤ 1048576
   head_number = elim (same_cases nat_order head END) [
     | inl is ↦ omega (arith, is.0)
     | inr other ↦ omega (arith, (head_within other.0).1, ledger.most)
@@ -223,7 +223,7 @@ seen_as-all_in_use n =
       frames = length-replicate n IN_USE i;
     }
 
-pub IsLedger-all_in_use : (n : ℕ) → 16 ≤ n → n ≤ 4096 → IsLedger (replicate n IN_USE) END 0
+pub IsLedger-all_in_use : (n : ℕ) → 16 ≤ n → n ≤ 1048576 → IsLedger (replicate n IN_USE) END 0
 IsLedger-all_in_use n low high = record {
   fewest = omega (arith, length-replicate n IN_USE);
   most = omega (arith, length-replicate n IN_USE);

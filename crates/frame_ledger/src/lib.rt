@@ -9,7 +9,9 @@ ghost use Rattle.page_words.specs.FiniteSet as set;
 ghost use Rattle.frame_ledger.specs.FreeFrames.{opening, IsFree, IsTakenFrom, with_free};
 ghost use Rattle.frame_ledger.specs.FreeList.{all_in_use};
 
-use page_words::{Frame, MAX_FRAMES, MIN_FRAMES, MachineFault, is_frame_count};
+use page_words::{
+    Frame, MAX_FRAMES, MIN_FRAMES, MachineFault, WIDE_FRAMES, is_frame_count, is_wide_frame_count,
+};
 use std::alloc::Global;
 use std::marker::Model;
 
@@ -56,6 +58,18 @@ impl Ledger {
         if !is_frame_count(frames) {
             return Err(MachineFault::BadSize);
         }
+        Ledger::wide(alloc, frames)
+    }
+
+    /// As `new`, for up to 1,048,576 frames: BadSize where `frames` is outside 16 to 1,048,576.
+    pub fn wide(alloc: Global, frames: u32) -> Result<Ledger, MachineFault>
+        ensures ledger { IfOk result (λ ledger. ledger ≡ opening frames) }
+        ensures size { IfOk result (λ ledger. ledger.frames ≡ frames) }
+        ensures bad_size { IsErrOf result MachineFault.BadSize ↔ (MIN_FRAMES ≤ frames → frames ≤ WIDE_FRAMES → ⊥) }
+    {
+        if !is_wide_frame_count(frames) {
+            return Err(MachineFault::BadSize);
+        }
         let mut ledger = Ledger::full(alloc, frames)?;
         for frame in (1..frames).rev() {
             ledger.put_back(Frame(frame));
@@ -63,10 +77,10 @@ impl Ledger {
         Ok(ledger)
     }
 
-    /// A ledger of which no frame is free, of 16 to 4,096 frames.
+    /// A ledger of which no frame is free, of 16 to 1,048,576 frames.
     fn full(alloc: Global, frames: u32) -> Result<Ledger, MachineFault>
         requires fewest { MIN_FRAMES ≤ frames }
-        requires most { frames ≤ MAX_FRAMES }
+        requires most { frames ≤ WIDE_FRAMES }
         ensures ledger { IfOk result (λ ledger. ledger ≡ all_in_use frames) }
         ensures no_memory { IfErr result (λ fault. fault ≡ MachineFault.NoMemory) }
     {
@@ -127,10 +141,10 @@ impl Ledger {
         self.count
     }
 
-    /// There are 16 to 4,096 frames, and each that is free is one of 1 to n - 1.
+    /// There are 16 to 1,048,576 frames, and each that is free is one of 1 to n - 1.
     pub fn within(&self)
         ensures fewest { MIN_FRAMES ≤ self.now.frames }
-        ensures most { self.now.frames ≤ MAX_FRAMES }
+        ensures most { self.now.frames ≤ WIDE_FRAMES }
         ensures free { (frame : ℕ) → IsFree self.now frame → (1 ≤ frame) × (frame < self.now.frames) }
     {
         let _ = &self.places;

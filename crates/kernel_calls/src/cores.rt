@@ -310,6 +310,19 @@ impl Core {
         Ok(Core { processes })
     }
 
+    /// As `boot`, of 16 to 1,048,576 frames: up to all 4 GiB that a page word can name.
+    ///
+    /// BadSize for another number of frames, else NoMemory where there is none for them.
+    pub fn boot_wide(alloc: Global, frames: u32) -> Result<Core, BootFault>
+        ensures opening { IfOk result (λ core. core.state ≡ open_with frames) }
+        ensures stands { IfOk result (λ core. StandsFor (image_of core) core.state) }
+        ensures size { IsErrOf result BootFault.BadSize ↔ (16 ≤ frames → frames ≤ 1048576 → ⊥) }
+    {
+        let processes = Processes::wide(alloc, frames)?;
+        processes.stands();
+        Ok(Core { processes })
+    }
+
     /// What is decided of an event: its plan, its reply and the charge of its process afterwards.
     #[inline(never)]
     pub fn decide(&self, event: &Event) -> Decision

@@ -9,7 +9,7 @@ use crate::images::Image;
 use crate::processes::Process;
 use alloc_table::Role;
 use kernel_calls::Core;
-use page_words::{Frame, Pid};
+use page_words::{Frame, MAX_FRAMES, Pid};
 use std::alloc::Global;
 
 /// The version of the words of today's kernels.
@@ -90,12 +90,15 @@ fn copy_of(alloc: Global, bytes: &[u8]) -> Option<Vec<u8>>
     }
 }
 
-/// The image of a core.
+/// The image of a core; None where it has more frames than an image.
 fn image_of(alloc: Global, core: &Core) -> Option<Image>
     ensures { IfSome result (λ image. IsImageOf core.now image) }
 {
     core.stands();
-    let _ = core.memory().frames();
+    let frames = core.memory().frames();
+    if frames > MAX_FRAMES {
+        return None;
+    }
     let roles = roles_of(alloc, core)?;
     let bytes = copy_of(alloc, core.memory().bytes())?;
     Some(Image::with_parts(VERSION, processes_of(core), roles, bytes))
@@ -104,7 +107,8 @@ fn image_of(alloc: Global, core: &Core) -> Option<Image>
 impl Image {
     /// The image of a core, with the words of version 2. It is sound, and stands for the core's state.
     ///
-    /// NoMemory where there is no memory for it.
+    /// NoMemory where there is no memory for it, and of a wide core that has more frames than an image, which are
+    /// 4,096.
     pub fn of(alloc: Global, core: &Core) -> Result<Image, NoMemory>
         ensures shows { IfOk result (λ image. IsImageOf core.now image) }
         ensures stands { IfOk result (λ image. StandsFor image core.now.state) }

@@ -42,6 +42,9 @@ pub const MIN_FRAMES: u32 = 16;
 /// The most frames of a machine's memory.
 pub const MAX_FRAMES: u32 = 4096;
 
+/// The most frames of a wide machine's memory: all that a page word can name, 4 GiB.
+pub const WIDE_FRAMES: u32 = 1048576;
+
 impl Model for Frame {
     ghost use Rattle.std.specs.Prelude.{ℕ};
 

@@ -2,7 +2,7 @@
 
 ghost use Rattle.std.specs.Prelude.{◌≤◌, ◌↔◌, IsTrue};
 
-use crate::addresses::{MAX_FRAMES, MIN_FRAMES};
+use crate::addresses::{MAX_FRAMES, MIN_FRAMES, WIDE_FRAMES};
 use std::error::Error;
 use std::fmt;
 
@@ -10,7 +10,7 @@ use std::fmt;
 /// frames, the roles of its frames, its address spaces, its processes, its core.
 #[derive(Clone, Copy, Debug, PartialEq, Eq)]
 pub enum MachineFault {
-    /// The number of frames is not 16 to 4,096.
+    /// The number of frames is not 16 to 4,096, or, of a wide machine, not 16 to 1,048,576.
     BadSize,
     /// There was no memory for it.
     NoMemory,
@@ -37,4 +37,11 @@ pub fn is_frame_count(frames: u32) -> bool
     ensures { IsTrue result ↔ (MIN_FRAMES ≤ frames) × (frames ≤ MAX_FRAMES) }
 {
     (MIN_FRAMES..=MAX_FRAMES).contains(&frames)
+}
+
+/// Whether a wide machine may have that many frames: 16 to 1,048,576.
+pub fn is_wide_frame_count(frames: u32) -> bool
+    ensures { IsTrue result ↔ (MIN_FRAMES ≤ frames) × (frames ≤ WIDE_FRAMES) }
+{
+    (MIN_FRAMES..=WIDE_FRAMES).contains(&frames)
 }

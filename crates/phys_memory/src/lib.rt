@@ -1,5 +1,5 @@
-//! The simulated physical memory of a machine: 16 to 4,096 frames of 4,096 bytes, as one list of
-//! bytes. Frame f is the bytes from place 4,096 f on.
+//! The simulated physical memory of a machine: 16 to 4,096 frames of 4,096 bytes, or up to 1,048,576 of a
+//! wide one, as one list of bytes. Frame f is the bytes from place 4,096 f on.
 //!
 //! Words have four bytes, the lowest first, as the Intel SDM, volume 3, stores the entries of its
 //! paging structures. The laws at the end say what each write leaves of every word and every frame,
@@ -16,14 +16,14 @@ ghost use Rattle.phys_memory.specs.Bytes.{FramesAreWhole, WordsKeepLengths, Fram
 
 use byteorder::{ByteOrder, LittleEndian};
 pub use page_words::MachineFault as MemoryFault;
-use page_words::{Frame, is_frame_count};
+use page_words::{Frame, is_frame_count, is_wide_frame_count};
 use std::alloc::Global;
 use std::marker::Model;
 
 /// How many bytes a frame has.
 pub const FRAME_BYTES: usize = 4096;
 
-/// The memory of a machine of 16 to 4,096 frames. A contract sees the list of its bytes.
+/// The memory of a machine of 16 to 1,048,576 frames. A contract sees the list of its bytes.
 #[derive(Debug, Drop)]
 pub struct Memory {
     bytes: Vec<u8>,
@@ -37,7 +37,7 @@ impl Model for Memory {
 
     ghost view = { λ m. m.bytes.items };
 
-    ghost invariant = { λ m. (length m.bytes.items ≡ 4096 * m.frames) × (16 ≤ m.frames) × (m.frames ≤ 4096) };
+    ghost invariant = { λ m. (length m.bytes.items ≡ 4096 * m.frames) × (16 ≤ m.frames) × (m.frames ≤ 1048576) };
 }
 
 impl Memory {
@@ -51,17 +51,29 @@ impl Memory {
         if !is_frame_count(frames) {
             return Err(MemoryFault::BadSize);
         }
+        Memory::wide(alloc, frames)
+    }
+
+    /// As `new`, of up to 1,048,576 frames, which are 4 GiB: BadSize where it is not 16 to 1,048,576.
+    pub fn wide(alloc: Global, frames: u32) -> Result<Memory, MemoryFault>
+        ensures zero { IfOk result (λ memory. memory ≡ blank_bytes frames) }
+        ensures length { IfOk result (λ memory. length memory ≡ 4096 * frames) }
+        ensures size { (result ≡ Err MemoryFault.BadSize) ↔ ((frames < 16) ⊎ (1048576 < frames)) }
+    {
+        if !is_wide_frame_count(frames) {
+            return Err(MemoryFault::BadSize);
+        }
         match vec![in alloc; 0u8; frames as usize * FRAME_BYTES] {
             Ok(bytes) => Ok(Memory { bytes, frames }),
             Err(_) => Err(MemoryFault::NoMemory),
         }
     }
 
-    /// The number of frames, 16 to 4,096.
+    /// The number of frames, 16 to 1,048,576.
     pub fn frames(&self) -> u32
         ensures length { length self.now ≡ 4096 * result }
         ensures least { 16 ≤ result }
-        ensures most { result ≤ 4096 }
+        ensures most { result ≤ 1048576 }
     {
         self.frames
     }

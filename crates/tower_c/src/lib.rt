@@ -28,7 +28,7 @@ use numbers::{
     walk_from,
 };
 pub use numbers::{TowerContainer, TowerEnded, TowerEvent, TowerReply, TowerRole, TowerWalk};
-use page_words::{Frame, Vaddr};
+use page_words::{Frame, Vaddr, is_frame_count};
 pub use pages::{TowerPage, tower_next_page};
 pub use runs::tower_run_until;
 use std::alloc::Global;
@@ -60,10 +60,29 @@ pub extern "C" fn tower_boot(alloc: Global, frames: u32, tower: &mut Tower) -> u
     ensures busy { result ≡ 3 ↔ tower.old.live ≡ true }
     ensures otherwise { result ≢ 0 → tower.new ≡ tower.old }
 {
+    if !tower.live && !is_frame_count(frames) {
+        return 1;
+    }
+    tower_boot_wide(alloc, frames, tower)
+}
+
+/// As `tower_boot`, of up to 1,048,576 frames: 1 where that is not 16 to 1,048,576.
+#[unsafe(no_mangle)]
+pub extern "C" fn tower_boot_wide(alloc: Global, frames: u32, tower: &mut Tower) -> u32
+    requires { IsTower tower.old }
+    ensures kept { IsTower tower.new }
+    ensures statuses { result ≤ 3 }
+    ensures live { result ≡ 0 → tower.new.live ≡ true }
+    ensures opening { result ≡ 0 → IfSome tower.new.hold.core (λ core. core.state ≡ open_with frames) }
+    ensures stands { result ≡ 0 → IfSome tower.new.hold.core (λ core. StandsFor (image_of core) core.state) }
+    ensures size { result ≡ 1 ↔ (tower.old.live ≡ false) × (16 ≤ frames → frames ≤ 1048576 → ⊥) }
+    ensures busy { result ≡ 3 ↔ tower.old.live ≡ true }
+    ensures otherwise { result ≢ 0 → tower.new ≡ tower.old }
+{
     if tower.live {
         return 3;
     }
-    match Core::boot(alloc, frames) {
+    match Core::boot_wide(alloc, frames) {
         Ok(core) => match Box::new(alloc, core) {
             Ok(core) => {
                 put(tower, core);

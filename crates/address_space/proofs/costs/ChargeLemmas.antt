@@ -177,7 +177,7 @@ module _ (directories : List (Option ℕ)) (bytes : List ℕ) (roles : List Role
   pub charged : (tables pages : ℕ) → tables ≡ set.len regions → pages ≡ map.len (entries_of (frame_bytes bytes) d) → 1 + tables + pages ≡ cost S p
   charged tables pages t n = let k = count_pages in omega (arith, t, n, k)
 
-  pub charge_fits : (tables pages : ℕ) → tables ≡ set.len regions → pages ≡ map.len (entries_of (frame_bytes bytes) d) → 1 + tables + pages ≤ 4096
+  pub charge_fits : (tables pages : ℕ) → tables ≡ set.len regions → pages ≡ map.len (entries_of (frame_bytes bytes) d) → 1 + tables + pages ≤ 1048576
   charge_fits tables pages t n =
       let c = charged tables pages t n in
       let w = cost_within directories S p spaces.sound.pids (ap is_some live) in

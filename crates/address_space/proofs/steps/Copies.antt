@@ -112,7 +112,7 @@ entry_copied directories bytes one two roles roles' from source p d page t f e s
       slot = record {
         sound = record {
           size = long_two ∙ ready.size;
-          few = subst (λ n. n ≤ 4096) (sym ready.length) sound.few;
+          few = subst (λ n. n ≤ 1048576) (sym ready.length) sound.few;
           pids = sound.pids;
           tables = subst (λ x. Tables D x R') (sym is) (tables-entry D m1 R' Tb p d page t (entry_word e') live there_one (entry_word-lt e' ready.small) (inr (entry_word-names e' ready.small ready.rules)));
           pages = subst (λ x. Pages x R') (sym E2) ready.pages;

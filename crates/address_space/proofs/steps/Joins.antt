@@ -71,7 +71,7 @@ slot_joined directories bytes two roles roles' giver giver_page p d page f c rig
       slot = record {
         sound = record {
           size = long_two ∙ sound.size ∙ ap (λ n. 4096 * n) (sym same_length);
-          few = subst (λ n. n ≤ 4096) (sym same_length) sound.few;
+          few = subst (λ n. n ≤ 1048576) (sym same_length) sound.few;
           pids = sound.pids;
           tables = subst (λ x. Tables D x R') (sym is) (tables-entry D m R' Tb p d page t (entry_word e) live at.1 (entry_word-lt e in_memory.small) (inr (entry_word-names e in_memory.small rules)));
           pages = subst (λ x. Pages x R') (sym E2) (pages-join E R R' slot e c sound.pages none role own others);

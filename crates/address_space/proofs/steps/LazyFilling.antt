@@ -104,7 +104,7 @@ page_filled directories bytes one two roles roles' p d page f e s live low high 
       after = record {
         sound = record {
           size = long_two ∙ long_one ∙ sound.size ∙ ap (λ n. 4096 * n) (sym same_length);
-          few = subst (λ n. n ≤ 4096) (sym same_length) sound.few;
+          few = subst (λ n. n ≤ 1048576) (sym same_length) sound.few;
           pids = sound.pids;
           tables = subst (λ x. Tables D x R') (sym is) (tables-entry D m1 R' Tb p d page t (entry_word e') live here.there (entry_word-lt e' small) (inr (entry_word-names e' small rules')));
           pages = subst (λ x. Pages x R') (sym E2) P2;

@@ -292,7 +292,7 @@ slot_removed directories bytes two roles one last p d page e freed spaces live l
           after = record {
             sound = record {
               size = same_bytes_length ∙ sound.size ∙ ap (λ n. 4096 * n) (sym same_length);
-              few = subst (λ n. n ≤ 4096) (sym same_length) sound.few;
+              few = subst (λ n. n ≤ 1048576) (sym same_length) sound.few;
               pids = sound.pids;
               tables = subst (λ x. Tables D x (slice_get last)) (sym is) (subst (λ l. Tables D m1 (slice_get l)) (sym same_roles) Tb);
               pages = subst (λ x. Pages x (slice_get last)) (sym E2) (subst (λ l. Pages (map.remove E slot) (slice_get l)) (sym same_roles) P1);
@@ -352,7 +352,7 @@ slot_removed directories bytes two roles one last p d page e freed spaces live l
           after = record {
             sound = record {
               size = same_bytes_length ∙ sound.size ∙ ap (λ n. 4096 * n) (sym same_length);
-              few = subst (λ n. n ≤ 4096) (sym same_length) sound.few;
+              few = subst (λ n. n ≤ 1048576) (sym same_length) sound.few;
               pids = sound.pids;
               tables = subst (λ x. Tables D x (slice_get last)) (sym is) Tc;
               pages = subst (λ x. Pages x (slice_get last)) (sym E2) P2;

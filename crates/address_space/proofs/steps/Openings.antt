@@ -175,7 +175,7 @@ space_added directories bytes one roles roles' p f s few none room taken is long
       after = record {
         sound = record {
           size = long_one ∙ sound.size ∙ ap (λ n. 4096 * n) (sym same_length);
-          few = subst (λ n. n ≤ 4096) (sym same_length) sound.few;
+          few = subst (λ n. n ≤ 1048576) (sym same_length) sound.few;
           pids = length-set directories p (Some f) ∙ sound.pids;
           tables = subst (λ x. Tables D' x R') (sym is) (tables-directory D D' m1 R R' Ta p f none free blank own others role kept);
           pages = subst (λ x. Pages x R') (sym E2) (pages-role E R R' f sound.pages (λ h. cc) (λ c h. cc) (λ c h. cc) kept);
@@ -264,7 +264,7 @@ pub opening_spaces : (bytes : List ℕ) → spaces_in (replicate 64 None) bytes 
 unfolding spaces_in
 opening_spaces bytes = ap (λ E. spaces_of E (frame_bytes bytes)) (opening_entries (frame_bytes bytes))
 
-pub opening_is_sound : (n : ℕ) → 16 ≤ n → n ≤ 4096 → IsSpaces (replicate 64 None) (blank_bytes n) (opening_roles n)
+pub opening_is_sound : (n : ℕ) → 16 ≤ n → n ≤ 1048576 → IsSpaces (replicate 64 None) (blank_bytes n) (opening_roles n)
 opening_is_sound n low high =
     let D : Directories = directory_of (replicate 64 None) in
     let m : Frames = frame_bytes (blank_bytes n) in
@@ -276,7 +276,7 @@ opening_is_sound n low high =
     record {
       sound = record {
         size = size ∙ ap (λ k. 4096 * k) (sym long);
-        few = subst (λ k. k ≤ 4096) (sym long) high;
+        few = subst (λ k. k ≤ 1048576) (sym long) high;
         pids = refl;
         tables = record {
           zero_role = opening_reserved n (omega arith);

@@ -31,14 +31,14 @@ use Rattle.address_space.specs.Stays.{none_goes}
 use Rattle.address_space.proofs.entries.Staying.{stay_same, stay_then, stay_new, places_by}
 
 -- a frame with a role lies in memory
-inside_by : (bytes : List ℕ) (roles : List Role) (f : ℕ) (r : Role) → length bytes ≡ 4096 * length roles → length roles ≤ 4096 → slice_get roles f ≡ Some r → Inside bytes f
+inside_by : (bytes : List ℕ) (roles : List Role) (f : ℕ) (r : Role) → length bytes ≡ 4096 * length roles → length roles ≤ 1048576 → slice_get roles f ≡ Some r → Inside bytes f
 inside_by bytes roles f r a b is = let h = slice_get_within roles f r is in record { fits = omega arith; small = omega arith }
 
 pub inside : (directories : List (Option ℕ)) (bytes : List ℕ) (roles : List Role) (f : ℕ) (r : Role) → IsSound directories bytes roles → slice_get roles f ≡ Some r → Inside bytes f
 inside directories bytes roles f r s is = inside_by bytes roles f r s.size s.few is
 
 -- each process's page map is as the layer below asks
-pub page_map_by : (D : Directories) (bytes : List ℕ) (roles : List Role) (p d : ℕ) → length bytes ≡ 4096 * length roles → length roles ≤ 4096 → Tables D (frame_bytes bytes) (slice_get roles) → D p ≡ Some d → IsPageMap bytes d
+pub page_map_by : (D : Directories) (bytes : List ℕ) (roles : List Role) (p d : ℕ) → length bytes ≡ 4096 * length roles → length roles ≤ 1048576 → Tables D (frame_bytes bytes) (slice_get roles) → D p ≡ Some d → IsPageMap bytes d
 page_map_by D bytes roles p d size few T live =
     let m : Frames = frame_bytes bytes in
     let up : (slot t : ℕ) → table_of m d slot ≡ Some t → table_in D m p slot ≡ Some t = λ slot t is. ap (option_and_then (λ x. table_of m x slot)) live ∙ is in
@@ -86,7 +86,7 @@ table_given directories bytes bytes' roles roles' p d s t sound live low high no
     record {
       sound = record {
         size = long ∙ sound.size ∙ ap (λ n. 4096 * n) (sym same_length);
-        few = subst (λ n. n ≤ 4096) (sym same_length) sound.few;
+        few = subst (λ n. n ≤ 1048576) (sym same_length) sound.few;
         pids = sound.pids;
         tables = subst (λ x. Tables D x R') (sym is) (tables-linked D m R T p d s t live none free small low high R' own others);
         pages = subst (λ x. Pages x R') (sym E) (pages-role (entries_in D m) R R' t sound.pages (λ h. cc) (λ c h. cc) (λ c h. cc) others);

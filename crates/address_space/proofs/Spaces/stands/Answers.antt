@@ -30,7 +30,7 @@ returns-clause-each c =
     (λ p live. let a = cost_within c.self.inside.directories (spaces_in c.self.inside.directories c.self.inside.memory) p c.self.invariant.spaces.sound.pids live in let b = c.self.invariant.spaces.within in omega (arith, a, b))
 
 pub returns-clause-few : goal.returns-clause-few
-returns-clause-few c = subst (λ (v : View). length v.roles ≤ 4096) c.self.view_is c.self.invariant.spaces.sound.few
+returns-clause-few c = subst (λ (v : View). length v.roles ≤ 1048576) c.self.view_is c.self.invariant.spaces.sound.few
 
 pub returns-clause-walks : goal.returns-clause-walks
 returns-clause-walks c =

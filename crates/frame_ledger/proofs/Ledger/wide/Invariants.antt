@@ -1,6 +1,6 @@
 use Rattle.std.proofs.Common.{◌≡◌, ◌≤◌}
 use Rattle.frame_ledger.proofs.Chains.{free_from}
-use Rattle.frame_ledger.proofs.Ledger.new.Given as goal
+use Rattle.frame_ledger.proofs.Ledger.wide.Given as goal
 
 -- the frames from the counter on are free
 abbrev pub invariant-loop-frame : goal.invariant-loop-frame

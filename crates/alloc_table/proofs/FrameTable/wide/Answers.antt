@@ -4,7 +4,7 @@ use Rattle.frame_ledger.specs.FreeFrames.{opening}
 use Rattle.alloc_table.specs.declared.Role.TheVariants.{Free}
 use Rattle.alloc_table.specs.Roles.{opening_roles}
 use Rattle.alloc_table.proofs.TableSteps.{table-opening}
-use Rattle.alloc_table.proofs.FrameTable.new.Goals as goal
+use Rattle.alloc_table.proofs.FrameTable.wide.Goals as goal
 
 pub invariant_of-result : goal.invariant_of-result
 unfolding opening_roles

@@ -1,7 +1,7 @@
 use Rattle.std.proofs.Common.{◌≡◌, ◌-◌, ap, ◌∙◌, arith}
 use Rattle.page_words.specs.FiniteSet as set
 use Rattle.frame_ledger.proofs.Chains.{free_from, free_from-opening, contains-free_from}
-use Rattle.frame_ledger.proofs.Ledger.new.Goals as goal
+use Rattle.frame_ledger.proofs.Ledger.wide.Goals as goal
 
 pub put_back-requires-clause-in_use : goal.put_back-requires-clause-in_use
 put_back-requires-clause-in_use c =

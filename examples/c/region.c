@@ -1,0 +1,133 @@
+/* Cores over blocks that the caller hands over, and what comes of handing over the wrong ones (c/region.c). It ends
+ * with status 0 where all went as expected, and else names the line of what did not. */
+#include <stdio.h>
+#include <stdlib.h>
+#include <string.h>
+
+#include "tower_region.h"
+
+enum { PAGE = TOWER_FIRST_PAGE, ADDRESS = PAGE << 12, FRAMES = 64, WIDE = 5000 };
+
+#define EXPECT(fact) do { if (!(fact)) { printf("region.c:%d: not so: %s\n", __LINE__, #fact); return 1; } } while (0)
+
+static _Alignas(4096) uint8_t first[TOWER_BLOCK_BYTES(FRAMES)];
+static _Alignas(4096) uint8_t second[TOWER_BLOCK_BYTES(WIDE)];
+static _Alignas(4096) uint8_t around[TOWER_BLOCK_BYTES(FRAMES) + 2 * 4096];
+
+static size_t others;
+
+static struct rattle_tried other_alloc(size_t size, size_t align) {
+    void *block = malloc(size ? size : align);
+    others += block != NULL;
+    return (struct rattle_tried){block != NULL, block ? block : &others};
+}
+
+static struct rattle_tried other_realloc(void *block, size_t kept, size_t size, size_t align) {
+    (void)block, (void)kept, (void)size, (void)align;
+    return (struct rattle_tried){false, &others};
+}
+
+static void other_dealloc(void *block) {
+    others--;
+    free(block);
+}
+
+static bool answers(struct tower *tower, struct tower_event event, uint32_t kind, uint32_t first_number) {
+    struct tower_reply reply = {0};
+    return tower_step(tower, &event, &reply) && reply.kind == kind && reply.first == first_number;
+}
+
+static bool works(struct tower *tower, uint32_t value) {
+    struct tower_event map = {.call = TOWER_MAP, .flag = 1, .first = PAGE};
+    struct tower_event store = {.call = TOWER_STORE, .flag = 4, .first = ADDRESS, .second = value};
+    struct tower_event load = {.call = TOWER_LOAD, .flag = 4, .first = ADDRESS};
+    return answers(tower, map, TOWER_DONE, 0) && answers(tower, store, TOWER_DONE, 0)
+        && answers(tower, load, TOWER_VALUE, value);
+}
+
+int main(void) {
+    struct tower one = TOWER_NONE, two = TOWER_NONE, three = TOWER_NONE;
+
+    /* how much fits */
+    EXPECT(tower_frames_within(0) == 0 && tower_frames_within(TOWER_BLOCK_BYTES(16) - 1) == 0);
+    EXPECT(tower_frames_within(TOWER_BLOCK_BYTES(16)) == 16);
+    for (uint32_t frames = 16; frames < 3000; frames += 7) {
+        EXPECT(tower_frames_within(TOWER_BLOCK_BYTES(frames)) >= frames);
+        EXPECT(tower_frames_within(TOWER_BLOCK_BYTES(frames) - 1) < frames);
+        EXPECT(TOWER_BLOCK_BYTES(tower_frames_within((size_t)frames * 4096)) <= (size_t)frames * 4096);
+    }
+    EXPECT(tower_frames_within(SIZE_MAX / 4096 * 4096) == TOWER_WIDE_FRAMES);
+
+    /* blocks that are none: the handle stays empty, and not a byte changes */
+    memset(around, 0x5a, sizeof around);
+    EXPECT(tower_boot_over(FRAMES, &one, NULL, sizeof first) == TOWER_BAD_BLOCK);
+    EXPECT(tower_boot_over(FRAMES, &one, around + 1, sizeof first) == TOWER_BAD_BLOCK);
+    EXPECT(tower_boot_over(FRAMES, &one, around + 2048, sizeof first) == TOWER_BAD_BLOCK);
+    EXPECT(tower_boot_over(FRAMES, &one, around, sizeof first - 4096) == TOWER_BAD_BLOCK);
+    EXPECT(tower_boot_over(FRAMES, &one, around, sizeof first - 1) == TOWER_BAD_BLOCK);
+    EXPECT(tower_boot_over(FRAMES, &one, around, sizeof first + 1) == TOWER_BAD_BLOCK);
+    EXPECT(tower_boot_over(FRAMES, &one, around, SIZE_MAX / 4096 * 4096) == TOWER_BAD_BLOCK);
+    EXPECT(tower_boot_over(15, &one, around, sizeof first) == TOWER_BAD_SIZE);
+    EXPECT(tower_boot_over(TOWER_WIDE_FRAMES + 1, &one, around, sizeof first) == TOWER_BAD_SIZE);
+    EXPECT(tower_boot_over(UINT32_MAX, &one, around, sizeof first) == TOWER_BAD_SIZE);
+    EXPECT(!one.live && !tower_holds(around));
+    for (size_t at = 0; at < sizeof around; at++) {
+        EXPECT(around[at] == 0x5a);
+    }
+
+    /* a core in the middle of a block: its frames lie there, and no byte around it changes */
+    memset(first, 0x5a, sizeof first);
+    EXPECT(tower_boot_over(FRAMES, &one, around + 4096, sizeof first) == TOWER_BOOTED);
+    struct tower_memory memory;
+    EXPECT(tower_memory(&one, &memory) && memory.begins == around + 4096 && memory.length == FRAMES * 4096);
+    EXPECT(works(&one, 77));
+    EXPECT(tower_holds(around + 4096) && tower_holds(around + 4096 + sizeof first - 1));
+    EXPECT(!tower_holds(around + 4095) && !tower_holds(around + 4096 + sizeof first));
+    for (size_t at = 0; at < 4096; at++) {
+        EXPECT(around[at] == 0x5a && around[4096 + sizeof first + at] == 0x5a);
+    }
+
+    /* blocks in use */
+    EXPECT(tower_boot_over(FRAMES, &one, first, sizeof first) == TOWER_HAS_CORE);
+    EXPECT(tower_boot_over(FRAMES, &two, around + 4096, sizeof first) == TOWER_BAD_BLOCK);
+    EXPECT(tower_boot_over(FRAMES, &two, around, sizeof first) == TOWER_BAD_BLOCK);
+    EXPECT(tower_boot_over(FRAMES, &two, around + 8192, sizeof first) == TOWER_BAD_BLOCK);
+    EXPECT(!two.live);
+
+    /* two cores at a time, one of them wide */
+    EXPECT(tower_boot_over(WIDE, &two, second, sizeof second) == TOWER_BOOTED);
+    EXPECT(tower_frames(&two) == WIDE && works(&two, 78));
+    EXPECT(answers(&two, (struct tower_event){.call = TOWER_QUOTA}, TOWER_USAGE, WIDE - 1));
+
+    /* without functions of their own the other questions are refused */
+    EXPECT(tower_boot(FRAMES, &three) == TOWER_NO_MEMORY && !three.live);
+    struct tower_other_heap heap = {other_alloc, other_realloc, other_dealloc};
+    tower_set_other_heap(&heap);
+    EXPECT(tower_boot(FRAMES, &three) == TOWER_BOOTED && others == 5);
+    EXPECT(works(&three, 79));
+    tower_free(&three);
+    EXPECT(others == 0);
+    tower_set_other_heap(NULL);
+
+    /* given back: the block is the caller's, in any order, and may be handed over anew */
+    EXPECT(answers(&one, (struct tower_event){.call = TOWER_LOAD, .flag = 4, .first = ADDRESS}, TOWER_VALUE, 77));
+    tower_free(&one);
+    EXPECT(!tower_holds(around + 4096) && tower_holds(second));
+    tower_free(&one);
+    memset(around, 0xa5, sizeof around);
+    EXPECT(answers(&two, (struct tower_event){.call = TOWER_LOAD, .flag = 4, .first = ADDRESS}, TOWER_VALUE, 78));
+    EXPECT(tower_boot_over(FRAMES, &one, around, sizeof around) == TOWER_BOOTED && works(&one, 80));
+    tower_free(&two);
+    tower_free(&one);
+    EXPECT(!tower_holds(around) && !tower_holds(second));
+
+    /* every size that a small block can have, to its last byte */
+    for (uint32_t frames = 16; frames <= 64; frames++) {
+        size_t size = TOWER_BLOCK_BYTES(frames);
+        EXPECT(tower_boot_over(frames, &one, first, size) == TOWER_BOOTED && works(&one, frames));
+        tower_free(&one);
+        EXPECT(!tower_holds(first));
+    }
+    puts("regions: as expected");
+    return 0;
+}
