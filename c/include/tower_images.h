@@ -61,6 +61,19 @@ uint32_t tower_check(const struct tower *tower, struct tower_verdict *verdict);
  * fails, or the bytes spell no image, and else stays as it was. */
 uint32_t tower_check_bytes(const uint8_t *bytes, size_t byte_count, struct tower_verdict *verdict);
 
+/* What a restore answers, beside TOWER_PROCESS_FAILS, TOWER_FRAME_FAILS and TOWER_NOT_IMAGE. */
+enum tower_restore_status {
+    TOWER_RESTORED = 0,
+    TOWER_RESTORE_HAS_CORE = 1,
+    TOWER_RESTORE_NO_MEMORY = 2,
+    TOWER_RESTORE_OLD_WORDS = 6,  /* the image is of version 1 */
+};
+
+/* Restores a core from the image that bytes spell, where the handle has none: its state is the one that the image
+ * stands for, and no offer is pending. For all but TOWER_RESTORED the handle stays as it was; the verdict is written as
+ * tower_check_bytes writes it. */
+uint32_t tower_restore(const uint8_t *bytes, size_t byte_count, struct tower *tower, struct tower_verdict *verdict);
+
 #ifdef __cplusplus
 }
 #endif

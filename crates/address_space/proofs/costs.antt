@@ -7,6 +7,8 @@ pub mod Copied
 pub mod CostSteps
 pub mod Costed
 pub mod Costs
+pub mod Hits
+pub mod Weighed
 pub mod MapFirst
 pub mod Relief
 pub mod Sizes

@@ -15,3 +15,4 @@ pub mod Spaces
 pub mod Stays
 pub mod View
 pub mod Walks
+pub mod Restored

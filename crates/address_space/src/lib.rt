@@ -24,6 +24,7 @@ mod mapping;
 mod parts;
 mod place;
 mod processor;
+mod restoring;
 mod unmapping;
 
 use alloc_table::{FrameTable, Role};

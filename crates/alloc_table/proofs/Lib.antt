@@ -1,2 +1,3 @@
 pub mod RoleLemmas
+mod Freeing
 mod TableSteps

@@ -4,9 +4,12 @@
 //! come from a ledger of the free ones.
 #![tactic(auto, unfolding(crate::specs::Roles::opening_roles))]
 
-ghost use Rattle.std.specs.Prelude.{◌≡◌, ◌+◌, ◌<◌, ◌≤◌, ◌↔◌, List, IsTrue, IfOk, IsErrOf, IfSome, IsNone, Some, length, slice_get};
-ghost use Rattle.alloc_table.specs.Roles.{CanBeTaken, IsTaken, IsPageBelow, IsHeld, IsInUse, IsReleased, released, free_frames, frames_weight, opening_roles};
-ghost use Rattle.alloc_table.specs.Weights.{TakingAddsTheRole, HoldingAddsOne, ReleasingTakesOne, FreeOrWeighed};
+ghost use Rattle.std.specs.Prelude.{◌≡◌, ◌+◌, ◌<◌, ◌≤◌, ◌↔◌, List, IsTrue, IfOk, IfErr, IsErrOf, IfSome, IsNone, Some, length, slice_get, false, if◌then◌else◌};
+ghost use Rattle.page_words.specs.FiniteSet as set;
+ghost use Rattle.frame_ledger.specs.FreeFrames.{with_free};
+ghost use Rattle.alloc_table.specs.Free.{free_by};
+ghost use Rattle.alloc_table.specs.Roles.{is_free, CanBeTaken, IsTaken, IsPageBelow, IsHeld, IsInUse, IsReleased, released, free_frames, frames_weight, opening_roles};
+ghost use Rattle.alloc_table.specs.Weights.{EachPageHeld, TakingAddsTheRole, HoldingAddsOne, ReleasingTakesOne, FreeOrWeighed};
 
 use frame_ledger::Ledger;
 use page_words::{Frame, MAX_FRAMES, MIN_FRAMES, MachineFault, Pid, WIDE_FRAMES, is_frame_count};
@@ -75,6 +78,34 @@ fn after_release(role: Role) -> Role
     }
 }
 
+/// Puts a frame back where its role is Free.
+fn put_back_free(ledger: &mut Ledger, frame: Frame, role: Role)
+    requires not_reserved { 1 ≤ frame }
+    requires within { frame < ledger.old.frames }
+    requires in_use { set.contains ledger.old.free frame ≡ false }
+    ensures { ledger.new ≡ (if is_free role then with_free ledger.old frame else ledger.old) }
+{
+    if role == Role::Free {
+        ledger.put_back(frame);
+    }
+}
+
+/// The ledger of the frames whose role is Free, of which frame 0 is none.
+fn ledger_of(alloc: Global, roles: &[Role]) -> Result<Ledger, MachineFault>
+    requires fewest { MIN_FRAMES ≤ length roles.now }
+    requires most { length roles.now ≤ MAX_FRAMES }
+    requires reserved { slice_get roles.now 0 ≡ Some Role.Reserved }
+    ensures ledger { IfOk result (λ ledger. ledger ≡ free_by roles.now) }
+    ensures fault { IfErr result (λ fault. fault ≡ MachineFault.NoMemory) }
+{
+    let frames = roles.len() as u32;
+    let mut ledger = Ledger::full(alloc, frames)?;
+    for frame in (1..frames).rev() {
+        put_back_free(&mut ledger, Frame(frame), roles[frame as usize]);
+    }
+    Ok(ledger)
+}
+
 impl FrameTable {
     /// A table of the frames 0 to `frames` - 1: frame 0 is reserved, and all others are free.
     ///
@@ -102,6 +133,22 @@ impl FrameTable {
             }
             Err(_) => Err(MachineFault::NoMemory),
         }
+    }
+
+    /// A table of frames with these roles, 16 to 4,096 of them, of which the first is reserved and each page has a
+    /// holder.
+    ///
+    /// NoMemory where there is no memory for the ledger of the free ones.
+    pub fn of_roles(alloc: Global, roles: Vec<Role>) -> Result<FrameTable, MachineFault>
+        requires fewest { MIN_FRAMES ≤ length roles.items }
+        requires most { length roles.items ≤ MAX_FRAMES }
+        requires reserved { slice_get roles.items 0 ≡ Some Role.Reserved }
+        requires held { EachPageHeld roles.items }
+        ensures roles { IfOk result (λ table. table ≡ roles.items) }
+        ensures fault { IfErr result (λ fault. fault ≡ MachineFault.NoMemory) }
+    {
+        let ledger = ledger_of(alloc, roles.as_slice())?;
+        Ok(FrameTable { ledger, roles })
     }
 
     /// Gives a free frame, whichever it is, a role: a directory, a table, or a page with one holder.

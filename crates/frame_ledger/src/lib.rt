@@ -78,7 +78,7 @@ impl Ledger {
     }
 
     /// A ledger of which no frame is free, of 16 to 1,048,576 frames.
-    fn full(alloc: Global, frames: u32) -> Result<Ledger, MachineFault>
+    pub fn full(alloc: Global, frames: u32) -> Result<Ledger, MachineFault>
         requires fewest { MIN_FRAMES ≤ frames }
         requires most { frames ≤ WIDE_FRAMES }
         ensures ledger { IfOk result (λ ledger. ledger ≡ all_in_use frames) }

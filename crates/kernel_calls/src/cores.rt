@@ -1,6 +1,6 @@
 //! The kernel's core: one machine's memory and its processes.
 
-ghost use Rattle.std.specs.Prelude.{◌≡◌, ◌↔◌, ℕ, ◌+◌, ◌*◌, ◌<◌, ◌≤◌, true, false, Some, IfOk, IfSome, IfNone, IsSome, IsNone, IsErrOf, length, map, slice_get};
+ghost use Rattle.std.specs.Prelude.{◌≡◌, ◌↔◌, ℕ, ◌+◌, ◌*◌, ◌<◌, ◌≤◌, true, false, Some, IfOk, IfErr, IfSome, IfNone, IsSome, IsNone, IsErrOf, length, map, slice_get, slice_index};
 ghost use Rattle.std.specs.List.{range_with_len};
 ghost use Rattle.address_space.specs.View.{directory_of};
 ghost use Rattle.page_words.specs.Addresses.{page_number, offset_number, IsUserPage};
@@ -10,7 +10,9 @@ ghost use Rattle.address_space.specs.ByWalk.{with_walked};
 ghost use Rattle.process_table.specs.State.{open_with, container_of, is_live, is_mapped};
 ghost use Rattle.process_table.specs.Parts.{after_loads, after_stores};
 ghost use Rattle.fault_handler.specs.declared.plans.Plan.TheVariants as plan;
-ghost use Rattle.process_table.specs.Image.{StandsFor, image_of, memory_of};
+ghost use Rattle.page_words.specs.FiniteMap as finite_map;
+ghost use Rattle.process_table.specs.Restored.{image_in, RootIsItsParent};
+ghost use Rattle.process_table.specs.Image.{StandsFor, IsSoundImage, image_of, memory_of};
 ghost use Rattle.process_table.specs.WellFormed.{IsWellFormed, total};
 ghost use Rattle.address_space.specs.Image.{LeavesRoom, takes_stores};
 ghost use Rattle.address_space.specs.Spaces.{zeros, at_page, slot_at, byte_at};
@@ -42,7 +44,7 @@ use fault_handler::{Plan, Stop, settle_at};
 use page_words::{Frame, Page, Pid, Size, Vaddr, in_user_range, page_of};
 use phys_memory::Memory;
 use process_table::{Places, Processes};
-use quota_tree::Container;
+use quota_tree::{Account, Container};
 use std::alloc::Global;
 use std::marker::Model;
 use table_walk::Access;
@@ -320,6 +322,33 @@ impl Core {
     {
         let processes = Processes::wide(alloc, frames)?;
         processes.stands();
+        Ok(Core { processes })
+    }
+
+    /// The core that directories, accounts, bytes and roles stand for: a sound image of 16 to 4,096 frames. No offer
+    /// is pending.
+    ///
+    /// NoMemory where there is none for what is kept beside the bytes and the roles.
+    pub fn of_image(
+        alloc: Global,
+        directories: [Option<Frame>; 64],
+        accounts: &[Option<Account>; 64],
+        bytes: Vec<u8>,
+        roles: Vec<Role>,
+    ) -> Result<Core, BootFault>
+        requires fewest { 16 ≤ length roles.items }
+        requires most { length roles.items ≤ 4096 }
+        requires small { (i : ℕ) → slice_index bytes.items i < 256 }
+        requires root { RootIsItsParent accounts.now }
+        requires sound { IsSoundImage (image_in directories accounts.now bytes.items roles.items) }
+        ensures stands { IfOk result (λ core. StandsFor (image_in directories accounts.now bytes.items roles.items) core.state) }
+        ensures offers { IfOk result (λ core. core.state.offers ≡ finite_map.empty) }
+        ensures directories { IfOk result (λ core. core.directories ≡ directories) }
+        ensures bytes { IfOk result (λ core. core.bytes ≡ bytes.items) }
+        ensures roles { IfOk result (λ core. core.roles ≡ roles.items) }
+        ensures fault { IfErr result (λ fault. fault ≡ BootFault.NoMemory) }
+    {
+        let processes = Processes::of_image(alloc, directories, accounts, bytes, roles)?;
         Ok(Core { processes })
     }
 

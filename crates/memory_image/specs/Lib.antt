@@ -6,3 +6,4 @@ pub mod Spelling
 pub mod Tests
 pub mod Refusals
 pub mod Reading
+pub mod Restored

@@ -55,6 +55,22 @@ impl Image {
         }
     }
 
+    /// What each process has, by number, what each frame serves, and all bytes.
+    pub(crate) fn into_parts(self) -> ([Option<Process>; 64], Vec<Role>, Vec<u8>)
+        ensures processes { result.0 ≡ self.processes }
+        ensures roles { result.1.items ≡ self.roles }
+        ensures bytes { result.2.items ≡ self.bytes }
+        ensures fields { IsImage self }
+    {
+        let Image {
+            version: _,
+            processes,
+            roles,
+            bytes,
+        } = self;
+        (processes, roles, bytes)
+    }
+
     /// That its fields keep their rules. It computes nothing.
     pub fn within(&self)
         ensures { IsImage self.now }

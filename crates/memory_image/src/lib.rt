@@ -9,6 +9,7 @@ mod laws;
 mod making;
 mod processes;
 mod reading;
+mod restoring;
 mod writing;
 
 pub use faults::{ImageFault, NoMemory};

@@ -358,7 +358,7 @@ fn word_count(memory: &Memory, table: Frame, index: u32) -> u32
 }
 
 /// How many words of a table are present.
-fn words_present(memory: &Memory, table: Frame) -> u32
+pub fn words_present(memory: &Memory, table: Frame) -> u32
     requires inside { 4096 * table + 4096 ≤ length memory.now }
     ensures count { result ≡ count_range (λ i. is_present (word_in (frame_bytes memory.now table) i)) 0 1024 }
     ensures bound { result ≤ 1024 }

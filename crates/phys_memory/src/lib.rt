@@ -69,6 +69,16 @@ impl Memory {
         }
     }
 
+    /// A memory that holds these bytes, in 16 to 1,048,576 frames. It takes no memory of its own.
+    pub fn of_bytes(bytes: Vec<u8>, frames: u32) -> Memory
+        requires size { length bytes.items ≡ 4096 * frames }
+        requires least { 16 ≤ frames }
+        requires most { frames ≤ 1048576 }
+        ensures { result ≡ bytes.items }
+    {
+        Memory { bytes, frames }
+    }
+
     /// The number of frames, 16 to 1,048,576.
     pub fn frames(&self) -> u32
         ensures length { length self.now ≡ 4096 * result }

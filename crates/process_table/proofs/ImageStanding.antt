@@ -97,7 +97,7 @@ sum-filter f t (e ∷ es) =
     ∙ ap (λ n. cond (t e) (f e) 0 + n) (sum-filter f t es)
     ∙ sym (sum_by-cons (λ e. cond (t e) (f e) 0) e es)
 
-given-range : (s : State) (p : ℕ) → ((k : ℕ) (m : Member) → map.get s.book k ≡ Some m → k < 64) → given s.book p ≡ sum_by (λ q. quota_from p q (account_of s q)) (range_with_len 0 64)
+pub given-range : (s : State) (p : ℕ) → ((k : ℕ) (m : Member) → map.get s.book k ≡ Some m → k < 64) → given s.book p ≡ sum_by (λ q. quota_from p q (account_of s q)) (range_with_len 0 64)
 given-range s p small =
     sum-filter (λ (e : ℕ × Member). e.1.quota) (is_child p) s.book.entries
     ∙ sum-range s.book (λ k m. cond (is_child p (k, m)) m.quota 0) 64 small

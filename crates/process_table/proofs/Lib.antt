@@ -9,6 +9,7 @@ pub mod Keeping
 pub mod Placed
 pub mod Ranges
 pub mod Refusals
+pub mod Restored
 pub mod SharingLaws
 pub mod Sizes
 pub mod SpaceLaws

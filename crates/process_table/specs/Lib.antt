@@ -9,3 +9,4 @@ pub mod State
 pub mod View
 pub mod WellFormed
 pub mod TestAnswers
+pub mod Restored

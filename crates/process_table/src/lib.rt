@@ -10,6 +10,7 @@ mod mapping;
 mod parts;
 mod places;
 mod processes;
+mod restoring;
 mod sharing;
 mod walked;
 

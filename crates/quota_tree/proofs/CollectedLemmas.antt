@@ -14,7 +14,7 @@ use Rattle.quota_tree.specs.Collected.{collected_from, collected}
 use Rattle.page_words.proofs.SetLemmas.{same_apart}
 
 module _ {C X : Type 0} (f : C → X) where
-  get-before : (start : ℕ) (values : List (Option C)) (q : ℕ) → q < start → map.get (collected_from f start values) q ≡ None
+  pub get-before : (start : ℕ) (values : List (Option C)) (q : ℕ) → q < start → map.get (collected_from f start values) q ≡ None
   get-before start [] q h = refl
   get-before start (None ∷ values) q h = get-before (start + 1) values q (omega arith)
   get-before start (Some c ∷ values) q h =

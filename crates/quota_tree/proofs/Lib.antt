@@ -1,6 +1,7 @@
+mod AccountLemmas
 pub mod BookFacts
 mod Closes
-mod CollectedLemmas
+pub mod CollectedLemmas
 mod Splits
 pub mod Sums
 mod Views

@@ -11,6 +11,9 @@ ghost use Rattle.page_words.specs.FiniteMap as map;
 ghost use Rattle.quota_tree.specs.Book.{Member, given, quota_of, number_of_children, next_number};
 ghost use Rattle.quota_tree.specs.Containers.{opening, IsLive, opened_container, room_of, used_of, split_answer, after_split, with_used, after_close, container_of, total_used, charged_with, giver_after_split, giver_after_close};
 
+mod accounts;
+
+pub use accounts::Account;
 use page_words::Pid;
 use std::marker::Model;
 

@@ -10,7 +10,7 @@ use Rattle.std.proofs.lemmas.List.Concat.{flat_map-append}
 use Rattle.std.proofs.lemmas.List.{take_at, take_all}
 use Rattle.std.proofs.Math.Numerals.{one-add}
 use Rattle.std.proofs.Math.Seq.{take-append-add}
-use Rattle.process_table.specs.State.{State, open_with}
+use Rattle.process_table.specs.State.{State}
 use Rattle.kernel_calls.specs.Machine.{answer, answers, end_of}
 use Rattle.kernel_calls.specs.declared.calls.Event.{Event}
 use Rattle.script_run.specs.declared.faults.ScriptFault.{ScriptFault}
@@ -26,9 +26,9 @@ use Rattle.kernel_calls.proofs.Runs.{answers-append, end_of-append}
 
 -- ---- Runs
 
-pub replies_text-append : (frames : ℕ) (xs ys : List Event) → replies_text frames (xs ++ ys) ≡ replies_text frames xs ++ text_of (answers (end_of (open_with frames) xs) ys)
+pub replies_text-append : (begun : State) (xs ys : List Event) → replies_text begun (xs ++ ys) ≡ replies_text begun xs ++ text_of (answers (end_of begun xs) ys)
 unfolding replies_text text_of
-replies_text-append frames xs ys = ap (flat_map reply_line) (answers-append (open_with frames) xs ys) ∙ flat_map-append reply_line (answers (open_with frames) xs) _
+replies_text-append begun xs ys = ap (flat_map reply_line) (answers-append begun xs ys) ∙ flat_map-append reply_line (answers begun xs) _
 
 -- ---- One line more
 
@@ -63,10 +63,10 @@ end_one_more s lines bytes =
     ap (end_of s) (events_in-append lines (bytes ∷ []) ∙ ap (λ events. events_in lines ++ events) (events_in_one bytes))
     ∙ end_of-append s (events_in lines) _ ∙ end_of_line (end_of s (events_in lines)) (line_of bytes)
 
-pub text_one_more : (frames : ℕ) (lines : List (List ℕ)) (bytes : List ℕ) → replies_text frames (events_in (lines ++ bytes ∷ [])) ≡ replies_text frames (events_in lines) ++ text_after (end_of (open_with frames) (events_in lines)) (line_of bytes)
-text_one_more frames lines bytes =
-    ap (replies_text frames) (events_in-append lines (bytes ∷ []) ∙ ap (λ events. events_in lines ++ events) (events_in_one bytes))
-    ∙ replies_text-append frames (events_in lines) _ ∙ ap (λ text. replies_text frames (events_in lines) ++ text) (text_of_line (end_of (open_with frames) (events_in lines)) (line_of bytes))
+pub text_one_more : (begun : State) (lines : List (List ℕ)) (bytes : List ℕ) → replies_text begun (events_in (lines ++ bytes ∷ [])) ≡ replies_text begun (events_in lines) ++ text_after (end_of begun (events_in lines)) (line_of bytes)
+text_one_more begun lines bytes =
+    ap (replies_text begun) (events_in-append lines (bytes ∷ []) ∙ ap (λ events. events_in lines ++ events) (events_in_one bytes))
+    ∙ replies_text-append begun (events_in lines) _ ∙ ap (λ text. replies_text begun (events_in lines) ++ text) (text_of_line (end_of begun (events_in lines)) (line_of bytes))
 
 pub sound_one_more : (lines : List (List ℕ)) (bytes : List ℕ) → list_all is_sound lines ≡ true → is_malformed bytes ≡ false → list_all is_sound (lines ++ bytes ∷ []) ≡ true
 sound_one_more lines bytes before here = list_all-append is_sound lines (bytes ∷ []) ∙ and_from _ _ before (and_from (is_sound bytes) true (ap not here) refl)

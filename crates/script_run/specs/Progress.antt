@@ -9,7 +9,7 @@
 use Rattle.std.specs.Prelude.{◌≡◌, ℕ, ◌+◌, ◌≤◌, Bool, true, false, List, [], ◌∷◌, ◌++◌, length, Option, Some, None, IfSome}
 use Rattle.std.specs.List.{list_all}
 use Rattle.std.specs.Io.KnownBytes.{Appends, Keeps, Consumes}
-use Rattle.process_table.specs.State.{State, open_with}
+use Rattle.process_table.specs.State.{State}
 use Rattle.kernel_calls.specs.Machine.{answer, next, end_of}
 use Rattle.script_run.specs.declared.faults.ScriptFault.{ScriptFault}
 use Rattle.script_run.specs.declared.faults.ScriptFault.TheVariants.{BadSize, NoMemory, Malformed, TooLong, ReadFailed, WriteFailed}
@@ -58,13 +58,13 @@ IsOneLine bytes = lines_of bytes ≡ bytes ∷ []
 -- ---- Many lines
 
 -- what the writer held when the session began, and holds now
-pub record Reached (frames : ℕ) (read : List ℕ) (session : Session) (start now : Option (List ℕ)) : Type 0 where
+pub record Reached (begun : State) (read : List ℕ) (session : Session) (start now : Option (List ℕ)) : Type 0 where
   pub sound : list_all is_sound (closed_lines read) ≡ true
   pub line : session.line.items ≡ open_line read
   pub short : length session.line.items ≤ 100
   pub lines : session.lines ≡ length (closed_lines read)
-  pub state : session.core.state ≡ end_of (open_with frames) (events_in (closed_lines read))
-  pub text : LeavesUnwritten start now (replies_text frames (events_in (closed_lines read))) session.output
+  pub state : session.core.state ≡ end_of begun (events_in (closed_lines read))
+  pub text : LeavesUnwritten start now (replies_text begun (events_in (closed_lines read))) session.output
 
 -- each script that goes on from these bytes begins with these lines, none of which is malformed
 pub record Begins (read : List ℕ) (good : List (List ℕ)) : Type 0 where
@@ -77,77 +77,77 @@ pub record Breaks (read : List ℕ) (good : List (List ℕ)) : Type 0 where
   pub next : (is_whole : Bool) (more : List ℕ) → (bad : List ℕ) × (others : List (List ℕ)) × (judged_to is_whole (read ++ more) ≡ good ++ bad ∷ others) × (is_malformed bad ≡ true)
 
 -- why a session stopped at a line: what waits, and what the writer held and holds
-abbrev pub Stops : ℕ → List ℕ → ScriptFault → List ℕ → Option (List ℕ) → Option (List ℕ) → Type 0
-Stops frames read (Malformed found) waits start now = (good : List (List ℕ)) × Breaks read good × (found ≡ length good + 1) × LeavesUnwritten start now (replies_text frames (events_in good)) waits
-Stops frames read WriteFailed waits start now = (good : List (List ℕ)) × (waits ≡ []) × Begins read good × AppendsFront start now (replies_text frames (events_in good))
-Stops frames read BadSize waits start now = ⊥
-Stops frames read NoMemory waits start now = ⊥
-Stops frames read TooLong waits start now = ⊥
-Stops frames read ReadFailed waits start now = ⊥
+abbrev pub Stops : State → List ℕ → ScriptFault → List ℕ → Option (List ℕ) → Option (List ℕ) → Type 0
+Stops begun read (Malformed found) waits start now = (good : List (List ℕ)) × Breaks read good × (found ≡ length good + 1) × LeavesUnwritten start now (replies_text begun (events_in good)) waits
+Stops begun read WriteFailed waits start now = (good : List (List ℕ)) × (waits ≡ []) × Begins read good × AppendsFront start now (replies_text begun (events_in good))
+Stops begun read BadSize waits start now = ⊥
+Stops begun read NoMemory waits start now = ⊥
+Stops begun read TooLong waits start now = ⊥
+Stops begun read ReadFailed waits start now = ⊥
 
 -- ---- The last line, without a line feed
 
-pub record Finished (frames : ℕ) (read : List ℕ) (session : Session) (start now : Option (List ℕ)) : Type 0 where
+pub record Finished (begun : State) (read : List ℕ) (session : Session) (start now : Option (List ℕ)) : Type 0 where
   pub sound : list_all is_sound (closed_lines read ++ open_line read ∷ []) ≡ true
-  pub state : session.core.state ≡ end_of (open_with frames) (events_in (closed_lines read ++ open_line read ∷ []))
-  pub text : LeavesUnwritten start now (replies_text frames (events_in (closed_lines read ++ open_line read ∷ []))) session.output
+  pub state : session.core.state ≡ end_of begun (events_in (closed_lines read ++ open_line read ∷ []))
+  pub text : LeavesUnwritten start now (replies_text begun (events_in (closed_lines read ++ open_line read ∷ []))) session.output
 
-abbrev pub StopsAtLast : ℕ → List ℕ → ScriptFault → List ℕ → Option (List ℕ) → Option (List ℕ) → Type 0
-StopsAtLast frames read (Malformed found) waits start now = (list_all is_sound (closed_lines read) ≡ true) × (is_malformed (open_line read) ≡ true) × (found ≡ length (closed_lines read) + 1)
-    × LeavesUnwritten start now (replies_text frames (events_in (closed_lines read))) waits
-StopsAtLast frames read WriteFailed waits start now = (waits ≡ []) × Begins read (closed_lines read) × AppendsFront start now (replies_text frames (events_in (closed_lines read)))
-StopsAtLast frames read BadSize waits start now = ⊥
-StopsAtLast frames read NoMemory waits start now = ⊥
-StopsAtLast frames read TooLong waits start now = ⊥
-StopsAtLast frames read ReadFailed waits start now = ⊥
+abbrev pub StopsAtLast : State → List ℕ → ScriptFault → List ℕ → Option (List ℕ) → Option (List ℕ) → Type 0
+StopsAtLast begun read (Malformed found) waits start now = (list_all is_sound (closed_lines read) ≡ true) × (is_malformed (open_line read) ≡ true) × (found ≡ length (closed_lines read) + 1)
+    × LeavesUnwritten start now (replies_text begun (events_in (closed_lines read))) waits
+StopsAtLast begun read WriteFailed waits start now = (waits ≡ []) × Begins read (closed_lines read) × AppendsFront start now (replies_text begun (events_in (closed_lines read)))
+StopsAtLast begun read BadSize waits start now = ⊥
+StopsAtLast begun read NoMemory waits start now = ⊥
+StopsAtLast begun read TooLong waits start now = ⊥
+StopsAtLast begun read ReadFailed waits start now = ⊥
 
 -- ---- Whole runs
 
 -- what the reader had left at the start is the script
-abbrev pub Ran : ℕ → Option (List ℕ) → Session → Option (List ℕ) → Option (List ℕ) → Type 0
-Ran frames remained session held holds = IfSome remained (λ input. (fault_of input ≡ None) × (session.core.state ≡ end_of (open_with frames) (events_of input)) × LeavesUnwritten held holds (replies_text frames (events_of input)) session.output)
+abbrev pub Ran : State → Option (List ℕ) → Session → Option (List ℕ) → Option (List ℕ) → Type 0
+Ran begun remained session held holds = IfSome remained (λ input. (fault_of input ≡ None) × (session.core.state ≡ end_of begun (events_of input)) × LeavesUnwritten held holds (replies_text begun (events_of input)) session.output)
 
 -- the same, with all replies written
-abbrev pub EndsWhole : ℕ → Option (List ℕ) → Session → Option (List ℕ) → Option (List ℕ) → Type 0
-EndsWhole frames remained session held holds = IfSome remained (λ input. (fault_of input ≡ None) × (session.core.state ≡ end_of (open_with frames) (events_of input)) × Appends held holds (replies_text frames (events_of input)))
+abbrev pub EndsWhole : State → Option (List ℕ) → Session → Option (List ℕ) → Option (List ℕ) → Type 0
+EndsWhole begun remained session held holds = IfSome remained (λ input. (fault_of input ≡ None) × (session.core.state ≡ end_of begun (events_of input)) × Appends held holds (replies_text begun (events_of input)))
 
 -- the replies to the complete lines of what was read: what the reader had left and has left, and what the writer held and holds
-pub record ReadSome (frames : ℕ) (remained remains : Option (List ℕ)) (waits : List ℕ) (held holds : Option (List ℕ)) : Type 0 where
+pub record ReadSome (begun : State) (remained remains : Option (List ℕ)) (waits : List ℕ) (held holds : Option (List ℕ)) : Type 0 where
   pub read : List ℕ
   pub within : length read ≤ limit
   pub taken : Consumes remained remains read
   pub sound : list_all is_sound (closed_lines read) ≡ true
   pub short : is_too_long (open_line read) ≡ false
-  pub text : LeavesUnwritten held holds (replies_text frames (events_in (closed_lines read))) waits
+  pub text : LeavesUnwritten held holds (replies_text begun (events_in (closed_lines read))) waits
 
-abbrev pub RanInto : ℕ → ScriptFault → Option (List ℕ) → Option (List ℕ) → List ℕ → Option (List ℕ) → Option (List ℕ) → Type 0
-RanInto frames (Malformed line) remained remains waits held holds = IfSome remained (λ input. (fault_of input ≡ Some (Malformed line)) × LeavesUnwritten held holds (replies_text frames (events_of input)) waits)
-RanInto frames TooLong remained remains waits held holds = IfSome remained (λ input. (fault_of input ≡ Some TooLong) × LeavesUnwritten held holds (replies_text frames (events_of input)) waits)
-RanInto frames ReadFailed remained remains waits held holds = ReadSome frames remained remains waits held holds
-RanInto frames WriteFailed remained remains waits held holds = (waits ≡ []) × IfSome remained (λ input. AppendsFront held holds (replies_text frames (events_of input)))
-RanInto frames BadSize remained remains waits held holds = ⊥
-RanInto frames NoMemory remained remains waits held holds = ⊥
+abbrev pub RanInto : State → ScriptFault → Option (List ℕ) → Option (List ℕ) → List ℕ → Option (List ℕ) → Option (List ℕ) → Type 0
+RanInto begun (Malformed line) remained remains waits held holds = IfSome remained (λ input. (fault_of input ≡ Some (Malformed line)) × LeavesUnwritten held holds (replies_text begun (events_of input)) waits)
+RanInto begun TooLong remained remains waits held holds = IfSome remained (λ input. (fault_of input ≡ Some TooLong) × LeavesUnwritten held holds (replies_text begun (events_of input)) waits)
+RanInto begun ReadFailed remained remains waits held holds = ReadSome begun remained remains waits held holds
+RanInto begun WriteFailed remained remains waits held holds = (waits ≡ []) × IfSome remained (λ input. AppendsFront held holds (replies_text begun (events_of input)))
+RanInto begun BadSize remained remains waits held holds = ⊥
+RanInto begun NoMemory remained remains waits held holds = ⊥
 
 -- What was read before a read failed lies within the limit of a script, none of its complete lines
 -- is malformed, the line after them is not too long so far, and the replies to the complete lines,
 -- and nothing else, were written.
-pub record EndsReading (frames : ℕ) (remained remains held holds : Option (List ℕ)) : Type 0 where
+pub record EndsReading (begun : State) (remained remains held holds : Option (List ℕ)) : Type 0 where
   pub read : List ℕ
   pub within : length read ≤ limit
   pub taken : Consumes remained remains read
   pub sound : list_all is_sound (closed_lines read) ≡ true
   pub short : is_too_long (open_line read) ≡ false
-  pub text : Appends held holds (replies_text frames (events_in (closed_lines read)))
+  pub text : Appends held holds (replies_text begun (events_in (closed_lines read)))
 
 -- What a run that ended by this fault read and wrote. A number of frames that may not be, and want of
 -- memory, come before the first read. The fault of a malformed line and of a long script is the
 -- script's own, and all replies before it were written; after a read that failed, those to the
 -- complete lines that were read. A write fails only where there is text to write: a front of the
 -- replies was written then, and at least one byte of them was not.
-abbrev pub EndsBy : ℕ → ScriptFault → Option (List ℕ) → Option (List ℕ) → Option (List ℕ) → Option (List ℕ) → Type 0
-EndsBy frames BadSize remained remains held holds = Keeps remained remains × Keeps held holds
-EndsBy frames NoMemory remained remains held holds = Keeps remained remains × Keeps held holds
-EndsBy frames (Malformed line) remained remains held holds = IfSome remained (λ input. (fault_of input ≡ Some (Malformed line)) × Appends held holds (replies_text frames (events_of input)))
-EndsBy frames TooLong remained remains held holds = IfSome remained (λ input. (fault_of input ≡ Some TooLong) × Appends held holds (replies_text frames (events_of input)))
-EndsBy frames ReadFailed remained remains held holds = EndsReading frames remained remains held holds
-EndsBy frames WriteFailed remained remains held holds = IfSome remained (λ input. AppendsFront held holds (replies_text frames (events_of input)))
+abbrev pub EndsBy : State → ScriptFault → Option (List ℕ) → Option (List ℕ) → Option (List ℕ) → Option (List ℕ) → Type 0
+EndsBy begun BadSize remained remains held holds = Keeps remained remains × Keeps held holds
+EndsBy begun NoMemory remained remains held holds = Keeps remained remains × Keeps held holds
+EndsBy begun (Malformed line) remained remains held holds = IfSome remained (λ input. (fault_of input ≡ Some (Malformed line)) × Appends held holds (replies_text begun (events_of input)))
+EndsBy begun TooLong remained remains held holds = IfSome remained (λ input. (fault_of input ≡ Some TooLong) × Appends held holds (replies_text begun (events_of input)))
+EndsBy begun ReadFailed remained remains held holds = EndsReading begun remained remains held holds
+EndsBy begun WriteFailed remained remains held holds = IfSome remained (λ input. AppendsFront held holds (replies_text begun (events_of input)))

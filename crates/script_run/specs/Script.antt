@@ -3,11 +3,11 @@
 --     judged bytes      the lines that count, of a script that may be longer than the limit
 --     events_of bytes      the events of the lines before the first malformed one
 --     fault_of bytes      the first malformed line, or else that the script is too long
---     replies_text frames events      the replies to events from the boot of a machine, a line for each
+--     replies_text begun events      the replies to events from a state on, a line for each
 use Rattle.std.specs.Prelude.{ℕ, ◌+◌, Bool, true, false, not, ◌||◌, ◌==◌, nat_le, List, [], ◌∷◌, ◌++◌, length, take, filter, position, take_while, Option, None, Some, if◌then◌else◌}
 use Rattle.std.specs.Option.{option_map, option_or}
 use Rattle.std.specs.List.{slice_split, filter_map}
-use Rattle.process_table.specs.State.{open_with}
+use Rattle.process_table.specs.State.{State}
 use Rattle.kernel_calls.specs.Machine.{answers}
 use Rattle.kernel_calls.specs.declared.calls.Event.{Event}
 use Rattle.script_run.specs.declared.faults.ScriptFault.{ScriptFault}
@@ -91,5 +91,5 @@ fault_of bytes = option_or (option_map (λ place. Malformed (place + 1)) (positi
 
 -- ---- Replies
 
-unfoldable pub replies_text : ℕ → List Event → List ℕ
-replies_text frames events = text_of (answers (open_with frames) events)
+unfoldable pub replies_text : State → List Event → List ℕ
+replies_text begun events = text_of (answers begun events)

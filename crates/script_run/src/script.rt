@@ -37,10 +37,31 @@ pub fn run_script<R: Read, W: Write>(
     // Where the reader tells what it had left, that is the script.
     ensures whole { OnOk result (IfSome (R.remaining reader.old) (λ input. fault_of input ≡ None)) }
     ensures state { IfOk result (λ core. IfSome (R.remaining reader.old) (λ input. core.state ≡ end_of (open_with frames) (events_of input))) }
-    ensures replies { OnOk result (IfSome (R.remaining reader.old) (λ input. Appends (W.contents writer.old) (W.contents writer.new) (replies_text frames (events_of input)))) }
-    ensures fault { IfErr result (λ fault. EndsBy frames fault (R.remaining reader.old) (R.remaining reader.new) (W.contents writer.old) (W.contents writer.new)) }
+    ensures replies { OnOk result (IfSome (R.remaining reader.old) (λ input. Appends (W.contents writer.old) (W.contents writer.new) (replies_text (open_with frames) (events_of input)))) }
+    ensures fault { IfErr result (λ fault. EndsBy (open_with frames) fault (R.remaining reader.old) (R.remaining reader.new) (W.contents writer.old) (W.contents writer.new)) }
 {
     let mut session = Session::boot(alloc, frames)?;
+    let mut block = vec![in alloc; 0u8; BLOCK]?;
+    session.run(reader, block.as_mut_slice(), writer)?;
+    Ok(session.core)
+}
+
+/// Runs a script on a machine as it stands, as `run_script` does on one that is booted: it carries out the script's
+/// events, writes a line for each reply, and hands back the machine.
+///
+/// The faults are those of `run_script`, apart from `BadSize`.
+pub fn resume_script<R: Read, W: Write>(
+    alloc: Global,
+    core: Core,
+    reader: &mut R,
+    writer: &mut W,
+) -> Result<Core, ScriptFault>
+    ensures whole { OnOk result (IfSome (R.remaining reader.old) (λ input. fault_of input ≡ None)) }
+    ensures state { IfOk result (λ after. IfSome (R.remaining reader.old) (λ input. after.state ≡ end_of core.state (events_of input))) }
+    ensures replies { OnOk result (IfSome (R.remaining reader.old) (λ input. Appends (W.contents writer.old) (W.contents writer.new) (replies_text core.state (events_of input)))) }
+    ensures fault { IfErr result (λ fault. EndsBy core.state fault (R.remaining reader.old) (R.remaining reader.new) (W.contents writer.old) (W.contents writer.new)) }
+{
+    let mut session = Session::of_core(alloc, core)?;
     let mut block = vec![in alloc; 0u8; BLOCK]?;
     session.run(reader, block.as_mut_slice(), writer)?;
     Ok(session.core)
@@ -50,5 +71,5 @@ pub fn run_script<R: Read, W: Write>(
 /// fault, and only the first line has a reply. It computes nothing.
 pub fn malformed_line_ends_a_script()
     ensures fault { fault_of second_line_malformed ≡ Some (ScriptFault.Malformed 2) }
-    ensures replies { replies_text 16 (events_of second_line_malformed) ≡ reply_to_the_first }
+    ensures replies { replies_text (open_with 16) (events_of second_line_malformed) ≡ reply_to_the_first }
 {}

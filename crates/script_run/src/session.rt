@@ -2,6 +2,7 @@
 
 ghost use Rattle.std.specs.Prelude.{◌≡◌, ℕ, ◌+◌, ◌≤◌, ◌<◌, ◌↔◌, IsErrOf, false, List, [], ◌∷◌, ◌++◌, length, Option, take, OnOk, IfOk, IfErr, MatchOption, ◌^◌};
 ghost use Rattle.std.specs.Io.KnownBytes.{Consumes, Keeps, IsAtEnd};
+ghost use Rattle.process_table.specs.State.{State, open_with};
 ghost use Rattle.script_run.specs.Lines.{line_of};
 ghost use Rattle.text_output.specs.Output.{LeavesUnwritten};
 ghost use Rattle.script_run.specs.Script.{is_malformed};
@@ -38,9 +39,18 @@ impl Session {
         ensures size { IsErrOf result ScriptFault.BadSize ↔ (16 ≤ frames → frames ≤ 4096 → ⊥) }
         ensures early { IfErr result IsBeforeReading }
         ensures lines { IfOk result (λ session. session.lines ≡ 0) }
-        ensures opened { IfOk result (λ session. (held : Option (List ℕ)) → Reached frames [] session held held) }
+        ensures opened { IfOk result (λ session. (held : Option (List ℕ)) → Reached (open_with frames) [] session held held) }
     {
         let core = Core::boot(alloc, frames)?;
+        Session::of_core(alloc, core)
+    }
+
+    /// A machine as it stands, and nothing of a script.
+    pub fn of_core(alloc: Global, core: Core) -> Result<Session, ScriptFault>
+        ensures fault { IfErr result (λ fault. fault ≡ ScriptFault.NoMemory) }
+        ensures lines { IfOk result (λ session. session.lines ≡ 0) }
+        ensures begun { IfOk result (λ session. (held : Option (List ℕ)) → Reached core.state [] session held held) }
+    {
         let output = Output::new(alloc)?;
         Ok(Session {
             core,
@@ -54,8 +64,8 @@ impl Session {
     fn keep(&mut self, piece: &[u8]) -> Result<(), ScriptFault>
         requires { self.old.lines + 1 < 2 ^ 32 }
         ensures lines { self.new.lines ≡ self.old.lines }
-        ensures ok { (frames : ℕ) (read : List ℕ) (start now : Option (List ℕ)) → IsOneLine piece.now → Reached frames read self.old start now → OnOk result (Reached frames (read ++ piece.now) self.new start now) }
-        ensures err { (frames : ℕ) (read : List ℕ) (start now : Option (List ℕ)) → IsOneLine piece.now → Reached frames read self.old start now → IfErr result (λ fault. Stops frames (read ++ piece.now) fault self.new.output start now) }
+        ensures ok { (begun : State) (read : List ℕ) (start now : Option (List ℕ)) → IsOneLine piece.now → Reached begun read self.old start now → OnOk result (Reached begun (read ++ piece.now) self.new start now) }
+        ensures err { (begun : State) (read : List ℕ) (start now : Option (List ℕ)) → IsOneLine piece.now → Reached begun read self.old start now → IfErr result (λ fault. Stops begun (read ++ piece.now) fault self.new.output start now) }
     {
         match self.line.try_extend_from_slice(piece) {
             Ok(()) => Ok(()),
@@ -69,8 +79,8 @@ impl Session {
     fn end_line<W: Write>(&mut self, piece: &[u8], writer: &mut W) -> Result<(), ScriptFault>
         requires { self.old.lines + 1 < 2 ^ 32 }
         ensures lines { OnOk result (self.new.lines ≡ self.old.lines + 1) }
-        ensures ok { (frames : ℕ) (read : List ℕ) (start : Option (List ℕ)) → IsOneLine piece.now → Reached frames read self.old start (W.contents writer.old) → OnOk result (Reached frames (read ++ (piece.now ++ 10 ∷ [])) self.new start (W.contents writer.new)) }
-        ensures err { (frames : ℕ) (read : List ℕ) (start : Option (List ℕ)) → IsOneLine piece.now → Reached frames read self.old start (W.contents writer.old) → IfErr result (λ fault. Stops frames (read ++ (piece.now ++ 10 ∷ [])) fault self.new.output start (W.contents writer.new)) }
+        ensures ok { (begun : State) (read : List ℕ) (start : Option (List ℕ)) → IsOneLine piece.now → Reached begun read self.old start (W.contents writer.old) → OnOk result (Reached begun (read ++ (piece.now ++ 10 ∷ [])) self.new start (W.contents writer.new)) }
+        ensures err { (begun : State) (read : List ℕ) (start : Option (List ℕ)) → IsOneLine piece.now → Reached begun read self.old start (W.contents writer.old) → IfErr result (λ fault. Stops begun (read ++ (piece.now ++ 10 ∷ [])) fault self.new.output start (W.contents writer.new)) }
     {
         let number = self.lines + 1;
         if self.line.is_empty() {
@@ -90,8 +100,8 @@ impl Session {
     fn take_lines<W: Write>(&mut self, bytes: &[u8], writer: &mut W) -> Result<(), ScriptFault>
         requires { self.old.lines + length bytes.now + 1 < 2 ^ 32 }
         ensures lines { OnOk result (self.new.lines ≤ self.old.lines + length bytes.now) }
-        ensures ok { (frames : ℕ) (read : List ℕ) (start : Option (List ℕ)) → Reached frames read self.old start (W.contents writer.old) → OnOk result (Reached frames (read ++ bytes.now) self.new start (W.contents writer.new)) }
-        ensures err { (frames : ℕ) (read : List ℕ) (start : Option (List ℕ)) → Reached frames read self.old start (W.contents writer.old) → IfErr result (λ fault. Stops frames (read ++ bytes.now) fault self.new.output start (W.contents writer.new)) }
+        ensures ok { (begun : State) (read : List ℕ) (start : Option (List ℕ)) → Reached begun read self.old start (W.contents writer.old) → OnOk result (Reached begun (read ++ bytes.now) self.new start (W.contents writer.new)) }
+        ensures err { (begun : State) (read : List ℕ) (start : Option (List ℕ)) → Reached begun read self.old start (W.contents writer.old) → IfErr result (λ fault. Stops begun (read ++ bytes.now) fault self.new.output start (W.contents writer.new)) }
     {
         let mut rest = bytes;
         while let Some((line, after)) = split_line(rest) {
@@ -104,8 +114,8 @@ impl Session {
     /// Writes the replies that wait.
     fn write_out<W: Write>(&mut self, writer: &mut W) -> Result<(), ScriptFault>
         ensures lines { self.new.lines ≡ self.old.lines }
-        ensures ok { (frames : ℕ) (read : List ℕ) (start : Option (List ℕ)) → Reached frames read self.old start (W.contents writer.old) → OnOk result (Reached frames read self.new start (W.contents writer.new)) }
-        ensures err { (frames : ℕ) (read : List ℕ) (start : Option (List ℕ)) → Reached frames read self.old start (W.contents writer.old) → IfErr result (λ fault. Stops frames read fault self.new.output start (W.contents writer.new)) }
+        ensures ok { (begun : State) (read : List ℕ) (start : Option (List ℕ)) → Reached begun read self.old start (W.contents writer.old) → OnOk result (Reached begun read self.new start (W.contents writer.new)) }
+        ensures err { (begun : State) (read : List ℕ) (start : Option (List ℕ)) → Reached begun read self.old start (W.contents writer.old) → IfErr result (λ fault. Stops begun read fault self.new.output start (W.contents writer.new)) }
     {
         self.output.flush(writer)?;
         Ok(())
@@ -116,8 +126,8 @@ impl Session {
     fn feed<W: Write>(&mut self, bytes: &[u8], writer: &mut W) -> Result<(), ScriptFault>
         requires { self.old.lines + length bytes.now + 1 < 2 ^ 32 }
         ensures lines { OnOk result (self.new.lines ≤ self.old.lines + length bytes.now) }
-        ensures ok { (frames : ℕ) (read : List ℕ) (start : Option (List ℕ)) → Reached frames read self.old start (W.contents writer.old) → OnOk result (Reached frames (read ++ bytes.now) self.new start (W.contents writer.new)) }
-        ensures err { (frames : ℕ) (read : List ℕ) (start : Option (List ℕ)) → Reached frames read self.old start (W.contents writer.old) → IfErr result (λ fault. Stops frames (read ++ bytes.now) fault self.new.output start (W.contents writer.new)) }
+        ensures ok { (begun : State) (read : List ℕ) (start : Option (List ℕ)) → Reached begun read self.old start (W.contents writer.old) → OnOk result (Reached begun (read ++ bytes.now) self.new start (W.contents writer.new)) }
+        ensures err { (begun : State) (read : List ℕ) (start : Option (List ℕ)) → Reached begun read self.old start (W.contents writer.old) → IfErr result (λ fault. Stops begun (read ++ bytes.now) fault self.new.output start (W.contents writer.new)) }
     {
         self.take_lines(bytes, writer)?;
         self.write_out(writer)?;
@@ -127,8 +137,8 @@ impl Session {
     /// Carries out the last line, without a line feed, where the script has ended.
     fn finish<W: Write>(&mut self, writer: &mut W) -> Result<(), ScriptFault>
         requires { self.old.lines + 1 < 2 ^ 32 }
-        ensures ok { (frames : ℕ) (read : List ℕ) (start : Option (List ℕ)) → Reached frames read self.old start (W.contents writer.old) → OnOk result (Finished frames read self.new start (W.contents writer.new)) }
-        ensures err { (frames : ℕ) (read : List ℕ) (start : Option (List ℕ)) → Reached frames read self.old start (W.contents writer.old) → IfErr result (λ fault. StopsAtLast frames read fault self.new.output start (W.contents writer.new)) }
+        ensures ok { (begun : State) (read : List ℕ) (start : Option (List ℕ)) → Reached begun read self.old start (W.contents writer.old) → OnOk result (Finished begun read self.new start (W.contents writer.new)) }
+        ensures err { (begun : State) (read : List ℕ) (start : Option (List ℕ)) → Reached begun read self.old start (W.contents writer.old) → IfErr result (λ fault. StopsAtLast begun read fault self.new.output start (W.contents writer.new)) }
     {
         let line = self.line.as_slice();
         carry_out(
@@ -150,8 +160,8 @@ impl Session {
     ) -> Result<(), ScriptFault>
         requires block { 0 < length block.old }
         requires lines { self.old.lines ≡ 0 }
-        ensures ok { (frames : ℕ) → Reached frames [] self.old (W.contents writer.old) (W.contents writer.old) → OnOk result (EndsWhole frames (R.remaining reader.old) self.new (W.contents writer.old) (W.contents writer.new)) }
-        ensures err { (frames : ℕ) → Reached frames [] self.old (W.contents writer.old) (W.contents writer.old) → IfErr result (λ fault. (IsBeforeReading fault → ⊥) × EndsBy frames fault (R.remaining reader.old) (R.remaining reader.new) (W.contents writer.old) (W.contents writer.new)) }
+        ensures ok { (begun : State) → Reached begun [] self.old (W.contents writer.old) (W.contents writer.old) → OnOk result (EndsWhole begun (R.remaining reader.old) self.new (W.contents writer.old) (W.contents writer.new)) }
+        ensures err { (begun : State) → Reached begun [] self.old (W.contents writer.old) (W.contents writer.old) → IfErr result (λ fault. (IsBeforeReading fault → ⊥) × EndsBy begun fault (R.remaining reader.old) (R.remaining reader.new) (W.contents writer.old) (W.contents writer.new)) }
     {
         let ended = self.take_script(reader, block, writer);
         self.output.flush(writer)?;
@@ -167,8 +177,8 @@ impl Session {
     ) -> Result<(), ScriptFault>
         requires block { 0 < length block.old }
         requires lines { self.old.lines ≡ 0 }
-        ensures ok { (frames : ℕ) → Reached frames [] self.old (W.contents writer.old) (W.contents writer.old) → OnOk result (Ran frames (R.remaining reader.old) self.new (W.contents writer.old) (W.contents writer.new)) }
-        ensures err { (frames : ℕ) → Reached frames [] self.old (W.contents writer.old) (W.contents writer.old) → IfErr result (λ fault. RanInto frames fault (R.remaining reader.old) (R.remaining reader.new) self.new.output (W.contents writer.old) (W.contents writer.new)) }
+        ensures ok { (begun : State) → Reached begun [] self.old (W.contents writer.old) (W.contents writer.old) → OnOk result (Ran begun (R.remaining reader.old) self.new (W.contents writer.old) (W.contents writer.new)) }
+        ensures err { (begun : State) → Reached begun [] self.old (W.contents writer.old) (W.contents writer.old) → IfErr result (λ fault. RanInto begun fault (R.remaining reader.old) (R.remaining reader.new) self.new.output (W.contents writer.old) (W.contents writer.new)) }
     {
         let mut total = 0;
         while total < LIMIT {

@@ -9,17 +9,20 @@ ghost use Rattle.memory_image.specs.Sound.{IsSound};
 ghost use Rattle.memory_image.specs.Spelling.{Spells};
 ghost use Rattle.core_handle.specs.Handle.{IsTower};
 ghost use Rattle.tower_images.specs.Images.{image_length, SpellsCore, HasSoundImage};
+ghost use Rattle.tower_images.specs.Restored.{StandsForCore};
 ghost use Rattle.tower_images.specs.Audits.{SpellsOne, FailsProcess, FailsFrame, IsNoImage};
 
 mod checking;
+mod restoring;
 mod spelling;
 mod statuses;
 mod verdicts;
 
 use checking::{check_bytes, check_core};
 use core_handle::{Tower, put, take};
+use restoring::restore_bytes;
 use spelling::{image_length, write_core};
-use statuses::NO_CORE;
+use statuses::{DONE, HAS_CORE, NO_CORE};
 use std::alloc::Global;
 pub use verdicts::TowerVerdict;
 
@@ -95,4 +98,34 @@ pub extern "C" fn tower_check_bytes(alloc: Global, bytes: &[u8], verdict: &mut T
     ensures none { (result ≡ 0) ⊎ (result ≡ 2) → verdict.new ≡ verdict.old }
 {
     check_bytes(alloc, bytes, verdict)
+}
+
+/// Restores a core from the image that bytes spell, without any offer: 0. Else the handle stays as it was: 1 where it has a
+/// core already; 2 where there is no memory for the image, its check or the core; 3, 4 and 5 as for
+/// `tower_check_bytes`; 6 where the image is of version 1.
+#[unsafe(no_mangle)]
+pub extern "C" fn tower_restore(
+    alloc: Global,
+    bytes: &[u8],
+    tower: &mut Tower,
+    verdict: &mut TowerVerdict,
+) -> u32
+    requires { IsTower tower.old }
+    ensures kept { IsTower tower.new }
+    ensures statuses { result ≤ 6 }
+    ensures live { result ≡ 0 → tower.new.live ≡ true }
+    ensures restored { result ≡ 0 → IfSome tower.new.hold.core (λ core. SpellsOne bytes.now (StandsForCore core)) }
+    ensures busy { result ≡ 1 ↔ tower.old.live ≡ true }
+    ensures otherwise { result ≢ 0 → tower.new ≡ tower.old }
+{
+    if tower.live {
+        return HAS_CORE;
+    }
+    match restore_bytes(alloc, bytes, verdict) {
+        Ok(core) => {
+            put(tower, core);
+            DONE
+        }
+        Err(status) => status,
+    }
 }

@@ -14,3 +14,7 @@ pub const PROCESS_FAILS: u32 = 3;
 pub const FRAME_FAILS: u32 = 4;
 /// The bytes spell no image.
 pub const NOT_IMAGE: u32 = 5;
+/// The tables of the image have the words of version 1.
+pub const OLD_WORDS: u32 = 6;
+/// The handle has a core already.
+pub const HAS_CORE: u32 = 1;

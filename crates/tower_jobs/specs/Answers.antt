@@ -5,6 +5,8 @@ use Rattle.std.specs.Prelude.{◌≡◌, ◌⊎◌, ℕ, List, true, false, Opti
 use Rattle.std.specs.Io.KnownBytes.{Appends, Keeps}
 use Rattle.clap.specs.Words.{HasKind, fault_of as clap_faults, subcommand_of}
 use Rattle.clap.specs.declared.error.Error.{Error}
+use Rattle.process_table.specs.State.{open_with}
+use Rattle.process_table.specs.View.{View}
 use Rattle.script_run.specs.Progress.{EndsBy}
 use Rattle.script_run.specs.Script.{events_of, replies_text}
 use Rattle.script_run.specs.declared.faults.ScriptFault.{ScriptFault}
@@ -14,16 +16,16 @@ use Rattle.tool_answers.specs.Files.{IsRead}
 use Rattle.tool_answers.specs.declared.answers.Answer.{Answer}
 use Rattle.tool_answers.specs.declared.answers.Answer.TheVariants.{Done, NotSound, Failed, NotText, Refused}
 use Rattle.tool_answers.specs.declared.faults.ToolFault.TheVariants as tool
-use Rattle.tower_line.specs.Images.{Checks, EndsCheck, EndsImage, IsWhole, WritesImage}
-use Rattle.tower_line.specs.Jobs.{Asked, a_run, an_image, a_check, a_race, job_asked, tower_app}
+use Rattle.tower_line.specs.Images.{Checks, EndsCheck, EndsImage, IsWhole, Restores, WritesImage}
+use Rattle.tower_line.specs.Jobs.{Asked, a_run, an_image, a_check, a_resume, a_race, job_asked, tower_app}
 use Rattle.tower_jobs.specs.Races.{EndsRace, Writes}
 
 -- ---- Jobs
 
 -- the replies were written of a whole script, or the run ended by the fault
 abbrev pub RunsScript : ℕ → Answer → Option (List ℕ) → Option (List ℕ) → Option (List ℕ) → Option (List ℕ) → Type 0
-RunsScript frames Done remained remains held holds = IsWhole remained × IfSome remained (λ input. Appends held holds (replies_text frames (events_of input)))
-RunsScript frames (Failed fault) remained remains held holds = (ended : ScriptFault) × (fault ≡ tool_of_script ended) × EndsBy frames ended remained remains held holds
+RunsScript frames Done remained remains held holds = IsWhole remained × IfSome remained (λ input. Appends held holds (replies_text (open_with frames) (events_of input)))
+RunsScript frames (Failed fault) remained remains held holds = (ended : ScriptFault) × (fault ≡ tool_of_script ended) × EndsBy (open_with frames) ended remained remains held holds
 RunsScript frames NotSound remained remains held holds = ⊥
 RunsScript frames NotText remained remains held holds = ⊥
 RunsScript frames (Refused error) remained remains held holds = ⊥
@@ -44,6 +46,16 @@ ChecksFile (Failed fault) remained held holds = (((fault ≡ tool.NoMemory) ⊎ 
 ChecksFile NotText remained held holds = ⊥
 ChecksFile (Refused error) remained held holds = ⊥
 
+-- what was read spells a sound image, and the replies were written of a whole script from a state on that it stands for,
+-- without any offer; or it isn't sound; or it was not read, or is refused, or the run ended by the fault
+abbrev pub ResumesFile : Answer → Option (List ℕ) → Option (List ℕ) → Option (List ℕ) → Option (List ℕ) → Option (List ℕ) → Type 0
+ResumesFile Done file remained remains held holds = (bytes : List ℕ) × IsRead file bytes × (core : View) × Restores bytes (Some core) × IsWhole remained × IfSome remained (λ input. Appends held holds (replies_text core.state (events_of input)))
+ResumesFile NotSound file remained remains held holds = (bytes : List ℕ) × IsRead file bytes × Restores bytes None × Keeps remained remains × Keeps held holds
+ResumesFile (Failed fault) file remained remains held holds = (Keeps remained remains × Keeps held holds)
+    ⊎ ((bytes : List ℕ) × IsRead file bytes × (core : View) × Restores bytes (Some core) × (ended : ScriptFault) × (fault ≡ tool_of_script ended) × EndsBy core.state ended remained remains held holds)
+ResumesFile NotText file remained remains held holds = ⊥
+ResumesFile (Refused error) file remained remains held holds = ⊥
+
 -- all rounds were played and their text written, or the race ended by the fault
 abbrev pub PlaysRace : ℕ → ℕ → Answer → Option (List ℕ) → Option (List ℕ) → Type 0
 PlaysRace frames rounds Done held holds = Writes frames rounds held holds
@@ -57,6 +69,7 @@ abbrev pub DoesJob : Asked → Answer → Option (List ℕ) → Option (List ℕ
 DoesJob (a_run frames) answer remained remains held holds = RunsScript frames answer remained remains held holds
 DoesJob (an_image frames) answer remained remains held holds = ImagesScript frames answer remained remains held holds
 DoesJob (a_check file) answer remained remains held holds = ChecksFile answer None held holds
+DoesJob (a_resume file) answer remained remains held holds = ResumesFile answer None remained remains held holds
 DoesJob (a_race frames rounds) answer remained remains held holds = PlaysRace frames rounds answer held holds
 
 -- ---- Command lines

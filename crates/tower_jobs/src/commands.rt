@@ -1,11 +1,11 @@
-//! The four jobs, each with the answer that comes of it.
+//! The five jobs, each with the answer that comes of it.
 
 ghost use Rattle.std.specs.Prelude.{◌≤◌, None, map};
-ghost use Rattle.tower_jobs.specs.Answers.{AnswersWords, ChecksFile, DoesJob, ImagesScript, PlaysRace, RunsScript};
+ghost use Rattle.tower_jobs.specs.Answers.{AnswersWords, ChecksFile, DoesJob, ImagesScript, PlaysRace, ResumesFile, RunsScript};
 ghost use Rattle.tower_line.specs.Jobs.{HasRounds, as_asked};
 
 use crate::races::race;
-use script_run::run_script;
+use script_run::{resume_script, run_script};
 use std::alloc::Global;
 use std::convert::AsStr;
 use std::fs;
@@ -14,7 +14,7 @@ use std::io::{Read, Write};
 use std::sync::Wait;
 use std::thread::Threads;
 use tool_answers::{Answer, ToolFault, bytes_of, refuse};
-use tower_line::{Job, check_bytes, job_of, write_script_image};
+use tower_line::{Job, check_bytes, job_of, restore_bytes, write_script_image};
 
 /// Runs a script on a machine of so many frames, and writes its replies.
 fn run_replies<I: Read, O: Write>(
@@ -72,6 +72,45 @@ fn check_named<R: AllocGlobal + Files, O: Write>(rt: &R, name: &str, output: &mu
     }
 }
 
+/// Runs a script on the machine of the image that a file has, and writes its replies.
+fn resume_file<F: Read + Drop, I: Read, O: Write>(
+    alloc: Global,
+    file: F,
+    input: &mut I,
+    output: &mut O,
+) -> Answer
+    ensures { ResumesFile result (F.remaining file) (I.remaining input.old) (I.remaining input.new) (O.contents output.old) (O.contents output.new) }
+{
+    let bytes = match bytes_of(alloc, file) {
+        Ok(bytes) => bytes,
+        Err(fault) => return Answer::Failed(fault),
+    };
+    let core = match restore_bytes(alloc, bytes.as_slice()) {
+        Ok(Some(core)) => core,
+        Ok(None) => return Answer::NotSound,
+        Err(fault) => return Answer::Failed(fault),
+    };
+    match resume_script(alloc, core, input, output) {
+        Ok(_) => Answer::Done,
+        Err(fault) => Answer::Failed(ToolFault::from(fault)),
+    }
+}
+
+/// Runs a script on the machine of the image in the file of that name; ReadFailed where it can't be opened.
+fn resume_named<R: AllocGlobal + Files, I: Read, O: Write>(
+    rt: &R,
+    name: &str,
+    input: &mut I,
+    output: &mut O,
+) -> Answer
+    ensures { ResumesFile result None (I.remaining input.old) (I.remaining input.new) (O.contents output.old) (O.contents output.new) }
+{
+    match fs::open(rt, name) {
+        Ok(file) => resume_file(rt.alloc(), file, input, output),
+        Err(_) => Answer::Failed(ToolFault::ReadFailed),
+    }
+}
+
 /// Plays so many rounds of a race, at least one, and writes what is said of them. It may wait.
 fn play_race<R: AllocGlobal + Threads + Wait + Sync, O: Write>(
     rt: &R,
@@ -103,6 +142,7 @@ fn answer_job<R: AllocGlobal + Files + Threads + Wait + Sync, I: Read, O: Write>
         Job::Run { frames } => run_replies(rt.alloc(), input, output, frames),
         Job::Image { frames } => write_image_of(rt.alloc(), input, output, frames),
         Job::Check { file } => check_named(rt, file, output),
+        Job::Resume { file } => resume_named(rt, file, input, output),
         Job::Race { frames, rounds } => play_race(rt, output, frames, rounds),
     }
 }

@@ -16,7 +16,7 @@ use Rattle.clap.specs.declared.parser.matches.ArgMatches.TheViews.{out-ArgMatche
 use Rattle.clap.specs.declared.parser.matches.SubCommand.{SubCommand}
 use Rattle.clap.proofs.OnLiterals.{clap_on_literals}
 use Rattle.tool_answers.specs.Options.{frames_option, number_named}
-use Rattle.tower_line.specs.Jobs.{tower_app, run_app, race_app, image_app, check_app, rounds_option, job_named}
+use Rattle.tower_line.specs.Jobs.{tower_app, run_app, race_app, image_app, check_app, resume_app, rounds_option, job_named}
 use Rattle.tower_line.proofs.JobLemmas.{first_none, second_none}
 use Rattle.tower_line.proofs.ValueLemmas.{IsHelp, IsNumbered, IsOption, RaceNumbered, run_is_named, race_is_named}
 
@@ -123,9 +123,12 @@ IsImage p = (p.0 ≡ codes "image") × IsNumbered 0 4294967295 (one_of (codes "f
 abbrev IsCheck : Text × List Row → Type 0
 IsCheck p = p.0 ≡ codes "check"
 
--- the subcommand is one of four, and each option's text names a number within its bounds
+abbrev IsResume : Text × List Row → Type 0
+IsResume p = p.0 ≡ codes "resume"
+
+-- the subcommand is one of five, and each option's text names a number within its bounds
 abbrev IsKnown : Option (Text × List Row) → Type 0
-IsKnown found = IfSome found (λ p. (IsRun p ⊎ IsRace p) ⊎ (IsImage p ⊎ IsCheck p))
+IsKnown found = IfSome found (λ p. (IsRun p ⊎ IsRace p) ⊎ (IsImage p ⊎ (IsCheck p ⊎ IsResume p)))
 
 or_false : (b : Bool) → (b || false) ≡ true → b ≡ true
 or_false true is = refl
@@ -135,34 +138,36 @@ abbrev NoFault : Shape → List Text → Type 0
 NoFault s words = level_fault s [] nothing_held words false [] ≡ []
 
 -- The program's subcommands, as they are built, of which the last is `help`.
-record AreCommands (run race image check help : Shape) : Type 0 where
+record AreCommands (run race image check resume help : Shape) : Type 0 where
   pub run_name : run.name ≡ codes "run"
   pub race_name : race.name ≡ codes "race"
   pub image_name : image.name ≡ codes "image"
   pub check_name : check.name ≡ codes "check"
+  pub resume_name : resume.name ≡ codes "resume"
   pub help_name : help.name ≡ codes "help"
   pub aliases : help.aliases ≡ []
   pub runs : (words : List Text) → NoFault run words → IsNumbered 0 4294967295 (one_of (codes "frames") (rows_after run.rules [] words))
   pub races : (words : List Text) → NoFault race words → RaceNumbered (rows_after race.rules [] words)
   pub images : (words : List Text) → NoFault image words → IsNumbered 0 4294967295 (one_of (codes "frames") (rows_after image.rules [] words))
 
--- of five subcommands, the last of which is `help`
-enters_first : (a : App) (run race image check help : Shape) → a.subs ≡ run ∷ race ∷ image ∷ check ∷ help ∷ [] → AreCommands run race image check help
+-- of six subcommands, the last of which is `help`
+enters_first : (a : App) (run race image check resume help : Shape) → a.subs ≡ run ∷ race ∷ image ∷ check ∷ resume ∷ help ∷ [] → AreCommands run race image check resume help
     → (stop : Option (Text × List Text)) → StopsNotAtHelp stop → entered_fault a stop ≡ [] → IsKnown (entered a stop)
-enters_first a run race image check help subs are None stops none = tt
-enters_first a run race image check help subs are (Some p) stops none =
-    rw subs (first (answers_to p.0 (label_of run)) (answers_to p.0 (label_of race)) (answers_to p.0 (label_of image)) (answers_to p.0 (label_of check)) (answers_to p.0 (label_of help)) refl
+enters_first a run race image check resume help subs are None stops none = tt
+enters_first a run race image check resume help subs are (Some p) stops none =
+    rw subs (first (answers_to p.0 (label_of run)) (answers_to p.0 (label_of race)) (answers_to p.0 (label_of image)) (answers_to p.0 (label_of check)) (answers_to p.0 (label_of resume)) (answers_to p.0 (label_of help)) refl
     (subst (λ (ss : List Shape). option_map_or (λ s. level_fault s [] nothing_held p.1 false []) (find (λ s. answers_to p.0 (label_of s)) ss) [] ≡ []) subs none))
   where
-    first : (is_run is_race is_image is_check is_help : Bool) → answers_to p.0 (label_of help) ≡ is_help
-        → option_map_or (λ s. level_fault s [] nothing_held p.1 false []) (cond is_run (Some run) (cond is_race (Some race) (cond is_image (Some image) (cond is_check (Some check) (cond is_help (Some help) None))))) [] ≡ []
-        → IsKnown (option_map (λ s. rows_at s p.1) (cond is_run (Some run) (cond is_race (Some race) (cond is_image (Some image) (cond is_check (Some check) (cond is_help (Some help) None))))))
-    first true is_race is_image is_check is_help is fault = inl (inl (are.run_name, are.runs p.1 fault))
-    first false true is_image is_check is_help is fault = inl (inr (are.race_name, are.races p.1 fault))
-    first false false true is_check is_help is fault = inr (inl (are.image_name, are.images p.1 fault))
-    first false false false true is_help is fault = inr (inr are.check_name)
-    first false false false false false is fault = tt
-    first false false false false true is fault =
+    first : (is_run is_race is_image is_check is_resume is_help : Bool) → answers_to p.0 (label_of help) ≡ is_help
+        → option_map_or (λ s. level_fault s [] nothing_held p.1 false []) (cond is_run (Some run) (cond is_race (Some race) (cond is_image (Some image) (cond is_check (Some check) (cond is_resume (Some resume) (cond is_help (Some help) None)))))) [] ≡ []
+        → IsKnown (option_map (λ s. rows_at s p.1) (cond is_run (Some run) (cond is_race (Some race) (cond is_image (Some image) (cond is_check (Some check) (cond is_resume (Some resume) (cond is_help (Some help) None)))))))
+    first true is_race is_image is_check is_resume is_help is fault = inl (inl (are.run_name, are.runs p.1 fault))
+    first false true is_image is_check is_resume is_help is fault = inl (inr (are.race_name, are.races p.1 fault))
+    first false false true is_check is_resume is_help is fault = inr (inl (are.image_name, are.images p.1 fault))
+    first false false false true is_resume is_help is fault = inr (inr (inl are.check_name))
+    first false false false false true is_help is fault = inr (inr (inr are.resume_name))
+    first false false false false false false is fault = tt
+    first false false false false false true is fault =
         let named : (bytes_eq (codes "help") p.0 || false) ≡ true = rw (are.help_name, are.aliases) at is in
         let same : bytes_eq p.0 (codes "help") ≡ true = same_either_way (codes "help") p.0 (or_false _ named) in
         let bad = rw same at stops in
@@ -181,6 +186,9 @@ built_image = built_leaf (inherited (on_top with_leaf_noted (on_top marked_built
 abbrev built_check : Shape
 built_check = built_leaf (inherited (on_top with_leaf_noted (on_top marked_built tower_app)).top check_app.top)
 
+abbrev built_resume : Shape
+built_resume = built_leaf (inherited (on_top with_leaf_noted (on_top marked_built tower_app)).top resume_app.top)
+
 frames_is : IsOption (codes "frames") 0 4294967295 (with_index 1 (filled frames_option))
 unfolding clap_on_literals
 frames_is = record { id_is = refl; action = refl; parses = refl; case = refl; bare = refl }
@@ -196,11 +204,12 @@ help_is = record { action = refl; bare = refl }
 enters_known : (stop : Option (Text × List Text)) → StopsNotAtHelp stop → entered_fault (built tower_app) stop ≡ [] → IsKnown (entered (built tower_app) stop)
 unfolding clap_on_literals
 enters_known stop stops none =
-    enters_first (built tower_app) built_run built_race built_image built_check (built_leaf help_shape) refl (record {
+    enters_first (built tower_app) built_run built_race built_image built_check built_resume (built_leaf help_shape) refl (record {
       run_name = refl;
       race_name = refl;
       image_name = refl;
       check_name = refl;
+      resume_name = refl;
       help_name = refl;
       aliases = refl;
       runs = run_is_named built_run (with_index 1 (filled frames_option)) (with_index 1 (filled help_rule)) refl frames_is help_is;
@@ -268,8 +277,9 @@ never_none words name rows none is asked = go (subst IsKnown is (only_known word
     named : (known : Text) → name ≡ known → IsSome (job_named known rows) → ⊥
     named known is_known some = no_job name rows (subst (λ (n : Text). IsSome (job_named n rows)) (sym is_known) some) asked
 
-    go : (IsRun (name, rows) ⊎ IsRace (name, rows)) ⊎ (IsImage (name, rows) ⊎ IsCheck (name, rows)) → ⊥
+    go : (IsRun (name, rows) ⊎ IsRace (name, rows)) ⊎ (IsImage (name, rows) ⊎ (IsCheck (name, rows) ⊎ IsResume (name, rows))) → ⊥
     go (inl (inl run)) = named (codes "run") run.0 (run_job rows run.1)
     go (inl (inr race)) = named (codes "race") race.0 (race_job rows race.1)
     go (inr (inl image)) = named (codes "image") image.0 (image_job rows image.1)
-    go (inr (inr check)) = named (codes "check") check refl
+    go (inr (inr (inl check))) = named (codes "check") check refl
+    go (inr (inr (inr resume))) = named (codes "resume") resume refl

@@ -7,10 +7,12 @@ use Rattle.kernel_calls.specs.Machine.{end_of}
 use Rattle.memory_image.specs.Image.{Image}
 use Rattle.text_output.specs.Output.{AppendsFront}
 use Rattle.memory_image.specs.Reading.{IsRefusal}
-use Rattle.memory_image.specs.Sound.{StandsFor}
+use Rattle.memory_image.specs.Sound.{IsSound, StandsFor}
 use Rattle.memory_image.specs.Spelling.{Spells, spelling}
 use Rattle.memory_image.specs.declared.faults.ImageFault.TheVariants as image
+use Rattle.page_words.specs.FiniteMap as map
 use Rattle.process_table.specs.State.{open_with}
+use Rattle.process_table.specs.View.{View}
 use Rattle.script_run.specs.Progress.{EndsReading}
 use Rattle.script_run.specs.Script.{events_of, fault_of, replies_text}
 use Rattle.script_run.specs.declared.faults.ScriptFault.{ScriptFault}
@@ -42,7 +44,7 @@ HasFault remained fault = IfSome remained (λ input. fault_of input ≡ Some fau
 
 -- the script has a reply, which there would be to write
 abbrev pub HasReplies : ℕ → Option (List ℕ) → Type 0
-HasReplies frames remained = IfSome remained (λ input. 0 < length (replies_text frames (events_of input)))
+HasReplies frames remained = IfSome remained (λ input. 0 < length (replies_text (open_with frames) (events_of input)))
 
 -- why a script gave no image: before anything was read, or by its own first fault, or by a read that failed
 -- where it did; for want of memory also behind a whole script. Its replies go nowhere.
@@ -51,12 +53,19 @@ EndsScript frames script.BadSize remained remains = Keeps remained remains
 EndsScript frames script.NoMemory remained remains = Keeps remained remains ⊎ IsWhole remained
 EndsScript frames (script.Malformed line) remained remains = HasFault remained (script.Malformed line)
 EndsScript frames script.TooLong remained remains = HasFault remained script.TooLong
-EndsScript frames script.ReadFailed remained remains = EndsReading frames remained remains None None
+EndsScript frames script.ReadFailed remained remains = EndsReading (open_with frames) remained remains None None
 EndsScript frames script.WriteFailed remained remains = HasReplies frames remained
 
 -- what was written of it before this fault: nothing, or, where a write failed, a front of it
 abbrev pub EndsImage : ℕ → ScriptFault → Option (List ℕ) → Option (List ℕ) → Option (List ℕ) → Option (List ℕ) → Type 0
 EndsImage frames fault remained remains held holds = (EndsScript frames fault remained remains × Keeps held holds) ⊎ ((fault ≡ script.WriteFailed) × WritesFront frames remained held holds)
+
+-- ---- The core of an image
+
+-- the bytes spell an image, and the core's state is one that the image stands for, without any offer; or it isn't sound
+abbrev pub Restores : List ℕ → Option View → Type 0
+Restores bytes (Some core) = (image : Image) × Spells bytes image × StandsFor image core.state × (core.state.offers ≡ map.empty)
+Restores bytes None = (image : Image) × Spells bytes image × (IsSound image → ⊥)
 
 -- ---- The check of an image
 

@@ -8,7 +8,7 @@ use Rattle.clap.specs.declared.builder.value_parser.ValueParser.TheVariants as p
 use Rattle.tool_answers.specs.Files.{file_argument, file_in}
 use Rattle.tool_answers.specs.Options.{frames_option, frames_in, number_in}
 use Rattle.tower_line.specs.declared.jobs.Job.{Job}
-use Rattle.tower_line.specs.declared.jobs.Job.TheVariants.{Run, Race, Image, Check}
+use Rattle.tower_line.specs.declared.jobs.Job.TheVariants.{Run, Race, Image, Check, Resume}
 
 -- tower run [--frames N]
 abbrev pub run_app : App
@@ -21,6 +21,10 @@ image_app = with_rule (new_app (codes "image")) frames_option
 -- tower check FILE
 abbrev pub check_app : App
 check_app = with_rule (new_app (codes "check")) file_argument
+
+-- tower resume FILE
+abbrev pub resume_app : App
+resume_app = with_rule (new_app (codes "resume")) file_argument
 
 -- --rounds N, 1 to 1000
 abbrev pub rounds_option : Rule
@@ -35,7 +39,7 @@ abbrev pub race_app : App
 race_app = with_rule (with_rule (new_app (codes "race")) frames_option) rounds_option
 
 abbrev pub tower_app : App
-tower_app = let app = with_subcommand (with_subcommand (with_subcommand (with_subcommand (new_app (codes "tower")) run_app.top) race_app.top) image_app.top) check_app.top in record app { top = record app.top { subcommand_required = true } }
+tower_app = let app = with_subcommand (with_subcommand (with_subcommand (with_subcommand (with_subcommand (new_app (codes "tower")) run_app.top) race_app.top) image_app.top) check_app.top) resume_app.top in record app { top = record app.top { subcommand_required = true } }
 
 -- a number of rounds that may be played
 abbrev pub playable : ℕ → Option ℕ
@@ -49,12 +53,14 @@ pub data Asked : Type 0 where
   a_run : ℕ → Asked
   an_image : ℕ → Asked
   a_check : Text → Asked
+  a_resume : Text → Asked
   a_race : ℕ → ℕ → Asked
 
 abbrev pub as_asked : Job → Asked
 as_asked (Run frames) = a_run frames
 as_asked (Image frames) = an_image frames
 as_asked (Check file) = a_check file.now
+as_asked (Resume file) = a_resume file.now
 as_asked (Race frames rounds) = a_race frames rounds
 
 -- a race of so many frames, where the rounds can be played
@@ -68,6 +74,7 @@ job_named name rows =
     if bytes_eq name (codes "race") then race_in rows else
     if bytes_eq name (codes "image") then option_map (λ frames. an_image frames) (frames_in rows) else
     if bytes_eq name (codes "check") then Some (a_check (file_in rows)) else
+    if bytes_eq name (codes "resume") then Some (a_resume (file_in rows)) else
     None
 
 abbrev pub job_asked : Option (Text × List Row) → Option Asked
@@ -79,4 +86,5 @@ abbrev pub HasRounds : Job → Type 0
 HasRounds (Run frames) = Unit {0}
 HasRounds (Image frames) = Unit {0}
 HasRounds (Check file) = Unit {0}
+HasRounds (Resume file) = Unit {0}
 HasRounds (Race frames rounds) = (1 ≤ rounds) × (rounds ≤ 1000)

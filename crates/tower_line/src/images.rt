@@ -1,9 +1,11 @@
 //! The commands on images: the image of the state that a script ends in, and the check of one.
 
 ghost use Rattle.std.specs.Prelude.{◌≡◌, ◌≤◌, ◌↔◌, IfOk, IfErr, IsErrOf, OnOk};
-ghost use Rattle.tower_line.specs.Images.{Checks, EndsCheck, EndsImage, EndsScript, ShowsEnd, WritesImage};
+ghost use Rattle.tower_line.specs.Images.{Checks, EndsCheck, EndsImage, EndsScript, Restores, ShowsEnd, WritesImage};
 
 use image_check::check;
+use image_restore::{RestoreFault, restore};
+use kernel_calls::Core;
 use memory_image::{Image, read_image, write_image};
 use script_run::{ScriptFault, run_script};
 use std::alloc::Global;
@@ -46,6 +48,26 @@ pub fn write_script_image<R: Read, W: Write>(
     image.within();
     write_image(&image, writer)?;
     Ok(())
+}
+
+/// Makes a core of the image that bytes spell; None where that is not sound.
+///
+/// NotImage, BadVersion, BadLength and BadField where the bytes are no image, by the first reason against
+/// them; BadVersion too where the image is of version 1; NoMemory where there is none for the image, its check or the
+/// core.
+pub fn restore_bytes(alloc: Global, bytes: &[u8]) -> Result<Option<Core>, ToolFault>
+    ensures restored { IfOk result (Restores bytes.now) }
+{
+    let image = match read_image(alloc, bytes) {
+        Ok(image) => image,
+        Err(fault) => return Err(ToolFault::from(fault)),
+    };
+    match restore(alloc, image) {
+        Ok(core) => Ok(Some(core)),
+        Err(RestoreFault::OldWords) => Err(ToolFault::BadVersion),
+        Err(RestoreFault::NotSound(_)) => Ok(None),
+        Err(RestoreFault::NoMemory) => Err(ToolFault::NoMemory),
+    }
 }
 
 /// Reads an image, writes the verdict on it, and says whether it is sound.

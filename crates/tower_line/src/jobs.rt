@@ -4,7 +4,7 @@ ghost use Rattle.std.specs.Prelude.{◌≡◌, ◌≤◌, true, false, map, opti
 ghost use Rattle.clap.specs.Words.{app_of, fault_of, found_of, kind_of, rows_of, rule_of, subcommand_of, takes, with_subcommand, FailsBy};
 ghost use Rattle.clap.specs.declared.builder.command.Command.TheViews.{out-Command as fields_of};
 ghost use Rattle.tool_answers.specs.Options.{frames_option, frames_in, number_in};
-ghost use Rattle.tower_line.specs.Jobs.{tower_app, run_app, race_app, image_app, check_app, rounds_option, playable, rounds_in, race_in, job_named, job_asked, as_asked, HasRounds};
+ghost use Rattle.tower_line.specs.Jobs.{tower_app, run_app, race_app, image_app, check_app, resume_app, rounds_option, playable, rounds_in, race_in, job_named, job_asked, as_asked, HasRounds};
 
 use clap::error::ErrorKind;
 use clap::{Arg, ArgMatches, Command, Error};
@@ -24,6 +24,8 @@ pub enum Job<'a> {
     Image { frames: u32 },
     /// To check the image in a file of that name.
     Check { file: &'a str },
+    /// To run a script on the machine of the image in a file of that name.
+    Resume { file: &'a str },
     /// To play so many rounds of a race, 1 to 1000, each on a machine of so many frames.
     Race { frames: u32, rounds: u32 },
 }
@@ -70,6 +72,18 @@ fn check_command<'a>(alloc: Global) -> Result<Command<'a>, AllocError>
         .arg(file_argument(alloc))
 }
 
+/// `resume FILE`.
+fn resume_command<'a>(alloc: Global) -> Result<Command<'a>, AllocError>
+    ensures app { IfOk result (λ command. app_of command ≡ resume_app) }
+    ensures globals { IfOk result (λ command. (fields_of command).has_globals ≡ false) }
+{
+    Command::new(alloc, "resume")
+        .about(
+            "Runs a script from standard input on the machine of an image, and writes a line for each reply",
+        )
+        .arg(file_argument(alloc))
+}
+
 /// `race [--frames N] [--rounds N]`.
 fn race_command<'a>(alloc: Global) -> Result<Command<'a>, AllocError>
     ensures app { IfOk result (λ command. app_of command ≡ race_app) }
@@ -91,7 +105,7 @@ fn with_command<'a>(program: Command<'a>, command: Command<'a>) -> Result<Comman
     program.subcommand(command)
 }
 
-/// The four commands.
+/// The five commands.
 fn tower_command<'a>(alloc: Global) -> Result<Command<'a>, AllocError>
     ensures app { IfOk result (λ command. app_of command ≡ tower_app) }
     ensures globals { IfOk result (λ command. (fields_of command).has_globals ≡ false) }
@@ -102,6 +116,7 @@ fn tower_command<'a>(alloc: Global) -> Result<Command<'a>, AllocError>
     let tower = with_command(tower, race_command(alloc)?)?;
     let tower = with_command(tower, image_command(alloc)?)?;
     let tower = with_command(tower, check_command(alloc)?)?;
+    let tower = with_command(tower, resume_command(alloc)?)?;
     Ok(tower.subcommand_required(true))
 }
 
@@ -145,6 +160,10 @@ fn job_named<'a>(name: &str, matches: &ArgMatches<'a>) -> Option<Job<'a>>
         "check" => {
             let file = file_in(matches);
             Some(Job::Check { file })
+        }
+        "resume" => {
+            let file = file_in(matches);
+            Some(Job::Resume { file })
         }
         _ => None,
     }

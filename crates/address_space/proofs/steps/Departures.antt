@@ -30,7 +30,7 @@ use Rattle.address_space.proofs.steps.Openings.{empty_cost}
 use Rattle.address_space.proofs.frames.PageSteps.{pages-role}
 use Rattle.address_space.proofs.entries.Readings.{need_read}
 use Rattle.address_space.proofs.entries.Refinement.{get-spaces_of, leave_refines}
-use Rattle.address_space.proofs.standing.Standing.{past_end}
+use Rattle.address_space.proofs.standing.TablesStand.{past_end}
 use Rattle.address_space.proofs.steps.Steps.{live_small, none_before, role_own, role_other}
 use borrow.Author.Tests.{eqb-true, eq-eqb}
 use Rattle.address_space.specs.Stays.{FramesStay, none_goes, of_page}

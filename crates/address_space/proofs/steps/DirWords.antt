@@ -22,7 +22,7 @@ use Rattle.address_space.specs.Sound.{Tables, Pages, IsSound, InUse}
 use Rattle.address_space.specs.Changes.{Touched}
 use Rattle.address_space.proofs.entries.EntrySteps.{same_entries, entry_by_table}
 use Rattle.address_space.proofs.frames.PageSteps.{same_bytes, no_directory}
-use Rattle.address_space.proofs.standing.Standing.{past_end}
+use Rattle.address_space.proofs.standing.TablesStand.{past_end}
 use Rattle.address_space.proofs.steps.Steps.{inside}
 use Rattle.address_space.specs.Stays.{none_goes}
 use Rattle.address_space.proofs.entries.Staying.{stay_same, places_by}

@@ -2,14 +2,15 @@
 use Rattle.std.proofs.Common.{◌≡◌, ℕ, ◌-◌, ◌≤◌, [], List, length}
 use Rattle.std.specs.Io.KnownBytes.{Consumes}
 use Rattle.script_run.specs.Progress.{Reached}
+use Rattle.process_table.specs.State.{State}
 use Rattle.script_run.proofs.session.Session.take_script.Given as goal
 
 abbrev pub invariant-loop-total : goal.invariant-loop-total
 invariant-loop-total g l = record {
   within : l.total ≤ 16777216;
   lines : l.self.lines ≤ l.total;
-  reached : (frames : ℕ) → Reached frames [] l.fn.self (g.W.Write.contents l.fn.writer) (g.W.Write.contents l.fn.writer)
-      → (read : List ℕ) × (length read ≡ l.total) × Consumes (g.R.Read.remaining l.fn.reader) (g.R.Read.remaining l.reader) read × Reached frames read l.self (g.W.Write.contents l.fn.writer) (g.W.Write.contents l.writer);
+  reached : (begun : State) → Reached begun [] l.fn.self (g.W.Write.contents l.fn.writer) (g.W.Write.contents l.fn.writer)
+      → (read : List ℕ) × (length read ≡ l.total) × Consumes (g.R.Read.remaining l.fn.reader) (g.R.Read.remaining l.reader) read × Reached begun read l.self (g.W.Write.contents l.fn.writer) (g.W.Write.contents l.writer);
 }
 
 abbrev pub decreases-loop-total : goal.decreases-loop-total

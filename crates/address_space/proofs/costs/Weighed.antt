@@ -1,0 +1,316 @@
+-- Where frames agree, they and the lazy pages weigh no more than the costs: each process has as many uses as it costs,
+-- and a frame has a use for each of its slots.
+use Rattle.std.proofs.Common.{◌≡◌, ◌≢◌, ℕ, zero, suc, ◌+◌, ◌*◌, ◌<◌, ◌≤◌, ◌==◌, Bool, true, false, cond, ◌||◌, List, [], ◌∷◌, ◌++◌, map as list_map, length, length-append, refl, ap, sym, subst, ◌∙◌, arith, inl, inr, Option, Some, None}
+use Rattle.std.specs.Prelude.{slice_get, is_some, if◌then◌else◌, sum_by, unwrap_or, replicate}
+use Rattle.std.specs.Option.{option_map, option_and_then}
+use Rattle.std.specs.List.{list_any, range_with_len}
+use Rattle.std.specs.FinMap.Entries.{is_some-find}
+use Rattle.std.proofs.lemmas.Bool.{cases_eq, cases_lt}
+use Rattle.std.proofs.lemmas.List.{length-map}
+use Rattle.std.proofs.lemmas.List.Sums.{sum_by-cons}
+use Rattle.page_words.specs.Addresses.{slot_number, index_number}
+use Rattle.page_words.specs.Words.{is_present}
+use Rattle.page_words.specs.FiniteMap as map_of
+use Rattle.page_words.specs.FiniteMap.{Order, nat_order, same}
+use Rattle.page_words.specs.FiniteSet as set
+use Rattle.page_words.specs.FiniteSet.{Set}
+use Rattle.page_words.proofs.MapLemmas.{same_or_not, same_itself, contains-from_list, len-insert}
+use Rattle.page_words.proofs.OptionLemmas.{is_some-map}
+use Rattle.phys_memory.specs.Bytes.{frame_bytes, word_in}
+use Rattle.alloc_table.specs.declared.Role.{Role}
+use Rattle.alloc_table.specs.declared.Role.TheVariants.{Reserved, Free, Directory, Table, Page}
+use Rattle.alloc_table.specs.Roles.{weight, frames_weight}
+use Rattle.page_map.specs.declared.PageEntry.{PageEntry}
+use Rattle.page_map.specs.Entries.{Frames, dir_word, table_of, word_table, word_entry, entry_from, entry_at}
+use Rattle.address_space.specs.Spaces.{Slot, slot_order, Spaces, cost, pages_of, regions_of, at_page}
+use Rattle.address_space.specs.Slots.{user_slots}
+use Rattle.address_space.specs.Cells.{Entries, names, holders_of, lazy_count, spaces_of}
+use Rattle.address_space.specs.View.{Directories, directory_of, table_in, entry_in, entries_in, spaces_in, live_cost, total_cost}
+use Rattle.address_space.specs.Sound.{IsSound, InUse, weight_in}
+use Rattle.address_space.proofs.costs.Costs.{contains-pages_of}
+use Rattle.address_space.proofs.costs.CostSteps.{keys, region_there}
+use Rattle.address_space.proofs.costs.Hits.{once, hits, sum_from, sum-hits, hits-append, hits-map, weights-below}
+use Rattle.address_space.proofs.costs.Sizes.{len-subset}
+use Rattle.address_space.proofs.entries.EntrySteps.{get-entries_in, entry_by_table}
+use Rattle.address_space.proofs.entries.Refinement.{contains-holders_of}
+use Rattle.address_space.proofs.entries.UserSlots.{in_user_slots}
+use Rattle.address_space.proofs.steps.Steps.{live_small}
+use borrow.Author.Tests.{eqb-true, eq-eqb}
+
+-- a list has at least as many places as keys
+len-from_list : {K : Type 0} (o : Order K) (ks : List K) → set.len (set.from_list {o = o} ks) ≤ length ks
+len-from_list o [] = omega arith
+len-from_list o (k ∷ ks) =
+    let l = len-insert (set.from_list {o = o} ks) k tt in
+    let most = at_most (set.contains (set.from_list {o = o} ks) k) (set.len (set.from_list {o = o} ks)) in
+    let rest = len-from_list o ks in
+    omega (arith, l, most, rest)
+  where
+    at_most : (b : Bool) (n : ℕ) → cond b n (n + 1) ≤ n + 1
+    at_most true n = omega arith
+    at_most false n = omega arith
+
+member : {K : Type 0} {o : Order K} (s : Set o) (k : K) → set.contains s k ≡ true → list_any (same o k) (set.items s) ≡ true
+member {K} {o} s k h = sym (is_some-find o.cmp k s.entries) ∙ h
+
+items_length : {K : Type 0} {o : Order K} (s : Set o) → length (set.items s) ≡ set.len s
+items_length s = length-map s.entries (λ e. e.0)
+
+any-append : {A : Type 0} (t : A → Bool) (xs ys : List A) → list_any t (xs ++ ys) ≡ (list_any t xs || list_any t ys)
+any-append t [] ys = refl
+any-append t (x ∷ xs) ys = ap (λ b. t x || b) (any-append t xs ys) ∙ or_assoc (t x) (list_any t xs) (list_any t ys)
+  where
+    or_assoc : (a b c : Bool) → (a || (b || c)) ≡ ((a || b) || c)
+    or_assoc true b c = refl
+    or_assoc false b c = refl
+
+or_either : (a b : Bool) → b ≡ true → (a || b) ≡ true
+or_either true b h = refl
+or_either false b h = h
+
+module _ (directories : List (Option ℕ)) (bytes : List ℕ) (roles : List Role) (S : IsSound directories bytes roles) (used : InUse (directory_of directories) (frame_bytes bytes)) where
+  abbrev D : Directories
+  D = directory_of directories
+
+  abbrev m : Frames
+  m = frame_bytes bytes
+
+  abbrev E : Entries
+  E = entries_in D m
+
+  abbrev spaces : Spaces
+  spaces = spaces_of E m
+
+  abbrev pages : ℕ → Set nat_order
+  pages p = pages_of spaces p
+
+  abbrev regions : ℕ → Set nat_order
+  regions p = regions_of (pages p)
+
+  -- the frame of a page, 0 where it has no entry
+  abbrev frame_at : ℕ → ℕ → ℕ
+  frame_at p page = unwrap_or (option_map (λ (e : PageEntry). e.frame) (map_of.get E (at_page p page))) 0
+
+  -- the table of a region, 0 where it has none
+  abbrev table_at : ℕ → ℕ → ℕ
+  table_at p s = unwrap_or (table_in D m p s) 0
+
+  -- the frames that a process uses: as many as it costs
+  abbrev uses_of : ℕ → Option ℕ → List ℕ
+  uses_of p None = []
+  uses_of p (Some d) = d ∷ (list_map (table_at p) (set.items (regions p)) ++ list_map (frame_at p) (set.items (pages p)))
+
+  uses : ℕ → ℕ → List ℕ
+  uses a zero = []
+  uses a (suc n) = uses_of a (D a) ++ uses (a + 1) n
+
+  length-uses_of : (p : ℕ) (x : Option ℕ) → length (uses_of p x) ≡ (if is_some x then cost spaces p else 0)
+  length-uses_of p None = refl
+  length-uses_of p (Some d) =
+      let both = length-append (list_map (table_at p) (set.items (regions p))) (list_map (frame_at p) (set.items (pages p))) in
+      let a = length-map (set.items (regions p)) (table_at p) in
+      let b = length-map (set.items (pages p)) (frame_at p) in
+      let c = items_length (regions p) in
+      let e = items_length (pages p) in
+      omega (arith, both, a, b, c, e)
+
+  length-uses : (a n : ℕ) → length (uses a n) ≡ sum_by (live_cost D spaces) (range_with_len a n)
+  unfolding uses
+  length-uses a zero = refl
+  length-uses a (suc n) =
+      let both = length-append (uses_of a (D a)) (uses (a + 1) n) in
+      let s = sum_by-cons (live_cost D spaces) a (range_with_len (a + 1) n) in
+      let own = length-uses_of a (D a) in
+      let rest = length-uses (a + 1) n in
+      omega (arith, both, s, own, rest)
+
+  hits-uses : (f p a n : ℕ) → a ≤ p → p < a + n → hits f (uses_of p (D p)) ≤ hits f (uses a n)
+  unfolding uses
+  hits-uses f p a zero low high = absurd (omega arith)
+  hits-uses f p a (suc n) low high = elim (cases_eq p a) [
+    | inl is ↦
+        let both = hits-append f (uses_of a (D a)) (uses (a + 1) n) in
+        let own : hits f (uses_of p (D p)) ≡ hits f (uses_of a (D a)) = ap (λ q. hits f (uses_of q (D q))) is in
+        omega (arith, both, own)
+    | inr differ ↦
+        let both = hits-append f (uses_of a (D a)) (uses (a + 1) n) in
+        let rest = hits-uses f p (a + 1) n (omega (arith, differ)) (omega arith) in
+        omega (arith, both, rest)
+  ]
+
+  -- ---- Directories and tables
+
+  small : (p d : ℕ) → D p ≡ Some d → p < 64
+  small p d live = live_small directories p d S.pids live
+
+  directory-hits : (p f : ℕ) → D p ≡ Some f → 1 ≤ hits f (uses 0 64)
+  directory-hits p f live =
+      let few = small p f live in
+      let own : 1 ≤ hits f (uses_of p (D p)) = subst (λ x. 1 ≤ hits f (uses_of p x)) (sym live) (let e : once (f == f) ≡ 1 = ap once (eq-eqb f f refl) in omega (arith, e)) in
+      let all = hits-uses f p 0 64 (omega arith) (omega (arith, few)) in
+      omega (arith, own, all)
+
+  -- a slot outside the user range has no table
+  user_slot : (p d s t : ℕ) → D p ≡ Some d → s < 1024 → table_of m d s ≡ Some t → (256 ≤ s) × (s < 960)
+  user_slot p d s t live wide is = elim (cases_lt s 256) [
+    | inl below ↦ absurd (let z = S.tables.outside p d s live wide (inl below) in let n : table_of m d s ≡ None = ap word_table z in cc)
+    | inr above ↦ elim (cases_lt s 960) [
+      | inl inside ↦ (above, inside)
+      | inr over ↦ absurd (let z = S.tables.outside p d s live wide (inr over) in let n : table_of m d s ≡ None = ap word_table z in cc)
+    ]
+  ]
+
+  -- the region of a table has a page
+  region-there : (p d s t : ℕ) → D p ≡ Some d → s < 1024 → table_in D m p s ≡ Some t → set.contains (regions p) s ≡ true
+  region-there p d s t live wide there =
+      let u = used p s t there in
+      let range = user_slot p d s t live wide (sym (ap (option_and_then (λ d. table_of m d s)) live) ∙ there) in
+      let page : ℕ = s * 1024 + u.0 in
+      let r : slot_number page ≡ s = omega (arith, u.1) in
+      let index : index_number page ≡ u.0 = omega (arith, u.1) in
+      let q : Slot = at_page p page in
+      let entry : is_some (entry_in D m q) ≡ true =
+      ap is_some (entry_by_table D m q ∙ ap (option_and_then (λ table. word_entry (word_in (m table) (index_number page)))) (ap (table_in D m p) r ∙ there) ∙ ap (λ i. word_entry (word_in (m t) i)) index)
+      ∙ ap (λ b. is_some (if b then Some (entry_from (word_in (m t) u.0)) else None)) u.2 in
+      let low : 0x40000 ≤ page = omega (arith, u.1, range.0) in
+      let high : page < 0xf0000 = omega (arith, u.1, range.1) in
+      let get : is_some (map_of.get E q) ≡ true = ap is_some (get-entries_in D m q ∙ ap (λ b. cond b (entry_in D m q) None) (in_user_slots p page (small p d live) low high)) ∙ entry in
+      let page_there : set.contains (pages p) page ≡ true = contains-pages_of spaces p page ∙ keys E m q ∙ get in
+      subst (λ n. set.contains (regions p) n ≡ true) r (region_there (pages p) page page_there)
+
+  table-hits : (p s f : ℕ) → s < 1024 → table_in D m p s ≡ Some f → 1 ≤ hits f (uses 0 64)
+  table-hits p s f wide there = by (D p) refl
+    where
+      by : (x : Option ℕ) → D p ≡ x → 1 ≤ hits f (uses 0 64)
+      by None is = absurd (let n : table_in D m p s ≡ None = ap (option_and_then (λ d. table_of m d s)) is in cc)
+      by (Some d) is =
+          let few = small p d is in
+          let region = member (regions p) s (region-there p d s f is wide there) in
+          let own = hits-map nat_order (table_at p) s f (set.items (regions p)) region (ap (λ o. unwrap_or o 0) there) in
+          let both = hits-append f (list_map (table_at p) (set.items (regions p))) (list_map (frame_at p) (set.items (pages p))) in
+          let here : 1 ≤ hits f (uses_of p (D p)) = subst (λ x. 1 ≤ hits f (uses_of p x)) (sym is) (omega (arith, own, both)) in
+          let all = hits-uses f p 0 64 (omega arith) (omega (arith, few)) in
+          omega (arith, here, all)
+
+  -- ---- Pages
+
+  -- the slots of a process at these pages whose frame is f
+  abbrev slots_hit : ℕ → ℕ → List ℕ → List Slot
+  slots_hit f p [] = []
+  slots_hit f p (page ∷ rest) = cond (frame_at p page == f) (at_page p page ∷ slots_hit f p rest) (slots_hit f p rest)
+
+  length-slots_hit : (f p : ℕ) (ps : List ℕ) → length (slots_hit f p ps) ≡ hits f (list_map (frame_at p) ps)
+  length-slots_hit f p [] = refl
+  length-slots_hit f p (page ∷ rest) = by (frame_at p page == f) (length-slots_hit f p rest)
+    where
+      by : (b : Bool) → length (slots_hit f p rest) ≡ hits f (list_map (frame_at p) rest) → length (cond b (at_page p page ∷ slots_hit f p rest) (slots_hit f p rest)) ≡ once b + hits f (list_map (frame_at p) rest)
+      by true h = omega (arith, h)
+      by false h = omega (arith, h)
+
+  any-slots_hit : (f p page : ℕ) (ps : List ℕ) → list_any (same nat_order page) ps ≡ true → frame_at p page ≡ f → list_any (same slot_order (at_page p page)) (slots_hit f p ps) ≡ true
+  any-slots_hit f p page [] h e = cc
+  any-slots_hit f p page (x ∷ xs) h e = elim (same_or_not nat_order page x) [
+    | inl is ↦ first (frame_at p x == f) (eq-eqb (frame_at p x) f (ap (frame_at p) (sym is.0) ∙ e)) (ap (λ y. same slot_order (at_page p page) (at_page p y)) (sym is.0) ∙ same_itself slot_order (at_page p page))
+    | inr other ↦ later (frame_at p x == f) (any-slots_hit f p page xs (ap (λ b. b || list_any (same nat_order page) xs) (sym other) ∙ h) e)
+  ]
+    where
+      first : (b : Bool) → b ≡ true → same slot_order (at_page p page) (at_page p x) ≡ true → list_any (same slot_order (at_page p page)) (cond b (at_page p x ∷ slots_hit f p xs) (slots_hit f p xs)) ≡ true
+      first true h t = ap (λ b. b || list_any (same slot_order (at_page p page)) (slots_hit f p xs)) t
+      first false h t = cc
+
+      later : (b : Bool) → list_any (same slot_order (at_page p page)) (slots_hit f p xs) ≡ true → list_any (same slot_order (at_page p page)) (cond b (at_page p x ∷ slots_hit f p xs) (slots_hit f p xs)) ≡ true
+      later true h = or_either (same slot_order (at_page p page) (at_page p x)) (list_any (same slot_order (at_page p page)) (slots_hit f p xs)) h
+      later false h = h
+
+  abbrev slots_of : ℕ → ℕ → Option ℕ → List Slot
+  slots_of f p None = []
+  slots_of f p (Some d) = slots_hit f p (set.items (pages p))
+
+  -- the slots of all whose frame is f
+  slots : ℕ → ℕ → ℕ → List Slot
+  slots f a zero = []
+  slots f a (suc n) = slots_of f a (D a) ++ slots f (a + 1) n
+
+  length-slots_of : (f p : ℕ) (x : Option ℕ) → length (slots_of f p x) ≤ hits f (uses_of p x)
+  length-slots_of f p None = omega arith
+  length-slots_of f p (Some d) =
+      let own = length-slots_hit f p (set.items (pages p)) in
+      let both = hits-append f (list_map (table_at p) (set.items (regions p))) (list_map (frame_at p) (set.items (pages p))) in
+      omega (arith, own, both)
+
+  length-slots : (f a n : ℕ) → length (slots f a n) ≤ hits f (uses a n)
+  unfolding uses slots
+  length-slots f a zero = omega arith
+  length-slots f a (suc n) =
+      let l = length-append (slots_of f a (D a)) (slots f (a + 1) n) in
+      let h = hits-append f (uses_of a (D a)) (uses (a + 1) n) in
+      let own = length-slots_of f a (D a) in
+      let rest = length-slots f (a + 1) n in
+      omega (arith, l, h, own, rest)
+
+  any-slots : (f : ℕ) (t : Slot → Bool) (p a n : ℕ) → a ≤ p → p < a + n → list_any t (slots_of f p (D p)) ≡ true → list_any t (slots f a n) ≡ true
+  unfolding slots
+  any-slots f t p a zero low high h = absurd (omega arith)
+  any-slots f t p a (suc n) low high h = any-append t (slots_of f a (D a)) (slots f (a + 1) n) ∙ elim (cases_eq p a) [
+    | inl is ↦ ap (λ b. b || list_any t (slots f (a + 1) n)) (ap (λ q. list_any t (slots_of f q (D q))) (sym is) ∙ h)
+    | inr differ ↦ or_either (list_any t (slots_of f a (D a))) (list_any t (slots f (a + 1) n)) (any-slots f t p (a + 1) n (omega (arith, differ)) (omega arith) h)
+  ]
+
+  -- a slot that names f is one of them
+  named : (f : ℕ) (x : Option PageEntry) → names f x ≡ true → (is_some x ≡ true) × (unwrap_or (option_map (λ (e : PageEntry). e.frame) x) 0 ≡ f)
+  named f None h = cc
+  named f (Some e) h = (refl, eqb-true e.frame f h)
+
+  holder-in : (f : ℕ) (slot : Slot) → set.contains (holders_of E f) slot ≡ true → list_any (same slot_order slot) (slots f 0 64) ≡ true
+  holder-in f slot h =
+      let n = named f (map_of.get E slot) (sym (contains-holders_of E f slot) ∙ h) in
+      by n (D slot.pid) refl
+    where
+      gone : (b : Bool) (x : Option PageEntry) → x ≡ None → is_some (cond b x None) ≡ true → ⊥
+      gone true None n h = cc
+      gone true (Some d) n h = cc
+      gone false x n h = cc
+
+      by : (is_some (map_of.get E slot) ≡ true) × (frame_at slot.pid slot.page ≡ f) → (x : Option ℕ) → D slot.pid ≡ x → list_any (same slot_order slot) (slots f 0 64) ≡ true
+      by n None is = absurd (gone (list_any (same slot_order slot) user_slots) (entry_in D m slot) (ap (option_and_then (λ d. entry_at m d slot.page)) is) (sym (ap is_some (get-entries_in D m slot)) ∙ n.0))
+      by n (Some d) is =
+          let few = small slot.pid d is in
+          let page_there : set.contains (pages slot.pid) slot.page ≡ true = contains-pages_of spaces slot.pid slot.page ∙ keys E m slot ∙ n.0 in
+          let own = any-slots_hit f slot.pid slot.page (set.items (pages slot.pid)) (member (pages slot.pid) slot.page page_there) n.1 in
+          any-slots f (same slot_order slot) slot.pid 0 64 (omega arith) (omega (arith, few)) (subst (λ x. list_any (same slot_order slot) (slots_of f slot.pid x) ≡ true) (sym is) own)
+
+  holders-hits : (f : ℕ) → set.len (holders_of E f) ≤ hits f (uses 0 64)
+  holders-hits f =
+      let a = len-subset (holders_of E f) (set.from_list {o = slot_order} (slots f 0 64)) (λ slot h. contains-from_list slot_order (slots f 0 64) slot ∙ holder-in f slot h) in
+      let b = len-from_list slot_order (slots f 0 64) in
+      let c = length-slots f 0 64 in
+      omega (arith, a, b, c)
+
+  -- ---- All frames
+
+  frame-hits : ((p s t : ℕ) → slice_get roles t ≡ Some (Table p s) → s < 1024) → (f : ℕ) (r : Role) → slice_get roles f ≡ Some r → 1 ≤ f → weight r ≤ hits f (uses 0 64)
+  frame-hits wide f Reserved is up = absurd (let z = S.tables.reserved f is in omega (arith, z, up))
+  frame-hits wide f Free is up = omega arith
+  frame-hits wide f (Directory p) is up = directory-hits p f (S.tables.directory_back p f is)
+  frame-hits wide f (Table p s) is up = table-hits p s f (wide p s f is) (S.tables.table_back p s f is)
+  frame-hits wide f (Page c) is up = let n = (S.pages.counts f c is).1 in let h = holders-hits f in omega (arith, n, h)
+
+  all-weigh : (rs : List Role) → slice_get rs 0 ≡ Some Reserved → ((f : ℕ) (r : Role) → slice_get rs f ≡ Some r → 1 ≤ f → weight r ≤ hits f (uses 0 64)) → frames_weight rs + lazy_count E ≤ 1 + length (uses 0 64)
+  all-weigh [] first each = cc
+  all-weigh (r ∷ rs) first each =
+      let is : r ≡ Reserved = ap (λ o. unwrap_or o r) first in
+      let w : weight r ≡ 1 = ap weight is in
+      let s = sum_by-cons weight r rs in
+      let rest = weights-below rs (λ f. hits f (uses 0 64)) 1 (λ i q is. (let e : suc i ≡ 1 + i = omega arith in subst (λ k. weight q ≤ hits k (uses 0 64)) e (each (suc i) q is (omega arith)))) in
+      let lazy = holders-hits 0 in
+      let most = sum-hits (uses 0 64) 0 (suc (length rs)) in
+      omega (arith, w, s, rest, lazy, most)
+
+  weigh : ((p s t : ℕ) → slice_get roles t ≡ Some (Table p s) → s < 1024) → frames_weight roles + lazy_count E ≤ 1 + sum_by (live_cost D spaces) (range_with_len 0 64)
+  weigh wide = subst (λ n. frames_weight roles + lazy_count E ≤ 1 + n) (length-uses 0 64) (all-weigh roles S.tables.zero_role (frame-hits wide))
+
+-- frames that agree, with the lazy pages, weigh no more than the costs
+pub weighs : (directories : List (Option ℕ)) (bytes : List ℕ) (roles : List Role) → IsSound directories bytes roles → InUse (directory_of directories) (frame_bytes bytes)
+    → ((p s t : ℕ) → slice_get roles t ≡ Some (Table p s) → s < 1024) → weight_in directories bytes roles ≤ 1 + total_cost directories (spaces_in directories bytes)
+unfolding total_cost spaces_in
+weighs directories bytes roles sound used wide = weigh directories bytes roles sound used wide

@@ -1,0 +1,227 @@
+-- The frames of a sound image with today's words agree, as a machine's own do.
+use Rattle.std.proofs.Common.{◌≡◌, ℕ, zero, suc, ◌+◌, ◌*◌, ◌<◌, ◌≤◌, Bool, true, false, cond, List, [], ◌∷◌, length, map as list_map, refl, ap, sym, ◌∙◌, subst, arith, inl, inr, Option, Some, None}
+use Rattle.std.specs.Prelude.{◌⊎◌, ◌↔◌, ◌&&◌, is_some, slice_get, slice_index, nat_lt, nat_le, IsTrue, unwrap_or, if◌then◌else◌}
+use Rattle.std.specs.Cmp.{both_ways}
+use Rattle.std.specs.Option.{option_and_then, option_map}
+use Rattle.std.specs.List.{All, range_with_len}
+use Rattle.std.proofs.lemmas.Bool.{cases_lt}
+use Rattle.std.proofs.lemmas.List.{get_or_default}
+use Rattle.std.proofs.lemmas.Bool.Decides.{nat_tests}
+use Rattle.std.proofs.lemmas.Option.{slice_get_within, slice_get_past}
+use Rattle.page_words.specs.Addresses.{slot_number, index_number}
+use Rattle.page_words.specs.Words.{frame_number, is_present, is_lazy, NamesPage}
+use Rattle.page_words.specs.FiniteMap as map
+use Rattle.page_words.specs.FiniteSet as set
+use Rattle.page_words.specs.FiniteSet.{Set}
+use Rattle.page_words.proofs.MapLemmas.{same_set}
+use Rattle.phys_memory.specs.Bytes.{frame_bytes, word_in}
+use Rattle.phys_memory.proofs.Frames.{length-frame, byte-frame}
+use Rattle.alloc_table.specs.declared.Role.{Role}
+use Rattle.alloc_table.specs.declared.Role.TheVariants.{Reserved, Free, Directory, Table, Page}
+use Rattle.page_map.specs.declared.PageEntry.{PageEntry}
+use Rattle.page_map.specs.Entries.{Frames, dir_word, word_table, table_of, word_entry, entry_from}
+use Rattle.page_map.proofs.PageLemmas.{count_range-same}
+use Rattle.address_space.specs.Spaces.{Slot, slot_order, Cell, Spaces, at_page}
+use Rattle.address_space.specs.Cells.{Entries, holders_of, spaces_of}
+use Rattle.address_space.specs.Image.{Image, CellStands, IsCount, IsSoundImage, StandsFor, image_from, directory_at, word_of, is_user_slot, named_by, table_at, page_word, page_frame}
+use Rattle.address_space.specs.ImageWords.{own_frame}
+use Rattle.address_space.specs.View.{Directories, directory_of, table_in, entry_in, entries_in, spaces_in}
+use Rattle.address_space.specs.Counts.{IsCounted, pages_by}
+use Rattle.address_space.specs.Restored.{HasRoom, words_by, words_where, counted_at}
+use Rattle.address_space.specs.Sound.{Tables, Pages, HoldsPage, IsSound, InUse, IsSpaces}
+use Rattle.address_space.proofs.costs.CostSteps.{keys}
+use Rattle.address_space.proofs.costs.Weighed.{weighs}
+use Rattle.address_space.proofs.entries.EntrySteps.{get-entries_in, entry_by_table}
+use Rattle.address_space.proofs.entries.UserSlots.{in_user_slots}
+use Rattle.address_space.proofs.steps.Steps.{live_small}
+use Rattle.address_space.proofs.standing.TablesStand as tables
+use Rattle.address_space.proofs.standing.TablesStand.{past_end, own_is}
+use Rattle.address_space.proofs.standing.Standing.{one_group, image_stands}
+
+-- a slot past either end of the user range
+beside : (s : ℕ) → (s < 256) ⊎ (960 ≤ s) → is_user_slot s ≡ false
+beside s (inl below) = let f : nat_le 256 s ≡ false = grind (arith, nat_tests) in λ i. f i && nat_lt s 960
+beside s (inr over) = let t : nat_le 256 s ≡ true = grind (arith, nat_tests) in let f : nat_lt s 960 ≡ false = grind (arith, nat_tests) in λ i. t i && f i
+
+-- a slot that names a table is one of the user range
+pub user_named : (s word t : ℕ) → named_by s word ≡ Some t → (256 ≤ s) × (s < 960)
+user_named s word t h = by (is_user_slot s) refl h
+  where
+    by : (b : Bool) → is_user_slot s ≡ b → (if b && is_present word then Some (frame_number word) else None) ≡ Some t → (256 ≤ s) × (s < 960)
+    by true is k = elim (cases_lt s 256) [
+      | inl below ↦ absurd (let f = beside s (inl below) in cc)
+      | inr above ↦ elim (cases_lt s 960) [
+        | inl inside ↦ (above, inside)
+        | inr over ↦ absurd (let f = beside s (inr over) in cc)
+      ]
+    ]
+    by false is k = cc
+
+pub from_map : {A B : Type 0} (f : A → B) (x : Option A) (b : B) → option_map f x ≡ Some b → (a : A) × (x ≡ Some a) × (f a ≡ b)
+from_map f None b h = cc
+from_map f (Some a) b h = (a, refl, ap (λ o. unwrap_or o (f a)) h)
+
+pub from_then : {A B : Type 0} (f : A → Option B) (x : Option A) (b : B) → option_and_then f x ≡ Some b → (a : A) × (x ≡ Some a) × (f a ≡ Some b)
+from_then f None b h = cc
+from_then f (Some a) b h = (a, refl, h)
+
+module _ (directories : List (Option ℕ)) (bytes : List ℕ) (roles : List Role) (pids : length directories ≡ 64) (least : 16 ≤ length roles) (few : length roles ≤ 4096)
+    (I : IsSoundImage (image_from directories bytes roles)) where
+  abbrev D : Directories
+  D = directory_of directories
+
+  abbrev m : Frames
+  m = frame_bytes bytes
+
+  abbrev image : Image
+  image = image_from directories bytes roles
+
+  abbrev E : Entries
+  E = entries_in D m
+
+  whole : (f : ℕ) → f < length roles → length (m f) ≡ 4096
+  whole f inside = let size = I.size in length-frame bytes f (omega (arith, size, inside))
+
+  -- outside the user range a directory has no word
+  outside_word : (p d s : ℕ) → D p ≡ Some d → is_user_slot s ≡ false → dir_word m d s ≡ 0
+  outside_word p d s live out = elim (cases_lt s 1024) [
+    | inl inside ↦ I.no_more p d s live inside out
+    | inr past ↦ past_end (m d) s (whole d (slice_get_within roles d (Directory p) ((I.directories d p).1 live))) past
+  ]
+
+  same_table : (p s : ℕ) → table_at image p s ≡ table_in D m p s
+  same_table p s = by (D p) refl
+    where
+      at : (d : ℕ) → D p ≡ Some d → (b : Bool) → is_user_slot s ≡ b → (if b && is_present (dir_word m d s) then Some (frame_number (dir_word m d s)) else None) ≡ word_table (dir_word m d s)
+      at d live true is = refl
+      at d live false is = let z = outside_word p d s live is in sym (ap word_table z)
+
+      by : (x : Option ℕ) → D p ≡ x → option_and_then (λ d. named_by s (word_of image d s)) x ≡ option_and_then (λ d. table_of m d s) x
+      by None is = refl
+      by (Some d) is = at d is (is_user_slot s) refl
+
+  wide : (p s t : ℕ) → slice_get roles t ≡ Some (Table p s) → s < 1024
+  wide p s t is =
+      let d = from_then (λ d. named_by s (word_of image d s)) (directory_at image p) t ((I.tables t p s).0 is) in
+      let low = user_named s (word_of image d.0 s) t d.2 in
+      omega (arith, low.1)
+
+  tables_agree : Tables D m (slice_get roles)
+  tables_agree = record {
+    zero_role = (I.reserved 0 (omega (arith, least))).1 refl;
+    zero_bytes = I.zero_frame;
+    reserved = λ f is. (I.reserved f (slice_get_within roles f Reserved is)).0 is;
+    directory = λ p d is. (I.directories d p).1 is;
+    directory_back = λ p d is. (I.directories d p).0 is;
+    table = λ p s t is. (I.tables t p s).1 (same_table p s ∙ is);
+    table_back = λ p s t is. sym (same_table p s) ∙ (I.tables t p s).0 is;
+    dir_words = I.directory_words;
+    outside = λ p d s live inside out. I.no_more p d s live inside (beside s out);
+    table_words = λ p s t i is inside. I.table_words p s t i (same_table p s ∙ is) inside;
+    long = λ f r is. whole f (slice_get_within roles f r is);
+  }
+
+  read_entry : (slot : Slot) → map.get E slot ≡ option_map entry_from (page_word image slot)
+  read_entry = tables.read_entry directories bytes roles tables_agree pids
+
+  group_is : (f : ℕ) (slot : Slot) → 1 ≤ f → IsTrue (set.contains (holders_of E f) slot) ↔ (page_frame image slot ≡ Some f)
+  group_is = tables.group_is directories bytes roles tables_agree pids
+
+  page_up : (f c : ℕ) → slice_get roles f ≡ Some (Page c) → 1 ≤ f
+  page_up zero c is = absurd (let z = (I.reserved 0 (omega (arith, least))).1 refl in cc)
+  page_up (suc f) c is = omega arith
+
+  holds : (slot : Slot) (e : PageEntry) → map.get E slot ≡ Some e → HoldsPage (slice_get roles e.frame)
+  holds slot e found =
+      let w = from_map entry_from (page_word image slot) e (sym (read_entry slot) ∙ found) in
+      let kernel = tables.word_names directories bytes roles tables_agree pids slot w.0 w.1 in
+      subst (λ (e : PageEntry). HoldsPage (slice_get roles e.frame)) w.2 (by w.0 w.1 kernel (is_lazy w.0) refl)
+    where
+      by : (word : ℕ) → page_word image slot ≡ Some word → NamesPage word → (b : Bool) → is_lazy word ≡ b → HoldsPage (slice_get roles (frame_number word))
+      by word at kernel true is = inl (ap (slice_get roles) (kernel.zero is) ∙ (I.reserved 0 (omega (arith, least))).1 refl)
+      by word at kernel false is = inr (I.pages slot (frame_number word) (ap (option_and_then (own_frame 2)) at ∙ own_is word is))
+
+  counted : (f c : ℕ) → slice_get roles f ≡ Some (Page c) → (0 < c) × (c ≡ set.len (holders_of E f))
+  counted f c is =
+      let k = I.counts f c is in
+      let n : IsCount slot_order c (λ slot. page_frame image slot ≡ Some f) = k.1 in
+      let same = same_set n.members (holders_of E f) (λ slot. one_group _ _ (n.are slot) (group_is f slot (page_up f c is))) in
+      (k.0, n.count ∙ ap set.len same)
+
+  pub sound : IsSound directories bytes roles
+  sound = record {
+    size = I.size;
+    few = few;
+    pids = pids;
+    tables = tables_agree;
+    pages = record { pages = holds; counts = counted };
+  }
+
+  pub in_use : InUse D m
+  in_use p s t is = I.in_use p s t (same_table p s ∙ is)
+
+  pub kept : HasRoom directories bytes roles → IsSpaces directories bytes roles
+  kept room = record { sound = sound; in_use = in_use; weighs = weighs directories bytes roles sound in_use wide; within = room }
+
+  -- and stand for the spaces, whatever these cost
+  pub stands : StandsFor image (spaces_in directories bytes)
+  unfolding spaces_in
+  stands = record { sound = I; cells = tables.cell_stands directories bytes roles tables_agree pids }
+
+  -- the bytes of a cell are those of a frame in memory
+  pub cell_long : (slot : Slot) (word : ℕ) (cell : Cell) → CellStands image slot word cell → frame_number word < length roles → length cell.bytes ≡ 4096
+  cell_long slot word cell c inside = ap length c.bytes ∙ whole (frame_number word) inside
+
+  pub cell_small : ((i : ℕ) → slice_index bytes i < 256) → (slot : Slot) (word : ℕ) (cell : Cell) → CellStands image slot word cell → frame_number word < length roles → All (λ b. b < 256) cell.bytes
+  cell_small small slot word cell c inside = subst (λ (x : List ℕ). All (λ b. b < 256) x) (sym c.bytes) each
+    where
+      each : All (λ b. b < 256) (m (frame_number word))
+      each k d low =
+          let long = whole (frame_number word) inside in
+          let within : k < 4096 = omega (arith, low, long) in
+          subst (λ b. b < 256) (sym (byte-frame bytes (frame_number word) k within) ∙ get_or_default (m (frame_number word)) k 0 d low) (small (4096 * frame_number word + k))
+
+  -- cells on one frame have the same bytes
+  pub cells_alike : (slot other : Slot) (word more : ℕ) (cell c : Cell) → CellStands image slot word cell → CellStands image other more c → frame_number more ≡ frame_number word → c.bytes ≡ cell.bytes
+  cells_alike slot other word more cell c h k same = k.bytes ∙ ap m same ∙ sym h.bytes
+
+  -- ---- The counts of the tables' pages
+
+  -- an index of a table has a word where the page there is mapped
+  word-mapped : (p s t i : ℕ) → slice_get roles t ≡ Some (Table p s) → i < 1024 → is_present (word_in (m t) (0 + i)) ≡ map.contains_key (spaces_of E m) (at_page p (1024 * s + i))
+  word-mapped p s t i is low =
+      let there = (I.tables t p s).0 is in
+      let d = from_then (λ d. named_by s (word_of image d s)) (directory_at image p) t there in
+      let user = user_named s (word_of image d.0 s) t d.2 in
+      let page : ℕ = 1024 * s + i in
+      let r : slot_number page ≡ s = omega (arith, low) in
+      let index : index_number page ≡ i = omega (arith, low) in
+      let first : 0 + i ≡ i = omega arith in
+      let q : Slot = at_page p page in
+      let entry : entry_in D m q ≡ word_entry (word_in (m t) i) =
+      entry_by_table D m q ∙ ap (option_and_then (λ table. word_entry (word_in (m table) (index_number page)))) (ap (table_in D m p) r ∙ sym (same_table p s) ∙ there) ∙ ap (λ i. word_entry (word_in (m t) i)) index in
+      let found : map.get E q ≡ entry_in D m q = get-entries_in D m q ∙ ap (λ b. cond b (entry_in D m q) None) (in_user_slots p page (live_small directories p d.0 pids d.1) (omega (arith, user.0)) (omega (arith, user.1, low))) in
+      ap (λ i. is_present (word_in (m t) i)) first ∙ sym (keys E m q ∙ ap is_some (found ∙ entry) ∙ present (is_present (word_in (m t) i)) (entry_from (word_in (m t) i)))
+    where
+      present : (b : Bool) (e : PageEntry) → is_some (if b then Some e else None) ≡ b
+      present true e = refl
+      present false e = refl
+
+  pages-words : (f : ℕ) (r : Role) → slice_get roles f ≡ Some r → words_by bytes f r ≡ pages_by (spaces_of E m) r
+  pages-words f Reserved is = refl
+  pages-words f Free is = refl
+  pages-words f (Directory p) is = refl
+  pages-words f (Table p s) is = count_range-same (λ i. is_present (word_in (m f) i)) (λ page. map.contains_key (spaces_of E m) (at_page p page)) 0 (1024 * s) 1024 (λ i low. word-mapped p s f i is low)
+  pages-words f (Page c) is = refl
+
+  all-words : (rs : List Role) (a : ℕ) → ((i : ℕ) (r : Role) → slice_get rs i ≡ Some r → counted_at bytes roles (a + i) ≡ pages_by (spaces_of E m) r)
+      → (f : ℕ) → slice_get (list_map (counted_at bytes roles) (range_with_len a (length rs))) f ≡ option_map (pages_by (spaces_of E m)) (slice_get rs f)
+  all-words [] a each f = refl
+  all-words (r ∷ rs) a each zero = let here : a ≡ a + 0 = omega arith in ap Some (ap (counted_at bytes roles) here ∙ each 0 r refl)
+  all-words (r ∷ rs) a each (suc f) = all-words rs (a + 1) (λ i q is. (let next : a + 1 + i ≡ a + suc i = omega arith in ap (counted_at bytes roles) next ∙ each (suc i) q is)) f
+
+  pub words_counted : (counts : List ℕ) → counts ≡ list_map (counted_at bytes roles) (range_with_len 0 (length roles)) → IsCounted (spaces_in directories bytes) roles counts
+  unfolding spaces_in
+  words_counted counts is f =
+      ap (λ xs. slice_get xs f) is
+      ∙ all-words roles 0 (λ i r there. (let here : 0 + i ≡ i = omega arith in ap (counted_at bytes roles) here ∙ ap (words_where bytes i) there ∙ pages-words i r there)) f

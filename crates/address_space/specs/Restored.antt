@@ -1,0 +1,32 @@
+-- Address spaces from directories, bytes and roles.
+use Rattle.std.specs.Prelude.{ℕ, ◌+◌, ◌≤◌, List, length, Option, Some, None, slice_get}
+use Rattle.page_words.specs.Words.{is_present}
+use Rattle.phys_memory.specs.Bytes.{frame_bytes, word_in}
+use Rattle.page_map.specs.Pages.{count_range}
+use Rattle.alloc_table.specs.declared.Role.{Role}
+use Rattle.alloc_table.specs.declared.Role.TheVariants.{Reserved, Free, Directory, Table, Page}
+use Rattle.address_space.specs.View.{View, spaces_in, total_cost}
+
+-- how many words of a frame are present, where it is a table
+abbrev pub words_by : List ℕ → ℕ → Role → ℕ
+words_by bytes f Reserved = 0
+words_by bytes f Free = 0
+words_by bytes f (Directory p) = 0
+words_by bytes f (Table p s) = count_range (λ i. is_present (word_in (frame_bytes bytes f) i)) 0 1024
+words_by bytes f (Page count) = 0
+
+abbrev pub words_where : List ℕ → ℕ → Option Role → ℕ
+words_where bytes f None = 0
+words_where bytes f (Some role) = words_by bytes f role
+
+-- how many words of a frame of these roles are
+abbrev pub counted_at : List ℕ → List Role → ℕ → ℕ
+counted_at bytes roles f = words_where bytes f (slice_get roles f)
+
+-- the address spaces of these directories, bytes and roles
+abbrev pub view_from : List (Option ℕ) → List ℕ → List Role → View
+view_from directories bytes roles = record { spaces = spaces_in directories bytes; directories = directories; bytes = bytes; roles = roles }
+
+-- the processes cost no more than all frames but frame 0
+abbrev pub HasRoom : List (Option ℕ) → List ℕ → List Role → Type 0
+HasRoom directories bytes roles = 1 + total_cost directories (spaces_in directories bytes) ≤ length roles

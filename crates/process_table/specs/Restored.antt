@@ -1,0 +1,19 @@
+-- An image by the fields that a machine is made of.
+use Rattle.std.specs.Prelude.{◌≡◌, ℕ, List, Option, Some}
+use Rattle.std.specs.Option.{option_map}
+use Rattle.alloc_table.specs.declared.Role.{Role}
+use Rattle.address_space.specs.Image.{image_from}
+use Rattle.quota_tree.specs.declared.accounts.Account as quota_tree
+use Rattle.quota_tree.specs.Accounts.{account_at}
+use Rattle.process_table.specs.Image.{Account, Image}
+
+abbrev pub account_told : quota_tree.Account → Account
+account_told a = record { parent = a.parent; quota = a.quota; used = a.used; given = a.given }
+
+-- today's words, with these directories, accounts, bytes and roles
+abbrev pub image_in : List (Option ℕ) → List (Option quota_tree.Account) → List ℕ → List Role → Image
+image_in directories accounts bytes roles = record { memory = image_from directories bytes roles; accounts = λ p. option_map account_told (account_at accounts p) }
+
+-- process 0, where it is live, is its own parent
+abbrev pub RootIsItsParent : List (Option quota_tree.Account) → Type 0
+RootIsItsParent accounts = (a : quota_tree.Account) → account_at accounts 0 ≡ Some a → a.parent ≡ 0

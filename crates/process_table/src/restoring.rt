@@ -1,0 +1,55 @@
+//! Processes from an image: their directories and accounts, and memory's bytes and roles.
+
+ghost use Rattle.std.specs.Prelude.{◌≡◌, ℕ, ◌<◌, ◌≤◌, IfOk, IfErr, length, slice_index};
+ghost use Rattle.page_words.specs.FiniteMap as finite_map;
+ghost use Rattle.process_table.specs.Image.{StandsFor, IsSoundImage};
+ghost use Rattle.process_table.specs.Restored.{image_in, RootIsItsParent};
+
+use crate::processes::Processes;
+use address_space::Spaces;
+use alloc_table::Role;
+use page_sharing::Offers;
+use page_words::{Frame, MachineFault};
+use quota_tree::{Account, Quotas};
+use std::alloc::Global;
+
+/// There is a place for each process. It computes nothing.
+fn have_places(directories: &[Option<Frame>; 64])
+    ensures { length directories.now ≡ 64 }
+{
+    let _ = directories;
+}
+
+impl Processes {
+    /// The processes that directories, accounts, bytes and roles stand for: a sound image of 16 to 4,096 frames. No
+    /// offer is pending.
+    ///
+    /// NoMemory where there is none for what is kept beside the bytes and the roles.
+    pub fn of_image(
+        alloc: Global,
+        directories: [Option<Frame>; 64],
+        accounts: &[Option<Account>; 64],
+        bytes: Vec<u8>,
+        roles: Vec<Role>,
+    ) -> Result<Processes, MachineFault>
+        requires fewest { 16 ≤ length roles.items }
+        requires most { length roles.items ≤ 4096 }
+        requires small { (i : ℕ) → slice_index bytes.items i < 256 }
+        requires root { RootIsItsParent accounts.now }
+        requires sound { IsSoundImage (image_in directories accounts.now bytes.items roles.items) }
+        ensures stands { IfOk result (λ new. StandsFor (image_in directories accounts.now bytes.items roles.items) new.state) }
+        ensures offers { IfOk result (λ new. new.state.offers ≡ finite_map.empty) }
+        ensures directories { IfOk result (λ new. new.directories ≡ directories) }
+        ensures bytes { IfOk result (λ new. new.bytes ≡ bytes.items) }
+        ensures roles { IfOk result (λ new. new.roles ≡ roles.items) }
+        ensures fault { IfErr result (λ fault. fault ≡ MachineFault.NoMemory) }
+    {
+        have_places(&directories);
+        let spaces = Spaces::of_image(alloc, directories, bytes, roles)?;
+        Ok(Processes {
+            spaces,
+            quotas: Quotas::of_accounts(accounts),
+            offers: Offers::new(),
+        })
+    }
+}

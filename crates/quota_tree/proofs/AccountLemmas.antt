@@ -1,0 +1,110 @@
+-- The containers that are made of accounts.
+use Rattle.std.proofs.Common.{◌≡◌, ℕ, suc, ◌+◌, ◌<◌, ◌≤◌, Bool, true, false, cond, List, [], ◌∷◌, length, length-set, drop, get_or, refl, sym, ap, subst, ◌∙◌, arith, inl, inr, Option, Some, None}
+use Rattle.std.specs.Prelude.{slice_get, slice_set, slice_index_or}
+use Rattle.std.specs.Option.{option_map, unwrap_or}
+use Rattle.std.proofs.lemmas.Bool.{cases_eq, cases_lt}
+use Rattle.std.proofs.lemmas.List.{drop_all, drop_more, get_or_past, get_or-set_same, get_or-set_other}
+use Rattle.std.proofs.lemmas.Option.{slice_get-get_or, get_or_from_slice_get}
+use Rattle.page_words.specs.FiniteMap as map
+use Rattle.page_words.specs.FiniteMap.{Map, nat_order}
+use Rattle.page_words.proofs.MapLemmas.{same_map}
+use Rattle.quota_tree.specs.declared.accounts.Account.{Account}
+use Rattle.quota_tree.specs.declared.Container.{Container}
+use Rattle.quota_tree.specs.Accounts.{member_in, book_in, containers_in, account_at, as_container, container_in, counts_child, IsAccounted, Agree}
+use Rattle.quota_tree.specs.Book.{Book, Member, is_child, given, number_of_children}
+use Rattle.quota_tree.specs.Collected.{collected_from, collected}
+use Rattle.quota_tree.specs.Containers.{Containers}
+use Rattle.quota_tree.specs.Kept.{member_of, seen_as, IsBooked, HasRoot, IsQuotas}
+use Rattle.quota_tree.proofs.CollectedLemmas.{get-before, get-collected}
+use Rattle.quota_tree.proofs.Sums.{number-insert}
+
+-- ---- Children
+
+-- how many accounts of a list are of children of p, where the first is that of process k
+abbrev pub children_from : ℕ → ℕ → List (Option Account) → ℕ
+children_from p k [] = 0
+children_from p k (a ∷ accounts) = counts_child p k a + children_from p (k + 1) accounts
+
+number-from : (p k : ℕ) (accounts : List (Option Account)) → number_of_children (collected_from member_in k accounts) p ≡ children_from p k accounts
+number-from p k [] = refl
+number-from p k (None ∷ accounts) = let rest = number-from p (k + 1) accounts in omega (arith, rest)
+number-from p k (Some a ∷ accounts) =
+    number-insert (collected_from member_in (k + 1) accounts) k (member_in a) (get-before member_in (k + 1) accounts k (omega arith)) p
+    ∙ ap (λ n. cond (is_child p (k, member_in a)) 1 0 + n) (number-from p (k + 1) accounts)
+
+-- as many as the book has
+pub number-all : (p : ℕ) (accounts : List (Option Account)) → number_of_children (book_in accounts) p ≡ children_from p 0 accounts
+unfolding collected
+number-all p accounts = number-from p 0 accounts
+
+pub children-end : (p k : ℕ) (accounts : List (Option Account)) → length accounts ≤ k → children_from p k (drop k accounts) ≡ 0
+children-end p k accounts past = ap (children_from p k) (drop_all k accounts past)
+
+-- one account more
+pub children-step : (p k : ℕ) (accounts : List (Option Account)) (a : Option Account) → k < length accounts → a ≡ get_or accounts k None
+    → children_from p k (drop k accounts) ≡ children_from p (k + 1) (drop (k + 1) accounts) + counts_child p k a
+children-step p k accounts a inside is =
+    let s : children_from p k (drop k accounts) ≡ counts_child p k a + children_from p (k + 1) (drop (k + 1) accounts) =
+    ap (children_from p k) (drop_more accounts k None inside) ∙ ap (λ x. counts_child p k x + children_from p (k + 1) (drop (k + 1) accounts)) (sym is) in
+    omega (arith, s)
+
+-- ---- Containers
+
+pub fill_goes_on : {X : Type 0} (g : ℕ → X) (xs : List X) (k : ℕ) → k < length xs → ((p : ℕ) → p < k → slice_get xs p ≡ Some (g p))
+    → (p : ℕ) → p < k + 1 → slice_get (slice_set xs k (g k)) p ≡ Some (g p)
+fill_goes_on g xs k inside so_far p low = elim (cases_eq p k) [
+  | inl e ↦
+      slice_get-get_or (slice_set xs k (g k)) p (g k) (let s = length-set xs k (g k) in omega arith)
+      ∙ ap Some (ap (λ j. get_or (slice_set xs k (g k)) j (g k)) e ∙ get_or-set_same xs k (g k) (g k) inside ∙ ap g (sym e))
+  | inr n ↦
+      slice_get-get_or (slice_set xs k (g k)) p (g k) (let s = length-set xs k (g k) in omega arith)
+      ∙ ap Some (get_or-set_other xs k p (g k) (g k) n)
+      ∙ sym (slice_get-get_or xs p (g k) (omega arith))
+      ∙ so_far p (omega arith)
+]
+
+module _ (accounts : List (Option Account)) (containers : List (Option Container)) (long : length accounts ≡ 64) (places : length containers ≡ 64)
+    (each : (p : ℕ) → p < 64 → slice_get containers p ≡ Some (container_in accounts p)) where
+  container-is : (p : ℕ) → get_or containers p None ≡ container_in accounts p
+  container-is p = elim (cases_lt p 64) [
+    | inl low ↦ get_or_from_slice_get containers p (container_in accounts p) None (each p low)
+    | inr past ↦
+        get_or_past containers p None (omega (arith, places))
+        ∙ sym (ap (option_map (as_container (number_of_children (book_in accounts) p))) (get_or_past accounts p None (omega (arith, long))))
+  ]
+
+  member-kept : (n : ℕ) (x : Option Account) → option_map member_of (option_map (as_container n) x) ≡ option_map member_in x
+  member-kept n None = refl
+  member-kept n (Some a) = refl
+
+  used-kept : (n : ℕ) (x : Option Account) → option_map (λ (c : Container). c.used) (option_map (as_container n) x) ≡ option_map (λ (a : Account). a.used) x
+  used-kept n None = refl
+  used-kept n (Some a) = refl
+
+  same-book : collected member_of containers ≡ book_in accounts
+  same-book = same_map (collected member_of containers) (book_in accounts) (λ q.
+      get-collected member_of containers q ∙ ap (option_map member_of) (container-is q)
+      ∙ member-kept (number_of_children (book_in accounts) q) (account_at accounts q)
+      ∙ sym (get-collected member_in accounts q))
+
+  same-used : collected (λ (c : Container). c.used) containers ≡ collected (λ (a : Account). a.used) accounts
+  same-used = same_map (collected (λ (c : Container). c.used) containers) (collected (λ (a : Account). a.used) accounts) (λ q.
+      get-collected (λ (c : Container). c.used) containers q ∙ ap (option_map (λ (c : Container). c.used)) (container-is q)
+      ∙ used-kept (number_of_children (book_in accounts) q) (account_at accounts q)
+      ∙ sym (get-collected (λ (a : Account). a.used) accounts q))
+
+  pub seen : seen_as containers ≡ containers_in accounts
+  seen = λ i. record { book = same-book i; used = same-used i }
+
+  booked : Agree accounts → (p : ℕ) (c : Container) → slice_index_or containers p None ≡ Some c → IsBooked (collected member_of containers) p c
+  booked agree p c is = subst (λ (b : Book). IsBooked b p c) (sym same-book) (by (account_at accounts p) refl (sym (container-is p) ∙ is))
+    where
+      by : (x : Option Account) → account_at accounts p ≡ x → option_map (as_container (number_of_children (book_in accounts) p)) x ≡ Some c → IsBooked (book_in accounts) p c
+      by None at h = cc
+      by (Some a) at h =
+          let k = agree.each p a at in
+          let same : as_container (number_of_children (book_in accounts) p) a ≡ c = ap (λ o. unwrap_or o c) h in
+          subst (IsBooked (book_in accounts) p) same (record { parent = k.parent; given = k.given; children = refl; used = k.used; within = k.within })
+
+  pub are_quotas : Agree accounts → IsQuotas containers
+  are_quotas agree = record { places = places; root = subst HasRoot (sym same-book) agree.root; each = booked agree }

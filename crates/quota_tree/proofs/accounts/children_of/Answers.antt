@@ -1,0 +1,13 @@
+use Rattle.std.proofs.Common.{◌≡◌, ◌≤◌, length, drop, ap, sym, ◌∙◌, arith}
+use Rattle.quota_tree.proofs.AccountLemmas.{children_from, children-end, number-all}
+use Rattle.quota_tree.proofs.accounts.children_of.Goals as goal
+
+pub loop-place-init : goal.loop-place-init
+loop-place-init c =
+    let long : length c.args.accounts.now ≡ 64 = c.type_inv.accounts in
+    (sym (children-end c.args.parent 64 c.args.accounts.now (omega (arith, long))), omega arith)
+
+pub returns : goal.returns
+returns c =
+    let first : c.loop-place.place ≡ 0 = omega (arith, c.loop-place-test.false) in
+    c.loop-place.invariant.0 ∙ ap (λ k. children_from c.args.parent k (drop k c.args.accounts.now)) first ∙ sym (number-all c.args.parent c.args.accounts.now)

@@ -1,0 +1,1 @@
+use Rattle.tower_line.proofs.images.restore_bytes.Goals as goal
