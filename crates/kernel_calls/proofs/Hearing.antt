@@ -30,6 +30,7 @@ use Rattle.kernel_calls.specs.Authority.{
   LooksSame,
   found,
   members_after,
+  members_at_end,
   IsQuiet,
   Along,
   heard,
@@ -38,9 +39,9 @@ use Rattle.kernel_calls.specs.Authority.{
   HaveTheSame,
   KeepsWithin,
 }
-use Rattle.kernel_calls.specs.Families.{IsFamily, FamiliesHearTheirOwn}
+use Rattle.kernel_calls.specs.Families.{IsFamily, FamiliesHearTheirOwn, FamiliesEndTheSame}
 use Rattle.kernel_calls.specs.Isolation.{Exchange, exchanges}
-use Rattle.kernel_calls.specs.Machine.{answer, next}
+use Rattle.kernel_calls.specs.Machine.{answer, next, end_of}
 use Rattle.kernel_calls.specs.declared.calls.Event.{Event}
 use Rattle.kernel_calls.proofs.Outsiders.{outsiders_unseen}
 use Rattle.kernel_calls.proofs.Runs.{kept-next}
@@ -183,7 +184,8 @@ module _ (View : State → State → (ℕ → Bool) → Type 0) (Stands : State 
   Hear events = (s t : State) (Q : ℕ → Bool) (others : List Event) → Stands s Q → Stands t Q
       → View s t Q → Along IsGood s Q events → Along IsGood t Q others
       → AskAlike (heard s Q (exchanges s events)) (heard t Q (exchanges t others))
-      → heard s Q (exchanges s events) ≡ heard t Q (exchanges t others)
+      → (heard s Q (exchanges s events) ≡ heard t Q (exchanges t others))
+      × View (end_of s events) (end_of t others) (members_at_end s Q events)
 
   -- an outsider's event at the head of a run
   module _ (t : State) (o : Event) (os : List Event) (Q : ℕ → Bool) (v : Stands t Q) (out : Q o.pid ≡ false)
@@ -200,6 +202,26 @@ module _ (View : State → State → (ℕ → Bool) → Type 0) (Stands : State 
     stands_later : Stands (next t o) Q
     stands_later = subst (λ D. Stands (next t o) D) same_set_then (lasts t Q o v good.0)
 
+  -- a run of outsiders
+  ends : (others : List Event) (s t : State) (Q : ℕ → Bool) → Stands t Q → View s t Q → Along IsGood t Q others
+      → AskAlike [] (heard t Q (exchanges t others)) → View s (end_of t others) Q
+  ends [] s t Q v l good alike = l
+  ends (o ∷ os) s t Q v l good alike = by (ends os) (Q o.pid) refl alike
+    where
+      by : ((s t : State) (Q : ℕ → Bool) → Stands t Q → View s t Q → Along IsGood t Q os
+          → AskAlike [] (heard t Q (exchanges t os)) → View s (end_of t os) Q)
+          → (b : Bool) → Q o.pid ≡ b
+          → AskAlike [] (if b then first_of t o ∷ heard (next t o) (members_after t Q o) (exchanges (next t o) os)
+          else heard (next t o) (members_after t Q o) (exchanges (next t o) os))
+          → View s (end_of (next t o) os) Q
+      by go_on true is h = absurd h
+      by go_on false out h =
+          go_on s (next t o) Q (stands_later t o os Q v out good)
+          (onward s t (next t o) Q l (unseen t o os Q v out good))
+          (good_later t o os Q v out good)
+          (subst (λ D. AskAlike [] (heard (next t o) D (exchanges (next t o) os)))
+          (same_set_then t o os Q v out good) h)
+
   -- a member's event at the head of the first run: the second comes to it
   module _ (events : List Event) (law : Hear events) (s : State) (e : Event) (Q : ℕ → Bool) (w : Stands s Q)
       (mine : Q e.pid ≡ true) (good : IsGood s Q e) (good_s : Along IsGood (next s e) (members_after s Q e) events)
@@ -207,11 +229,18 @@ module _ (View : State → State → (ℕ → Bool) → Type 0) (Stands : State 
       abbrev first : List Told
       first = first_of s e ∷ heard (next s e) (members_after s Q e) (exchanges (next s e) events)
 
+      abbrev EndsWith : State → Type 0
+      EndsWith u = View (end_of (next s e) events) u (members_at_end (next s e) (members_after s Q e) events)
+
       meets : (t : State) (o : Event) (os : List Event) → Stands t Q → View s t Q → IsGood t Q o
           → Along IsGood (next t o) (members_after t Q o) os
           → AskAlike first (first_of t o ∷ heard (next t o) (members_after t Q o) (exchanges (next t o) os))
-          → first ≡ first_of t o ∷ heard (next t o) (members_after t Q o) (exchanges (next t o) os)
-      meets t o os v l good_o good_t alike = λ i. same_first i ∷ later i
+          → (first ≡ first_of t o ∷ heard (next t o) (members_after t Q o) (exchanges (next t o) os))
+          × EndsWith (end_of (next t o) os)
+      meets t o os v l good_o good_t alike = (
+        λ i. same_first i ∷ (later.0 ∙ sym heard_is) i,
+        subst (λ (x : Event). EndsWith (end_of (next t x) os)) same_event later.1,
+      )
         where
           same_event : e ≡ o
           same_event = alike.0
@@ -248,8 +277,8 @@ module _ (View : State → State → (ℕ → Bool) → Type 0) (Stands : State 
           heard_is = ap (λ (x : Event). heard (next t x) (members_after t Q x) (exchanges (next t x) os))
               (sym same_event) ∙ ap (λ D. heard (next t e) D (exchanges (next t e) os)) (sym sets)
 
-          later : heard (next s e) (members_after s Q e) (exchanges (next s e) events) ≡ heard (next t o)
-              (members_after t Q o) (exchanges (next t o) os)
+          later : (heard (next s e) (members_after s Q e) (exchanges (next s e) events) ≡ heard (next t e)
+              (members_after s Q e) (exchanges (next t e) os)) × EndsWith (end_of (next t e) os)
           later =
               law (next s e) (next t e) (members_after s Q e) os (lasts s Q e w good)
               (subst (λ D. Stands (next t e) D) (sym sets) (lasts t Q e v good_too))
@@ -258,48 +287,56 @@ module _ (View : State → State → (ℕ → Bool) → Type 0) (Stands : State 
               (subst (λ (x : Event). Along IsGood (next t x) (members_after t Q x) os) (sym same_event) good_t))
               (subst (λ xs. AskAlike (heard (next s e) (members_after s Q e) (exchanges (next s e) events)) xs) heard_is
               (alike.2 same_first))
-              ∙ sym heard_is
 
       comes : (others : List Event) (t : State) → Stands t Q → View s t Q → Along IsGood t Q others
-          → AskAlike first (heard t Q (exchanges t others)) → first ≡ heard t Q (exchanges t others)
+          → AskAlike first (heard t Q (exchanges t others))
+          → (first ≡ heard t Q (exchanges t others)) × EndsWith (end_of t others)
       comes [] t v l good_t alike = absurd alike
       comes (o ∷ os) t v l good_t alike = by (comes os) (Q o.pid) refl alike
         where
           by : ((t : State) → Stands t Q → View s t Q → Along IsGood t Q os
-              → AskAlike first (heard t Q (exchanges t os)) → first ≡ heard t Q (exchanges t os))
+              → AskAlike first (heard t Q (exchanges t os))
+              → (first ≡ heard t Q (exchanges t os)) × EndsWith (end_of t os))
               → (b : Bool) → Q o.pid ≡ b
               → AskAlike first (if b then first_of t o ∷ heard (next t o) (members_after t Q o)
               (exchanges (next t o) os) else heard (next t o) (members_after t Q o) (exchanges (next t o) os))
-              → first ≡ (if b then first_of t o ∷ heard (next t o) (members_after t Q o) (exchanges (next t o) os)
-              else heard (next t o) (members_after t Q o) (exchanges (next t o) os))
+              → (first ≡ (if b then first_of t o ∷ heard (next t o) (members_after t Q o) (exchanges (next t o) os)
+              else heard (next t o) (members_after t Q o) (exchanges (next t o) os))) × EndsWith (end_of (next t o) os)
           by go_on true is h = meets t o os v l good_t.0 good_t.1 h
           by go_on false out h =
               let same_later = ap (λ D. heard (next t o) D (exchanges (next t o) os))
               (same_set_then t o os Q v out good_t) in
-              go_on (next t o) (stands_later t o os Q v out good_t)
+              let rest = go_on (next t o) (stands_later t o os Q v out good_t)
               (onward s t (next t o) Q l (unseen t o os Q v out good_t))
               (good_later t o os Q v out good_t)
-              (subst (λ xs. AskAlike first xs) same_later h)
-              ∙ sym same_later
+              (subst (λ xs. AskAlike first xs) same_later h) in
+              (rest.0 ∙ sym same_later, rest.1)
 
   pub hear_the_same : (events : List Event) → Hear events
-  hear_the_same [] s t Q others w v l good good_t alike = nothing_heard (heard t Q (exchanges t others)) alike
+  hear_the_same [] s t Q others w v l good good_t alike = (
+    nothing_heard (heard t Q (exchanges t others)) alike,
+    ends others s t Q v l good_t alike,
+  )
   hear_the_same (e ∷ events) s t Q others w v l good good_t alike = by (hear_the_same events) (Q e.pid) refl alike
     where
       by : Hear events → (b : Bool) → Q e.pid ≡ b
           → AskAlike (if b then first_of s e ∷ heard (next s e) (members_after s Q e) (exchanges (next s e) events)
           else heard (next s e) (members_after s Q e) (exchanges (next s e) events)) (heard t Q (exchanges t others))
-          → (if b then first_of s e ∷ heard (next s e) (members_after s Q e) (exchanges (next s e) events)
-          else heard (next s e) (members_after s Q e) (exchanges (next s e) events)) ≡ heard t Q (exchanges t others)
+          → ((if b then first_of s e ∷ heard (next s e) (members_after s Q e) (exchanges (next s e) events)
+          else heard (next s e) (members_after s Q e) (exchanges (next s e) events)) ≡ heard t Q (exchanges t others))
+          × View (end_of (next s e) events) (end_of t others) (members_at_end (next s e) (members_after s Q e) events)
       by law true mine h = comes events law s e Q w mine good.0 good.1 others t v l good_t h
       by law false out h =
           let same_later = ap (λ D. heard (next s e) D (exchanges (next s e) events))
           (same_set_then s e events Q w out good) in
-          same_later
-          ∙ law (next s e) t Q others (stands_later s e events Q w out good) v
+          let rest = law (next s e) t Q others (stands_later s e events Q w out good) v
           (onward (next s e) s t Q (back s (next s e) Q (unseen s e events Q w out good)) l)
           (good_later s e events Q w out good) good_t
-          (subst (λ xs. AskAlike xs (heard t Q (exchanges t others))) same_later h)
+          (subst (λ xs. AskAlike xs (heard t Q (exchanges t others))) same_later h) in (
+            same_later ∙ rest.0,
+            subst (λ D. View (end_of (next s e) events) (end_of t others) (members_at_end (next s e) D events))
+                (sym (same_set_then s e events Q w out good)) rest.1,
+          )
 
 -- ---- What members see, where outsiders use no channel
 
@@ -308,12 +345,12 @@ IsWellSet s Q = IsWellFormed s × AreLive s Q
 
 pub members_hear_the_same : MembersHearTheSame
 members_hear_the_same s events w t Q others v members l quiet quiet_t alike =
-    hear_the_same LooksSame IsWellSet IsQuiet (λ s Q x. x.1)
+    (hear_the_same LooksSame IsWellSet IsQuiet (λ s Q x. x.1)
     (λ s Q e x good. ((kept-next s e x.0).0, members_live s e Q)) (λ s t Q l. l.live) looks_back looks_on
     (λ s t e Q l good mine finds. told_same s t e Q l mine finds)
     (λ s t e Q x y l good mine finds. members_see_the_same s t e Q x.0 y.0 l mine finds)
     (λ s e Q x good out. outsiders_unseen s e Q x.0 out good)
-    events s t Q others (w, members) (v, λ q h. sym (l.live q h) ∙ members q h) l quiet quiet_t alike
+    events s t Q others (w, members) (v, λ q h. sym (l.live q h) ∙ members q h) l quiet quiet_t alike).0
 
 -- ---- What a family has, whatever outsiders do
 
@@ -346,11 +383,25 @@ has_on s t u Q l m = record {
 abbrev IsWellKept : State → (ℕ → Bool) → Type 0
 IsWellKept s Q = IsWellFormed s × IsFamily s Q
 
-pub families_hear_their_own : FamiliesHearTheirOwn
-families_hear_their_own s events w t C others v family family_t l within within_t alike =
+-- what it hears, and what it has at the end
+pub families_hear : (s t : State) (C : ℕ → Bool) (events other : List Event) → IsWellFormed s → IsWellFormed t
+    → IsFamily s C → IsFamily t C → HaveTheSame s t C
+    → Along (λ _. KeepsWithin) s C events → Along (λ _. KeepsWithin) t C other
+    → AskAlike (heard s C (exchanges s events)) (heard t C (exchanges t other))
+    → (heard s C (exchanges s events) ≡ heard t C (exchanges t other))
+    × HaveTheSame (end_of s events) (end_of t other) (members_at_end s C events)
+families_hear s t C events others w v family family_t l within within_t alike =
     hear_the_same HaveTheSame IsWellKept (λ _. KeepsWithin) (λ s Q x. x.1.live)
     (λ s Q e x keeps. ((kept-next s e x.0).0, next_family s e Q x.0 x.1 keeps)) (λ s t Q l. l.live) has_back has_on
     (λ s t e Q l keeps mine finds. family_told s t e Q l mine (keeps mine) finds)
     (λ s t e Q x y l keeps mine finds. family_sees s t e Q x.0 y.0 l mine (keeps mine) finds)
     (λ s e Q x keeps out. others_leave s e Q x.0 x.1 out)
     events s t C others (w, family) (v, family_t) l within within_t alike
+
+pub families_hear_their_own : FamiliesHearTheirOwn
+families_hear_their_own s events w t C others v family family_t l within within_t alike =
+    (families_hear s t C events others w v family family_t l within within_t alike).0
+
+pub families_end_the_same : FamiliesEndTheSame
+families_end_the_same s t C events others w v family family_t l within within_t alike =
+    (families_hear s t C events others w v family family_t l within within_t alike).1

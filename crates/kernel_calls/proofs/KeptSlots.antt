@@ -92,16 +92,17 @@ use Rattle.kernel_calls.proofs.Untouched.{caller_live, get_joined, widen}
 
 -- ---- The right to write stays, and what was accessed and dirty
 
-record Marked (c d : Cell) : Type 0 where
-  write : d.write ≡ c.write
-  accessed : IsTrue c.accessed → IsTrue d.accessed
-  dirty : IsTrue c.dirty → IsTrue d.dirty
+pub record Marked (c d : Cell) : Type 0 where
+  pub write : d.write ≡ c.write
+  pub may : d.may ≡ c.may
+  pub accessed : IsTrue c.accessed → IsTrue d.accessed
+  pub dirty : IsTrue c.dirty → IsTrue d.dirty
 
 unmarked : (c : Cell) → Marked c c
-unmarked c = record { write = refl; accessed = λ h. h; dirty = λ h. h }
+unmarked c = record { write = refl; may = refl; accessed = λ h. h; dirty = λ h. h }
 
 -- what is mapped still is, so marked
-abbrev Marks : Spaces → Spaces → Type 0
+abbrev pub Marks : Spaces → Spaces → Type 0
 Marks S T = (slot : Slot) (c : Cell) → map.get S slot ≡ Some c → (d : Cell) × (map.get T slot ≡ Some d) × Marked c d
 
 marks_all : (S : Spaces) → Marks S S
@@ -115,6 +116,7 @@ marks_through S T U a b slot c h =
       y.1,
       record {
         write = y.2.write ∙ x.2.write;
+        may = y.2.may ∙ x.2.may;
         accessed = λ k. y.2.accessed (x.2.accessed k);
         dirty = λ k. y.2.dirty (x.2.dirty k);
       },
@@ -164,7 +166,7 @@ marks_accessed S q [] = marks_all S
 marks_accessed S q (page ∷ pages) =
     marks_through S (accessed S (at_page q page)) (all_accessed (accessed S (at_page q page)) q pages)
     (marks_set S (at_page q page) (record (cell_or_fresh S (at_page q page)) { accessed = true })
-    (record { write = refl; accessed = λ h. refl; dirty = λ h. h }))
+    (record { write = refl; may = refl; accessed = λ h. refl; dirty = λ h. h }))
     (marks_accessed (accessed S (at_page q page)) q pages)
 
 marks_stored : (S : Spaces) (slot : Slot) (at : ℕ) (new : List ℕ) → Marks S (stored S slot at new)
@@ -178,12 +180,14 @@ marks_stored S slot at new =
     (record {
       write = sym (ap (λ (x : Option Cell). (unwrap_or x (fresh slot true)).write) (get-map_values slot_order f S slot)
           ∙ by c.holders bytes (map.get S slot));
+      may = sym (ap (λ (x : Option Cell). (unwrap_or x (fresh slot true)).may) (get-map_values slot_order f S slot)
+          ∙ by_may c.holders bytes (map.get S slot));
       accessed = λ h. refl;
       dirty = λ h. refl;
     }))
   where
     either : (b : Bool) (d : Cell) (bytes : List ℕ) → Marked d (if b then with_bytes d bytes else d)
-    either true d bytes = record { write = refl; accessed = λ h. h; dirty = λ h. h }
+    either true d bytes = record { write = refl; may = refl; accessed = λ h. h; dirty = λ h. h }
     either false d bytes = unmarked d
 
     same_write : (b : Bool) (d : Cell) (bytes : List ℕ) → (if b then with_bytes d bytes else d).write ≡ d.write
@@ -196,7 +200,17 @@ marks_stored S slot at new =
     by g bytes None = refl
     by g bytes (Some d) = same_write (set.contains g slot) d bytes
 
-marks_all_stored : (S : Spaces) (q addr : ℕ) (bytes : List ℕ) → Marks S (all_stored S q addr bytes)
+    same_may : (b : Bool) (d : Cell) (bytes : List ℕ) → (if b then with_bytes d bytes else d).may ≡ d.may
+    same_may true d bytes = refl
+    same_may false d bytes = refl
+
+    by_may : (g : Set slot_order) (bytes : List ℕ) (x : Option Cell)
+        → (unwrap_or (option_map (λ (d : Cell). if set.contains g slot then with_bytes d bytes else d) x)
+        (fresh slot true)).may ≡ (unwrap_or x (fresh slot true)).may
+    by_may g bytes None = refl
+    by_may g bytes (Some d) = same_may (set.contains g slot) d bytes
+
+pub marks_all_stored : (S : Spaces) (q addr : ℕ) (bytes : List ℕ) → Marks S (all_stored S q addr bytes)
 marks_all_stored S q addr [] = marks_all S
 marks_all_stored S q addr (byte ∷ bytes) =
     marks_through S (stored S (slot_at q addr) (offset_number addr) (byte ∷ []))
@@ -285,7 +299,7 @@ module _ (s : State) (e : Event) (w : IsWellFormed s) where
       )
     where
       wider : (b : Bool) (group : Set slot_order) (c : Cell) → Marked c (if b then with_holders c group else c)
-      wider true group c = record { write = refl; accessed = λ h. h; dirty = λ h. h }
+      wider true group c = record { write = refl; may = refl; accessed = λ h. h; dirty = λ h. h }
       wider false group c = unmarked c
 
   after_keeps : (c : Call) → e.call ≡ c → completes (answer_of s e.pid c) ≡ true → Keeps s (after s e.pid c) e

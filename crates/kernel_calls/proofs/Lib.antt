@@ -1,11 +1,14 @@
+pub mod Availability
 pub mod Births
 pub mod Charges
 pub mod Confined
 pub mod Consent
 pub mod Decided
 pub mod Discreet
+pub mod Effects
 pub mod Ends
 pub mod Families
+pub mod FlagChanges
 pub mod Flags
 pub mod GivenUp
 pub mod Hearing
@@ -15,6 +18,7 @@ pub mod KeptAccesses
 pub mod KeptSlots
 pub mod Leaving
 pub mod Linked
+pub mod Newborns
 pub mod Outsiders
 pub mod OwnViews
 pub mod Planned
@@ -22,6 +26,7 @@ pub mod Runs
 pub mod Seen
 pub mod SeenTogether
 pub mod Stays
+pub mod Tellings
 pub mod TogetherSpaces
 pub mod TransferLemmas
 pub mod TransferSteps

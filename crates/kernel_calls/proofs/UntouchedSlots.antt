@@ -224,7 +224,7 @@ other_byte bytes at v place inside differ = ap (λ xs. slice_index xs place) (sy
     ∙ get_or-set_other bytes at place (v % 256) 0 (λ e. differ (sym e))
 
 -- the byte that is written
-own_byte : (bytes : List ℕ) (at v : ℕ) → at < length bytes → slice_index (write_at bytes at (bytes_of 1 v)) at ≡ v % 256
+pub own_byte : (bytes : List ℕ) (at v : ℕ) → at < length bytes → slice_index (write_at bytes at (bytes_of 1 v)) at ≡ v % 256
 own_byte bytes at v inside = ap (λ xs. slice_index xs at) (sym (byte_is_write bytes at v inside))
     ∙ get_or-set_same bytes at (v % 256) 0 inside
 
@@ -292,7 +292,7 @@ module _ (s : State) (q addr v : ℕ) (w : IsWellFormed s) (own_there : map.cont
     abbrev one_stored : Spaces
     one_stored = stored s.spaces target (offset_number addr) (bytes_of 1 v)
 
-    own_cell : map.get s.spaces target ≡ Some cell
+    pub own_cell : map.get s.spaces target ≡ Some cell
     own_cell = let o = some_value (map.get s.spaces target) own_there in o.1
         ∙ ap Some (sym (ap (λ (x : Option Cell). unwrap_or x (fresh target true)) o.1))
 
@@ -300,7 +300,7 @@ module _ (s : State) (q addr v : ℕ) (w : IsWellFormed s) (own_there : map.cont
     renew slot d = if set.contains cell.holders slot then with_bytes d new_bytes else d
 
     -- what stands at a slot has these bytes where it is in the group
-    new_in : (slot : Slot) (d : Cell) → map.get s.spaces slot ≡ Some d → set.contains cell.holders slot ≡ true
+    pub new_in : (slot : Slot) (d : Cell) → map.get s.spaces slot ≡ Some d → set.contains cell.holders slot ≡ true
         → (cell_or_fresh one_stored slot).bytes ≡ new_bytes
     new_in slot d at inside = elim (same_cases slot_order slot target) [
       | inl is ↦ ap (λ (x : Option Cell). (unwrap_or x (fresh slot true)).bytes)
@@ -438,7 +438,7 @@ many_bytes s q addr (suc k) v w there slot d place at =
     one = one_byte s q addr v w first slot d place at
 
 -- where no number of a range passes a test
-none_in : (t : ℕ → Bool) (a n : ℕ) → find t (range_with_len a n) ≡ None → (k : ℕ) → a ≤ k → k < a + n → t k ≡ false
+pub none_in : (t : ℕ → Bool) (a n : ℕ) → find t (range_with_len a n) ≡ None → (k : ℕ) → a ≤ k → k < a + n → t k ≡ false
 none_in t a zero none k low high = absurd (omega (arith, low, high))
 none_in t a (suc n) none k low high = by (t a) refl (λ later l h. none_in t (a + 1) n later k l h) none
   where

@@ -1,13 +1,14 @@
 -- Families of processes that keep to themselves, whatever all others do.
-use Rattle.std.proofs.Common.{◌≡◌, ℕ, Bool, true, List}
+use Rattle.std.proofs.Common.{◌≡◌, ℕ, ◌==◌, Bool, true, List}
 use Rattle.std.specs.List.{zip}
 use Rattle.process_table.specs.State.{State, is_live}
 use Rattle.process_table.specs.WellFormed.{IsWellFormed}
-use Rattle.kernel_calls.specs.Authority.{is_child_of, HaveTheSame, IsConfined, KeepsWithin, Along, AskAlike, heard}
+use Rattle.kernel_calls.specs.Authority.{is_child_of, HaveTheSame, IsConfined, KeepsWithin, Along, AskAlike, heard, members_at_end}
 use Rattle.kernel_calls.specs.Isolation.{exchanges}
-use Rattle.kernel_calls.specs.Machine.{answers}
+use Rattle.kernel_calls.specs.Machine.{answer, answers, next, end_of}
 use Rattle.kernel_calls.specs.declared.calls.Event.{Event}
 use Rattle.kernel_calls.specs.declared.calls.Reply.{Reply}
+use Rattle.kernel_calls.specs.declared.calls.Reply.TheVariants as reply
 
 -- a confined set of live processes, with all their children
 pub record IsFamily (s : State) (C : ℕ → Bool) : Type 0 where
@@ -26,3 +27,16 @@ IsUnreached s events replies = (t : State) (C : ℕ → Bool) (other : List Even
 
 abbrev pub FamiliesHearTheirOwn : Type 0
 FamiliesHearTheirOwn = (s : State) (events : List Event) → IsWellFormed s → IsUnreached s events (answers s events)
+
+-- a new child is a family by itself
+abbrev pub NewbornsAreFamilies : Type 0
+NewbornsAreFamilies = (s : State) (e : Event) (child : ℕ) → IsWellFormed s → answer s e ≡ reply.Child child
+    → IsFamily (next s e) (λ q. q == child)
+
+-- a family that makes the same calls and finds the same in two runs has the same at their ends
+abbrev pub FamiliesEndTheSame : Type 0
+FamiliesEndTheSame = (s t : State) (C : ℕ → Bool) (events other : List Event) → IsWellFormed s → IsWellFormed t
+    → IsFamily s C → IsFamily t C → HaveTheSame s t C
+    → Along (λ _. KeepsWithin) s C events → Along (λ _. KeepsWithin) t C other
+    → AskAlike (heard s C (exchanges s events)) (heard t C (exchanges t other))
+    → HaveTheSame (end_of s events) (end_of t other) (members_at_end s C events)

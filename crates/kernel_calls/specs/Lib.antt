@@ -1,5 +1,6 @@
 pub mod Authority
 pub mod Decisions
+pub mod Effects
 pub mod Families
 pub mod Gone
 pub mod Isolation

@@ -1,7 +1,8 @@
 //! Laws of the machine's runs. Each is the contract of a function that computes nothing.
 
 ghost use Rattle.kernel_calls.specs.Authority.{StatesStayWellFormed, RefusalsChangeNothing, SlotsAreKept, Integrity, NobodyTakesBack, SharingByConsent, SharingStays, OffersByOfferer, ExitsEnd, UnmapsEnd, OffersEnd, OffersStay, ChildrenAreTheirMakers, PlacesStay, MembersToldTheSame, OwnIsEnough, MembersSeeTheSame, OutsidersUnseen, MembersHearTheSame, RunsKeepBorders, OutsidersHearNothing};
-ghost use Rattle.kernel_calls.specs.Families.{FamiliesHearTheirOwn};
+ghost use Rattle.kernel_calls.specs.Effects.{CompletesByKind, DoneMeansDone, SlotsCome, SlotsGo, FlagsChange, OthersNeverRefuse, RunsNeverRefuse};
+ghost use Rattle.kernel_calls.specs.Families.{FamiliesHearTheirOwn, FamiliesEndTheSame, NewbornsAreFamilies};
 ghost use Rattle.kernel_calls.specs.Isolation.{RunsAreIsolated, OthersMakeNoDifference};
 ghost use Rattle.kernel_calls.specs.Laws.{RunsStayWellFormed};
 ghost use Rattle.kernel_calls.specs.Kept.{KeptFind, KeptReply, KeptLoads, KeptStores};
@@ -111,4 +112,36 @@ pub fn confined_processes_stay_confined()
     ensures borders { RunsKeepBorders }
     ensures unheard { OutsidersHearNothing }
     ensures unreached { FamiliesHearTheirOwn }
+{}
+
+/// States the effect of each call that completes. An access leaves its slots accessed; a Store leaves them dirty, with the
+/// bytes of its value. A page that was not mapped has zeros, in a group of its own. A Protect sets the right, an Offer is
+/// pending, and an Accept joins the group. Nothing is left of what an Unmap, a Withdraw or an Exit gives up. No other slot
+/// is mapped or unmapped, and no other flag changes. It computes nothing.
+pub fn done_means_done()
+    ensures effects { DoneMeansDone }
+    ensures come { SlotsCome }
+    ensures go { SlotsGo }
+    ensures flags { FlagsChange }
+{}
+
+/// States the reply to each call that completes: the number of the bytes to a Load, the flags and the size of the group to
+/// an Info, the process's container to a Quota, a child to a Spawn and a Fork, and Done to the others. It computes nothing.
+pub fn completes_by_kind()
+    ensures { CompletesByKind }
+{}
+
+/// States that a new child is a family by itself. A family that makes the same calls and finds the same in two runs, from
+/// states in which it has the same, has the same at their ends. It computes nothing.
+pub fn newborns_are_families()
+    ensures newborns { NewbornsAreFamilies }
+    ensures ends { FamiliesEndTheSame }
+{}
+
+/// States that other processes cannot refuse a call. A call that would complete still completes after their events. The
+/// exceptions are Offer, Withdraw, Accept, Spawn and Fork: the clause lists the events that make each of them impossible,
+/// and the one refusal that it gets then. It computes nothing.
+pub fn others_never_refuse()
+    ensures events { OthersNeverRefuse }
+    ensures runs { RunsNeverRefuse }
 {}

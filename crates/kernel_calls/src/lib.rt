@@ -21,10 +21,11 @@ pub use calls::{Call, Decision, Event, Outcome, Reply};
 pub use cores::Core;
 pub use fault_handler::{PageStep, Plan};
 pub use laws::{
-    authority_spreads_by_consent, children_are_their_makers, confined_processes_stay_confined,
-    kept_translations_are_given, kept_translations_serve_accesses, members_see_their_own,
-    processes_are_isolated, processes_keep_their_integrity, runs_stay_well_formed,
-    what_a_process_has_is_enough, what_is_given_up_goes,
+    authority_spreads_by_consent, children_are_their_makers, completes_by_kind,
+    confined_processes_stay_confined, done_means_done, kept_translations_are_given,
+    kept_translations_serve_accesses, members_see_their_own, newborns_are_families,
+    others_never_refuse, processes_are_isolated, processes_keep_their_integrity,
+    runs_stay_well_formed, what_a_process_has_is_enough, what_is_given_up_goes,
 };
 pub use page_words::{Frame, MachineFault as BootFault, Page, Pid, Size, Vaddr};
 pub use pages::PageState;
