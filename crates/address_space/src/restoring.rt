@@ -29,7 +29,7 @@ fn words_of(memory: &Memory, frame: Frame, role: Role) -> u32
 /// How many words of each frame are present, where it is a table.
 fn counts_of(alloc: Global, memory: &Memory, roles: &[Role]) -> Option<Vec<u32>>
     requires size { length memory.now ≡ 4096 * length roles.now }
-    requires most { length roles.now ≤ 4096 }
+    requires most { length roles.now ≤ 1048576 }
     ensures { IfSome result (λ counts. counts.items ≡ map (counted_at memory.now roles.now) (range_with_len 0 (length roles.now))) }
 {
     let frames = roles.len();
@@ -53,7 +53,7 @@ fn have_places(directories: &Directories)
 }
 
 impl Spaces {
-    /// The address spaces that directories, bytes and roles stand for: a sound image of 16 to 4,096 frames, whose
+    /// The address spaces that directories, bytes and roles stand for: a sound image of 16 to 1,048,576 frames, whose
     /// processes cost no more than all frames but frame 0.
     ///
     /// NoMemory where there is none for the counts of the pages or for the ledger of the free frames.
@@ -64,7 +64,7 @@ impl Spaces {
         roles: Vec<Role>,
     ) -> Result<Spaces, MachineFault>
         requires fewest { 16 ≤ length roles.items }
-        requires most { length roles.items ≤ 4096 }
+        requires most { length roles.items ≤ 1048576 }
         requires sound { IsSoundImage (image_from directories bytes.items roles.items) }
         requires room { HasRoom directories bytes.items roles.items }
         ensures view { IfOk result (λ new. new ≡ view_from directories bytes.items roles.items) }

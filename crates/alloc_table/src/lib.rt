@@ -93,7 +93,7 @@ fn put_back_free(ledger: &mut Ledger, frame: Frame, role: Role)
 /// The ledger of the frames whose role is Free, of which frame 0 is none.
 fn ledger_of(alloc: Global, roles: &[Role]) -> Result<Ledger, MachineFault>
     requires fewest { MIN_FRAMES ≤ length roles.now }
-    requires most { length roles.now ≤ MAX_FRAMES }
+    requires most { length roles.now ≤ WIDE_FRAMES }
     requires reserved { slice_get roles.now 0 ≡ Some Role.Reserved }
     ensures ledger { IfOk result (λ ledger. ledger ≡ free_by roles.now) }
     ensures fault { IfErr result (λ fault. fault ≡ MachineFault.NoMemory) }
@@ -135,13 +135,13 @@ impl FrameTable {
         }
     }
 
-    /// A table of frames with these roles, 16 to 4,096 of them, of which the first is reserved and each page has a
+    /// A table of frames with these roles, 16 to 1,048,576 of them, of which the first is reserved and each page has a
     /// holder.
     ///
     /// NoMemory where there is no memory for the ledger of the free ones.
     pub fn of_roles(alloc: Global, roles: Vec<Role>) -> Result<FrameTable, MachineFault>
         requires fewest { MIN_FRAMES ≤ length roles.items }
-        requires most { length roles.items ≤ MAX_FRAMES }
+        requires most { length roles.items ≤ WIDE_FRAMES }
         requires reserved { slice_get roles.items 0 ≡ Some Role.Reserved }
         requires held { EachPageHeld roles.items }
         ensures roles { IfOk result (λ table. table ≡ roles.items) }

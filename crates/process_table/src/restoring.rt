@@ -21,7 +21,7 @@ fn have_places(directories: &[Option<Frame>; 64])
 }
 
 impl Processes {
-    /// The processes that directories, accounts, bytes and roles stand for: a sound image of 16 to 4,096 frames. No
+    /// The processes that directories, accounts, bytes and roles stand for: a sound image of 16 to 1,048,576 frames. No
     /// offer is pending.
     ///
     /// NoMemory where there is none for what is kept beside the bytes and the roles.
@@ -33,7 +33,7 @@ impl Processes {
         roles: Vec<Role>,
     ) -> Result<Processes, MachineFault>
         requires fewest { 16 ≤ length roles.items }
-        requires most { length roles.items ≤ 4096 }
+        requires most { length roles.items ≤ 1048576 }
         requires small { (i : ℕ) → slice_index bytes.items i < 256 }
         requires root { RootIsItsParent accounts.now }
         requires sound { IsSoundImage (image_in directories accounts.now bytes.items roles.items) }

@@ -65,7 +65,7 @@ pub from_then : {A B : Type 0} (f : A → Option B) (x : Option A) (b : B) → o
 from_then f None b h = cc
 from_then f (Some a) b h = (a, refl, h)
 
-module _ (directories : List (Option ℕ)) (bytes : List ℕ) (roles : List Role) (pids : length directories ≡ 64) (least : 16 ≤ length roles) (few : length roles ≤ 4096)
+module _ (directories : List (Option ℕ)) (bytes : List ℕ) (roles : List Role) (pids : length directories ≡ 64) (least : 16 ≤ length roles) (few : length roles ≤ 1048576)
     (I : IsSoundImage (image_from directories bytes roles)) where
   abbrev D : Directories
   D = directory_of directories
