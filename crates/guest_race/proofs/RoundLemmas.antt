@@ -33,6 +33,15 @@ own_entries log cpu n number begins calls =
     subst (λ k. entries_of k log ≡ entries_of k cpu.seen) number
     (same_entries cpu.number log cpu.seen (drop (length cpu.seen) log, sym (take-append-drop (length cpu.seen) log) ∙ ap (λ l. l ++ drop (length cpu.seen) log) begins) calls)
 
+-- an audit for a CPU speaks of its number and of what it has seen
+audited_by_seen : (frames : ℕ) (cpu : Maker) → cpu.number ≡ 0 → Audited frames cpu → Audited frames (maker 0 cpu.seen)
+audited_by_seen frames cpu zeroth a = (
+  a.0,
+  a.1,
+  record { legal = a.2.legal; begins = a.2.begins; own = subst (λ k. calls_of k a.1 ≡ calls_of k cpu.seen) zeroth a.2.own; stands = a.2.stands },
+  a.3,
+)
+
 round_is : (frames : ℕ) (first second : Maker) (rows : List (Option Row)) → first.number ≡ 0 → second.number ≡ 1 → BothHalt (entries_of 0 first.seen) (entries_of 1 second.seen) → Reports frames first.seen second.seen rows
     → Audited frames first → Closes frames (first ∷ second ∷ []) rows → IsReported frames rows
 round_is frames first second rows zeroth oneth both reported audited closed =
@@ -53,7 +62,7 @@ round_is frames first second rows zeroth oneth both reported audited closed =
         all_first = sym of_first;
         all_second = sym of_second;
         reported = reported;
-        audited = subst (λ k. Audited frames (maker k first.seen)) zeroth audited;
+        audited = audited_by_seen frames first zeroth audited;
       },
     )
 

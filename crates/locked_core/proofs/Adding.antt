@@ -5,22 +5,22 @@ use Rattle.std.proofs.lemmas.Bool.Decides.{nat_tests}
 use mathlib.Core.List.{IsPrefix}
 use prog.Atomic.{either}
 use Rattle.logbook.specs.Pages.{Cell, cell, keeps, no_nib, step, Moves, Goes}
-use Rattle.memory_report.specs.declared.entries.LogEntry.{LogEntry}
+use Rattle.locked_core.specs.declared.moment.Moment.{Moment}
 use Rattle.locked_core.specs.Rules.{CellsHold, Adds}
-use Rattle.locked_core.proofs.Prefixes.{starts_whole}
+use Rattle.locked_core.proofs.Moments.{begins_whole}
 
-abbrev pub shows_nothing : List LogEntry → List LogEntry
+abbrev pub shows_nothing : List Moment → List Moment
 shows_nothing log = []
 
-abbrev pub moved : List LogEntry → List LogEntry → ℕ → Type 0
+abbrev pub moved : List Moment → List Moment → ℕ → Type 0
 moved xs ys n = Unit {0}
 
-pub adds_goes : (log v : List LogEntry) (e : LogEntry) (old : ℕ) → length v ≡ old → IsPrefix v log
+pub adds_goes : (log v : List Moment) (e : Moment) (old : ℕ) → length v ≡ old → IsPrefix v log
     → (b : Bool) → (length log == old) ≡ b
     → Goes CellsHold shows_nothing moved 0 (v, (no_nib, None)) (λ n. either (n == old) (old + 1) n) (Adds (step 0 old (old + 1) e) (v, (no_nib, None))) ((length log, true) ∷ (0, true) ∷ []) log
 adds_goes log v e old len pre true is =
     let here : length log ≡ old = grind (arith, nat_tests) in
-    let same : log ≡ v = starts_whole log v (pre.0, sym pre.1) (omega arith) in
+    let same : log ≡ v = begins_whole log v (pre.0, sym pre.1) (omega arith) in
     let n : either (length log == old) (old + 1) (length log) ≡ length (log ++ e ∷ []) = rw is (omega (arith, length-append log (e ∷ []))) in (
       keeps,
       e ∷ [],
@@ -43,7 +43,7 @@ adds_goes log v e old len pre false is =
     )
 
 -- whatever the book is, the exchange adds the entry to all that was seen, or finds that the history is longer
-pub adds_moves : (v : List LogEntry) (e : LogEntry) (old : ℕ) → length v ≡ old
+pub adds_moves : (v : List Moment) (e : Moment) (old : ℕ) → length v ≡ old
     → Moves CellsHold shows_nothing moved 0 (v, (no_nib, None)) (λ n. either (n == old) (old + 1) n) (Adds (step 0 old (old + 1) e) (v, (no_nib, None)))
 adds_moves v e old len cs log kept pre away =
     let P : List Cell → Type 0 = λ c. (0 < length c) × ((cell c 0).1 ≡ true) × Goes CellsHold shows_nothing moved 0 (v, (no_nib, None)) (λ n. either (n == old) (old + 1) n) (Adds (step 0 old (old + 1) e) (v, (no_nib, None))) c log in

@@ -13,7 +13,7 @@ use Rattle.process_table.specs.State.{State, open_with}
 use Rattle.kernel_calls.specs.declared.calls.Reply.{Reply}
 use Rattle.locked_core.proofs.Prefixes.{same_entries}
 use Rattle.locked_core.specs.Held.{UnderLock}
-use Rattle.locked_core.specs.Makers.{Maker, maker, Makes, IsRefused, Prevents}
+use Rattle.locked_core.specs.Makers.{Maker, Makes, IsRefused, Prevents}
 use Rattle.locked_core.specs.declared.faults.Fault.{Fault}
 use Rattle.locked_core.specs.declared.faults.Fault.TheVariants.{NoMemory, Stale, Unread, Disagree}
 use Rattle.memory_report.specs.Histories.{StartsWith}
@@ -70,13 +70,12 @@ logged frames log new core now cpu pid call e legal at is grown moved =
     }
 
 -- what a CPU has seen after a call that was judged on the log and carried out on it
-pub makes : (frames : ℕ) (before after : Maker) (pid : ℕ) (call : Call) (reply : Reply) (event : Event) (log new front : List LogEntry) → event ≡ record { cpu = before.number; pid = pid; call = call }
+pub makes : (frames : ℕ) (before after : Maker) (pid : ℕ) (call : Call) (reply : Reply) (event : Event) (log new : List LogEntry) → event ≡ record { cpu = before.number; pid = pid; call = call }
     → StartsWith log before.seen × (calls_of before.number log ≡ calls_of before.number before.seen) → Legal frames new → new ≡ log ++ entry_after frames log event.cpu event.pid event.call ∷ []
-    → reply ≡ (entry_after frames log event.cpu event.pid event.call).reply → front ≡ new → after ≡ maker before.number front → Makes frames before pid call after reply
-makes frames before after pid call reply event log new front of fits legal grown told same is =
+    → reply ≡ (entry_after frames log event.cpu event.pid event.call).reply → after.seen ≡ new → Makes frames before pid call after reply
+makes frames before after pid call reply event log new of fits legal grown told seen =
     let cpu = before.number in
     let e : LogEntry = entry_after frames log cpu pid call in
-    let seen : after.seen ≡ new = ap (λ (m : Maker). m.seen) is ∙ same in
     let by : after.seen ≡ log ++ e ∷ [] = seen ∙ (grown ∙ ap (λ (x : Event). log ++ entry_after frames log x.cpu x.pid x.call ∷ []) of) in (
       fits.0.0,
       e,

@@ -3,18 +3,23 @@ use Rattle.std.specs.Prelude.{◌≡◌, ℕ, List, [], ◌∷◌, ◌++◌}
 use Rattle.kernel_calls.specs.Translations.{ended_by, Ends}
 use Rattle.kernel_calls.specs.declared.translations.Ended.{Ended}
 use Rattle.memory_report.specs.Histories.{event_of, state_after}
-use Rattle.memory_report.specs.declared.entries.LogEntry.{LogEntry}
+use Rattle.locked_core.specs.Makers.{Maker}
+use Rattle.locked_core.specs.Moments.{core_after, entries_in}
+use Rattle.locked_core.specs.declared.moment.Moment.{Moment}
 use Rattle.process_table.specs.View.{View}
 
--- These are what the event of the last entry ended: in a core that was in the state before that entry, and which it left
--- in the state after it, with all else that processors keep.
-pub record EndsAtLast (frames : ℕ) (seen : List LogEntry) (ended : Ended) : Type 0 where
-  pub before : List LogEntry
-  pub last : LogEntry
-  pub grown : seen ≡ before ++ last ∷ []
-  pub old : View
-  pub new : View
-  pub stood : old.state ≡ state_after frames before
-  pub stands : new.state ≡ state_after frames seen
-  pub told : ended ≡ ended_by old (event_of last)
-  pub ends : Ends ended old new
+-- These are what the event of the last entry that the CPU has seen ended: in the core that the entries before it left,
+-- which is the core of the last moment before it, or the one that the kernel opened with; and it left the core of the last
+-- moment, with all else that processors keep. Both are of the kernel's one history, which all of its CPUs see.
+pub record EndsAtLast (frames : ℕ) (opening : View) (cpu : Maker) (ended : Ended) : Type 0 where
+  pub before : List Moment
+  pub last : Moment
+  pub grown : cpu.moments ≡ before ++ last ∷ []
+  pub stood : (core_after opening before).state ≡ state_after frames (entries_in before)
+  pub stands : last.core.state ≡ state_after frames cpu.seen
+  pub told : ended ≡ ended_by (core_after opening before) (event_of last.entry)
+  pub ends : Ends ended (core_after opening before) last.core
+
+-- what is told of a call is one thing: the moments that its CPU has seen settle it
+abbrev pub ToldOnce : Type 0
+ToldOnce = (frames : ℕ) (opening : View) (cpu : Maker) (a b : Ended) → EndsAtLast frames opening cpu a → EndsAtLast frames opening cpu b → a ≡ b

@@ -1,19 +1,27 @@
 -- What a kernel keeps of itself, one fact a line.
-use Rattle.std.specs.Prelude.{◌≡◌, ℕ, ◌≤◌, Bool, true, List, []}
+use Rattle.std.specs.Prelude.{◌≡◌, ℕ, ◌≤◌, Bool, true, List, [], length}
 use Rattle.logbook.specs.Pages.{Book}
 use Rattle.memory_report.specs.Histories.{Legal, state_after}
 use Rattle.memory_report.specs.declared.entries.LogEntry.{LogEntry}
 use Rattle.process_table.specs.State.{State, open_with}
+use Rattle.process_table.specs.View.{View}
+use Rattle.locked_core.specs.Moments.{Follows, core_after, entries_in}
+use Rattle.locked_core.specs.declared.moment.Moment.{Moment}
 use Rattle.locked_core.specs.Pages.{Page, LagsBehind, page}
 use Rattle.locked_core.specs.Published.{view_of}
 use Rattle.locked_core.specs.declared.rule.WhichKernel.{WhichKernel}
 
 -- what lies under the lock of a kernel with so many frames and this book: the core, its log and what it adds to the
--- history, and the two sides of what is published, of which readers see one
-pub record IsUnderLock (frames : ℕ) (book : Book) (core : State) (log added : List LogEntry) (is_watched : Bool) (side other : Page) (seat : WhichKernel) : Type 0 where
+-- history, the total of the calls that its CPUs count as theirs, and the two sides of what is published, of which readers see one
+pub record IsUnderLock (frames : ℕ) (book : Book) (opening core : View) (log : List LogEntry) (added : List Moment) (total : ℕ) (is_watched : Bool) (side other : Page) (seat : WhichKernel) : Type 0 where
   pub legal : Legal frames log
-  pub stands : core ≡ state_after frames log
-  pub told : added ≡ log
+  pub stands : core.state ≡ state_after frames log
+  pub told : entries_in added ≡ log
+  -- the core is the one that the last call left, and each call left its own to the next
+  pub left : core_after opening added ≡ core
+  pub follows : Follows opening added
+  -- each entry is a call that one CPU counts as its own
+  pub counted : total ≡ length log
   pub mine : seat ≡ view_of frames book
   -- where there is a monitor, what is published reports on the whole log
   pub shown : is_watched ≡ true → side ≡ page frames book log
@@ -21,8 +29,10 @@ pub record IsUnderLock (frames : ℕ) (book : Book) (core : State) (log added : 
   pub spare : LagsBehind other (page frames book log)
 
 -- a kernel that was made and has no name yet
-pub record IsMade (frames cpus : ℕ) (book : Book) (core : State) (side other : Page) (seat : WhichKernel) : Type 0 where
+pub record IsMade (frames cpus : ℕ) (book : Book) (parts : ℕ) (core : State) (side other : Page) (seat : WhichKernel) : Type 0 where
   pub few : cpus ≤ 8
+  -- one part of the count for each CPU
+  pub one_each : parts ≡ cpus
   pub least : 16 ≤ frames
   pub most : frames ≤ 4096
   pub opening : core ≡ open_with frames

@@ -4,6 +4,8 @@ pub mod Faults
 pub mod Held
 pub mod Kept
 pub mod Makers
+pub mod Moments
+pub mod Names
 pub mod Pages
 pub mod Ports
 pub mod Published

@@ -8,14 +8,31 @@ use Rattle.memory_image.specs.Image.{Image}
 use Rattle.memory_image.specs.Sound.{StandsFor}
 use Rattle.memory_report.specs.Histories.{Legal, StartsWith, calls_of, entries_of, state_after}
 use Rattle.memory_report.specs.declared.entries.LogEntry.{LogEntry}
+use Rattle.process_table.specs.View.{View}
+use Rattle.memory_image.specs.Machine.{IsImageOf}
+use Rattle.locked_core.specs.Moments.{Begins, Follows, core_after, entries_in}
+use Rattle.locked_core.specs.declared.moment.Moment.{Moment}
 
--- its number, and the entries that it has seen
+-- its number, the entries that it has seen, and the same with the core after each
 pub record Maker : Type 0 where
   pub number : ℕ
   pub seen : List LogEntry
+  pub moments : List Moment
 
+-- a CPU that has seen these entries, and no core
 abbrev pub maker : ℕ → List LogEntry → Maker
-maker number seen = record { number = number; seen = seen }
+maker number seen = record { number = number; seen = seen; moments = [] }
+
+-- a CPU that has seen these moments
+abbrev pub maker_of : ℕ → List Moment → Maker
+maker_of number moments = record { number = number; seen = entries_in moments; moments = moments }
+
+-- What a CPU that made a call has seen: its moments have the entries that it has seen, begin with those that it had seen, and
+-- follow one after another from the core that the kernel opened with.
+pub record IsFollowed (opening : View) (before after : Maker) : Type 0 where
+  pub entries : entries_in after.moments ≡ after.seen
+  pub begins : Begins after.moments before.moments
+  pub follows : Follows opening after.moments
 
 -- so many CPUs, numbered from 0, that have seen nothing
 abbrev pub new_makers : ℕ → List Maker
@@ -62,6 +79,13 @@ pub record IsSnapshot (frames : ℕ) (cpu : Maker) (image : Image) (history : Li
   pub begins : StartsWith history cpu.seen
   pub own : calls_of cpu.number history ≡ calls_of cpu.number cpu.seen
   pub stands : StandsFor image (state_after frames history)
+
+-- Where an image was taken for a CPU: it shows the core that the last of these moments left, of the kernel's one history, which begins with the moments that the
+-- CPU has seen.
+pub record IsShown (opening : View) (cpu : Maker) (image : Image) (moments : List Moment) : Type 0 where
+  pub begins : Begins moments cpu.moments
+  pub follows : Follows opening moments
+  pub shows : IsImageOf (core_after opening moments) image
 
 -- what a CPU has seen begins the log, and it made the calls that the log has of it
 abbrev pub IsFit : List LogEntry → Maker → Type 0

@@ -1,18 +1,21 @@
 //! The history of one kernel, of which its parts know beginnings. It exists in proofs alone: what is stored is its length.
 ghost use Rattle.std.specs.Prelude.{◌≡◌, ◌<◌, [], length, MatchBool};
 ghost use Rattle.memory_report.specs.Histories.{Legal, StartsWith};
+ghost use Rattle.locked_core.specs.Moments.{Begins, entries_in};
 ghost use Rattle.locked_core.specs.Rules.{head_of};
 
-use kernel_calls::{Call, Event, Reply};
+use crate::moment::Moment;
+use kernel_calls::{Call, Core, Reply};
 use logbook::{Gain, Plain, Play, Rule, Seen, Start, Word};
 use memory_report::LogEntry;
 use page_words::Pid;
 use std::marker::{Brand, Model, PhantomData};
+use std::sync::ledger::Ledger;
 
 /// The rule of the history.
 pub struct Law;
 
-impl Rule<LogEntry, u64> for Law {
+impl Rule<Moment, u64> for Law {
     ghost use Rattle.std.specs.Prelude.{[]};
     ghost use base.Fml.{ftrue};
     ghost use Rattle.locked_core.specs.Rules.{CellsHold};
@@ -45,7 +48,7 @@ pub(crate) fn no_entry() -> LogEntry {
 /// Callers trade nothing.
 pub struct Nothing;
 
-impl Gain<LogEntry, u64> for Nothing {
+impl Gain<Moment, u64> for Nothing {
     ghost use base.Fml.{ftrue};
 
     ghost after = { λ names about answer. ftrue };
@@ -54,7 +57,7 @@ impl Gain<LogEntry, u64> for Nothing {
 /// A step that reads the length of the history.
 pub struct Look;
 
-impl Play<LogEntry, u64> for Look {
+impl Play<Moment, u64> for Look {
     ghost use Rattle.locked_core.specs.Rules.{LooksUp};
 
     ghost then = { LooksUp };
@@ -63,75 +66,75 @@ impl Play<LogEntry, u64> for Look {
 /// A step that adds an entry.
 pub struct Add;
 
-impl Play<LogEntry, u64> for Add {
+impl Play<Moment, u64> for Add {
     ghost use Rattle.locked_core.specs.Rules.{Adds};
 
     ghost then = { Adds };
 }
 
-impl Plain<LogEntry, LogEntry, u64> for Add {
+impl Plain<LogEntry, Moment, u64> for Look {
     ghost use Rattle.std.specs.Prelude.{None};
+    ghost use Rattle.locked_core.specs.Moments.{moment};
+    ghost use Rattle.locked_core.specs.Names.{no_core};
 
-    ghost ask = { λ entry. entry };
+    ghost ask = { λ entry. moment entry no_core };
 
     ghost state = { λ entry. None };
 }
 
-/// A call that comes: the log before it, and what it asks.
+/// A call that is done: its entry, and the core that it left.
 #[derive(Drop)]
-pub struct Coming<'a, N: Name> {
-    pub log: &'a [LogEntry],
-    pub event: &'a Event,
-    of: PhantomData<N>,
+pub struct Done<'a> {
+    pub entry: &'a LogEntry,
+    pub core: &'a Core,
 }
 
-impl<'a, N: Name> Coming<'a, N> {
-    pub fn new(log: &'a [LogEntry], event: &'a Event) -> Coming<'a, N>
-        ensures { (result.log.now ≡ log.now) × (result.event.now ≡ event.now) }
-    {
-        Coming {
-            log,
-            event,
-            of: PhantomData,
-        }
-    }
-}
-
-/// What a call that comes adds to the history is its entry behind this log, which the core will make.
-impl<'a, N: Name> Plain<Coming<'a, N>, LogEntry, u64> for Add {
+impl<'a> Plain<Done<'a>, Moment, u64> for Add {
     ghost use Rattle.std.specs.Prelude.{None};
-    ghost use Rattle.memory_report.specs.Histories.{entry_after};
+    ghost use Rattle.locked_core.specs.Moments.{moment};
 
-    ghost ask = { λ c. entry_after N.frames c.log.now c.event.now.cpu c.event.now.pid c.event.now.call };
+    ghost ask = { λ d. moment d.entry.now d.core.now };
 
-    ghost state = { λ c. None };
+    ghost state = { λ d. None };
 }
 
 /// Which kernel it is. Each call of a program picks it.
 pub trait Name {
     ghost use Rattle.std.specs.Prelude.{ℕ};
-    ghost use Rattle.logbook.specs.Pages.{Book};
+    ghost use Rattle.locked_core.specs.Names.{Names};
 
     ghost frames: { ℕ };
 
-    ghost book: { Book };
+    ghost book: { Names };
 }
 
 impl Name for Brand {
-    ghost use Rattle.locked_core.specs.Rules.{no_book};
+    ghost use Rattle.locked_core.specs.Names.{no_names};
 
     ghost frames = { 0 };
 
-    ghost book = { no_book };
+    ghost book = { no_names };
+}
+
+/// The ledger of the calls that a kernel's CPUs made. Each CPU's share counts its own calls, and the total is under
+/// the lock. No value of it is made.
+pub struct Calls<N: Name> {
+    of: PhantomData<N>,
+}
+
+impl<N: Name> Ledger for Calls<N> {
+    ghost name = { N.book.ledger };
+
+    ghost parts = { N.book.parts };
 }
 
 /// A beginning of the history that was seen. It has no bytes.
-pub type Beginning = Seen<LogEntry, u64, Law>;
+pub type Beginning = Seen<Moment, u64, Law>;
 
 /// A book with an empty history, which has no name yet.
 #[derive(Drop)]
 pub struct Opened {
-    head: Word<LogEntry, u64, Law>,
+    head: Word<Moment, u64, Law>,
     pub seen: Beginning,
     pub ghost empty: { seen.log ≡ [] },
     pub ghost head_is: { head ≡ head_of seen.book },
@@ -150,7 +153,7 @@ impl Opened {
     }
 
     /// The word that has the history's length.
-    pub(crate) fn into_head(self) -> Word<LogEntry, u64, Law>
+    pub(crate) fn into_head(self) -> Word<Moment, u64, Law>
         ensures { result ≡ head_of self.seen.book }
     {
         let Opened { head, seen: _seen } = self;
@@ -158,7 +161,7 @@ impl Opened {
     }
 }
 
-/// A legal beginning of the history, which was seen. Contracts see it as its entries.
+/// A legal beginning of the history, which was seen. Contracts see it as its moments.
 #[derive(Drop)]
 pub struct Front<N: Name> {
     count: usize,
@@ -168,19 +171,20 @@ pub struct Front<N: Name> {
 
 impl<N: Name> Model for Front<N> {
     ghost use Rattle.std.specs.Prelude.{◌≡◌, List, length};
-    ghost use Rattle.memory_report.specs.declared.entries.LogEntry.{LogEntry};
+    ghost use Rattle.locked_core.specs.Moments.{entries_in};
+    ghost use Rattle.locked_core.specs.declared.moment.Moment.{Moment};
     ghost use Rattle.memory_report.specs.Histories.{Legal};
 
-    ghost Value = { List LogEntry };
+    ghost Value = { List Moment };
 
     ghost view = { λ f. f.seen.log };
 
-    ghost invariant = { λ f. (f.count ≡ length f.seen.log) × (f.seen.book ≡ N.book) × Legal N.frames f.seen.log };
+    ghost invariant = { λ f. (f.count ≡ length (entries_in f.seen.log)) × (f.seen.book ≡ N.book.history) × Legal N.frames (entries_in f.seen.log) };
 }
 
 impl<N: Name> Front<N> {
     pub(crate) fn new(count: usize, seen: Beginning) -> Front<N>
-        requires { (count ≡ length seen.log) × (seen.book ≡ N.book) × Legal N.frames seen.log }
+        requires { (count ≡ length (entries_in seen.log)) × (seen.book ≡ N.book.history) × Legal N.frames (entries_in seen.log) }
         ensures { result ≡ seen.log }
     {
         Front {
@@ -192,8 +196,8 @@ impl<N: Name> Front<N> {
 
     /// How many entries it has.
     pub fn len(&self) -> usize
-        ensures length { result ≡ length self.now }
-        ensures legal { Legal N.frames self.now }
+        ensures length { result ≡ length (entries_in self.now) }
+        ensures legal { Legal N.frames (entries_in self.now) }
     {
         self.count
     }
@@ -211,8 +215,9 @@ impl<N: Name> Front<N> {
 
     /// Whether it is no longer than the other front. The shorter of both begins the longer one.
     pub fn begins(&self, other: &Front<N>) -> bool
-        ensures order { MatchBool result (StartsWith other.now self.now) (StartsWith self.now other.now × (length other.now < length self.now)) }
-        ensures legal { Legal N.frames self.now × Legal N.frames other.now }
+        ensures order { MatchBool result (StartsWith (entries_in other.now) (entries_in self.now)) (StartsWith (entries_in self.now) (entries_in other.now) × (length (entries_in other.now) < length (entries_in self.now))) }
+        ensures moments { MatchBool result (Begins other.now self.now) (Begins self.now other.now) }
+        ensures legal { Legal N.frames (entries_in self.now) × Legal N.frames (entries_in other.now) }
     {
         let mut both = self.seen.again();
         both.learn(&other.seen);

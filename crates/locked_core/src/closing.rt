@@ -2,6 +2,7 @@
 
 ghost use Rattle.std.specs.Prelude.{◌≡◌, ◌↔◌, All, Any, IsTrue};
 ghost use Rattle.locked_core.specs.Makers.{AreAll, IsFit, IsOneOf};
+ghost use Rattle.locked_core.specs.Moments.{entries_in};
 
 use crate::book::{Front, Name};
 use crate::call_log::CallLog;
@@ -35,7 +36,7 @@ impl History {
 /// Whether each CPU made the calls that the log has of it, and has seen no more than the log. What it
 /// has seen then begins the log.
 fn agree<N: Name>(cpus: &[Cpu<N>], log: &CallLog, front: &Front<N>) -> bool
-    requires { front.now ≡ log.now.entries }
+    requires { entries_in front.now ≡ log.now.entries }
     ensures { IsTrue result ↔ All (λ c. IsFit log.now.entries c) cpus.now }
 {
     cpus.iter().all(|c| c.agrees(log, front))
@@ -58,7 +59,7 @@ fn all_known<N: Name>(cpus: &[Cpu<N>], log: &[LogEntry]) -> bool
 
 /// Whether these are all of so many CPUs, whose calls are the log.
 pub fn are_all<N: Name>(cpus: &[Cpu<N>], count: u8, log: &CallLog, front: &Front<N>) -> bool
-    requires { front.now ≡ log.now.entries }
+    requires { entries_in front.now ≡ log.now.entries }
     ensures { IsTrue result ↔ AreAll count log.now.entries cpus.now }
 {
     if cpus.len() != usize::from(count) {

@@ -2,12 +2,13 @@
 
 ghost use Rattle.std.specs.Prelude.{◌≡◌, ◌≢◌, ◌+◌, ◌<◌, ◌^◌, ◌⊎◌, ◌↔◌, [], false, IfOk, IfErr, OnErr, IsTrue, length, List};
 ghost use Rattle.locked_core.specs.Endings.{EndsAtLast};
-ghost use Rattle.locked_core.specs.Makers.{Maker, maker, Makes, BeginOne, IsFit, IsRefused};
+ghost use Rattle.locked_core.specs.Makers.{Maker, maker, maker_of, Makes, BeginOne, IsFit, IsFollowed, IsRefused};
+ghost use Rattle.locked_core.specs.Moments.{Begins, entries_in};
 ghost use Rattle.memory_report.specs.Histories.{AreIsolated, StartsWith, calls_of};
 ghost use Rattle.memory_report.specs.Histories.{AreGuarded};
 ghost use Rattle.memory_report.specs.declared.entries.LogEntry.{LogEntry};
 
-use crate::book::{Front, Name};
+use crate::book::{Calls, Front, Name};
 use crate::call_log::CallLog;
 use crate::faults::Fault;
 use crate::gate::{Gate, Point};
@@ -16,6 +17,7 @@ use crate::kernel::Kernel;
 use kernel_calls::{Call, Ended, Reply};
 use page_words::Pid;
 use std::marker::Model;
+use std::sync::ledger::{Book, Share};
 use std::sync::{MutexGuard, Wait};
 
 /// What a CPU has seen, to be told to a monitor. Contracts see it as the list of entries.
@@ -26,11 +28,12 @@ pub struct Told<N: Name> {
 
 impl<N: Name> Model for Told<N> {
     ghost use Rattle.std.specs.Prelude.{List};
+    ghost use Rattle.locked_core.specs.Moments.{entries_in};
     ghost use Rattle.memory_report.specs.declared.entries.LogEntry.{LogEntry};
 
     ghost Value = { List LogEntry };
 
-    ghost view = { λ t. t.seen };
+    ghost view = { λ t. entries_in t.seen };
 }
 
 impl<N: Name> Told<N> {
@@ -42,32 +45,36 @@ impl<N: Name> Told<N> {
     }
 
     pub(crate) fn into_seen(self) -> Front<N>
-        ensures { result ≡ self }
+        ensures { entries_in result ≡ self }
     {
         let Told { seen } = self;
         seen
     }
 }
 
-/// One CPU of a kernel. Contracts see its number and the entries that it has seen, among which its own
-/// are the calls that it made.
+/// One CPU of a kernel. Contracts see its number and the entries that it has seen, with the core after each entry.
+/// Its own entries among them are the calls that it made, and its share counts them. The total under the lock counts
+/// all entries, and grows only with the share of a CPU. Therefore each entry of the history is one call of one CPU.
 #[derive(Drop)]
 pub struct Cpu<N: Name> {
     pub(crate) number: u8,
     pub(crate) calls: usize,
     pub(crate) seen: Front<N>,
+    /// The calls that it made, counted.
+    pub(crate) share: Share<Calls<N>>,
 }
 
 impl<N: Name> Model for Cpu<N> {
     ghost use Rattle.std.specs.Prelude.{◌≡◌, ◌<◌};
     ghost use Rattle.memory_report.specs.Histories.{calls_of};
-    ghost use Rattle.locked_core.specs.Makers.{Maker};
+    ghost use Rattle.locked_core.specs.Makers.{Maker, maker_of};
+    ghost use Rattle.locked_core.specs.Moments.{entries_in};
 
     ghost Value = { Maker };
 
-    ghost view = { λ c. record { number = c.number; seen = c.seen } };
+    ghost view = { λ c. maker_of c.number c.seen };
 
-    ghost invariant = { λ c. (c.calls ≡ calls_of c.number c.seen) × (c.number < 8) };
+    ghost invariant = { λ c. (c.calls ≡ calls_of c.number (entries_in c.seen)) × (c.number < 8) × (c.share.parts ≡ 1) × (c.share.amount ≡ calls_of c.number (entries_in c.seen)) };
 }
 
 impl<N: Name> Cpu<N> {
@@ -95,47 +102,56 @@ impl<N: Name> Cpu<N> {
         }
     }
 
-    pub(crate) fn new(number: u8, seen: Front<N>) -> Cpu<N>
+    #[tactic(auto, using(crate::proofs::Moments::entries_none))]
+    pub(crate) fn new(number: u8, seen: Front<N>, share: Share<Calls<N>>) -> Cpu<N>
         requires number { number < 8 }
-        requires seen { seen ≡ [] }
+        requires seen { entries_in seen ≡ [] }
+        requires share { (share.parts ≡ 1) × (share.amount ≡ 0) }
         ensures { result ≡ maker number [] }
     {
         Cpu {
             number,
             calls: 0,
             seen,
+            share,
         }
     }
 
     /// Whether it made the calls that the log has of it, and has seen no more than the log. What it has
     /// seen then begins the log.
     pub(crate) fn agrees(&self, log: &CallLog, front: &Front<N>) -> bool
-        requires { front.now ≡ log.now.entries }
+        requires { entries_in front.now ≡ log.now.entries }
         ensures fit { IsTrue result ↔ IsFit log.now.entries self.now }
         ensures begins { IsTrue result → StartsWith log.now.entries self.now.seen }
+        ensures moments { IsTrue result → Begins front.now self.now.moments }
         ensures differs { result ≡ false → BeginOne N.frames log.now.entries self.now.seen × ((length log.now.entries < length self.now.seen) ⊎ (calls_of self.now.number log.now.entries ≢ calls_of self.now.number self.now.seen)) }
     {
         self.seen.begins(front) && self.calls == log.calls_of(self.number)
     }
 
-    /// Takes in one more call of its own, which ends what it has seen now.
-    fn made(&mut self, grown: Front<N>)
-        requires calls { calls_of self.old.number grown ≡ calls_of self.old.number self.old.seen + 1 }
-        requires small { length grown < 2 ^ 64 }
-        ensures { self.new ≡ maker self.old.number grown }
+    /// Takes in one more call of its own, which ends what it has seen now, and counts it.
+    pub(crate) fn made(&mut self, grown: Front<N>, counted: &mut Book<Calls<N>>)
+        requires calls { calls_of self.old.number (entries_in grown) ≡ calls_of self.old.number self.old.seen + 1 }
+        requires small { length (entries_in grown) < 2 ^ 64 }
+        ensures made { self.new ≡ maker_of self.old.number grown }
+        ensures counted { counted.new.total ≡ counted.old.total + 1 }
     {
-        *self = Cpu {
-            number: self.number,
-            calls: self.calls + 1,
-            seen: grown,
-        };
+        let Cpu {
+            number: _,
+            calls,
+            seen,
+            share,
+        } = self;
+        *calls += 1;
+        *seen = grown;
+        counted.add(share, 1);
     }
 
     /// Makes a call of a process: waits for the lock, decides, carries out, logs and publishes it.
     ///
     /// In this order: Unread where the kernel's history is longer than the log; Stale where the log is
     /// shorter than what this CPU has seen, or has another number of its entries; NoMemory where the log
-    /// can't grow. After each of them nothing has changed.
+    /// can't grow. After each of them nothing has changed: the call added no entry to the history.
     pub fn call<G: Gate + Drop, R: Wait>(
         &mut self,
         rt: &R,
@@ -144,6 +160,7 @@ impl<N: Name> Cpu<N> {
         call: Call,
     ) -> Result<Reply, Fault>
         ensures made { IfOk result (Makes N.frames self.old pid call self.new) }
+        ensures followed { IfOk result (λ _. IsFollowed N.book.opening self.old self.new) }
         ensures isolated { IfOk result (λ _. AreIsolated N.frames self.new.seen) }
         ensures guarded { IfOk result (λ _. AreGuarded N.frames self.new.seen) }
         ensures number { self.new.number ≡ self.old.number }
@@ -160,14 +177,13 @@ impl<N: Name> Cpu<N> {
             }
         };
         kernel.gate.reach(Point::Locked);
-        let (reply, seen) = match guard.carry_out(rt, ready) {
-            Ok(carried) => carried,
+        let reply = match guard.carry_out(rt, ready, self) {
+            Ok(reply) => reply,
             Err(fault) => {
                 MutexGuard::unlock(guard);
                 return Err(fault);
             }
         };
-        self.made(seen);
         kernel.gate.reach(Point::Published);
         MutexGuard::unlock(guard);
         Ok(reply)
@@ -186,7 +202,8 @@ impl<N: Name> Cpu<N> {
         processors: &I,
     ) -> Result<(Reply, Ended), Fault>
         ensures made { IfOk result (λ r. Makes N.frames self.old pid call self.new r.0) }
-        ensures ended { IfOk result (λ r. EndsAtLast N.frames self.new.seen r.1) }
+        ensures ended { IfOk result (λ r. EndsAtLast N.frames N.book.opening self.new r.1) }
+        ensures followed { IfOk result (λ _. IsFollowed N.book.opening self.old self.new) }
         ensures isolated { IfOk result (λ _. AreIsolated N.frames self.new.seen) }
         ensures guarded { IfOk result (λ _. AreGuarded N.frames self.new.seen) }
         ensures number { self.new.number ≡ self.old.number }
@@ -205,14 +222,13 @@ impl<N: Name> Cpu<N> {
         };
         gate.reach(Point::Locked);
         let ended = guard.ends(&ready);
-        let (reply, seen) = match guard.carry_out(rt, ready) {
-            Ok(carried) => carried,
+        let reply = match guard.carry_out(rt, ready, self) {
+            Ok(reply) => reply,
             Err(fault) => {
                 MutexGuard::unlock(guard);
                 return Err(fault);
             }
         };
-        self.made(seen);
         processors.invalidate(&ended);
         gate.reach(Point::Published);
         MutexGuard::unlock(guard);

@@ -2,13 +2,14 @@
 
 ghost use Rattle.std.specs.Prelude.{◌≡◌, ◌≤◌, ◌↔◌, [], IfErr, IfOk, IsErrOf, All, Any, length, take, replicate, List};
 ghost use Rattle.left_right.specs.Sides.{view};
-ghost use Rattle.locked_core.specs.Makers.{Closes, IsRefused, IsSnapshot, new_makers};
+ghost use Rattle.locked_core.specs.Makers.{Closes, IsRefused, IsShown, IsSnapshot, new_makers};
+ghost use Rattle.locked_core.specs.declared.moment.Moment.{Moment};
 ghost use Rattle.locked_core.specs.Pages.{page};
 ghost use Rattle.locked_core.specs.Published.{view_of};
 ghost use Rattle.memory_report.specs.Histories.{AreGuarded, AreIsolated, Legal, state_after, calls_of};
 ghost use Rattle.memory_report.specs.declared.entries.LogEntry.{LogEntry};
 
-use crate::book::{Name, Opened};
+use crate::book::{Calls, Name, Opened};
 use crate::call_log::CallLog;
 use crate::closing::History;
 use crate::cpu::Cpu;
@@ -24,13 +25,14 @@ use memory_image::Image;
 use page_words::is_frame_count;
 use std::alloc::{AllocError, Global};
 use std::marker::Model;
+use std::sync::ledger::{self, Share};
 use std::sync::{Mutex, MutexGuard, Wait};
 
 /// How often a lock that is held is looked at before a thread sleeps for it.
 const LOOKS: u32 = 16;
 
-/// A kernel that has booted, and that no type names yet. Contracts see its sizes, and which book its history is
-/// written in, which is empty. End it by `open`.
+/// A kernel that has booted, and that no type names yet. Contracts see its sizes, and its names: which book its history is
+/// written in, which is empty, which ledger counts its calls, and which core it opens with. End it by `open`.
 pub struct Blank<G: Gate + Drop> {
     frames: u32,
     cpus: u8,
@@ -40,6 +42,7 @@ pub struct Blank<G: Gate + Drop> {
     core: Core,
     opened: Opened,
     writer: LogWriter,
+    calls: ledger::Blank,
 }
 
 impl<G: Gate + Drop> Model for Blank<G> {
@@ -48,9 +51,9 @@ impl<G: Gate + Drop> Model for Blank<G> {
 
     ghost Value = { Unnamed };
 
-    ghost view = { λ b. record { frames = b.frames; cpus = b.cpus; monitors = b.monitors; book = b.opened.seen.book } };
+    ghost view = { λ b. record { frames = b.frames; cpus = b.cpus; monitors = b.monitors; book = record { history = b.opened.seen.book; ledger = b.calls.name; parts = b.calls.parts; opening = b.core } } };
 
-    ghost invariant = { λ b. IsMade b.frames b.cpus b.opened.seen.book b.core.state b.writer.desk.shown.value b.writer.desk.spare.value b.writer.desk.place.me.0.client };
+    ghost invariant = { λ b. IsMade b.frames b.cpus b.opened.seen.book b.calls.parts b.core.state b.writer.desk.shown.value b.writer.desk.spare.value b.writer.desk.place.me.0.client };
 }
 
 /// A kernel: its core, log and writer under one lock. Contracts see how many CPUs it has. End it by `close`.
@@ -118,6 +121,7 @@ impl<N: Name, G: Gate + Drop> Kernel<N, G> {
             core,
             opened,
             writer,
+            calls: ledger::Blank::new(u64::from(cpus)),
         })
     }
 
@@ -142,6 +146,7 @@ impl<N: Name, G: Gate + Drop> Kernel<N, G> {
     /// no memory for the image.
     pub fn snapshot<R: Wait>(&self, rt: &R, cpu: &mut Cpu<N>) -> Result<Image, Fault>
         ensures taken { IfOk result (λ image. (history : List LogEntry) × IsSnapshot N.frames cpu.old image history) }
+        ensures shows { IfOk result (λ image. (moments : List Moment) × IsShown N.book.opening cpu.old image moments) }
         ensures kept { cpu.new ≡ cpu.old }
         ensures refused { IfErr result (λ f. (log : List LogEntry) × IsRefused N.frames log cpu.old f) }
     {
@@ -194,12 +199,21 @@ impl<G: Gate + Drop> Blank<G> {
             core,
             opened,
             mut writer,
+            calls,
         } = self;
-        let Ok((cpus, monitors)) = seats(alloc, &mut writer, count, watchers) else {
+        let (counted, mut shares) = calls.open::<Calls<N>>();
+        let Ok((cpus, monitors)) = seats(alloc, &mut writer, count, watchers, &mut shares) else {
             writer.take(rt);
             return Err(BootFault::NoMemory);
         };
-        let locked = Locked::new(core, CallLog::new(alloc), opened, writer, watchers > 0);
+        let locked = Locked::new(
+            core,
+            CallLog::new(alloc),
+            opened,
+            writer,
+            watchers > 0,
+            counted,
+        );
         Ok(Boot {
             kernel: Kernel {
                 state: Mutex::new(locked),
@@ -212,22 +226,25 @@ impl<G: Gate + Drop> Blank<G> {
     }
 }
 
-/// The CPUs, numbered from 0, and the monitors.
+/// The CPUs, numbered from 0, each with one part of the shares, and the monitors.
 fn seats<N: Name>(
     alloc: Global,
     writer: &mut LogWriter,
     count: u8,
     watchers: u8,
+    shares: &mut Share<Calls<N>>,
 ) -> Result<(Vec<Cpu<N>>, Vec<Monitor<N>>), AllocError>
     requires few { count ≤ 8 }
-    requires writer { (writer.old.desk.shown.value ≡ page N.frames N.book []) × (view writer.old.desk.place ≡ view_of N.frames N.book) }
+    requires shares { (shares.old.parts ≡ count) × (shares.old.amount ≡ 0) }
+    requires writer { (writer.old.desk.shown.value ≡ page N.frames N.book.history []) × (view writer.old.desk.place ≡ view_of N.frames N.book.history) }
     ensures writer { (view writer.new.desk.place ≡ view writer.old.desk.place) × (writer.new.desk.shown ≡ writer.old.desk.shown) × (writer.new.desk.spare ≡ writer.old.desk.spare) }
     ensures cpus { IfOk result (λ t. t.0.items ≡ new_makers count) }
     ensures monitors { IfOk result (λ t. t.1.items ≡ replicate watchers []) }
 {
     let mut cpus = Vec::new(alloc);
     for number in 0..count {
-        cpus.push(Cpu::new(number, writer.published().front::<N>()))?;
+        let share = shares.split_off(1, 0);
+        cpus.push(Cpu::new(number, writer.published().front::<N>(), share))?;
     }
     let mut monitors = Vec::new(alloc);
     for seat in 0..watchers {

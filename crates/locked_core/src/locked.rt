@@ -3,16 +3,18 @@
 ghost use Rattle.std.specs.Prelude.{◌≡◌, ◌≤◌, ◌<◌, ◌+◌, ◌==◌, ◌^◌, ◌++◌, [], ◌∷◌, IfOk, IfErr, OnErr, List, length, true};
 ghost use Rattle.kernel_calls.specs.Translations.{ended_by, Ends};
 ghost use Rattle.left_right.specs.Sides.{view};
-ghost use Rattle.locked_core.specs.Makers.{AreAll, Closes, IsRefused, Prevents};
+ghost use Rattle.locked_core.specs.Makers.{AreAll, Closes, IsRefused, Prevents, maker_of};
+ghost use Rattle.locked_core.specs.Moments.{Begins, Follows, core_after, entries_in, moment};
 ghost use Rattle.locked_core.specs.Pages.{page};
 ghost use Rattle.locked_core.specs.Published.{view_of};
+ghost use Rattle.memory_image.specs.Machine.{IsImageOf};
 ghost use Rattle.memory_image.specs.Sound.{StandsFor};
 ghost use Rattle.memory_report.specs.Histories.{Legal, StartsWith, state_after, calls_of, entry_after};
 ghost use Rattle.locked_core.specs.Rules.{head_of};
 ghost use Rattle.memory_report.specs.declared.entries.LogEntry.{LogEntry};
 ghost use Rattle.process_table.specs.State.{open_with};
 
-use crate::book::{Front, Name, Opened};
+use crate::book::{Calls, Front, Name, Opened};
 use crate::call_log::{CallLog, entry_of};
 use crate::closing::{History, are_all};
 use crate::cpu::Cpu;
@@ -25,6 +27,7 @@ use memory_image::Image;
 use page_words::Pid;
 use std::marker::Model;
 use std::sync::Wait;
+use std::sync::ledger::Book;
 
 /// A call that was judged under the lock: how many entries its CPU had then, and what it asks. It can be carried
 /// out on the log that it was judged on alone.
@@ -45,6 +48,8 @@ pub struct Locked<N: Name> {
     writer: LogWriter,
     /// Whether there is a monitor, which reads what is published.
     is_watched: bool,
+    /// The total of the calls that the CPUs made.
+    counted: Book<Calls<N>>,
 }
 
 impl<N: Name> Model for Locked<N> {
@@ -53,9 +58,9 @@ impl<N: Name> Model for Locked<N> {
 
     ghost Value = { UnderLock };
 
-    ghost view = { λ l. record { core = l.core; log = l.log.entries } };
+    ghost view = { λ l. record { core = l.core; log = l.log.entries; moments = l.head } };
 
-    ghost invariant = { λ l. IsUnderLock N.frames N.book l.core.state l.log.entries l.head l.is_watched l.writer.desk.shown.value l.writer.desk.spare.value l.writer.desk.place.me.0.client };
+    ghost invariant = { λ l. IsUnderLock N.frames N.book.history N.book.opening l.core l.log.entries l.head l.counted.total l.is_watched l.writer.desk.shown.value l.writer.desk.spare.value l.writer.desk.place.me.0.client };
 }
 
 impl<N: Name> Locked<N> {
@@ -66,13 +71,16 @@ impl<N: Name> Locked<N> {
         opened: Opened,
         writer: LogWriter,
         is_watched: bool,
+        counted: Book<Calls<N>>,
     ) -> Locked<N>
         requires size { (16 ≤ N.frames) × (N.frames ≤ 4096) }
         requires log { log.entries ≡ [] }
+        requires counted { counted.total ≡ 0 }
         requires core { core.state ≡ open_with N.frames }
-        requires book { opened.seen.book ≡ N.book }
-        requires writer { (writer.desk.shown.value ≡ page N.frames N.book []) × (view writer.desk.place ≡ view_of N.frames N.book) }
-        requires spare { writer.desk.spare.value ≡ page N.frames N.book [] }
+        requires opening { core ≡ N.book.opening }
+        requires book { opened.seen.book ≡ N.book.history }
+        requires writer { (writer.desk.shown.value ≡ page N.frames N.book.history []) × (view writer.desk.place ≡ view_of N.frames N.book.history) }
+        requires spare { writer.desk.spare.value ≡ page N.frames N.book.history [] }
         ensures log { result.log ≡ [] }
         ensures core { result.core.state ≡ open_with N.frames }
     {
@@ -82,6 +90,7 @@ impl<N: Name> Locked<N> {
             head: Head::new(opened),
             writer,
             is_watched,
+            counted,
         }
     }
 
@@ -92,6 +101,7 @@ impl<N: Name> Locked<N> {
     /// the CPU has seen, or has another number of its entries.
     fn fit(&self, cpu: &Cpu<N>) -> Result<(), Fault>
         ensures fits { IfOk result (λ _. StartsWith self.now.log cpu.now.seen × (calls_of cpu.now.number self.now.log ≡ calls_of cpu.now.number cpu.now.seen)) }
+        ensures begins { IfOk result (λ _. Begins self.now.moments cpu.now.moments) }
         ensures refused { IfErr result (IsRefused N.frames self.now.log cpu.now) }
     {
         let count = self.log.len();
@@ -110,6 +120,9 @@ impl<N: Name> Locked<N> {
     pub(crate) fn snapshot(&self, cpu: &Cpu<N>) -> Result<Image, Fault>
         ensures legal { IfOk result (λ _. Legal N.frames self.now.log) }
         ensures stands { IfOk result (λ image. StandsFor image (state_after N.frames self.now.log)) }
+        ensures shows { IfOk result (λ image. IsImageOf (core_after N.book.opening self.now.moments) image) }
+        ensures follows { Follows N.book.opening self.now.moments }
+        ensures begins { IfOk result (λ _. Begins self.now.moments cpu.now.moments) }
         ensures fits { IfOk result (λ _. StartsWith self.now.log cpu.now.seen × (calls_of cpu.now.number self.now.log ≡ calls_of cpu.now.number cpu.now.seen)) }
         ensures refused { IfErr result (IsRefused N.frames self.now.log cpu.now) }
     {
@@ -131,6 +144,7 @@ impl<N: Name> Locked<N> {
         ensures nth { IfOk result (λ r. (cpu.now.number < 8) × (r.nth ≡ calls_of cpu.now.number self.now.log)) }
         ensures event { IfOk result (λ r. r.event ≡ record { cpu = cpu.now.number; pid = pid; call = call }) }
         ensures fits { IfOk result (λ _. StartsWith self.now.log cpu.now.seen × (calls_of cpu.now.number self.now.log ≡ calls_of cpu.now.number cpu.now.seen)) }
+        ensures begins { IfOk result (λ _. Begins self.now.moments cpu.now.moments) }
         ensures refused { IfErr result (IsRefused N.frames self.now.log cpu.now) }
     {
         self.fit(cpu)?;
@@ -151,26 +165,33 @@ impl<N: Name> Locked<N> {
         self.core.ends(&ready.event)
     }
 
-    /// Carries out a call that was judged on this very log: makes room in the log, adds the call's entry to the
-    /// history, decides and carries it out in one go, logs and publishes it. Its reply, and the log with its entry.
+    /// Carries out a call of this CPU that was judged on this very log: makes room in the log, decides and carries it out in
+    /// one go, adds its entry and the core that it left to the history, logs, counts and publishes it. Its reply; the CPU
+    /// has then seen the log with its entry.
     ///
-    /// NoMemory where the log can't grow, Unread where the kernel's history is longer than the log; nothing
-    /// has changed then.
+    /// NoMemory where the log can't grow; nothing has changed then.
     pub(crate) fn carry_out<R: Wait>(
         &mut self,
         rt: &R,
         ready: Ready,
-    ) -> Result<(Reply, Front<N>), Fault>
+        cpu: &mut Cpu<N>,
+    ) -> Result<Reply, Fault>
         requires nth { (ready.event.cpu < 8) × (ready.nth ≡ calls_of ready.event.cpu self.old.log) }
+        requires own { (ready.event.cpu ≡ cpu.old.number) × (calls_of cpu.old.number self.old.log ≡ calls_of cpu.old.number cpu.old.seen) }
         ensures log { IfOk result (λ _. self.new.log ≡ self.old.log ++ entry_after N.frames self.old.log ready.event.cpu ready.event.pid ready.event.call ∷ []) }
-        ensures reply { IfOk result (λ r. r.0 ≡ (entry_after N.frames self.old.log ready.event.cpu ready.event.pid ready.event.call).reply) }
-        ensures front { IfOk result (λ r. (r.1 ≡ self.new.log) × (length r.1 < 2 ^ 64)) }
+        ensures reply { IfOk result (λ r. r ≡ (entry_after N.frames self.old.log ready.event.cpu ready.event.pid ready.event.call).reply) }
+        ensures made { IfOk result (λ _. cpu.new ≡ maker_of cpu.old.number self.new.moments) }
+        ensures moments { IfOk result (λ _. self.new.moments ≡ self.old.moments ++ moment (entry_after N.frames self.old.log ready.event.cpu ready.event.pid ready.event.call) self.new.core ∷ []) }
+        ensures told { IfOk result (λ _. (entries_in self.old.moments ≡ self.old.log) × (entries_in self.new.moments ≡ self.new.log)) }
+        ensures left { IfOk result (λ _. core_after N.book.opening self.old.moments ≡ self.old.core) }
+        ensures follows { IfOk result (λ _. Follows N.book.opening self.new.moments) }
+        ensures number { cpu.new.number ≡ cpu.old.number }
         ensures legal { IfOk result (λ _. Legal N.frames self.new.log) }
         ensures calls { IfOk result (λ _. calls_of ready.event.cpu self.new.log ≡ calls_of ready.event.cpu self.old.log + 1) }
         ensures state { IfOk result (λ _. self.new.core.state ≡ state_after N.frames self.new.log) }
         ensures ends { IfOk result (λ _. Ends (ended_by self.old.core ready.event) self.old.core self.new.core) }
         ensures prevented { IfErr result Prevents }
-        ensures err { OnErr result (self.new ≡ self.old) }
+        ensures err { OnErr result ((self.new ≡ self.old) × (cpu.new ≡ cpu.old)) }
     {
         let Locked {
             core,
@@ -178,19 +199,19 @@ impl<N: Name> Locked<N> {
             head,
             writer,
             is_watched,
+            counted,
         } = self;
         let Ready { nth, event } = ready;
         if log.reserve().is_err() {
             return Err(Fault::NoMemory);
         }
-        if !head.add(log, &event) {
-            return Err(Fault::Unread);
-        }
         let outcome = core.perform(&event);
         let entry = entry_of(&event, nth, &outcome);
+        head.add(rt, log, &entry, core);
         log.push(&entry);
         keep_up(rt, writer, *is_watched, log.entries(), &head.all());
-        Ok((entry.reply, front_of(log, head)))
+        cpu.made(front_of(log, head), counted);
+        Ok(entry.reply)
     }
 
     /// Hands out the history, where these CPUs are all of so many, and agree with the log.
@@ -209,6 +230,7 @@ impl<N: Name> Locked<N> {
             head,
             writer,
             is_watched: _,
+            counted: _,
         } = self;
         let front = front_of(&log, &head);
         writer.take(rt);
@@ -224,9 +246,9 @@ impl<N: Name> Locked<N> {
 
 /// The log, as the beginning of the history that was seen.
 fn front_of<N: Name>(log: &CallLog, head: &Head<N>) -> Front<N>
-    requires all { head.now ≡ log.now.entries }
+    requires all { entries_in head.now ≡ log.now.entries }
     requires legal { Legal N.frames log.now.entries }
-    ensures { result ≡ log.now.entries }
+    ensures { result ≡ head.now }
 {
     Front::new(log.len(), head.all())
 }

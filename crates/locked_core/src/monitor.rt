@@ -1,6 +1,7 @@
 //! Readers of the report, who do not wait.
 ghost use Rattle.std.specs.Prelude.{◌≡◌, IfSome, IfNone, length};
 ghost use Rattle.left_right.specs.Sides.{view};
+ghost use Rattle.locked_core.specs.Moments.{entries_in};
 ghost use Rattle.locked_core.specs.Published.{view_of};
 ghost use Rattle.memory_report.specs.Histories.{Legal, StartsWith, state_after, longer};
 ghost use Rattle.memory_report.specs.Reports.{report_of};
@@ -29,20 +30,21 @@ pub struct Monitor<N: Name> {
 
 impl<N: Name> Model for Monitor<N> {
     ghost use Rattle.std.specs.Prelude.{◌≡◌, List};
+    ghost use Rattle.locked_core.specs.Moments.{entries_in};
     ghost use Rattle.locked_core.specs.Published.{view_of};
     ghost use Rattle.memory_report.specs.declared.entries.LogEntry.{LogEntry};
 
     ghost Value = { List LogEntry };
 
-    ghost view = { λ m. m.seen };
+    ghost view = { λ m. entries_in m.seen };
 
-    ghost invariant = { λ m. m.reader.place.me.0.client ≡ view_of N.frames N.book };
+    ghost invariant = { λ m. m.reader.place.me.0.client ≡ view_of N.frames N.book.history };
 }
 
 impl<N: Name> Monitor<N> {
     pub(crate) fn new(reader: LogReader, seen: Front<N>) -> Monitor<N>
-        requires { view reader.place ≡ view_of N.frames N.book }
-        ensures { result ≡ seen }
+        requires { view reader.place ≡ view_of N.frames N.book.history }
+        ensures { result ≡ entries_in seen }
     {
         Monitor { reader, seen }
     }

@@ -5,6 +5,7 @@
 ghost use Rattle.std.specs.Prelude.{◌≡◌, ◌<◌, ◌≤◌, ◌^◌, [], true, IfOk, IfSome};
 ghost use Rattle.crossbeam_utils.specs.Register.{TurnsAt};
 ghost use Rattle.left_right.specs.Sides.{view};
+ghost use Rattle.locked_core.specs.Moments.{entries_in};
 ghost use Rattle.locked_core.specs.Pages.{LagsBehind, page};
 ghost use Rattle.locked_core.specs.Published.{view_of, IsOf, Keeps, Opens, Stays};
 ghost use Rattle.memory_report.specs.Histories.{Legal};
@@ -87,7 +88,7 @@ pub fn writer_of<R: Wait>(
 /// any more takes in what it lacks. It takes no memory.
 pub fn publish<R: Wait>(rt: &R, writer: &mut LogWriter, log: &[LogEntry], seen: &Beginning)
     requires kernel { view writer.old.desk.place ≡ view_of writer.old.desk.spare.value.frames seen.now.book }
-    requires seen { seen.now.log ≡ log.now }
+    requires seen { entries_in seen.now.log ≡ log.now }
     requires behind { LagsBehind writer.old.desk.spare.value (page writer.old.desk.spare.value.frames seen.now.book log.now) }
     requires legal { Legal writer.old.desk.spare.value.frames log.now }
     ensures view { view writer.new.desk.place ≡ view writer.old.desk.place }
@@ -98,7 +99,7 @@ pub fn publish<R: Wait>(rt: &R, writer: &mut LogWriter, log: &[LogEntry], seen: 
         &mut writer.desk,
         (log, seen),
         |desk, news|
-            requires { (news.1.now.log ≡ news.0.now) × LagsBehind desk.spare.value (page desk.spare.value.frames news.1.now.book news.0.now) × Legal desk.spare.value.frames news.0.now × TurnsAt Keeps desk.place.id (view desk.place) desk.shown.value (page desk.spare.value.frames news.1.now.book news.0.now) Stays }
+            requires { (entries_in news.1.now.log ≡ news.0.now) × LagsBehind desk.spare.value (page desk.spare.value.frames news.1.now.book news.0.now) × Legal desk.spare.value.frames news.0.now × TurnsAt Keeps desk.place.id (view desk.place) desk.shown.value (page desk.spare.value.frames news.1.now.book news.0.now) Stays }
         {
             let (open, mut spare) = desk.open(rt);
             spare.catch_up(news.0, news.1);
@@ -116,7 +117,7 @@ pub fn keep_up<R: Wait>(
     seen: &Beginning,
 )
     requires kernel { view writer.old.desk.place ≡ view_of writer.old.desk.spare.value.frames seen.now.book }
-    requires seen { seen.now.log ≡ log.now }
+    requires seen { entries_in seen.now.log ≡ log.now }
     requires behind { LagsBehind writer.old.desk.spare.value (page writer.old.desk.spare.value.frames seen.now.book log.now) }
     requires shown { LagsBehind writer.old.desk.shown.value (page writer.old.desk.spare.value.frames seen.now.book log.now) }
     requires legal { Legal writer.old.desk.spare.value.frames log.now }

@@ -2,6 +2,7 @@
 ghost use Rattle.std.specs.Prelude.{◌≡◌, ◌≤◌, [], length};
 ghost use Rattle.memory_report.specs.Histories.{Legal, state_after};
 ghost use Rattle.memory_report.specs.Reports.{report_of};
+ghost use Rattle.locked_core.specs.Moments.{entries_in};
 ghost use Rattle.locked_core.specs.Pages.{CatchesUp, LagsBehind, page};
 
 use crate::book::{Beginning, Front, Law, Name};
@@ -23,13 +24,14 @@ impl Model for Shown {
     ghost use Rattle.std.specs.Prelude.{◌≡◌, length};
     ghost use Rattle.memory_report.specs.Histories.{Legal, state_after};
     ghost use Rattle.memory_report.specs.Reports.{report_of};
+    ghost use Rattle.locked_core.specs.Moments.{entries_in};
     ghost use Rattle.locked_core.specs.Pages.{Page, page};
 
     ghost Value = { Page };
 
-    ghost view = { λ s. page s.frames s.seen.book s.seen.log };
+    ghost view = { λ s. page s.frames s.seen.book (entries_in s.seen.log) };
 
-    ghost invariant = { λ s. (s.count ≡ length s.seen.log) × Legal s.frames s.seen.log × (s.report ≡ report_of (state_after s.frames s.seen.log)) };
+    ghost invariant = { λ s. (s.count ≡ length (entries_in s.seen.log)) × Legal s.frames (entries_in s.seen.log) × (s.report ≡ report_of (state_after s.frames (entries_in s.seen.log))) };
 }
 
 impl Shown {
@@ -55,8 +57,8 @@ impl Shown {
 
     /// The beginning of the history, under the kernel's name.
     pub fn front<N: Name>(&self) -> Front<N>
-        requires { (self.now.frames ≡ N.frames) × (self.now.book ≡ N.book) }
-        ensures { result ≡ self.now.log }
+        requires { (self.now.frames ≡ N.frames) × (self.now.book ≡ N.book.history) }
+        ensures { entries_in result ≡ self.now.log }
     {
         Front::new(self.count, self.seen.again())
     }
@@ -82,14 +84,14 @@ impl Shown {
 
     /// The beginning of the history, under no name.
     pub fn beginning(&self) -> Beginning
-        ensures { (result.log ≡ self.now.log) × (result.book ≡ self.now.book) }
+        ensures { (entries_in result.log ≡ self.now.log) × (result.book ≡ self.now.book) }
     {
         self.seen.again()
     }
 
     /// Takes in all that the log has behind the entries that it reports on.
     pub fn catch_up(&mut self, log: &[LogEntry], seen: &Beginning)
-        requires seen { seen.now.log ≡ log.now }
+        requires seen { entries_in seen.now.log ≡ log.now }
         requires behind { LagsBehind self.old (page self.old.frames seen.now.book log.now) }
         requires legal { Legal self.old.frames log.now }
         ensures { self.new ≡ page self.old.frames seen.now.book log.now }

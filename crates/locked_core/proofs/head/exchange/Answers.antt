@@ -1,6 +1,7 @@
 use Rattle.std.proofs.Common.{sym, ◌∙◌, ap}
 use Rattle.locked_core.proofs.Adding.{adds_moves}
-use Rattle.memory_report.specs.Histories.{entry_after}
+use Rattle.locked_core.proofs.Moments.{entries_long}
+use Rattle.locked_core.specs.Moments.{moment}
 use Rattle.locked_core.proofs.head.exchange.Goals as goal
 
 pub compare_exchange-found-requires : goal.compare_exchange-found-requires
@@ -13,5 +14,5 @@ compare_exchange-found-requires g c =
       here,
       pen.0 ∙ here,
       offer.0,
-      rw (ap (λ w. w.key) h, pen.1, offer.1, offer.3) (adds_moves c.args.seen.now.log (entry_after g.N.Name.frames c.args.coming.now.log.now c.args.coming.now.event.now.cpu c.args.coming.now.event.now.pid c.args.coming.now.event.now.call) c.args.count (sym c.requires.seen.0)),
+      rw (ap (λ w. w.key) h, pen.1, offer.1, offer.3) (adds_moves c.args.seen.now.log (moment c.args.done.now.entry.now c.args.done.now.core.now) c.args.count (sym (c.requires.seen.0 ∙ entries_long c.args.seen.now.log))),
     )

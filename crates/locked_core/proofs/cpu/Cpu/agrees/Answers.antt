@@ -2,7 +2,7 @@ use Rattle.std.proofs.Common.{◌≢◌, ◌<◌, ◌⊎◌, ◌∙◌, sym, inr
 use Rattle.std.proofs.lemmas.Bool.Decides.{nat_tests}
 use Rattle.locked_core.proofs.Prefixes.{starts_itself}
 use Rattle.locked_core.proofs.cpu.Cpu.agrees.Goals as goal
-use Rattle.locked_core.specs.Makers.{Maker, BeginOne}
+use Rattle.locked_core.specs.Makers.{Maker, maker_of, BeginOne}
 use Rattle.memory_report.specs.Histories.{Legal, StartsWith, calls_of}
 use Rattle.memory_report.specs.declared.entries.LogEntry.{LogEntry}
 
@@ -10,7 +10,7 @@ use Rattle.memory_report.specs.declared.entries.LogEntry.{LogEntry}
 pub returns-then-begins-clause-differs : goal.returns-then-begins-clause-differs
 returns-then-begins-clause-differs g c differ =
     let log : List LogEntry = c.args.log.now.entries in
-    let mine : Maker = record { number = c.self.inside.number; seen = c.self.inside.seen } in
+    let mine : Maker = maker_of c.self.inside.number c.self.inside.seen in
     let begins : StartsWith log mine.seen = subst (λ (l : List LogEntry). StartsWith l mine.seen) c.requires c.if-begins.ensures.order in
     let legal : Legal g.N.Name.frames log = subst (Legal g.N.Name.frames) c.requires c.begins.ensures.legal.1 in
     let other : c.self.inside.calls ≢ c.calls_of.result = grind (arith, nat_tests) in

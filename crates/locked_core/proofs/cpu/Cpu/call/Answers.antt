@@ -1,8 +1,11 @@
-use Rattle.std.proofs.Common.{rules, ◌≡◌, ◌∙◌, ap, sym, subst}
+use Rattle.std.proofs.Common.{rules, ◌≡◌, refl, ap, sym, subst, ◌∙◌, List}
 use Rattle.locked_core.proofs.Entries.{makes, prevents_refuses}
 use Rattle.locked_core.proofs.cpu.Cpu.call.Goals as goal
+use Rattle.locked_core.proofs.Moments.{begins_push}
 use Rattle.locked_core.specs.Held.{UnderLock}
 use Rattle.locked_core.specs.Makers.{Maker}
+use Rattle.locked_core.specs.Moments.{Begins, Follows, entries_in}
+use Rattle.locked_core.specs.declared.moment.Moment.{Moment}
 use Rattle.memory_report.proofs.GuardedHistories.{histories_guarded}
 use Rattle.memory_report.proofs.IsolatedHistories.{histories_isolated}
 use Rattle.memory_report.specs.Histories.{AreGuarded, AreIsolated, Legal, StartsWith, calls_of}
@@ -26,18 +29,32 @@ returns-clause-made g c =
     let same : c.deref.result.now ≡ c.deref_mut.result.now = search rules in
     let fits : StartsWith c.deref_mut.result.now.log before.seen × (calls_of before.number c.deref_mut.result.now.log ≡ calls_of before.number before.seen) =
     subst (λ (h : UnderLock). StartsWith h.log before.seen × (calls_of before.number h.log ≡ calls_of before.number before.seen)) same c.in-Ok.ensures.fits in
-    makes g.N.Name.frames before c.made.new.self c.args.pid c.args.call c.in-Ok-carry_out.carried.0 c.in-Ok.ready.event c.deref_mut.result.now.log c.carry_out.new.self.log c.in-Ok-carry_out.carried.1
-    c.in-Ok.ensures.event fits done.legal done.log done.reply done.front.0 c.made.ensures
+    makes g.N.Name.frames before c.carry_out.new.cpu c.args.pid c.args.call c.in-Ok-carry_out.reply c.in-Ok.ready.event c.deref_mut.result.now.log c.carry_out.new.self.log
+    c.in-Ok.ensures.event fits done.legal done.log done.reply (ap (λ (m : Maker). m.seen) done.made ∙ done.told.1)
+
+-- it has seen the moments under the lock, of which it had seen a beginning
+pub returns-clause-followed : goal.returns-clause-followed
+returns-clause-followed g c =
+    let done = c.in-Ok-carry_out.ensures in
+    let before = c.args.self.now in
+    let same : c.deref.result.now ≡ c.deref_mut.result.now = search rules in
+    let moments : c.carry_out.new.cpu.moments ≡ c.carry_out.new.self.moments = ap (λ (m : Maker). m.moments) done.made in
+    let began : Begins c.deref_mut.result.now.moments before.moments = subst (λ (h : UnderLock). Begins h.moments before.moments) same c.in-Ok.ensures.begins in
+    record {
+      entries = subst (λ (m : Maker). entries_in m.moments ≡ m.seen) (sym done.made) refl;
+      begins = subst (λ (l : List Moment). Begins l before.moments) (sym (moments ∙ done.moments)) (begins_push c.deref_mut.result.now.moments before.moments _ began);
+      follows = subst (Follows g.N.Name.book.opening) (sym moments) done.follows;
+    }
 
 -- what it has seen is the log with its entry, which is a legal history
 pub returns-clause-isolated : goal.returns-clause-isolated
 returns-clause-isolated g c =
     let done = c.in-Ok-carry_out.ensures in
-    let seen : c.made.new.self.seen ≡ c.carry_out.new.self.log = ap (λ (m : Maker). m.seen) c.made.ensures ∙ done.front.0 in
+    let seen : c.carry_out.new.cpu.seen ≡ c.carry_out.new.self.log = ap (λ (m : Maker). m.seen) done.made ∙ done.told.1 in
     subst (AreIsolated g.N.Name.frames) (sym seen) (histories_isolated g.N.Name.frames c.carry_out.new.self.log done.legal)
 
 pub returns-clause-guarded : goal.returns-clause-guarded
 returns-clause-guarded g c =
     let done = c.in-Ok-carry_out.ensures in
-    let seen : c.made.new.self.seen ≡ c.carry_out.new.self.log = ap (λ (m : Maker). m.seen) c.made.ensures ∙ done.front.0 in
+    let seen : c.carry_out.new.cpu.seen ≡ c.carry_out.new.self.log = ap (λ (m : Maker). m.seen) done.made ∙ done.told.1 in
     subst (AreGuarded g.N.Name.frames) (sym seen) (histories_guarded g.N.Name.frames c.carry_out.new.self.log done.legal)

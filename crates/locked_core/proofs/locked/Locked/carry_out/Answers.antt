@@ -1,13 +1,18 @@
 -- What a call that was judged leaves under the lock.
-use Rattle.std.proofs.Common.{rules, ◌≡◌, List, [], ◌∷◌, ◌++◌, sym, ap, ◌∙◌, subst}
+use Rattle.std.proofs.Common.{◌≡◌, List, [], ◌∷◌, ◌++◌, length, length-append, arith, sym, ap, ◌∙◌, subst}
 use Rattle.kernel_calls.specs.Decisions.{charge_after}
 use Rattle.kernel_calls.specs.Machine.{answer, next}
 use Rattle.kernel_calls.specs.declared.calls.Event.{Event}
 use Rattle.locked_core.proofs.CatchingUp.{lags_more}
 use Rattle.locked_core.proofs.Entries.{Stands, judged, logged}
+use Rattle.locked_core.proofs.Moments.{core_push, entries_append, follows_push}
 use Rattle.locked_core.specs.Held.{UnderLock}
+use Rattle.locked_core.specs.Moments.{Follows, core_after, entries_in, moment}
+use Rattle.locked_core.specs.declared.moment.Moment.{Moment}
+use Rattle.kernel_calls.specs.Translations.{ended_by, Ends}
+use Rattle.process_table.specs.View.{View}
 use Rattle.locked_core.specs.Pages.{LagsBehind, page}
-use Rattle.memory_report.specs.Histories.{Legal}
+use Rattle.memory_report.specs.Histories.{Legal, event_of}
 use Rattle.memory_report.specs.declared.entries.LogEntry.{LogEntry}
 use Rattle.locked_core.proofs.locked.Locked.carry_out.Goals as goal
 
@@ -29,9 +34,9 @@ keep_up-requires-clause-shown g c =
     let e : LogEntry = c.entry_of-entry.result in
     let new : List LogEntry = c.push.new.self.entries in
     let longer : new ≡ c.self.inside.log.entries ++ e ∷ [] = c.push.ensures.entries ∙ ap (λ l. l ++ e ∷ []) c.reserve.ensures.entries in
-    let book_is : c.all.result.book ≡ g.N.Name.book = c.all.ensures.1 in
-    let page_is : page c.self.inside.writer.desk.spare.value.frames c.all.result.book c.entries.result.now ≡ page g.N.Name.frames g.N.Name.book new = λ i. page (c.self.invariant.spare.frames i) (book_is i) (c.entries.ensures i) in
-    subst (LagsBehind c.self.inside.writer.desk.shown.value) (sym page_is) (lags_more g.N.Name.frames g.N.Name.book c.self.inside.log.entries new e c.self.inside.writer.desk.shown.value c.self.invariant.lags longer)
+    let book_is : c.all.result.book ≡ g.N.Name.book.history = c.all.ensures.1 in
+    let page_is : page c.self.inside.writer.desk.spare.value.frames c.all.result.book c.entries.result.now ≡ page g.N.Name.frames g.N.Name.book.history new = λ i. page (c.self.invariant.spare.frames i) (book_is i) (c.entries.ensures i) in
+    subst (LagsBehind c.self.inside.writer.desk.shown.value) (sym page_is) (lags_more g.N.Name.frames g.N.Name.book.history c.self.inside.log.entries new e c.self.inside.writer.desk.shown.value c.self.invariant.lags longer)
 
 pub invariant_of-self-2 : goal.invariant_of-self-2
 invariant_of-self-2 g c =
@@ -45,17 +50,50 @@ invariant_of-self-2 g c =
     let grown : new ≡ h.log ++ e ∷ [] = longer ∙ ap (λ (k : UnderLock). k.log ++ e ∷ []) c.self.view_is in
     let moved : c.perform-outcome.new.self.state ≡ next h.core.state event = c.perform-outcome.ensures.state ∙ ap (λ (k : UnderLock). next k.core.state event) c.self.view_is in
     let all = logged g.N.Name.frames h.log new h.core.state c.perform-outcome.new.self.state event.cpu event.pid event.call e stands.0 stands.1 ends.0 grown moved in
-    let book_is : c.all.result.book ≡ g.N.Name.book = c.all.ensures.1 in
-    let page_is : page c.self.inside.writer.desk.spare.value.frames c.all.result.book c.entries.result.now ≡ page g.N.Name.frames g.N.Name.book new = λ i. page (c.self.invariant.spare.frames i) (book_is i) (c.entries.ensures i) in
-    let added : c.add.new.self ≡ new = search rules in record {
+    let book_is : c.all.result.book ≡ g.N.Name.book.history = c.all.ensures.1 in
+    let page_is : page c.self.inside.writer.desk.spare.value.frames c.all.result.book c.entries.result.now ≡ page g.N.Name.frames g.N.Name.book.history new = λ i. page (c.self.invariant.spare.frames i) (book_is i) (c.entries.ensures i) in
+    let core : View = c.perform-outcome.new.self in
+    let had : List Moment = c.self.inside.head in
+    let longer2 : c.push.new.self.entries ≡ c.self.inside.log.entries ++ e ∷ [] = c.push.ensures.entries ∙ ap (λ l. l ++ e ∷ []) c.reserve.ensures.entries in
+    let told : entries_in c.add.new.self ≡ c.push.new.self.entries = ap entries_in c.add.ensures ∙ (entries_append had (moment e core ∷ []) ∙ (ap (λ l. l ++ e ∷ []) c.self.invariant.told ∙ sym longer2)) in
+    let mine : event_of e ≡ event = ap event_of c.entry_of-entry.ensures in
+    let went : core.state ≡ next (core_after g.N.Name.book.opening had).state (event_of e) =
+    subst (λ (t : View × Event). core.state ≡ next t.0.state t.1) (λ i. (sym c.self.invariant.left i, sym mine i)) c.perform-outcome.ensures.state in
+    let ends2 : Ends (ended_by (core_after g.N.Name.book.opening had) (event_of e)) (core_after g.N.Name.book.opening had) core =
+    subst (λ (t : View × Event). Ends (ended_by t.0 t.1) t.0 core) (λ i. (sym c.self.invariant.left i, sym mine i)) c.perform-outcome.ensures.ends in
+    let follows : Follows g.N.Name.book.opening c.add.new.self = subst (Follows g.N.Name.book.opening) (sym c.add.ensures) (follows_push g.N.Name.book.opening had (moment e core) c.self.invariant.follows went ends2) in record {
       legal = all.legal;
       stands = all.stands;
-      told = added;
+      told = told;
+      left = ap (core_after g.N.Name.book.opening) c.add.ensures ∙ core_push g.N.Name.book.opening had (moment e core);
+      follows = follows;
+      counted =
+          (let one_more = c.made.ensures.counted in let had = c.self.invariant.counted in let more : length new ≡ length (c.self.inside.log.entries ++ e ∷ []) = ap length longer in
+          omega (arith, length-append c.self.inside.log.entries (e ∷ [])));
       mine = c.keep_up.ensures.view ∙ c.self.invariant.mine;
       shown = λ watched. c.keep_up.ensures.watched watched ∙ page_is;
       lags = subst (LagsBehind c.keep_up.new.writer.desk.shown.value) page_is c.keep_up.ensures.shown;
       spare = subst (LagsBehind c.keep_up.new.writer.desk.spare.value) page_is c.keep_up.ensures.spare;
     }
+
+-- what the history has is the log
+pub keep_up-requires-clause-seen : goal.keep_up-requires-clause-seen
+keep_up-requires-clause-seen g c =
+    let e : LogEntry = c.entry_of-entry.result in
+    let core : View = c.perform-outcome.new.self in
+    let had : List Moment = c.self.inside.head in
+    let longer : c.push.new.self.entries ≡ c.self.inside.log.entries ++ e ∷ [] = c.push.ensures.entries ∙ ap (λ l. l ++ e ∷ []) c.reserve.ensures.entries in
+    let told : entries_in c.add.new.self ≡ c.push.new.self.entries = ap entries_in c.add.ensures ∙ (entries_append had (moment e core ∷ []) ∙ (ap (λ l. l ++ e ∷ []) c.self.invariant.told ∙ sym longer)) in
+    ap entries_in c.all.ensures.0 ∙ (told ∙ sym c.entries.ensures)
+
+pub front_of-requires-clause-all : goal.front_of-requires-clause-all
+front_of-requires-clause-all g c =
+    let e : LogEntry = c.entry_of-entry.result in
+    let core : View = c.perform-outcome.new.self in
+    let had : List Moment = c.self.inside.head in
+    let longer : c.push.new.self.entries ≡ c.self.inside.log.entries ++ e ∷ [] = c.push.ensures.entries ∙ ap (λ l. l ++ e ∷ []) c.reserve.ensures.entries in
+    let told : entries_in c.add.new.self ≡ c.push.new.self.entries = ap entries_in c.add.ensures ∙ (entries_append had (moment e core ∷ []) ∙ (ap (λ l. l ++ e ∷ []) c.self.invariant.told ∙ sym longer)) in
+    told
 
 -- the log with its entry is legal
 pub front_of-requires-clause-legal : goal.front_of-requires-clause-legal
@@ -81,3 +119,41 @@ returns-clause-state g c =
     let grown : new ≡ h.log ++ e ∷ [] = c.push.ensures.entries ∙ ap (λ l. l ++ e ∷ []) c.reserve.ensures.entries ∙ ap (λ (k : UnderLock). k.log ++ e ∷ []) c.self.view_is in
     let moved : c.perform-outcome.new.self.state ≡ next h.core.state event = c.perform-outcome.ensures.state ∙ ap (λ (k : UnderLock). next k.core.state event) c.self.view_is in
     (logged g.N.Name.frames h.log new h.core.state c.perform-outcome.new.self.state event.cpu event.pid event.call e stands.0 stands.1 ends.0 grown moved).stands
+
+-- the history with its moment
+pub returns-clause-moments : goal.returns-clause-moments
+returns-clause-moments g c =
+    let h : UnderLock = c.args.self.now in
+    let event : Event = c.args.ready.event in
+    let e : LogEntry = c.entry_of-entry.result in
+    let core : View = c.perform-outcome.new.self in
+    let stands = subst (Stands g.N.Name.frames) c.self.view_is (c.self.invariant.legal, c.self.invariant.stands) in
+    let ends = judged g.N.Name.frames h c.args.ready.nth event c.perform-outcome.result.reply c.perform-outcome.result.used_after e stands c.requires.nth.1 (c.perform-outcome.ensures.reply ∙ ap (λ (k : UnderLock). answer k.core.state event) c.self.view_is) (c.perform-outcome.ensures.charge ∙ ap (λ (k : UnderLock). charge_after k.core.state event) c.self.view_is) c.entry_of-entry.ensures in
+    let had : c.self.inside.head ≡ h.moments = ap (λ (k : UnderLock). k.moments) c.self.view_is in
+    c.add.ensures ∙ (λ i. had i ++ moment (ends.0 i) core ∷ [])
+
+pub returns-clause-told : goal.returns-clause-told
+returns-clause-told g c =
+    let e : LogEntry = c.entry_of-entry.result in
+    let core : View = c.perform-outcome.new.self in
+    let had : List Moment = c.self.inside.head in
+    let longer : c.push.new.self.entries ≡ c.self.inside.log.entries ++ e ∷ [] = c.push.ensures.entries ∙ ap (λ l. l ++ e ∷ []) c.reserve.ensures.entries in
+    let told : entries_in c.add.new.self ≡ c.push.new.self.entries = ap entries_in c.add.ensures ∙ (entries_append had (moment e core ∷ []) ∙ (ap (λ l. l ++ e ∷ []) c.self.invariant.told ∙ sym longer)) in
+    (subst (λ (k : UnderLock). entries_in k.moments ≡ k.log) c.self.view_is c.self.invariant.told, told)
+
+pub returns-clause-left : goal.returns-clause-left
+returns-clause-left g c = subst (λ (k : UnderLock). core_after g.N.Name.book.opening k.moments ≡ k.core) c.self.view_is c.self.invariant.left
+
+pub returns-clause-follows : goal.returns-clause-follows
+returns-clause-follows g c =
+    let event : Event = c.args.ready.event in
+    let e : LogEntry = c.entry_of-entry.result in
+    let core : View = c.perform-outcome.new.self in
+    let had : List Moment = c.self.inside.head in
+    let mine : event_of e ≡ event = ap event_of c.entry_of-entry.ensures in
+    let went : core.state ≡ next (core_after g.N.Name.book.opening had).state (event_of e) =
+    subst (λ (t : View × Event). core.state ≡ next t.0.state t.1) (λ i. (sym c.self.invariant.left i, sym mine i)) c.perform-outcome.ensures.state in
+    let ends : Ends (ended_by (core_after g.N.Name.book.opening had) (event_of e)) (core_after g.N.Name.book.opening had) core =
+    subst (λ (t : View × Event). Ends (ended_by t.0 t.1) t.0 core) (λ i. (sym c.self.invariant.left i, sym mine i)) c.perform-outcome.ensures.ends in
+    let follows : Follows g.N.Name.book.opening c.add.new.self = subst (Follows g.N.Name.book.opening) (sym c.add.ensures) (follows_push g.N.Name.book.opening had (moment e core) c.self.invariant.follows went ends) in
+    follows

@@ -1,5 +1,7 @@
-use Rattle.std.proofs.Common.{[], refl, sym, ap, ◌∙◌, subst}
+use Rattle.std.proofs.Common.{[], length, refl, sym, ap, ◌∙◌, subst}
 use Rattle.locked_core.proofs.Entries.{legal_opening}
+use Rattle.locked_core.proofs.Moments.{follows_none}
+use Rattle.locked_core.specs.Moments.{Follows, core_after, entries_in}
 use Rattle.locked_core.specs.Pages.{Page, LagsBehind, page}
 use Rattle.locked_core.proofs.locked.Locked.new.Goals as goal
 
@@ -8,13 +10,16 @@ invariant_of-result g c =
     let none = c.requires.log in
     let begun = legal_opening g.N.Name.frames c.args.log.entries c.args.core.state c.requires.size.0 c.requires.size.1 none c.requires.core in
     let w = c.requires.writer in
-    let whole : Page = page g.N.Name.frames g.N.Name.book c.args.log.entries in
-    let empty : LagsBehind (page g.N.Name.frames g.N.Name.book []) whole = record { frames = refl; book = refl; begins = (c.args.log.entries, refl) } in record {
+    let whole : Page = page g.N.Name.frames g.N.Name.book.history c.args.log.entries in
+    let empty : LagsBehind (page g.N.Name.frames g.N.Name.book.history []) whole = record { frames = refl; book = refl; begins = (c.args.log.entries, refl) } in record {
       legal = begun.0;
       stands = begun.1;
-      told = c.new.ensures ∙ sym none;
+      told = ap entries_in c.new.ensures ∙ sym none;
+      left = ap (core_after g.N.Name.book.opening) c.new.ensures ∙ sym c.requires.opening;
+      follows = subst (Follows g.N.Name.book.opening) (sym c.new.ensures) (follows_none g.N.Name.book.opening);
+      counted = c.requires.counted ∙ ap length (sym none);
       mine = w.1;
-      shown = λ watched. w.0 ∙ ap (page g.N.Name.frames g.N.Name.book) (sym none);
+      shown = λ watched. w.0 ∙ ap (page g.N.Name.frames g.N.Name.book.history) (sym none);
       lags = subst (λ (p : Page). LagsBehind p whole) (sym w.0) empty;
       spare = subst (λ (p : Page). LagsBehind p whole) (sym c.requires.spare) empty;
     }

@@ -1,0 +1,140 @@
+-- Lists of moments, their entries, and the core after them.
+use Rattle.std.proofs.Common.{◌≡◌, ℕ, ◌+◌, ◌<◌, ◌≤◌, ◌⊎◌, inl, inr, List, [], ◌∷◌, ◌++◌, length, Bool, true, false, refl, sym, ap, ◌∙◌, subst, arith, append-nil, append_assoc, length-append}
+use Rattle.std.specs.Prelude.{MatchBool}
+use lib.Dec.{leb}
+use Rattle.std.proofs.lemmas.Bool.Decides.{nat_tests}
+use Rattle.kernel_calls.specs.Translations.{ended_by, Ends}
+use Rattle.memory_report.specs.Histories.{StartsWith, event_of}
+use Rattle.process_table.specs.View.{View}
+use Rattle.kernel_calls.specs.Machine.{next}
+use Rattle.locked_core.specs.Endings.{ToldOnce}
+use Rattle.locked_core.specs.Moments.{EndsAlong, FollowsFrom, Begins, Follows, core_after, entries_in}
+use Rattle.locked_core.specs.declared.moment.Moment.{Moment}
+
+pub entries_long : (log : List Moment) → length (entries_in log) ≡ length log
+entries_long [] = refl
+entries_long (m ∷ log) = let more = entries_long log in omega arith
+
+pub entries_append : (log more : List Moment) → entries_in (log ++ more) ≡ entries_in log ++ entries_in more
+entries_append [] more = refl
+entries_append (m ∷ log) more = ap (λ l. m.entry ∷ l) (entries_append log more)
+
+pub entries_none : (log : List Moment) → entries_in log ≡ [] → log ≡ []
+entries_none [] e = refl
+entries_none (m ∷ log) e = let long : length (entries_in (m ∷ log)) ≡ 0 = ap length e in absurd (omega arith)
+
+none_left : (xs : List Moment) → length xs ≡ 0 → xs ≡ []
+none_left [] e = refl
+none_left (x ∷ xs) e = absurd (omega arith)
+
+-- a beginning of the same length is the whole
+pub begins_whole : (log seen : List Moment) → Begins log seen → length log ≤ length seen → log ≡ seen
+begins_whole log seen h le =
+    let a : length log ≡ length seen + length h.0 = ap length h.1 ∙ length-append seen h.0 in
+    let none : h.0 ≡ [] = none_left h.0 (omega arith) in
+    h.1 ∙ (ap (λ l. seen ++ l) none ∙ append-nil seen)
+
+-- a beginning of moments has a beginning of their entries
+pub starts_of : (log seen : List Moment) → Begins log seen → StartsWith (entries_in log) (entries_in seen)
+starts_of log seen h = (entries_in h.0, ap entries_in h.1 ∙ entries_append seen h.0)
+
+tail_of : List Moment → List Moment
+tail_of [] = []
+tail_of (x ∷ xs) = xs
+
+head_or : Moment → List Moment → Moment
+head_or d [] = d
+head_or d (x ∷ xs) = x
+
+-- of two beginnings of one list the shorter begins the longer
+pub begins_both : (log a b : List Moment) → Begins log a → Begins log b → length a ≤ length b → Begins b a
+unfolding tail_of head_or
+begins_both log [] b h k le = (b, refl)
+begins_both log (x ∷ a) [] h k le = absurd (omega arith)
+begins_both log (x ∷ a) (y ∷ b) h k le =
+    let same : x ∷ (a ++ h.0) ≡ y ∷ (b ++ k.0) = sym h.1 ∙ k.1 in
+    let rest = begins_both (a ++ h.0) a b (h.0, refl) (k.0, ap tail_of same) (omega arith) in
+    let head : y ≡ x = sym (ap (head_or x) same) in
+    (rest.0, λ i. head i ∷ rest.1 i)
+
+-- of two beginnings of one list, told apart by their lengths, the shorter begins the longer
+pub begins_either : (log a b : List Moment) (m n : ℕ) → m ≡ length (entries_in a) → n ≡ length (entries_in b) → Begins log a → Begins log b → MatchBool (leb m n) (Begins b a) (Begins a b)
+begins_either log a b m n am bn h k = by_case (leb m n) refl
+  where
+    by_case : (t : Bool) → leb m n ≡ t → MatchBool t (Begins b a) (Begins a b)
+    by_case true is = let le : m ≤ n = grind (arith, nat_tests) in let long = entries_long a in let wide = entries_long b in begins_both log a b h k (omega arith)
+    by_case false is = let lt : n < m = grind (arith, nat_tests) in let long = entries_long a in let wide = entries_long b in begins_both log b a k h (omega arith)
+
+not_empty : (before : List Moment) (m : Moment) (rest : List Moment) → [] ≡ before ++ m ∷ rest → ⊥
+not_empty before m rest is = let a : 0 ≡ length before + length (m ∷ rest) = ap length is ∙ length-append before (m ∷ rest) in omega arith
+
+-- a place in a list with one more moment is the last one, or was there
+place_of : (log : List Moment) (x : Moment) (before : List Moment) (m : Moment) (rest : List Moment) → log ++ x ∷ [] ≡ before ++ m ∷ rest
+    → ((log ≡ before) × (x ≡ m)) ⊎ ((later : List Moment) × (log ≡ before ++ m ∷ later))
+unfolding tail_of head_or
+place_of [] x [] m rest is = inl (refl, ap (head_or x) is)
+place_of [] x (b ∷ before) m rest is = absurd (not_empty before m rest (ap tail_of is))
+place_of (y ∷ log) x [] m rest is = inr (log, ap (λ h. h ∷ log) (ap (head_or y) is))
+place_of (y ∷ log) x (b ∷ before) m rest is =
+    let head : y ≡ b = ap (head_or y) is in
+    elim (place_of log x before m rest (ap tail_of is)) [
+      | inl h ↦ inl ((λ i. head i ∷ h.0 i), h.1)
+      | inr h ↦ inr (h.0, (λ i. head i ∷ h.1 i))
+    ]
+
+pub follows_none : (opening : View) → Follows opening []
+follows_none opening = record { moved = λ before m rest is. absurd (not_empty before m rest is); ends = λ before m rest is. absurd (not_empty before m rest is) }
+
+-- with the moment of one call more
+pub follows_push : (opening : View) (log : List Moment) (x : Moment) → Follows opening log → x.core.state ≡ next (core_after opening log).state (event_of x.entry)
+    → Ends (ended_by (core_after opening log) (event_of x.entry)) (core_after opening log) x.core → Follows opening (log ++ x ∷ [])
+follows_push opening log x h moved ends = record {
+  moved = λ before m rest is. elim (place_of log x before m rest is) [
+    | inl t ↦ subst (λ (z : List Moment × Moment). z.1.core.state ≡ next (core_after opening z.0).state (event_of z.1.entry)) (λ i. (t.0 i, t.1 i)) moved
+    | inr t ↦ h.moved before m t.0 t.1
+  ];
+  ends = λ before m rest is. elim (place_of log x before m rest is) [
+    | inl t ↦ subst (λ (z : List Moment × Moment). Ends (ended_by (core_after opening z.0) (event_of z.1.entry)) (core_after opening z.0) z.1.core) (λ i. (t.0 i, t.1 i)) ends
+    | inr t ↦ h.ends before m t.0 t.1
+  ];
+}
+
+pub core_push : (opening : View) (log : List Moment) (x : Moment) → core_after opening (log ++ x ∷ []) ≡ x.core
+core_push opening [] x = refl
+core_push opening (m ∷ log) x = core_push m.core log x
+
+pub begins_push : (log seen : List Moment) (x : Moment) → Begins log seen → Begins (log ++ x ∷ []) seen
+begins_push log seen x h = (h.0 ++ x ∷ [], ap (λ l. l ++ x ∷ []) h.1 ∙ append_assoc seen h.0 (x ∷ []))
+
+next_core : (opening : View) (before later : List Moment) → core_after opening (before ++ later) ≡ core_after (core_after opening before) later
+next_core opening [] later = refl
+next_core opening (m ∷ before) later = next_core m.core before later
+
+pub follows_from : FollowsFrom
+follows_from opening before later h = record {
+  moved = λ b m rest is. subst (λ (v : View). m.core.state ≡ next v.state (event_of m.entry)) (next_core opening before b)
+      (h.moved (before ++ b) m rest (ap (λ l. before ++ l) is ∙ sym (append_assoc before b (m ∷ rest))));
+  ends = λ b m rest is. subst (λ (v : View). Ends (ended_by v (event_of m.entry)) v m.core) (next_core opening before b)
+      (h.ends (before ++ b) m rest (ap (λ l. before ++ l) is ∙ sym (append_assoc before b (m ∷ rest))));
+}
+
+pub ends_along : EndsAlong
+ends_along opening [] h = refl
+ends_along opening (m ∷ log) h = (
+  m.core,
+  refl,
+  h.moved [] m log refl,
+  h.ends [] m log refl,
+  ends_along m.core log (follows_from opening (m ∷ []) log h),
+)
+
+pub told_once : ToldOnce
+told_once frames opening cpu a b h k =
+    let both : h.before ++ h.last ∷ [] ≡ k.before ++ k.last ∷ [] = sym h.grown ∙ k.grown in
+    elim (place_of h.before h.last k.before k.last [] both) [
+      | inl t ↦ h.told ∙ ((λ i. ended_by (core_after opening (t.0 i)) (event_of (t.1 i).entry)) ∙ sym k.told)
+      | inr t ↦ absurd (
+          let long : length (h.before ++ h.last ∷ []) ≡ length (k.before ++ k.last ∷ []) = ap length both in
+          let more : length h.before ≡ length (k.before ++ k.last ∷ t.0) = ap length t.1 in
+          omega (arith, length-append h.before (h.last ∷ []), length-append k.before (k.last ∷ []), length-append k.before (k.last ∷ t.0)))
+    ]

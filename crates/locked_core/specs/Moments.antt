@@ -1,0 +1,47 @@
+-- The moments of a kernel's history: each entry, with the core as its call left it.
+use Rattle.std.specs.Prelude.{◌≡◌, List, [], ◌∷◌, ◌++◌, map}
+use Rattle.kernel_calls.specs.Machine.{next}
+use Rattle.kernel_calls.specs.Translations.{EndAlong, ended_by, Ends}
+use Rattle.kernel_calls.specs.declared.translations.Ended.{Ended}
+use Rattle.memory_report.specs.Histories.{event_of, events_of}
+use Rattle.memory_report.specs.declared.entries.LogEntry.{LogEntry}
+use Rattle.process_table.specs.View.{View}
+use Rattle.locked_core.specs.declared.moment.Moment.{Moment}
+
+abbrev pub moment : LogEntry → View → Moment
+moment entry core = record { entry = entry; core = core }
+
+-- the entries alone
+abbrev pub entries_in : List Moment → List LogEntry
+entries_in log = map (λ (m : Moment). m.entry) log
+
+-- the core after these moments, from the opening one on
+abbrev pub core_after : View → List Moment → View
+core_after opening [] = opening
+core_after opening (m ∷ rest) = core_after m.core rest
+
+-- the list begins with these moments
+abbrev pub Begins : List Moment → List Moment → Type 0
+Begins log seen = (rest : List Moment) × (log ≡ seen ++ rest)
+
+-- each call had the core that the call before it left, went on to the next state, and left of all that a processor may
+-- keep what its event leaves of it, in that core
+pub record Follows (opening : View) (log : List Moment) : Type 0 where
+  pub moved : (before : List Moment) (m : Moment) (rest : List Moment) → log ≡ before ++ m ∷ rest
+      → m.core.state ≡ next (core_after opening before).state (event_of m.entry)
+  pub ends : (before : List Moment) (m : Moment) (rest : List Moment) → log ≡ before ++ m ∷ rest
+      → Ends (ended_by (core_after opening before) (event_of m.entry)) (core_after opening before) m.core
+
+-- what each of these calls ended, in the core that it had
+abbrev pub ended_along : View → List Moment → List Ended
+ended_along core [] = []
+ended_along core (m ∷ rest) = ended_by core (event_of m.entry) ∷ ended_along m.core rest
+
+-- the moments from any place on follow one another too, from the core at that place
+abbrev pub FollowsFrom : Type 0
+FollowsFrom = (opening : View) (before later : List Moment) → Follows opening (before ++ later) → Follows (core_after opening before) later
+
+-- and their events were carried out one after another, each with what it ended: the premise of what is kept through runs
+abbrev pub EndsAlong : Type 0
+EndsAlong = (opening : View) (log : List Moment) → Follows opening log
+    → EndAlong (events_of (entries_in log)) (ended_along opening log) opening (core_after opening log)
