@@ -31,6 +31,7 @@ impl Tower {
 }
 
 /// Takes the core out, if there is one.
+#[inline(always)]
 pub fn take(alloc: Global, tower: &mut Tower) -> Option<Box<Core>>
     requires { IsTower tower.old }
     ensures core { option_map (λ b. b.value) result ≡ tower.old.hold.core }
@@ -47,6 +48,7 @@ pub fn take(alloc: Global, tower: &mut Tower) -> Option<Box<Core>>
 }
 
 /// Puts a core into a handle that has none.
+#[inline(always)]
 pub fn put(tower: &mut Tower, core: Box<Core>)
     ensures core { tower.new.hold.core ≡ Some core.value }
     ensures live { tower.new.live ≡ true }

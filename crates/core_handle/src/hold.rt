@@ -26,6 +26,7 @@ impl Model for Hold {
 
 impl Hold {
     /// One that holds no core.
+    #[inline(always)]
     pub fn none(alloc: Global) -> Hold
         ensures { result.core ≡ None }
     {
@@ -36,6 +37,7 @@ impl Hold {
     }
 
     /// Holds a core.
+    #[inline(always)]
     pub fn of(core: Loose<Core, Global>) -> Hold
         ensures { result.core ≡ Some core.value }
     {
@@ -47,6 +49,7 @@ impl Hold {
     }
 
     /// The core that it holds.
+    #[inline(always)]
     pub fn into_loose(self) -> Loose<Core, Global>
         requires { IsSome self.core }
         ensures { self.core ≡ Some result.value }

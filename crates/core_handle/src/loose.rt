@@ -19,6 +19,7 @@ impl<T, A: Allocator> Model for Loose<T, A> {
 
 impl<T, A: Allocator> Loose<T, A> {
     /// Takes a box apart.
+    #[inline(always)]
     pub fn of(whole: Box<T, A>) -> Loose<T, A>
     where
         T: Drop,
@@ -29,6 +30,7 @@ impl<T, A: Allocator> Loose<T, A> {
     }
 
     /// Puts the box together again.
+    #[inline(always)]
     pub fn into_box(self) -> Box<T, A>
         ensures { result.value ≡ self.value }
     {

@@ -1,6 +1,6 @@
 //! Accesses, each by one call: what completes as memory stands, in one page, and any other by its plan.
 
-ghost use Rattle.std.specs.Prelude.{◌≡◌, ◌↔◌, true, IfSome, IsSome, IsNone, IsOk, IsErr, Some, None};
+ghost use Rattle.std.specs.Prelude.{◌≡◌, ◌↔◌, true, false, IfSome, IsSome, IsNone, IsOk, IsErr, Some, None, if◌then◌else◌};
 ghost use Rattle.page_words.specs.Addresses.{page_number, second_page, IsUserPage};
 ghost use Rattle.address_space.specs.Places.{place_in};
 ghost use Rattle.address_space.specs.Stays.{FramesStay, none_goes};
@@ -10,16 +10,19 @@ ghost use Rattle.process_table.specs.State.{container_of, is_live};
 ghost use Rattle.fault_handler.specs.Fills.{lazy_written};
 ghost use Rattle.fault_handler.specs.Plans.{access_result, at_once, plan_at};
 ghost use Rattle.fault_handler.specs.declared.plans.Plan.TheVariants as plan;
+ghost use Rattle.fault_handler.specs.declared.plans.Stop.TheVariants as stop;
+ghost use Rattle.process_table.specs.declared.causes.Cause.TheVariants.{NoProcess};
+ghost use Rattle.table_walk.specs.Walk.{page_fault};
 
 use crate::looks::look_at;
-use crate::planning::{by_looks, plan_by};
+use crate::planning::{by_looks, outside, plan_by};
 use crate::plans::{PageStep, Plan, Stop};
 use crate::{map_by_step, settle_at};
 use address_space::Place;
 use page_words::{Pid, Size, Vaddr, in_user_range, page_of, second_page};
 use process_table::{Cause, Processes};
 use quota_tree::Container;
-use table_walk::Access;
+use table_walk::{Access, PageFault};
 
 /// Whether the bytes of an access lie in one page of the user range.
 #[inline(always)]
@@ -231,10 +234,23 @@ fn access_over(
     }
 }
 
+/// Why an access stops whose first byte outside the user range this is.
+#[inline(always)]
+fn stop_outside(processes: &Processes, pid: Pid, byte: Vaddr, access: Access) -> Stop
+    ensures { result ≡ (if is_live processes.now.state pid then stop.Fault (page_fault byte access false) else stop.Refused NoProcess) }
+{
+    if processes.live(pid) {
+        Stop::Fault(PageFault::new(byte, access, false))
+    } else {
+        Stop::Refused(Cause::NoProcess)
+    }
+}
+
 /// An access, by its plan: the value read, or 0 after a write.
 ///
 /// The first that applies: Refused(NoProcess) for a process that isn't live, and else what stops its plan: a page fault, or
 /// Refused(Quota). Then nothing changes.
+#[inline(always)]
 pub fn access(
     processes: &mut Processes,
     pid: Pid,
@@ -248,6 +264,9 @@ pub fn access(
     ensures stay { FramesStay (lazy_written access pid address size) (memory_of processes.old) (memory_of processes.new) }
     ensures kept { IsErr result → processes.new ≡ processes.old }
 {
+    if let Some(byte) = outside(address, size) {
+        return Err(stop_outside(processes, pid, byte, access));
+    }
     if is_in_page(address, size) {
         plan_and_settle(processes, pid, address, size, access, value)
     } else {

@@ -26,6 +26,7 @@ fn step_there(access: Access, is_lazy: bool) -> PageStep
 }
 
 /// What the place of the page that a byte of an access lies in tells of the access.
+#[inline(always)]
 pub fn look_at(processes: &Processes, pid: Pid, access: Access, byte: Vaddr, place: &Place) -> Look
     requires live { is_live processes.now.state pid ≡ true }
     requires user { IsUserPage (page_number byte) }
@@ -51,6 +52,7 @@ pub fn look_at(processes: &Processes, pid: Pid, access: Access, byte: Vaddr, pla
 }
 
 /// What the place of the second page of an access tells, where there is one.
+#[inline(always)]
 pub fn look_behind(
     processes: &Processes,
     pid: Pid,
@@ -71,6 +73,7 @@ pub fn look_behind(
 }
 
 /// The first byte that an access may not have.
+#[inline(always)]
 pub fn barred(access: Access, first: &Look, second: &Option<Look>) -> Option<Vaddr>
     ensures { result ≡ barred access first.now second.now }
 {
@@ -94,6 +97,7 @@ fn open_one_region(first: &Look, second: &Look) -> bool
 }
 
 /// What the pages of an access need together.
+#[inline(always)]
 pub fn need_by(first: &Look, second: &Option<Look>) -> u32
     requires first { first.now.need ≤ 2 }
     requires second { IfSome second.now (λ look. look.need ≤ 2) }

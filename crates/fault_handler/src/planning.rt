@@ -16,7 +16,8 @@ use quota_tree::Container;
 use table_walk::{Access, PageFault};
 
 /// The first byte of an access that lies outside the user range.
-fn outside(address: Vaddr, size: Size) -> Option<Vaddr>
+#[inline(always)]
+pub(crate) fn outside(address: Vaddr, size: Size) -> Option<Vaddr>
     ensures { result ≡ outside address size }
 {
     if !in_user_range(page_of(address)) {
@@ -29,6 +30,7 @@ fn outside(address: Vaddr, size: Size) -> Option<Vaddr>
 }
 
 /// The plan of an access to pages that it may have.
+#[inline(always)]
 fn ready(first: &Look, second: &Option<Look>) -> Plan
     ensures { result ≡ ready_by first.now second.now }
 {
@@ -49,6 +51,7 @@ fn planned(plan: Plan, charge: u32) -> Planned
 }
 
 /// What an access to pages that it may have comes to, by what is left of its process's quota.
+#[inline(always)]
 fn by_room(first: &Look, second: &Option<Look>, container: &Container) -> Planned
     requires first { first.now.need ≤ 2 }
     requires second { IfSome second.now (λ look. look.need ≤ 2) }
@@ -64,6 +67,7 @@ fn by_room(first: &Look, second: &Option<Look>, container: &Container) -> Planne
 }
 
 /// What an access to pages of the user range comes to.
+#[inline(always)]
 pub(crate) fn by_looks(
     access: Access,
     first: &Look,
@@ -85,6 +89,7 @@ pub(crate) fn by_looks(
 }
 
 /// What an access of a live process to pages of the user range comes to.
+#[inline(always)]
 fn plan_within(
     processes: &Processes,
     pid: Pid,
@@ -109,6 +114,7 @@ fn plan_within(
 }
 
 /// What an access of a live process comes to, which has this container.
+#[inline(always)]
 fn planned_of(
     processes: &Processes,
     pid: Pid,
@@ -135,6 +141,7 @@ fn planned_of(
 /// What an access of a live process comes to, as `plan` gives it, and what the process is charged for after it: that
 /// of today after a fault or a refusal. The container is the process's, and the places those of the pages that the access
 /// touches.
+#[inline(always)]
 pub fn plan_by(
     processes: &Processes,
     pid: Pid,

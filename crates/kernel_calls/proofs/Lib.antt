@@ -31,6 +31,7 @@ pub mod TogetherSpaces
 pub mod TransferLemmas
 pub mod TransferSteps
 pub mod Translated
+pub mod Tried
 pub mod Untouched
 pub mod UntouchedSlots
 pub mod Views

@@ -90,6 +90,16 @@ planned (plan.Refused cause) r charge = refusal_of cause charge
 planned (plan.Fault fault) r charge = record { plan = plan.Fault fault; reply = reply.Fault fault.addr fault.code; used_after = charge }
 planned (plan.Ready first second) r charge = record { plan = plan.Ready first second; reply = r; used_after = charge }
 
+-- done, or refused, by what came of a call
+abbrev pub done_told : Result (Unit {0}) Cause → Reply
+done_told (Ok done) = reply.Done
+done_told (Err cause) = reply.Refused cause
+
+-- the child that a call made, or refused
+abbrev pub child_told : Result Pid Cause → Reply
+child_told (Ok child) = reply.Child child
+child_told (Err cause) = reply.Refused cause
+
 -- the reply to a process that asks for its quota
 abbrev pub quota_told : Container → Reply
 quota_told c = reply.Quota c.quota c.used c.given

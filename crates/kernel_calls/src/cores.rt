@@ -1,6 +1,6 @@
 //! The kernel's core: one machine's memory and its processes.
 
-ghost use Rattle.std.specs.Prelude.{◌≡◌, ◌↔◌, ℕ, ◌+◌, ◌*◌, ◌<◌, ◌≤◌, true, false, Some, IfOk, IfErr, IfSome, IfNone, IsSome, IsNone, IsErrOf, length, map, slice_get, slice_index};
+ghost use Rattle.std.specs.Prelude.{◌≡◌, ◌↔◌, ℕ, ◌+◌, ◌*◌, ◌<◌, ◌≤◌, true, false, Some, IfOk, IfErr, IfSome, IfNone, IsErrOf, length, map, slice_get, slice_index};
 ghost use Rattle.std.specs.List.{range_with_len};
 ghost use Rattle.address_space.specs.View.{directory_of};
 ghost use Rattle.page_words.specs.Addresses.{page_number, offset_number, IsUserPage};
@@ -24,7 +24,7 @@ ghost use Rattle.kernel_calls.specs.Isolation.{IsIsolated};
 ghost use Rattle.kernel_calls.specs.Pages.{page_in};
 ghost use Rattle.kernel_calls.specs.Places.{is_access, places_of};
 ghost use Rattle.kernel_calls.specs.Machine.{answer, after, next, answers, end_of, completes, none_completes};
-ghost use Rattle.kernel_calls.specs.Decisions.{call_of, decision_of, charge_in, charge_after, plan_of_event};
+ghost use Rattle.kernel_calls.specs.Decisions.{decision_of, charge_in, charge_after, plan_of_event};
 ghost use Rattle.kernel_calls.specs.declared.translations.Ended.TheVariants as end;
 ghost use Rattle.kernel_calls.specs.Gone.{gone_of_call, gone_by};
 ghost use Rattle.kernel_calls.specs.Translations.{ended_by, EndAlong, Ends};
@@ -34,14 +34,15 @@ ghost use Rattle.kernel_calls.specs.declared.calls.Call.TheVariants as call;
 ghost use Rattle.kernel_calls.specs.declared.calls.Reply.TheVariants as reply;
 
 use crate::calls::{Call, Decision, Event, Outcome, Reply};
-use crate::decisions::{decided, fault_told, judge, judge_call, value_told};
+use crate::decisions::{decided, judge};
 use crate::pages::{self, PageState};
 use crate::places::{is_access, look};
+use crate::replies::reply_once;
 use crate::translations::{self, Ended};
 use crate::{BootFault, walked};
 use alloc_table::Role;
-use fault_handler::{Plan, Stop, settle_at};
-use page_words::{Frame, Page, Pid, Size, Vaddr, in_user_range, page_of};
+use fault_handler::{Plan, settle_at};
+use page_words::{Frame, Page, Pid, Vaddr, in_user_range, page_of};
 use phys_memory::Memory;
 use process_table::{Places, Processes};
 use quota_tree::{Account, Container};
@@ -137,103 +138,6 @@ fn complete_call(processes: &mut Processes, event: &Event, told: &Reply)
         Call::Quota => {}
         Call::Load { .. } => unreachable!(),
         Call::Store { .. } => unreachable!(),
-    }
-}
-
-/// The reply to an access, by its plan.
-#[inline(always)]
-fn reply_access(
-    processes: &mut Processes,
-    event: &Event,
-    address: Vaddr,
-    size: Size,
-    access: Access,
-    value: u32,
-) -> Reply
-    requires { event.now.call ≡ call_of access address size value }
-    ensures reply { result ≡ answer processes.old.state event.now }
-    ensures state { processes.new.state ≡ next processes.old.state event.now }
-    ensures stay { FramesStay (gone_by processes.old.state event.now) (memory_of processes.old) (memory_of processes.new) }
-    ensures kept { completes result ≡ false → processes.new ≡ processes.old }
-{
-    match fault_handler::access(processes, event.pid, address, size, access, value) {
-        Ok(value) => value_told(access, value),
-        Err(Stop::Refused(cause)) => Reply::Refused(cause),
-        Err(Stop::Fault(fault)) => fault_told(&fault),
-    }
-}
-
-/// Carries out a load or a store that completes as memory stands, in one page. None, and nothing changes, for any other
-/// event.
-#[inline(always)]
-fn at_once(processes: &mut Processes, event: &Event) -> Option<Reply>
-    ensures reply { IfSome result (λ reply. reply ≡ answer processes.old.state event.now) }
-    ensures completes { IfSome result (λ reply. completes reply ≡ true) }
-    ensures state { IsSome result → processes.new.state ≡ next processes.old.state event.now }
-    ensures stay { FramesStay none_goes (memory_of processes.old) (memory_of processes.new) }
-    ensures none { IsNone result → processes.new ≡ processes.old }
-{
-    let pid = event.pid;
-    match event.call {
-        Call::Load { addr, size } => {
-            let value = fault_handler::try_access(processes, pid, addr, size, Access::Read, 0)?;
-            Some(Reply::Value(value))
-        }
-        Call::Store { addr, size, value } => {
-            fault_handler::try_access(processes, pid, addr, size, Access::Write, value)?;
-            Some(Reply::Done)
-        }
-        _ => None,
-    }
-}
-
-/// The reply to an accept.
-#[inline(always)]
-fn reply_accept(
-    processes: &mut Processes,
-    event: &Event,
-    giver: Pid,
-    giver_page: Page,
-    page: Page,
-) -> Reply
-    requires { event.now.call ≡ call.Accept giver giver_page page }
-    ensures reply { result ≡ answer processes.old.state event.now }
-    ensures state { processes.new.state ≡ next processes.old.state event.now }
-    ensures stay { FramesStay (gone_by processes.old.state event.now) (memory_of processes.old) (memory_of processes.new) }
-    ensures kept { completes result ≡ false → processes.new ≡ processes.old }
-{
-    match processes.try_accept(event.pid, giver, giver_page, page) {
-        Ok(_) => Reply::Done,
-        Err(cause) => Reply::Refused(cause),
-    }
-}
-
-/// The reply to a load, a store or an accept, each of which is tested and carried out by one call. None, and nothing
-/// changes, for any other call.
-#[inline(always)]
-fn reply_by_one_call(processes: &mut Processes, event: &Event) -> Option<Reply>
-    ensures reply { IfSome result (λ reply. reply ≡ answer processes.old.state event.now) }
-    ensures state { IsSome result → processes.new.state ≡ next processes.old.state event.now }
-    ensures stay { IsSome result → FramesStay (gone_by processes.old.state event.now) (memory_of processes.old) (memory_of processes.new) }
-    ensures kept { IfSome result (λ reply. completes reply ≡ false → processes.new ≡ processes.old) }
-    ensures call { IsNone result → is_access event.now.call ≡ false }
-    ensures none { IsNone result → processes.new ≡ processes.old }
-{
-    match event.call {
-        Call::Load { addr, size } => {
-            let read = Access::Read;
-            Some(reply_access(processes, event, addr, size, read, 0))
-        }
-        Call::Store { addr, size, value } => {
-            let write = Access::Write;
-            Some(reply_access(processes, event, addr, size, write, value))
-        }
-        Call::Accept {
-            giver,
-            giver_page,
-            page,
-        } => Some(reply_accept(processes, event, giver, giver_page, page)),
-        _ => None,
     }
 }
 
@@ -407,42 +311,6 @@ impl Core {
         self.stands();
     }
 
-    /// The reply to a call that has a test and a change, each with a look of its own where it needs one.
-    #[inline(never)]
-    fn reply_call(&mut self, event: &Event) -> Reply
-        requires { is_access event.now.call ≡ false }
-        ensures reply { result ≡ answer self.old.state event.now }
-        ensures state { self.new.state ≡ next self.old.state event.now }
-        ensures stay { FramesStay (gone_by self.old.state event.now) (memory_of self.old) (memory_of self.new) }
-        ensures stands { StandsFor (image_of self.new) self.new.state }
-        ensures ends { Ends (ended_by self.old event.now) self.old self.new }
-        ensures kept { completes result ≡ false → self.new ≡ self.old }
-    {
-        self.stands();
-        let judged = judge_call(&self.processes, event);
-        carry_call(&mut self.processes, event, &judged.plan, &judged.reply);
-        self.stands();
-        judged.reply
-    }
-
-    /// The reply to an event, which is carried out: an access by its plan, any other call by its test.
-    #[inline(never)]
-    fn reply_planned(&mut self, event: &Event) -> Reply
-        ensures reply { result ≡ answer self.old.state event.now }
-        ensures state { self.new.state ≡ next self.old.state event.now }
-        ensures stay { FramesStay (gone_by self.old.state event.now) (memory_of self.old) (memory_of self.new) }
-        ensures stands { StandsFor (image_of self.new) self.new.state }
-        ensures ends { Ends (ended_by self.old event.now) self.old self.new }
-        ensures kept { completes result ≡ false → self.new ≡ self.old }
-    {
-        self.stands();
-        if let Some(reply) = reply_by_one_call(&mut self.processes, event) {
-            self.stands();
-            return reply;
-        }
-        self.reply_call(event)
-    }
-
     /// The reply to an event, which is carried out.
     #[inline(always)]
     pub(crate) fn reply_to(&mut self, event: &Event) -> Reply
@@ -454,11 +322,9 @@ impl Core {
         ensures kept { completes result ≡ false → self.new ≡ self.old }
     {
         self.stands();
-        if let Some(reply) = at_once(&mut self.processes, event) {
-            self.stands();
-            return reply;
-        }
-        self.reply_planned(event)
+        let reply = reply_once(&mut self.processes, event);
+        self.stands();
+        reply
     }
 
     /// Decides an event and carries it out, as `step` does, and gives the charge too: what `decide` says of the state
@@ -479,6 +345,7 @@ impl Core {
     }
 
     /// Decides an event and carries it out.
+    #[inline(always)]
     pub fn step(&mut self, event: &Event) -> Reply
         ensures reply { result ≡ answer self.old.state event.now }
         ensures state { self.new.state ≡ next self.old.state event.now }

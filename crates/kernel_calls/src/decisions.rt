@@ -199,7 +199,7 @@ fn decide_store(
 }
 
 /// The reply to a process that asks about a page with this cell.
-fn info_told(cell: &Cell) -> Reply
+pub(crate) fn info_told(cell: &Cell) -> Reply
     ensures { result ≡ reply.Info cell.now.write cell.now.may cell.now.accessed cell.now.dirty cell.now.holders }
 {
     Reply::Info {
@@ -228,7 +228,7 @@ fn decide_info(processes: &Processes, event: &Event, page: Page, used: u32) -> J
 }
 
 /// The reply to a process that asks for its quota.
-fn quota_told(container: &Container) -> Reply
+pub(crate) fn quota_told(container: &Container) -> Reply
     ensures { result ≡ quota_told container.now }
 {
     Reply::Quota {

@@ -11,6 +11,7 @@ mod decisions;
 mod laws;
 mod pages;
 mod places;
+mod replies;
 mod transfers;
 mod translations;
 mod walked;

@@ -23,6 +23,11 @@ abbrev pub child_unless : Option Cause → ℕ → Result Pid Cause
 child_unless (Some cause) child = Err cause
 child_unless None child = Ok child
 
+-- the cause where there is one, and else done
+abbrev pub done_unless : Option Cause → Result (Unit {0}) Cause
+done_unless (Some cause) = Err cause
+done_unless None = Ok tt
+
 -- the charge of the process after a map; its right has no effect on that
 abbrev pub map_answer : State → ℕ → ℕ → Result ℕ Cause
 map_answer s p page = number_unless (first_cause s p (map_refusal s p page)) (cost (after_map s p page true).spaces p)

@@ -1,11 +1,11 @@
 //! Children, copies and exits: of each call its test and its change.
 
-ghost use Rattle.std.specs.Prelude.{◌≡◌, true, Some, Ok, IsOk};
+ghost use Rattle.std.specs.Prelude.{◌≡◌, true, Some, Ok, IsOk, IsErr};
 ghost use Rattle.quota_tree.specs.Containers.{split_answer};
 ghost use Rattle.quota_tree.specs.Containers as containers;
 ghost use Rattle.process_table.specs.State.{is_live, container_of};
-ghost use Rattle.process_table.specs.Calls.{after_spawn, after_exit, after_fork};
-ghost use Rattle.process_table.specs.TestAnswers.{translated, spawn_answer, exit_answer, fork_answer, for_copy};
+ghost use Rattle.process_table.specs.Calls.{after_spawn, after_exit, after_fork, exit_refusal};
+ghost use Rattle.process_table.specs.TestAnswers.{translated, spawn_answer, exit_answer, fork_answer, for_copy, first_cause, done_unless};
 ghost use Rattle.process_table.specs.Image.{memory_of};
 ghost use Rattle.address_space.specs.Stays.{FramesStay, none_goes, of_process};
 
@@ -95,6 +95,24 @@ impl Processes {
         self.spaces.fresh(child);
     }
 
+    /// Makes a child of a process, where nothing is against it, as `spawn` does: its number; else the first cause against
+    /// it, as `can_spawn` gives it, and nothing changes.
+    #[inline(never)]
+    pub fn try_spawn(&mut self, pid: Pid, quota: u32) -> Result<Pid, Cause>
+        ensures result { result ≡ spawn_answer self.old.state pid quota }
+        ensures state { IsOk result → self.new.state ≡ after_spawn self.old.state pid quota }
+        ensures stay { FramesStay none_goes (memory_of self.old) (memory_of self.new) }
+        ensures kept { IsErr result → self.new ≡ self.old }
+    {
+        match self.can_spawn(pid, quota) {
+            Ok(number) => {
+                self.spawn_as(pid, quota, number);
+                Ok(number)
+            }
+            Err(cause) => Err(cause),
+        }
+    }
+
     /// The number that a process's copy with that quota would have, or the first cause against it: NoProcess,
     /// BadQuota, TableFull, TooSmall (the quota is less than the process costs), Quota.
     pub fn can_fork(&self, pid: Pid, quota: u32) -> Result<Pid, Cause>
@@ -146,6 +164,24 @@ impl Processes {
         self.spaces.copy_space(pid, copy);
     }
 
+    /// Makes a child of a process, where nothing is against it, as `fork` does: its number; else the first cause against
+    /// it, as `can_fork` gives it, and nothing changes.
+    #[inline(never)]
+    pub fn try_fork(&mut self, pid: Pid, quota: u32) -> Result<Pid, Cause>
+        ensures result { result ≡ fork_answer self.old.state pid quota }
+        ensures state { IsOk result → self.new.state ≡ after_fork self.old.state pid quota }
+        ensures stay { FramesStay none_goes (memory_of self.old) (memory_of self.new) }
+        ensures kept { IsErr result → self.new ≡ self.old }
+    {
+        match self.can_fork(pid, quota) {
+            Ok(copy) => {
+                self.fork_as(pid, quota, copy);
+                Ok(copy)
+            }
+            Err(cause) => Err(cause),
+        }
+    }
+
     /// That a process that exits is charged nothing then, or the first cause against it: NoProcess,
     /// RootExit, HasChildren.
     pub fn can_exit(&self, pid: Pid) -> Result<u32, Cause>
@@ -183,5 +219,23 @@ impl Processes {
         self.spaces.drop_space(pid);
         self.quotas.close(pid);
         self.offers.drop_process(pid);
+    }
+
+    /// Takes away a process, where nothing is against it, as `exit` does; else the first cause against it, as `can_exit`
+    /// gives it, and nothing changes.
+    #[inline(never)]
+    pub fn try_exit(&mut self, pid: Pid) -> Result<(), Cause>
+        ensures result { result ≡ done_unless (first_cause self.old.state pid (exit_refusal self.old.state pid)) }
+        ensures state { IsOk result → self.new.state ≡ after_exit self.old.state pid }
+        ensures stay { FramesStay (of_process pid) (memory_of self.old) (memory_of self.new) }
+        ensures kept { IsErr result → self.new ≡ self.old }
+    {
+        match self.can_exit(pid) {
+            Ok(_) => {
+                self.exit(pid);
+                Ok(())
+            }
+            Err(cause) => Err(cause),
+        }
     }
 }

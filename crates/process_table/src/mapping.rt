@@ -1,9 +1,9 @@
 //! Pages of a process that are mapped, unmapped and protected: of each call its test and its change.
 
-ghost use Rattle.std.specs.Prelude.{◌≡◌, true, Some, None, IsOk};
+ghost use Rattle.std.specs.Prelude.{◌≡◌, true, Some, None, IsOk, IsErr};
 ghost use Rattle.process_table.specs.State.{is_live, container_of};
-ghost use Rattle.process_table.specs.Calls.{after_map, after_unmap, after_protect, protect_refusal};
-ghost use Rattle.process_table.specs.TestAnswers.{map_answer, unmap_answer, protect_answer};
+ghost use Rattle.process_table.specs.Calls.{after_map, after_unmap, after_protect, map_refusal, unmap_refusal, protect_refusal};
+ghost use Rattle.process_table.specs.TestAnswers.{map_answer, unmap_answer, protect_answer, first_cause, done_unless};
 ghost use Rattle.process_table.specs.Image.{memory_of};
 ghost use Rattle.address_space.specs.Stays.{FramesStay, none_goes, of_page};
 ghost use Rattle.address_space.specs.Places.{place_in};
@@ -74,6 +74,41 @@ impl Processes {
         self.spaces.map_at(pid, page, write, place)
     }
 
+    /// The first cause against a call of a process, where this is the cause against that of a live one.
+    pub fn first_cause(&self, pid: Pid, cause: Cause) -> Cause
+        ensures { Some result ≡ first_cause self.now.state pid (Some cause) }
+    {
+        if self.live(pid) {
+            cause
+        } else {
+            Cause::NoProcess
+        }
+    }
+
+    /// Maps a page of zeros, where nothing is against it, with the right to write as asked; else the first cause
+    /// against it, as `can_map` gives it, and nothing changes. The page is looked up once.
+    #[inline(never)]
+    pub fn try_map(&mut self, pid: Pid, page: Page, write: bool) -> Result<(), Cause>
+        ensures result { result ≡ done_unless (first_cause self.old.state pid (map_refusal self.old.state pid page)) }
+        ensures state { IsOk result → self.new.state ≡ after_map self.old.state pid page write }
+        ensures stay { FramesStay none_goes (memory_of self.old) (memory_of self.new) }
+        ensures kept { IsErr result → self.new ≡ self.old }
+    {
+        let Some(container) = self.container(pid) else {
+            return Err(Cause::NoProcess);
+        };
+        let Some(place) = self.place(pid, page) else {
+            return Err(Cause::BadPage);
+        };
+        match charge_with(self, &container, pid, page, &place) {
+            Ok(_) => {
+                self.map_at(pid, page, write, &place);
+                Ok(())
+            }
+            Err(cause) => Err(cause),
+        }
+    }
+
     /// What a process would be charged for once a page is unmapped, or the first cause against it:
     /// NoProcess, BadPage, NotMapped.
     pub fn can_unmap(&self, pid: Pid, page: Page) -> Result<u32, Cause>
@@ -129,6 +164,26 @@ impl Processes {
         self.spaces.unmap_at(pid, page, place);
         self.quotas.refund(pid, relief);
         self.offers.drop_page(pid, page);
+    }
+
+    /// Takes a page away, where nothing is against it, and the offers of it go; else the first cause against it, as
+    /// `can_unmap` gives it, and nothing changes. The page is looked up once.
+    #[inline(never)]
+    pub fn try_unmap(&mut self, pid: Pid, page: Page) -> Result<(), Cause>
+        ensures result { result ≡ done_unless (first_cause self.old.state pid (unmap_refusal self.old.state pid page)) }
+        ensures state { IsOk result → self.new.state ≡ after_unmap self.old.state pid page }
+        ensures stay { FramesStay (of_page pid page) (memory_of self.old) (memory_of self.new) }
+        ensures kept { IsErr result → self.new ≡ self.old }
+    {
+        let Some(place) = self.place(pid, page) else {
+            return Err(self.first_cause(pid, Cause::BadPage));
+        };
+        self.tells(pid, page, &place);
+        if !place.is_mapped() {
+            return Err(self.first_cause(pid, Cause::NotMapped));
+        }
+        self.unmap_at(pid, page, &place);
+        Ok(())
     }
 
     /// What a process would be charged for once a page's right is set, or the first cause against it:
@@ -207,5 +262,28 @@ impl Processes {
         ensures stay { FramesStay none_goes (memory_of self.old) (memory_of self.new) }
     {
         self.spaces.protect_at(pid, page, write, place);
+    }
+
+    /// Sets or clears the right to write to a page, where nothing is against it; else the first cause against it, as
+    /// `can_protect` gives it, and nothing changes. The page is looked up once.
+    #[inline(never)]
+    pub fn try_protect(&mut self, pid: Pid, page: Page, write: bool) -> Result<(), Cause>
+        ensures result { result ≡ done_unless (first_cause self.old.state pid (protect_refusal self.old.state pid page write)) }
+        ensures state { IsOk result → self.new.state ≡ after_protect self.old.state pid page write }
+        ensures stay { FramesStay none_goes (memory_of self.old) (memory_of self.new) }
+        ensures kept { IsErr result → self.new ≡ self.old }
+    {
+        let Some(place) = self.place(pid, page) else {
+            return Err(self.first_cause(pid, Cause::BadPage));
+        };
+        self.tells(pid, page, &place);
+        let Some(found) = place.found() else {
+            return Err(self.first_cause(pid, Cause::NotMapped));
+        };
+        if write && !found.entry.may {
+            return Err(Cause::Rights);
+        }
+        self.protect_at(pid, page, write, &place);
+        Ok(())
     }
 }

@@ -6,7 +6,7 @@ ghost use Rattle.address_space.specs.Spaces.{at_page};
 ghost use Rattle.page_sharing.specs.Offers.{offer_key, pending};
 ghost use Rattle.process_table.specs.State.{is_live, is_mapped, has_no_room, container_of};
 ghost use Rattle.process_table.specs.Calls.{after_offer, after_withdraw, after_accept, offer_refusal, withdraw_refusal};
-ghost use Rattle.process_table.specs.TestAnswers.{offer_answer, withdraw_answer, accept_answer};
+ghost use Rattle.process_table.specs.TestAnswers.{offer_answer, withdraw_answer, accept_answer, first_cause, done_unless};
 ghost use Rattle.process_table.specs.Image.{memory_of};
 ghost use Rattle.address_space.specs.Stays.{FramesStay, none_goes, of_lazy};
 ghost use Rattle.address_space.specs.Places.{place_in};
@@ -112,6 +112,28 @@ impl Processes {
         self.offers.offer(pid, page, target, write);
     }
 
+    /// Makes an offer, where nothing is against it, with the right to write or without it; else the first cause against
+    /// it, as `can_offer` gives it, and nothing changes. The page is looked up once.
+    #[inline(never)]
+    pub fn try_offer(&mut self, pid: Pid, page: Page, target: Pid, write: bool) -> Result<(), Cause>
+        ensures result { result ≡ done_unless (first_cause self.old.state pid (offer_refusal self.old.state pid page target write)) }
+        ensures state { IsOk result → self.new.state ≡ after_offer self.old.state pid page target write }
+        ensures stay { FramesStay none_goes (memory_of self.old) (memory_of self.new) }
+        ensures kept { IsErr result → self.new ≡ self.old }
+    {
+        if !self.live(pid) {
+            return Err(Cause::NoProcess);
+        }
+        let place = self.place(pid, page);
+        match self.offer_check(pid, page, target, write, &place) {
+            None => {
+                self.offer(pid, page, target, write);
+                Ok(())
+            }
+            Some(cause) => Err(cause),
+        }
+    }
+
     /// What a process would be charged for once it has withdrawn an offer, or the first cause against
     /// it: NoProcess, BadPage, NoOffer.
     pub fn can_withdraw(&self, pid: Pid, page: Page, target: Pid) -> Result<u32, Cause>
@@ -159,6 +181,27 @@ impl Processes {
         ensures stay { FramesStay none_goes (memory_of self.old) (memory_of self.new) }
     {
         self.offers.take(pid, page, target).unwrap();
+    }
+
+    /// Takes back an offer, where nothing is against it; else the first cause against it, as `can_withdraw` gives it, and
+    /// nothing changes. The offer is looked up once.
+    #[inline(never)]
+    pub fn try_withdraw(&mut self, pid: Pid, page: Page, target: Pid) -> Result<(), Cause>
+        ensures result { result ≡ done_unless (first_cause self.old.state pid (withdraw_refusal self.old.state pid page target)) }
+        ensures state { IsOk result → self.new.state ≡ after_withdraw self.old.state pid page target }
+        ensures stay { FramesStay none_goes (memory_of self.old) (memory_of self.new) }
+        ensures kept { IsErr result → self.new ≡ self.old }
+    {
+        if !self.live(pid) {
+            return Err(Cause::NoProcess);
+        }
+        if !in_user_range(page) {
+            return Err(Cause::BadPage);
+        }
+        let Ok(_) = self.offers.take(pid, page, target) else {
+            return Err(Cause::NoOffer);
+        };
+        Ok(())
     }
 
     /// What a process would be charged for once it has accepted an offer at a page of its own, or the

@@ -97,6 +97,7 @@ pub extern "C" fn tower_boot_wide(alloc: Global, frames: u32, tower: &mut Tower)
 
 /// What an event comes to on a core.
 #[tactic(auto, unfolding(crate::specs::Border::is_carried_out))]
+#[inline(always)]
 pub(crate) fn step(core: &mut Core, event: &TowerEvent) -> TowerReply
     ensures reply { result ≡ reply_in core.old.state (event_in event.now) }
     ensures state { core.new.state ≡ state_after core.old.state (event_in event.now) }

@@ -50,6 +50,7 @@ pub struct TowerReply {
 }
 
 /// The size of an access: 1, 2 or 4.
+#[inline(always)]
 fn size_from(n: u8) -> Option<Size>
     ensures { result ≡ size_of n }
 {
@@ -62,6 +63,7 @@ fn size_from(n: u8) -> Option<Size>
 }
 
 /// A right: 0 to read, 1 to write too.
+#[inline(always)]
 fn right_from(n: u8) -> Option<bool>
     ensures { result ≡ right_of n }
 {
@@ -73,6 +75,7 @@ fn right_from(n: u8) -> Option<bool>
 }
 
 /// A process: 0 to 63.
+#[inline(always)]
 pub fn pid_from(n: u32) -> Option<Pid>
     ensures { result ≡ pid_of n }
 {
@@ -80,6 +83,7 @@ pub fn pid_from(n: u32) -> Option<Pid>
 }
 
 /// The call that the numbers say; None where they say none.
+#[inline(always)]
 fn call_from(e: &TowerEvent) -> Option<Call>
     ensures { result ≡ call_of e.now }
 {
@@ -127,6 +131,7 @@ fn call_from(e: &TowerEvent) -> Option<Call>
 }
 
 /// The event that the numbers say; None where they say none.
+#[inline(always)]
 pub fn event_from(e: &TowerEvent) -> Option<Event>
     ensures { result ≡ event_in e.now }
 {
@@ -140,6 +145,7 @@ pub fn event_from(e: &TowerEvent) -> Option<Event>
 }
 
 /// The number of a cause.
+#[inline(always)]
 fn number_from(cause: Cause) -> u32
     ensures { result ≡ cause_number cause }
 {
@@ -164,6 +170,7 @@ fn number_from(cause: Cause) -> u32
 }
 
 /// A reply with no flags.
+#[inline(always)]
 fn numbers_from(kind: u32, first: u32, second: u32, third: u32) -> TowerReply
     ensures { result ≡ numbers kind first second third }
 {
@@ -187,6 +194,7 @@ pub fn done() -> TowerReply
 }
 
 /// What numbers that are no event are told.
+#[inline(always)]
 pub fn no_event() -> TowerReply
     ensures { result ≡ no_event }
 {
@@ -194,6 +202,7 @@ pub fn no_event() -> TowerReply
 }
 
 /// A reply as numbers.
+#[inline(always)]
 pub fn told_from(reply: &Reply) -> TowerReply
     ensures { result ≡ reply_numbers reply.now }
 {

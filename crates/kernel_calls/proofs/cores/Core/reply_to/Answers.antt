@@ -1,41 +1,25 @@
-use Rattle.std.proofs.Common.{◌≡◌, ◌∙◌, ap, subst, is_some}
-use Rattle.address_space.specs.Stays.{FramesStay, none_goes}
+use Rattle.std.proofs.Common.{◌≡◌, subst}
+use Rattle.address_space.specs.Stays.{FramesStay}
 use Rattle.process_table.specs.Image.{memory_of}
 use Rattle.process_table.specs.View.{View}
 use Rattle.kernel_calls.specs.Gone.{gone_by}
 use Rattle.kernel_calls.specs.Machine.{next}
-use Rattle.kernel_calls.specs.Translations.{ended_by, Ends}
-use Rattle.address_space.proofs.standing.FramesStand.{stays_most}
 use Rattle.kernel_calls.proofs.Leaving.{event_ends, standing}
 use Rattle.kernel_calls.proofs.cores.Core.reply_to.Goals as goal
 
-pub returns-in-Some-clause-ends : goal.returns-in-Some-clause-ends
-returns-in-Some-clause-ends c =
+pub returns-clause-ends : goal.returns-clause-ends
+returns-clause-ends c =
     let now = c.stands.ensures in
-    let later = c.stands-in-Some.ensures in
-    let new = c.at_once.new.processes in
+    let later = c.stands-2.ensures in
+    let new = c.reply_once-reply.new.processes in
     let e = c.args.event.now in
     event_ends c.args.self.now new e
     (standing now.image now.walks now.ways now.well_formed) (standing later.image later.walks later.ways later.well_formed)
-    (subst (λ (v : View). new.state ≡ next v.state e) c.self.view_is (c.at_once.ensures.state (ap is_some c.in-Some.is)))
-    (stays_most
-    (subst (λ (v : View). FramesStay none_goes (memory_of v) (memory_of new)) c.self.view_is c.at_once.ensures.stay))
-
-pub returns-in-Some-clause-stay : goal.returns-in-Some-clause-stay
-returns-in-Some-clause-stay c =
-    let new = c.at_once.new.processes in
-    stays_most (subst (λ (v : View). FramesStay none_goes (memory_of v) (memory_of new)) c.self.view_is c.at_once.ensures.stay)
-
-pub returns-clause-ends : goal.returns-clause-ends
-returns-clause-ends c =
-    let e = c.args.event.now in
-    let new = c.reply_planned.new.self in
-    subst (λ (v : View). Ends (ended_by v e) v new) (c.at_once.ensures.none (ap is_some c.in_default.is) ∙ c.self.view_is)
-    c.reply_planned.ensures.ends
+    (subst (λ (v : View). new.state ≡ next v.state e) c.self.view_is c.reply_once-reply.ensures.state)
+    (subst (λ (v : View). FramesStay (gone_by v.state e) (memory_of v) (memory_of new)) c.self.view_is c.reply_once-reply.ensures.stay)
 
 pub returns-clause-stay : goal.returns-clause-stay
 returns-clause-stay c =
+    let new = c.reply_once-reply.new.processes in
     let e = c.args.event.now in
-    let new = c.reply_planned.new.self in
-    subst (λ (v : View). FramesStay (gone_by v.state e) (memory_of v) (memory_of new)) (c.at_once.ensures.none (ap is_some c.in_default.is) ∙ c.self.view_is)
-    c.reply_planned.ensures.stay
+    subst (λ (v : View). FramesStay (gone_by v.state e) (memory_of v) (memory_of new)) c.self.view_is c.reply_once-reply.ensures.stay

@@ -6,7 +6,7 @@ use Rattle.kernel_calls.specs.Machine.{answer, completes}
 use Rattle.kernel_calls.specs.declared.calls.Reply.TheVariants as reply
 use Rattle.kernel_calls.proofs.Decided.{next-stays}
 use Rattle.kernel_calls.proofs.InPage.{answer_is, reply_by, stay_is, value_goes}
-use Rattle.kernel_calls.proofs.cores.reply_access.Goals as goal
+use Rattle.kernel_calls.proofs.replies.reply_access.Goals as goal
 
 pub returns-in-Ok-clause-stay : goal.returns-in-Ok-clause-stay
 returns-in-Ok-clause-stay c =

@@ -5,7 +5,7 @@ use Rattle.process_table.specs.View.{View}
 use Rattle.kernel_calls.specs.Gone.{gone_of_call}
 use Rattle.kernel_calls.specs.Machine.{answer, completes}
 use Rattle.kernel_calls.proofs.Decided.{accept-told, done_by, next-stays}
-use Rattle.kernel_calls.proofs.cores.reply_accept.Goals as goal
+use Rattle.kernel_calls.proofs.replies.reply_accept.Goals as goal
 
 pub returns-in-Ok-clause-stay : goal.returns-in-Ok-clause-stay
 returns-in-Ok-clause-stay c =

@@ -1,0 +1,283 @@
+//! The reply to an event, which is carried out: each call is tested and made by one function.
+
+ghost use Rattle.std.specs.Prelude.{◌≡◌, false};
+ghost use Rattle.address_space.specs.Stays.{FramesStay};
+ghost use Rattle.process_table.specs.Image.{memory_of};
+ghost use Rattle.kernel_calls.specs.Decisions.{call_of, done_told, child_told};
+ghost use Rattle.kernel_calls.specs.Gone.{gone_by};
+ghost use Rattle.kernel_calls.specs.Machine.{answer, next, completes};
+ghost use Rattle.kernel_calls.specs.declared.calls.Call.TheVariants as call;
+ghost use Rattle.kernel_calls.specs.declared.calls.Event.{Event};
+
+use crate::calls::{Call, Event, Reply};
+use crate::decisions::{fault_told, info_told, quota_told, value_told};
+use fault_handler::Stop;
+use page_words::{Page, Pid, Size, Vaddr};
+use process_table::{Cause, Processes};
+use table_walk::Access;
+
+/// The reply to a call that is done, or refused.
+#[inline(always)]
+fn done_told(done: Result<(), Cause>) -> Reply
+    ensures { result ≡ done_told done }
+{
+    match done {
+        Ok(()) => Reply::Done,
+        Err(cause) => Reply::Refused(cause),
+    }
+}
+
+/// The reply to a call that makes a child, or is refused.
+#[inline(always)]
+fn child_told(made: Result<Pid, Cause>) -> Reply
+    ensures { result ≡ child_told made }
+{
+    match made {
+        Ok(child) => Reply::Child(child),
+        Err(cause) => Reply::Refused(cause),
+    }
+}
+
+/// The reply to an access, by its plan.
+#[inline(always)]
+fn reply_access(
+    processes: &mut Processes,
+    event: &Event,
+    address: Vaddr,
+    size: Size,
+    access: Access,
+    value: u32,
+) -> Reply
+    requires { event.now.call ≡ call_of access address size value }
+    ensures reply { result ≡ answer processes.old.state event.now }
+    ensures state { processes.new.state ≡ next processes.old.state event.now }
+    ensures stay { FramesStay (gone_by processes.old.state event.now) (memory_of processes.old) (memory_of processes.new) }
+    ensures kept { completes result ≡ false → processes.new ≡ processes.old }
+{
+    match fault_handler::access(processes, event.pid, address, size, access, value) {
+        Ok(value) => value_told(access, value),
+        Err(Stop::Refused(cause)) => Reply::Refused(cause),
+        Err(Stop::Fault(fault)) => fault_told(&fault),
+    }
+}
+
+/// The reply to a load: at once where it completes as memory stands, in one page, and else by its plan.
+#[inline(always)]
+fn reply_load(processes: &mut Processes, event: &Event, address: Vaddr, size: Size) -> Reply
+    requires { event.now.call ≡ call.Load address size }
+    ensures reply { result ≡ answer processes.old.state event.now }
+    ensures state { processes.new.state ≡ next processes.old.state event.now }
+    ensures stay { FramesStay (gone_by processes.old.state event.now) (memory_of processes.old) (memory_of processes.new) }
+    ensures kept { completes result ≡ false → processes.new ≡ processes.old }
+{
+    let read = Access::Read;
+    match fault_handler::try_access(processes, event.pid, address, size, read, 0) {
+        Some(value) => Reply::Value(value),
+        None => reply_access(processes, event, address, size, read, 0),
+    }
+}
+
+/// The reply to a store: at once where it completes as memory stands, in one page, and else by its plan.
+#[inline(always)]
+fn reply_store(
+    processes: &mut Processes,
+    event: &Event,
+    address: Vaddr,
+    size: Size,
+    value: u32,
+) -> Reply
+    requires { event.now.call ≡ call.Store address size value }
+    ensures reply { result ≡ answer processes.old.state event.now }
+    ensures state { processes.new.state ≡ next processes.old.state event.now }
+    ensures stay { FramesStay (gone_by processes.old.state event.now) (memory_of processes.old) (memory_of processes.new) }
+    ensures kept { completes result ≡ false → processes.new ≡ processes.old }
+{
+    let write = Access::Write;
+    match fault_handler::try_access(processes, event.pid, address, size, write, value) {
+        Some(_) => Reply::Done,
+        None => reply_access(processes, event, address, size, write, value),
+    }
+}
+
+/// The reply to a map.
+#[inline(always)]
+fn reply_map(processes: &mut Processes, event: &Event, page: Page, write: bool) -> Reply
+    requires { event.now.call ≡ call.Map page write }
+    ensures reply { result ≡ answer processes.old.state event.now }
+    ensures state { processes.new.state ≡ next processes.old.state event.now }
+    ensures stay { FramesStay (gone_by processes.old.state event.now) (memory_of processes.old) (memory_of processes.new) }
+    ensures kept { completes result ≡ false → processes.new ≡ processes.old }
+{
+    done_told(processes.try_map(event.pid, page, write))
+}
+
+/// The reply to an unmap.
+#[inline(always)]
+fn reply_unmap(processes: &mut Processes, event: &Event, page: Page) -> Reply
+    requires { event.now.call ≡ call.Unmap page }
+    ensures reply { result ≡ answer processes.old.state event.now }
+    ensures state { processes.new.state ≡ next processes.old.state event.now }
+    ensures stay { FramesStay (gone_by processes.old.state event.now) (memory_of processes.old) (memory_of processes.new) }
+    ensures kept { completes result ≡ false → processes.new ≡ processes.old }
+{
+    done_told(processes.try_unmap(event.pid, page))
+}
+
+/// The reply to a protect.
+#[inline(always)]
+fn reply_protect(processes: &mut Processes, event: &Event, page: Page, write: bool) -> Reply
+    requires { event.now.call ≡ call.Protect page write }
+    ensures reply { result ≡ answer processes.old.state event.now }
+    ensures state { processes.new.state ≡ next processes.old.state event.now }
+    ensures stay { FramesStay (gone_by processes.old.state event.now) (memory_of processes.old) (memory_of processes.new) }
+    ensures kept { completes result ≡ false → processes.new ≡ processes.old }
+{
+    done_told(processes.try_protect(event.pid, page, write))
+}
+
+/// The reply to an offer.
+#[inline(always)]
+fn reply_offer(
+    processes: &mut Processes,
+    event: &Event,
+    page: Page,
+    target: Pid,
+    write: bool,
+) -> Reply
+    requires { event.now.call ≡ call.Offer page target write }
+    ensures reply { result ≡ answer processes.old.state event.now }
+    ensures state { processes.new.state ≡ next processes.old.state event.now }
+    ensures stay { FramesStay (gone_by processes.old.state event.now) (memory_of processes.old) (memory_of processes.new) }
+    ensures kept { completes result ≡ false → processes.new ≡ processes.old }
+{
+    done_told(processes.try_offer(event.pid, page, target, write))
+}
+
+/// The reply to a withdraw.
+#[inline(always)]
+fn reply_withdraw(processes: &mut Processes, event: &Event, page: Page, target: Pid) -> Reply
+    requires { event.now.call ≡ call.Withdraw page target }
+    ensures reply { result ≡ answer processes.old.state event.now }
+    ensures state { processes.new.state ≡ next processes.old.state event.now }
+    ensures stay { FramesStay (gone_by processes.old.state event.now) (memory_of processes.old) (memory_of processes.new) }
+    ensures kept { completes result ≡ false → processes.new ≡ processes.old }
+{
+    done_told(processes.try_withdraw(event.pid, page, target))
+}
+
+/// The reply to an accept.
+#[inline(always)]
+fn reply_accept(
+    processes: &mut Processes,
+    event: &Event,
+    giver: Pid,
+    giver_page: Page,
+    page: Page,
+) -> Reply
+    requires { event.now.call ≡ call.Accept giver giver_page page }
+    ensures reply { result ≡ answer processes.old.state event.now }
+    ensures state { processes.new.state ≡ next processes.old.state event.now }
+    ensures stay { FramesStay (gone_by processes.old.state event.now) (memory_of processes.old) (memory_of processes.new) }
+    ensures kept { completes result ≡ false → processes.new ≡ processes.old }
+{
+    match processes.try_accept(event.pid, giver, giver_page, page) {
+        Ok(_) => Reply::Done,
+        Err(cause) => Reply::Refused(cause),
+    }
+}
+
+/// The reply to a spawn.
+#[inline(always)]
+fn reply_spawn(processes: &mut Processes, event: &Event, quota: u32) -> Reply
+    requires { event.now.call ≡ call.Spawn quota }
+    ensures reply { result ≡ answer processes.old.state event.now }
+    ensures state { processes.new.state ≡ next processes.old.state event.now }
+    ensures stay { FramesStay (gone_by processes.old.state event.now) (memory_of processes.old) (memory_of processes.new) }
+    ensures kept { completes result ≡ false → processes.new ≡ processes.old }
+{
+    child_told(processes.try_spawn(event.pid, quota))
+}
+
+/// The reply to a fork.
+#[inline(always)]
+fn reply_fork(processes: &mut Processes, event: &Event, quota: u32) -> Reply
+    requires { event.now.call ≡ call.Fork quota }
+    ensures reply { result ≡ answer processes.old.state event.now }
+    ensures state { processes.new.state ≡ next processes.old.state event.now }
+    ensures stay { FramesStay (gone_by processes.old.state event.now) (memory_of processes.old) (memory_of processes.new) }
+    ensures kept { completes result ≡ false → processes.new ≡ processes.old }
+{
+    child_told(processes.try_fork(event.pid, quota))
+}
+
+/// The reply to an exit.
+#[inline(always)]
+fn reply_exit(processes: &mut Processes, event: &Event) -> Reply
+    requires { event.now.call ≡ call.Exit }
+    ensures reply { result ≡ answer processes.old.state event.now }
+    ensures state { processes.new.state ≡ next processes.old.state event.now }
+    ensures stay { FramesStay (gone_by processes.old.state event.now) (memory_of processes.old) (memory_of processes.new) }
+    ensures kept { completes result ≡ false → processes.new ≡ processes.old }
+{
+    done_told(processes.try_exit(event.pid))
+}
+
+/// The reply to a process that asks about a page.
+#[inline(never)]
+fn info_of(processes: &Processes, pid: Pid, page: Page) -> Reply
+    ensures { (event : Event) → event.pid ≡ pid → event.call ≡ call.Info page → result ≡ answer processes.now.state event }
+{
+    let Some(place) = processes.place(pid, page) else {
+        return Reply::Refused(processes.first_cause(pid, Cause::BadPage));
+    };
+    processes.tells(pid, page, &place);
+    match processes.spaces().cell_at(pid, page, &place) {
+        Some(cell) => info_told(&cell),
+        None => Reply::Refused(processes.first_cause(pid, Cause::NotMapped)),
+    }
+}
+
+/// The reply to a process that asks for its quota.
+#[inline(always)]
+fn reply_quota(processes: &Processes, event: &Event) -> Reply
+    requires { event.now.call ≡ call.Quota }
+    ensures { result ≡ answer processes.now.state event.now }
+{
+    match processes.container(event.pid) {
+        Some(container) => quota_told(&container),
+        None => Reply::Refused(Cause::NoProcess),
+    }
+}
+
+/// The reply to an event, which is carried out.
+#[inline(always)]
+pub(crate) fn reply_once(processes: &mut Processes, event: &Event) -> Reply
+    ensures reply { result ≡ answer processes.old.state event.now }
+    ensures state { processes.new.state ≡ next processes.old.state event.now }
+    ensures stay { FramesStay (gone_by processes.old.state event.now) (memory_of processes.old) (memory_of processes.new) }
+    ensures kept { completes result ≡ false → processes.new ≡ processes.old }
+{
+    match event.call {
+        Call::Load { addr, size } => reply_load(processes, event, addr, size),
+        Call::Store { addr, size, value } => reply_store(processes, event, addr, size, value),
+        Call::Map { page, write } => reply_map(processes, event, page, write),
+        Call::Unmap { page } => reply_unmap(processes, event, page),
+        Call::Protect { page, write } => reply_protect(processes, event, page, write),
+        Call::Info { page } => info_of(processes, event.pid, page),
+        Call::Offer {
+            page,
+            target,
+            write,
+        } => reply_offer(processes, event, page, target, write),
+        Call::Withdraw { page, target } => reply_withdraw(processes, event, page, target),
+        Call::Accept {
+            giver,
+            giver_page,
+            page,
+        } => reply_accept(processes, event, giver, giver_page, page),
+        Call::Spawn { quota } => reply_spawn(processes, event, quota),
+        Call::Fork { quota } => reply_fork(processes, event, quota),
+        Call::Exit => reply_exit(processes, event),
+        Call::Quota => reply_quota(processes, event),
+    }
+}

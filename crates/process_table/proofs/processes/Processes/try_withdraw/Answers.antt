@@ -1,0 +1,13 @@
+use Rattle.std.proofs.Common.{rules, refl}
+use Rattle.process_table.specs.State.{State}
+use Rattle.process_table.specs.Calls.{after_withdraw}
+use Rattle.process_table.specs.View.{state_of}
+use Rattle.process_table.proofs.Keeping.{whole}
+use Rattle.process_table.proofs.SharingLaws.{well_formed-withdraw}
+use Rattle.process_table.proofs.processes.Processes.try_withdraw.Goals as goal
+
+pub invariant_of-self-2 : goal.invariant_of-self-2
+invariant_of-self-2 c =
+    let s : State = state_of c.self.inside.spaces c.self.inside.quotas c.self.inside.offers in
+    whole c.self.inside.spaces c.self.inside.quotas c.take.new.self (after_withdraw s c.args.pid c.args.page c.args.target) c.self.invariant.kept refl refl (search rules)
+    (well_formed-withdraw s c.args.pid c.args.page c.args.target c.self.invariant.well_formed)
