@@ -144,6 +144,15 @@ pub fn set_right(memory: &mut Memory, found: &Found, write: bool)
     );
 }
 
+/// Clears accessed and dirty of a page.
+pub fn clear_marks(memory: &mut Memory, found: &Found)
+    requires lies { LiesIn memory.old found.now }
+    ensures entry { EntryIs memory.old found.now (record found.now.entry { accessed = false; dirty = false }) memory.new }
+    ensures length { length memory.new ≡ length memory.old }
+{
+    set_flags(memory, found, found.entry.write, false, false);
+}
+
 /// The four bytes of a number, the lowest first.
 fn four_bytes(value: u32) -> [u8; 4]
     ensures { result ≡ bytes_of 4 value }

@@ -384,6 +384,21 @@ impl Spaces {
         accesses::set_right(memory, &found, write);
     }
 
+    /// Clears accessed and dirty of a mapped page, whose place this is.
+    pub fn clean_at(&mut self, pid: Pid, page: Page, place: &Place)
+        requires mapped { is_some (map.get self.old.spaces (at_page pid page)) ≡ true }
+        requires user { IsUserPage page }
+        requires place { place.now ≡ place_in self.old.directories self.old.bytes pid page }
+        ensures spaces { self.new.spaces ≡ map.insert self.old.spaces (at_page pid page) (record (cell_or_fresh self.old.spaces (at_page pid page)) { accessed = false; dirty = false }) }
+        ensures stay { FramesStay none_goes (image_of self.old) (image_of self.new) }
+        ensures directories { self.new.directories ≡ self.old.directories }
+        ensures roles { self.new.roles ≡ self.old.roles }
+    {
+        let memory = &mut self.memory;
+        let found = place.found().unwrap();
+        accesses::clear_marks(memory, &found);
+    }
+
     /// Sets whether a process may write to a mapped page; to set it, the process must be allowed to.
     pub fn protect(&mut self, pid: Pid, page: Page, write: bool)
         requires mapped { is_some (map.get self.old.spaces (at_page pid page)) ≡ true }

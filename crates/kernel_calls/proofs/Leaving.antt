@@ -16,7 +16,7 @@ use Rattle.process_table.specs.View.{View}
 use Rattle.process_table.specs.WellFormed.{IsWellFormed}
 use Rattle.kernel_calls.specs.Gone.{gone_by}
 use Rattle.kernel_calls.specs.Machine.{answer, after, next, completes}
-use Rattle.kernel_calls.specs.Translations.{is_ended, ended_by, FlagsStay, Ends, Translation, IsGiven, Kept, translation, directory_entry, IsRead, AreRead, ends_in_region, is_invalidated, left_by, Keeping, nothing, event, walk, KeptAreGiven, KeptThroughRuns}
+use Rattle.kernel_calls.specs.Translations.{TablesMap, TablesStay, is_ended, ended_by, FlagsStay, Ends, Translation, IsGiven, Kept, translation, directory_entry, IsRead, AreRead, ends_in_region, is_invalidated, left_by, Keeping, nothing, event, walk, KeptAreGiven, KeptThroughRuns}
 use Rattle.kernel_calls.specs.declared.calls.Call.{Call}
 use Rattle.kernel_calls.specs.declared.calls.Call.TheVariants as call
 use Rattle.kernel_calls.specs.declared.calls.Event.{Event}
@@ -205,15 +205,20 @@ region_spared (end.Space q) p page spared = apart q p spared
     apart q p h = ne_eqb p q (λ e. let k : true ≡ false = sym (eq-eqb q p (sym e)) ∙ h in cc)
 
 -- so an entry of a directory stays where it isn't invalidated
+pub entry_left : (ended : Ended) (v w : View) (p region table : ℕ) → TablesMap v → TablesStay ended v w
+    → ends_in_region ended p region ≡ false
+    → table_at (memory_of v) p region ≡ Some table → table_at (memory_of w) p region ≡ Some table
+entry_left ended v w p region table all stay spared linked =
+    let m = all p region table linked in
+    let here : table_at (memory_of v) p (slot_number m.page) ≡ Some table = ap (table_at (memory_of v) p) m.inside ∙ linked in
+    sym (ap (table_at (memory_of w) p) m.inside)
+    ∙ stay (at_page p m.page) table
+    (region_spared ended p m.page (ap (ends_in_region ended p) m.inside ∙ spared)) m.mapped here
+
 entry_stays : (ended : Ended) (v w : View) (p region table : ℕ) → Ends ended v w
     → ends_in_region ended p region ≡ false
     → table_at (memory_of v) p region ≡ Some table → table_at (memory_of w) p region ≡ Some table
-entry_stays ended v w p region table ends spared linked =
-    let m = ends.linked p region table linked in
-    let here : table_at (memory_of v) p (slot_number m.page) ≡ Some table = ap (table_at (memory_of v) p) m.inside ∙ linked in
-    sym (ap (table_at (memory_of w) p) m.inside)
-    ∙ ends.tables (at_page p m.page) table
-    (region_spared ended p m.page (ap (ends_in_region ended p) m.inside ∙ spared)) m.mapped here
+entry_stays ended v w p region table ends = entry_left ended v w p region table ends.linked ends.tables
 
 -- what is kept is read afterwards, where it isn't invalidated
 read_stays : (ended : Ended) (v w : View) (k : Kept) → Ends ended v w → is_invalidated ended k ≡ false → IsRead v k → IsRead w k

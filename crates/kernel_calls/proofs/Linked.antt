@@ -89,7 +89,7 @@ directories_stay v w e stay p d some live =
 
 module _ (v : View) (stands : StandsFor (image_of v) v.state) where
   -- a mapped slot has a way
-  mapped_way : (slot : Slot) → map.contains_key v.state.spaces slot ≡ true
+  pub mapped_way : (slot : Slot) → map.contains_key v.state.spaces slot ≡ true
       → (d : ℕ) × (f : ℕ) × (way_of (memory_of v) slot ≡ Some (d, f))
   mapped_way slot there = by (page_word (memory_of v) slot) refl (map.get v.state.spaces slot) there
       (stands.memory.cells slot)

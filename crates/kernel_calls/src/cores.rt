@@ -19,6 +19,7 @@ ghost use Rattle.address_space.specs.Spaces.{zeros, at_page, slot_at, byte_at};
 ghost use Rattle.phys_memory.specs.Bytes.{frame_bytes};
 ghost use Rattle.fault_handler.specs.Plans.{goes_on, takes_no_frame};
 ghost use Rattle.kernel_calls.specs.Authority.{HearTheirOwn, KeepsBorders};
+ghost use Rattle.kernel_calls.specs.Cleaned.{is_dirty_at, cleaned, EndsMarks};
 ghost use Rattle.kernel_calls.specs.Families.{IsUnreached};
 ghost use Rattle.kernel_calls.specs.Isolation.{IsIsolated};
 ghost use Rattle.kernel_calls.specs.Pages.{page_in};
@@ -531,6 +532,26 @@ impl Core {
         self.stands();
         self.processes.set_walked(pid, page, walked);
         self.stands();
+    }
+
+    /// Clears accessed and dirty of a mapped page, and tells whether it was dirty. It ends the page's translation:
+    /// whoever keeps it invalidates it before anything else is done. It is no event: an Info of the page tells it.
+    pub fn clean(&mut self, pid: Pid, page: Page) -> bool
+        requires user { IsUserPage page }
+        requires mapped { is_mapped self.old.state (at_page pid page) ≡ true }
+        ensures dirty { result ≡ is_dirty_at self.old.state (at_page pid page) }
+        ensures state { self.new.state ≡ cleaned self.old.state (at_page pid page) }
+        ensures marks { EndsMarks (end.Page pid page) self.old self.new }
+        ensures directories { self.new.directories ≡ self.old.directories }
+        ensures roles { self.new.roles ≡ self.old.roles }
+        ensures stands { StandsFor (image_of self.new) self.new.state }
+        ensures walks { WalksAgree (memory_of self.new) self.new.state.spaces }
+    {
+        self.stands();
+        let dirty = self.is_dirty(pid, page);
+        self.processes.clean(pid, page);
+        self.stands();
+        dirty
     }
 
     /// That memory's own words say what the state says, and that the processor's walk of any directory,

@@ -1,5 +1,6 @@
 //! Laws of the machine's runs. Each is the contract of a function that computes nothing.
 
+ghost use Rattle.kernel_calls.specs.Cleaned.{CleaningKeepsStates, CleaningIsUnseen, EventsEndMarks, KeptThroughMarks, KeptAmongMarks, CleaningIsNoEvent, CleaningShows};
 ghost use Rattle.kernel_calls.specs.Authority.{StatesStayWellFormed, RefusalsChangeNothing, SlotsAreKept, Integrity, NobodyTakesBack, SharingByConsent, SharingStays, OffersByOfferer, ExitsEnd, UnmapsEnd, OffersEnd, OffersStay, ChildrenAreTheirMakers, PlacesStay, MembersToldTheSame, OwnIsEnough, MembersSeeTheSame, OutsidersUnseen, MembersHearTheSame, RunsKeepBorders, OutsidersHearNothing};
 ghost use Rattle.kernel_calls.specs.Effects.{CompletesByKind, DoneMeansDone, SlotsCome, SlotsGo, FlagsChange, OthersNeverRefuse, RunsNeverRefuse};
 ghost use Rattle.kernel_calls.specs.Families.{FamiliesHearTheirOwn, FamiliesEndTheSame, NewbornsAreFamilies};
@@ -144,4 +145,18 @@ pub fn newborns_are_families()
 pub fn others_never_refuse()
     ensures events { OthersNeverRefuse }
     ensures runs { RunsNeverRefuse }
+{}
+
+/// States what clearing accessed and dirty of a mapped slot would change. States stay well formed, and the members of a set
+/// see nothing of it unless the slot is a member's. What processors keep stays what the walks read, if a change leaves the
+/// marks of all slots whose translations it doesn't end, which each event does. But of a slot that was accessed it is what
+/// no event does, and an Info of its process tells it. It computes nothing.
+pub fn cleaning_is_its_own()
+    ensures states { CleaningKeepsStates }
+    ensures unseen { CleaningIsUnseen }
+    ensures events { EventsEndMarks }
+    ensures kept { KeptThroughMarks }
+    ensures moments { KeptAmongMarks }
+    ensures no_event { CleaningIsNoEvent }
+    ensures shows { CleaningShows }
 {}

@@ -5,13 +5,17 @@
 //! in a simulated physical memory.
 #![tactic(auto)]
 
+mod acts;
 mod calls;
 mod cores;
 mod decisions;
+mod installing;
 mod laws;
 mod pages;
+mod peeking;
 mod places;
 mod replies;
+mod taking;
 mod transfers;
 mod translations;
 mod walked;
@@ -22,17 +26,19 @@ pub use calls::{Call, Decision, Event, Outcome, Reply};
 pub use cores::Core;
 pub use fault_handler::{PageStep, Plan};
 pub use laws::{
-    authority_spreads_by_consent, children_are_their_makers, completes_by_kind,
-    confined_processes_stay_confined, done_means_done, kept_translations_are_given,
-    kept_translations_serve_accesses, members_see_their_own, newborns_are_families,
-    others_never_refuse, processes_are_isolated, processes_keep_their_integrity,
-    runs_stay_well_formed, what_a_process_has_is_enough, what_is_given_up_goes,
+    authority_spreads_by_consent, children_are_their_makers, cleaning_is_its_own,
+    completes_by_kind, confined_processes_stay_confined, done_means_done,
+    kept_translations_are_given, kept_translations_serve_accesses, members_see_their_own,
+    newborns_are_families, others_never_refuse, processes_are_isolated,
+    processes_keep_their_integrity, runs_stay_well_formed, what_a_process_has_is_enough,
+    what_is_given_up_goes,
 };
 pub use page_words::{Frame, MachineFault as BootFault, Page, Pid, Size, Vaddr};
 pub use pages::PageState;
 pub use phys_memory::Memory;
 pub use process_table::Cause;
 pub use quota_tree::Container;
+pub use taking::Holder;
 pub use transfers::Transfer;
 pub use translations::Ended;
 pub use worked::{

@@ -66,14 +66,14 @@ fn store_byte(pid: Pid, address: Vaddr, value: u8) -> Event
 }
 
 /// Whether a reply is neither a refusal nor a fault.
-fn completes(reply: &Reply) -> bool
+pub(crate) fn completes(reply: &Reply) -> bool
     ensures { result ≡ completes reply.now }
 {
     !matches!(reply, Reply::Refused(_) | Reply::Fault { .. })
 }
 
 /// How many of so many bytes from an address on lie in its page: one at least.
-fn count_in_page(address: Vaddr, left: usize) -> usize
+pub(crate) fn count_in_page(address: Vaddr, left: usize) -> usize
     requires some { 0 < left }
     ensures within { offset_number address + result ≤ 4096 }
     ensures some { 0 < result }

@@ -16,7 +16,7 @@ use Rattle.page_words.specs.FiniteSet as set
 use Rattle.page_words.specs.FiniteSet.{Set}
 use Rattle.page_words.proofs.MapLemmas.{get-map_values}
 use Rattle.page_words.proofs.SetLemmas.{same_cases}
-use Rattle.address_space.specs.Spaces.{Slot, slot_order, Cell, Spaces, cost, cost_of, need, page_need, access_need, fresh, accessed, stored, with_page, with_pages, all_accessed, all_stored, store_in, set_bytes, with_bytes, write_at, bytes_of, slot_at, at_page}
+use Rattle.address_space.specs.Spaces.{Slot, slot_order, Cell, Spaces, cost, cost_of, need, page_need, access_need, fresh, cell_or_fresh, accessed, stored, with_page, with_pages, all_accessed, all_stored, store_in, set_bytes, with_bytes, write_at, bytes_of, slot_at, at_page}
 use Rattle.address_space.proofs.costs.Costs.{same_pages, cost-insert}
 use Rattle.address_space.proofs.costs.AccessCosts.{kept}
 use Rattle.address_space.proofs.costs.AccessNeeds.{need-in_one, need-in_two, cost-with_page}
@@ -326,3 +326,15 @@ pub well_formed-store : (s : State) (p address : ℕ) (size : Size) (value : ℕ
 well_formed-store s p address size value w live user has_room =
     well_formed-bytes (record s { spaces = with_pages s.spaces p (touched address size) }) p address (byte_count size) value (well_formed-touched s p address size w live user has_room)
     (bytes_there (with_pages s.spaces p (touched address size)) p address size (touched-there s.spaces p address size))
+
+-- ---- Marks that are cleared
+
+-- the state with accessed and dirty of a slot clear
+abbrev pub cleaned_state : State → Slot → State
+cleaned_state s slot = record s { spaces = map.insert s.spaces slot (record (cell_or_fresh s.spaces slot) { accessed = false; dirty = false }) }
+
+pub well_formed-cleaned : (s : State) (slot : Slot) → IsWellFormed s → map.contains_key s.spaces slot ≡ true → IsWellFormed (cleaned_state s slot)
+well_formed-cleaned s slot w there =
+    let c = some_value (map.get s.spaces slot) there in
+    subst (λ (x : Cell). IsWellFormed (record s { spaces = map.insert s.spaces slot (record x { accessed = false; dirty = false }) })) (sym (ap (λ (x : Option Cell). unwrap_or x (fresh slot true)) c.1))
+    (well_formed-flags s slot c.0 c.1 w (record c.0 { accessed = false; dirty = false }) (λ q. record { holders = refl; bytes_in = λ _. refl; bytes_out = λ _. refl; write = λ f. f; may = refl; dirty = λ _ h. cc }))

@@ -1,11 +1,12 @@
 //! Accesses that a processor makes by itself: by the walk of a process's directory, or by translations that it kept.
 
-ghost use Rattle.std.specs.Prelude.{◌≡◌, ℕ, true, Some};
+ghost use Rattle.std.specs.Prelude.{◌≡◌, ℕ, true, false, Some};
 ghost use Rattle.page_words.specs.Addresses.{byte_count, EachTouched, IsUserPage};
+ghost use Rattle.page_words.specs.FiniteMap as map;
 ghost use Rattle.address_space.specs.ByWalk.{finds, value_found, after_walked, with_walked};
 ghost use Rattle.address_space.specs.Kept.{is_marked, written_at, LeadTo};
 ghost use Rattle.address_space.specs.Image.{takes_stores};
-ghost use Rattle.address_space.specs.Spaces.{at_page, bytes_of};
+ghost use Rattle.address_space.specs.Spaces.{at_page, bytes_of, cell_or_fresh};
 ghost use Rattle.address_space.specs.Stays.{FramesStay, none_goes};
 ghost use Rattle.address_space.specs.View.{directory_of};
 ghost use Rattle.process_table.specs.Calls.{after_access, access_value};
@@ -71,6 +72,19 @@ impl Processes {
         ensures bytes { (directory : ℕ) → directory_of self.old.directories pid ≡ Some directory → self.new.bytes ≡ with_walked self.old.bytes directory page walked }
     {
         self.spaces.set_walked(pid, page, walked);
+    }
+
+    /// Clears accessed and dirty of a mapped page of the user range. Nothing else changes.
+    pub fn clean(&mut self, pid: Pid, page: Page)
+        requires mapped { is_mapped self.old.state (at_page pid page) ≡ true }
+        requires user { IsUserPage page }
+        ensures state { self.new.state ≡ record self.old.state { spaces = map.insert self.old.state.spaces (at_page pid page) (record (cell_or_fresh self.old.state.spaces (at_page pid page)) { accessed = false; dirty = false }) } }
+        ensures stay { FramesStay none_goes (memory_of self.old) (memory_of self.new) }
+        ensures directories { self.new.directories ≡ self.old.directories }
+        ensures roles { self.new.roles ≡ self.old.roles }
+    {
+        let place = self.spaces.place(pid, page);
+        self.spaces.clean_at(pid, page, &place);
     }
 
     /// A store as a processor makes it by translations that it kept, where accessed and dirty of each page that it

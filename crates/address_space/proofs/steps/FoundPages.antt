@@ -40,7 +40,7 @@ use Rattle.address_space.proofs.steps.LazyFilling.{page_filled, room_to_fill}
 use Rattle.address_space.proofs.steps.CountSteps.{counts_kept, alike_taken}
 use Rattle.alloc_table.specs.declared.Role.{Role}
 use Rattle.std.proofs.lemmas.List.{length-replicate}
-use Rattle.address_space.proofs.steps.Stores.{frame_written, length-write_at, named_entry, page_of_name, named_inside, entry_rules, cell_read, flags_set, flagged_load, flagged_right, stored_place, page_stored, written_long}
+use Rattle.address_space.proofs.steps.Stores.{frame_written, length-write_at, named_entry, page_of_name, named_inside, entry_rules, cell_read, flags_set, marks_cleared, flagged_load, flagged_right, stored_place, page_stored, written_long}
 
 -- what was found is the entry of the page's slot
 pub found_entry : (D : Directories) (m : Frames) (p page : ℕ) → option_map (λ (f : Found). f.entry) (found_in D m p page) ≡ entry_in D m (at_page p page)
@@ -269,6 +269,15 @@ module _ (inner : Inner) (p page : ℕ) (f : Found) (before : IsKeptInside inner
       (subst (λ (s : Spaces). Touched inner.directories s inner.memory inner.frames two) (flagged_right inner.directories inner.memory p there.directory page f.entry write there.live few user.0 user.1 there.here)
       (flags_set inner.directories inner.memory two inner.frames p there.directory page f.entry write f.entry.accessed before.spaces.sound there.live user.0 user.1 there.here
       (λ w. sym (ap (λ (c : Cell). c.may) found_cell) ∙ may w) (entry_rules inner.directories inner.memory inner.frames p there.directory page f.entry before.spaces.sound there.live there.here).touched (entry_put_at inner.memory two (record f.entry { write = write }) there.table put) long))
+      (kept (spaces_at inner) (at_page p page) _ found_there)
+
+  -- marks that are cleared
+  pub found_cleaned : (two : List ℕ) → EntryIs inner.memory f (record f.entry { accessed = false; dirty = false }) two → length two ≡ length inner.memory
+      → Left inner (map.insert (spaces_at inner) (at_page p page) (record (cell_or_fresh (spaces_at inner) (at_page p page)) { accessed = false; dirty = false })) two
+  found_cleaned two put long =
+      left two (map.insert (spaces_at inner) (at_page p page) (record (cell_or_fresh (spaces_at inner) (at_page p page)) { accessed = false; dirty = false }))
+      (marks_cleared inner.directories inner.memory two inner.frames p there.directory page f.entry before.spaces.sound there.live user.0 user.1 there.here
+      (entry_put_at inner.memory two (record f.entry { accessed = false; dirty = false }) there.table put) long)
       (kept (spaces_at inner) (at_page p page) _ found_there)
 
   -- a store

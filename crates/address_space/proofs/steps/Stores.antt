@@ -278,6 +278,37 @@ flags_set directories bytes two roles p d page e write accessed sound live low h
           (λ q r t found. h.tables q r ∙ found);
     }
 
+-- an entry's marks alone were cleared
+pub marks_cleared : (directories : List (Option ℕ)) (bytes two : List ℕ) (roles : List Role) (p d page : ℕ) (e : PageEntry) → IsSound directories bytes roles → directory_of directories p ≡ Some d
+    → 0x40000 ≤ page → page < 0xf0000 → entry_at (frame_bytes bytes) d page ≡ Some e
+    → EntryPut bytes d page e (record e { accessed = false; dirty = false }) two → length two ≡ length bytes
+    → Touched directories (map.insert (spaces_in directories bytes) (at_page p page) (record (cell_or_fresh (spaces_in directories bytes) (at_page p page)) { accessed = false; dirty = false })) bytes roles two
+unfolding spaces_in
+marks_cleared directories bytes two roles p d page e sound live low high is_entry is_two long_two =
+    let m : Frames = frame_bytes bytes in
+    let E : Entries = entries_in (directory_of directories) m in
+    let slot : Slot = at_page p page in
+    let e' : PageEntry = record e { accessed = false; dirty = false } in
+    let rules = entry_rules directories bytes roles p d page e sound live is_entry in
+    let rules' : IsKernelEntry e' = record { frame = rules.frame; zero = rules.zero; clean = λ _. refl; right = rules.right; touched = λ h. cc } in
+    let h = entry_put directories bytes two roles p d page e e' sound live low high is_entry rules' refl is_two long_two in
+    let cell = cell_at E m slot e h.named in
+    record {
+      sound = h.sound;
+      spaces = h.spaces ∙ flags_refine E m slot e e' h.named refl
+          ∙ ap (map.insert (spaces_of E m) slot)
+          (ap (λ (c : Cell). record c { write = e.write; may = e.may; accessed = false; dirty = false }) cell ∙ sym (ap (λ (c : Cell). record c { accessed = false; dirty = false }) cell));
+      cost = (λ i. total_cost directories (spaces_of (h.entries i) (frame_bytes two))) ∙ total-kept directories E m (frame_bytes two) slot e e' h.named;
+      in_use = h.in_use;
+      lazy = ap (λ x. holders_of x 0) h.entries ∙ lazy-same E slot e e' h.named refl;
+      stay = places_by none_goes (directory_of directories) m (directory_of directories) (frame_bytes two)
+          (stay_then none_goes E (map.insert E slot e') (entries_in (directory_of directories) (frame_bytes two))
+          (stay_put none_goes E slot e e' h.named refl)
+          (stay_same none_goes (map.insert E slot e') (entries_in (directory_of directories) (frame_bytes two))
+          h.entries))
+          (λ q r t found. h.tables q r ∙ found);
+    }
+
 pub length-bytes_of : (k v : ℕ) → length (bytes_of k v) ≡ k
 length-bytes_of zero v = refl
 length-bytes_of (suc k) v = ap suc (length-bytes_of k (v / 256))

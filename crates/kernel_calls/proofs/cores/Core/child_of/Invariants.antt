@@ -1,0 +1,7 @@
+use Rattle.std.proofs.Common.{◌≡◌, ◌<◌, ℕ, false}
+use Rattle.kernel_calls.specs.Authority.{is_child_of}
+use Rattle.kernel_calls.proofs.cores.Core.child_of.Given as goal
+
+-- no process so far is a child
+abbrev pub invariant-loop-number : goal.invariant-loop-number
+invariant-loop-number l = (q : ℕ) → q < l.number → is_child_of l.self.state l.pid q ≡ false

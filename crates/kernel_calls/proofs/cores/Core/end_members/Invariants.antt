@@ -1,0 +1,9 @@
+use Rattle.page_words.specs.FiniteMap as map
+use Rattle.kernel_calls.proofs.FamilySteps.{Going}
+use Rattle.kernel_calls.proofs.cores.Core.end_members.Given as goal
+
+abbrev pub invariant-leaves : goal.invariant-leaves
+invariant-leaves l = Going l.fn.self l.self l.pid l.at l.count l.exited
+
+abbrev pub decreases-leaves : goal.decreases-leaves
+decreases-leaves l = map.len l.self.state.book

@@ -1,0 +1,8 @@
+use Rattle.std.proofs.Common.{sym}
+use Rattle.kernel_calls.proofs.Unmaps.{alone_one}
+use Rattle.kernel_calls.proofs.cores.Core.is_alone.Goals as goal
+use borrow.Author.Tests.{eqb-true}
+
+pub returns-in-Some : goal.returns-in-Some
+returns-in-Some c = λ h.
+    alone_one c.args.self.now c.args.pid c.args.page c.in-Some.state c.stands.ensures.well_formed (sym c.in-Some.ensures) (eqb-true c.in-Some.state.cell.holders 1 h)

@@ -1,0 +1,14 @@
+use Rattle.std.proofs.Common.{◌≡◌, ◌-◌, ◌<◌, ◌≤◌, ℕ, false}
+use Rattle.address_space.specs.Spaces.{at_page}
+use Rattle.kernel_calls.specs.Cleaned.{is_dirty_at}
+use Rattle.kernel_calls.proofs.cores.Core.next_dirty.Given as goal
+
+-- no page so far is dirty
+abbrev pub invariant-loop-page : goal.invariant-loop-page
+invariant-loop-page l = record {
+  up : l.fn.from ≤ l.at;
+  none : (other : ℕ) → l.fn.from ≤ other → other < l.at → is_dirty_at l.self.state (at_page l.pid other) ≡ false;
+}
+
+abbrev pub decreases-loop-page : goal.decreases-loop-page
+decreases-loop-page l = 0xf0000 - l.at

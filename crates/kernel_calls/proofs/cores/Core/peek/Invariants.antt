@@ -1,0 +1,18 @@
+use Rattle.std.proofs.Common.{◌≡◌, ℕ, ◌+◌, ◌-◌, ◌<◌, ◌≤◌, true, length, take, drop, map}
+use Rattle.std.specs.List.{range_with_len}
+use Rattle.address_space.specs.Spaces.{slot_at, byte_at}
+use Rattle.process_table.specs.State.{is_mapped}
+use Rattle.kernel_calls.proofs.cores.Core.peek.Given as goal
+
+-- the bytes so far are those that stand there, and the others are as they were
+abbrev pub invariant-loop-done : goal.invariant-loop-done
+invariant-loop-done l = record {
+  place : l.at ≡ l.fn.address + l.done;
+  within : l.done ≤ length l.out;
+  bytes : take l.done l.out ≡ map (byte_at l.self.state.spaces l.pid) (range_with_len l.fn.address l.done);
+  rest : drop l.done l.out ≡ drop l.done l.fn.out;
+  mapped : (i : ℕ) → i < l.done → is_mapped l.self.state (slot_at l.pid (l.fn.address + i)) ≡ true;
+}
+
+abbrev pub decreases-loop-done : goal.decreases-loop-done
+decreases-loop-done l = length l.out - l.done

@@ -1,0 +1,17 @@
+use Rattle.std.proofs.Common.{◌∙◌, ap, sym, length, List, ℕ}
+use Rattle.page_words.specs.Addresses.{offset_number}
+use Rattle.phys_memory.specs.Bytes.{frame_bytes}
+use Rattle.address_space.specs.Spaces.{at_page, bytes_at, cell_or_fresh}
+use Rattle.process_table.specs.State.{is_mapped}
+use Rattle.kernel_calls.proofs.Peeked.{part_peeked}
+use Rattle.kernel_calls.proofs.cores.Core.peek_in_page.Goals as goal
+
+pub returns-clause-bytes : goal.returns-clause-bytes
+returns-clause-bytes c = λ _.
+    let s = c.args.self.now.state in
+    let n = length c.args.out.now in
+    let page = c.page_of-page.ensures.value in
+    c.copy_part.ensures
+    ∙ (λ i. bytes_at (frame_bytes (c.memory.ensures i) c.in-Some.frame) (c.offset_of.ensures.value i) n)
+    ∙ ap (λ (xs : List ℕ). bytes_at xs (offset_number c.args.address) n) (c.in-Some.ensures.bytes ∙ ap (λ k. (cell_or_fresh s.spaces (at_page c.args.pid k)).bytes) page)
+    ∙ part_peeked s c.args.pid c.args.address n c.stands.ensures.well_formed (sym (ap (λ k. is_mapped s (at_page c.args.pid k)) page) ∙ c.in-Some.ensures.mapped) c.requires.within

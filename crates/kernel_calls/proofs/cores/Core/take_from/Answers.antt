@@ -1,0 +1,28 @@
+use Rattle.std.proofs.Common.{rules, ◌≡◌, ◌<◌, ℕ, length, slice_set, arith}
+use Rattle.std.proofs.Math.ListN.{length-set}
+use Rattle.address_space.specs.Spaces.{at_page}
+use Rattle.kernel_calls.specs.declared.taking.Holder.{Holder}
+use Rattle.kernel_calls.proofs.Unmaps.{taking_on, clear_on, clear_up}
+use Rattle.kernel_calls.proofs.cores.Core.take_from.Goals as goal
+
+pub loop-found-preserved : goal.loop-found-preserved
+loop-found-preserved c =
+    let w = c.loop-found.self in
+    let u = c.unmap_beside.new.self in
+    let own = at_page c.args.pid c.args.page in
+    let found : ℕ = c.in-Some.found in
+    let h : Holder = record { pid = c.args.holder; page = found } in
+    let count : ℕ = c.loop-found.count in
+    let lost = c.loop-found.lost in
+    let i = c.loop-found.invariant in
+    let ww = c.stands.ensures.well_formed in
+    let l = c.unmap_beside.ensures.unmapped in
+    let is = c.found.view_is in
+    let within : c.loop-found.count < length c.loop-found.lost = search rules in
+    let long : length (slice_set c.loop-found.lost c.loop-found.count h) ≡ length c.loop-found.lost = length-set c.loop-found.lost c.loop-found.count h in
+    record {
+      room = omega (arith, long, within);
+      taking = λ v t. taking_on v w u own count lost h ww (i.taking v t) l within;
+      clear = λ other down. clear_up w u own c.args.holder c.loop-found.at found ww l i.clear c.in-Some.ensures.least other (omega (arith, down, is));
+      others = λ slot none. clear_on w u own h ww l slot (i.others slot none);
+    }

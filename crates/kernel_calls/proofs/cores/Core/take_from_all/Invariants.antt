@@ -1,0 +1,12 @@
+use Rattle.std.proofs.Common.{◌≡◌, ◌<◌, ◌≤◌, ℕ, false, length, take}
+use Rattle.address_space.specs.Spaces.{at_page}
+use Rattle.kernel_calls.specs.TakenBack.{is_beside, Taking}
+use Rattle.kernel_calls.proofs.cores.Core.take_from_all.Given as goal
+
+-- those so far have lost the page, and while there are places no page of a process so far is beside the slot
+abbrev pub invariant-loop-number : goal.invariant-loop-number
+invariant-loop-number l = record {
+  room : l.count ≤ length l.lost;
+  taking : Taking l.fn.self l.self (at_page l.pid l.page) (take l.count l.lost);
+  clear : l.count < length l.lost → (p page : ℕ) → p < l.number → is_beside l.self.state (at_page l.pid l.page) (at_page p page) ≡ false;
+}

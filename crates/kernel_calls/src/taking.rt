@@ -1,0 +1,232 @@
+//! Who else has a page, and taking it back: the Unmaps of all other slots of its group.
+
+ghost use Rattle.std.specs.Prelude.{◌≡◌, ℕ, ◌+◌, ◌*◌, ◌<◌, ◌≤◌, ◌==◌, ◌&&◌, not, true, false, Some, Ok, Err, IsOk, IfSome, IfNone, IfOk, IfErr, IsErr, length, take};
+ghost use Rattle.page_words.specs.Addresses.{IsUserPage};
+ghost use Rattle.phys_memory.specs.Bytes.{frame_bytes};
+ghost use Rattle.address_space.specs.Spaces.{Slot, cell_or_fresh, is_slot, at_page};
+ghost use Rattle.address_space.specs.Stays.{way_of};
+ghost use Rattle.process_table.specs.Image.{StandsFor, image_of, memory_of};
+ghost use Rattle.process_table.specs.State.{is_mapped};
+ghost use Rattle.process_table.specs.View.{View};
+ghost use Rattle.kernel_calls.specs.Effects.{IsAlone};
+ghost use Rattle.kernel_calls.specs.Machine.{answer, next, completes};
+ghost use Rattle.kernel_calls.specs.TakenBack.{info_of_page, unmap_of, unmaps, pages_of_all, is_beside, TakesBack, Taking, Unmapped};
+ghost use Rattle.kernel_calls.specs.Translations.{ended_by, EndAlong, Ends};
+ghost use Rattle.kernel_calls.specs.declared.calls.Reply.TheVariants as reply;
+ghost use Rattle.kernel_calls.specs.declared.translations.Ended.TheVariants as end;
+
+use crate::calls::{Call, Event, Reply};
+use crate::cores::Core;
+use page_words::{Frame, Page, Pid, in_user_range, start_of};
+use process_table::Cause;
+use table_walk::{Access, walk};
+
+/// A slot: a page of a process.
+#[derive(Clone, Copy, Debug, PartialEq, Eq)]
+pub struct Holder {
+    pub pid: Pid,
+    pub page: Page,
+}
+
+/// The Unmap of a slot.
+fn unmap_of(pid: Pid, page: Page) -> Event
+    ensures { result ≡ unmap_of (record { pid = pid; page = page }) }
+{
+    Event {
+        cpu: 0,
+        pid,
+        call: Call::Unmap { page },
+    }
+}
+
+/// Whether two slots are one.
+#[tactic(auto, using(crate::proofs::Unmaps::slot_test))]
+fn is_slot(pid: Pid, page: Page, other: Pid, other_page: Page) -> bool
+    ensures { result ≡ is_slot pid page (at_page other other_page) }
+{
+    other == pid && other_page == page
+}
+
+/// Whether two frames are one, and not frame 0.
+fn are_one(frame: Frame, other: Frame) -> bool
+    ensures { result ≡ (not (frame == 0) && (frame == other)) }
+{
+    frame.0 != 0 && frame == other
+}
+
+impl Core {
+    /// The frame to which a page of a process leads, frame 0 where it is lazy; None where it is not mapped.
+    pub(crate) fn frame_at(&self, pid: Pid, page: Page) -> Option<Frame>
+        requires user { IsUserPage page }
+        ensures way { IfSome result (λ frame. (directory : ℕ) × (way_of (memory_of self.now) (at_page pid page) ≡ Some (directory, frame))) }
+        ensures mapped { IfSome result (λ _. is_mapped self.now.state (at_page pid page) ≡ true) }
+        ensures inside { IfSome result (λ frame. 4096 * frame + 4096 ≤ length self.now.bytes) }
+        ensures bytes { IfSome result (λ frame. frame_bytes self.now.bytes frame ≡ (cell_or_fresh self.now.state.spaces (at_page pid page)).bytes) }
+        ensures none { IfNone result (is_mapped self.now.state (at_page pid page) ≡ false) }
+    {
+        self.stands();
+        let Some(directory) = self.directory(pid) else {
+            return None;
+        };
+        match walk(self.memory(), directory, start_of(page), Access::Read) {
+            Ok(frame) => Some(frame),
+            Err(_) => None,
+        }
+    }
+
+    /// Whether a slot is another than a slot, and shares its page: both lead to one frame, which is not frame 0.
+    fn is_beside(&self, pid: Pid, page: Page, other: Pid, other_page: Page) -> bool
+        requires user { IsUserPage page }
+        requires other_user { IsUserPage other_page }
+        ensures { result ≡ is_beside self.now.state (at_page pid page) (at_page other other_page) }
+    {
+        self.stands();
+        if is_slot(pid, page, other, other_page) {
+            return false;
+        }
+        let Some(frame) = self.frame_at(pid, page) else {
+            return false;
+        };
+        let Some(found) = self.frame_at(other, other_page) else {
+            return false;
+        };
+        are_one(frame, found)
+    }
+
+    /// The least page from there on at which a process has the page of a slot too, at another slot; None where it has
+    /// it at none. It looks at each page that the process has mapped from there on.
+    pub fn next_beside(&self, pid: Pid, page: Page, holder: Pid, from: Page) -> Option<Page>
+        requires user { IsUserPage page }
+        ensures found { IfSome result (λ found. is_beside self.now.state (at_page pid page) (at_page holder found) ≡ true) }
+        ensures user { IfSome result IsUserPage }
+        ensures from { IfSome result (λ found. from ≤ found) }
+        ensures least { IfSome result (λ found. (other : ℕ) → from ≤ other → other < found → is_beside self.now.state (at_page pid page) (at_page holder other) ≡ false) }
+        ensures none { IfNone result ((other : ℕ) → from ≤ other → is_beside self.now.state (at_page pid page) (at_page holder other) ≡ false) }
+    {
+        self.stands();
+        let mut at = from;
+        while let Some(found) = self.next_page(holder, at) {
+            if self.is_beside(pid, page, holder, found) {
+                return Some(found);
+            }
+            at = Page(found.0 + 1);
+        }
+        None
+    }
+
+    /// Whether a mapped page's group has this slot alone, by the count of its slots.
+    fn is_alone(&self, pid: Pid, page: Page) -> bool
+        requires user { IsUserPage page }
+        ensures { result ≡ true → IsAlone self.now.state (at_page pid page) }
+    {
+        self.stands();
+        match self.page(pid, page) {
+            Some(state) => state.cell.holders == 1,
+            None => false,
+        }
+    }
+
+    /// The Unmap of a slot that is beside another.
+    fn unmap_beside(&mut self, pid: Pid, page: Page, other: Pid, other_page: Page)
+        requires beside { is_beside self.old.state (at_page pid page) (at_page other other_page) ≡ true }
+        ensures unmapped { Unmapped self.old self.new (at_page pid page) (record { pid = other; page = other_page }) }
+    {
+        self.stands();
+        self.step(&unmap_of(other, other_page));
+    }
+
+    /// Takes the page of a slot from one process, as far as there are places to tell it.
+    fn take_from(
+        &mut self,
+        pid: Pid,
+        page: Page,
+        holder: Pid,
+        lost: &mut [Holder],
+        start: usize,
+    ) -> usize
+        requires user { IsUserPage page }
+        requires room { start ≤ length lost.old }
+        ensures taking { (v : View) → Taking v self.old (at_page pid page) (take start lost.old) → Taking v self.new (at_page pid page) (take result lost.new) }
+        ensures clear { result < length lost.old → (other : ℕ) → is_beside self.new.state (at_page pid page) (at_page holder other) ≡ false }
+        ensures others { (slot : Slot) → is_beside self.old.state (at_page pid page) slot ≡ false → is_beside self.new.state (at_page pid page) slot ≡ false }
+        ensures room { result ≤ length lost.old }
+    {
+        let (mut at, mut count) = (Page(0), start);
+        while let Some(found) = self.next_beside(pid, page, holder, at) {
+            if count == lost.len() {
+                return count;
+            }
+            self.stands();
+            self.unmap_beside(pid, page, holder, found);
+            lost[count] = Holder {
+                pid: holder,
+                page: found,
+            };
+            count += 1;
+            at = Page(found.0 + 1);
+        }
+        count
+    }
+
+    /// Takes the page of a slot from one process after another.
+    fn take_from_all(&mut self, pid: Pid, page: Page, lost: &mut [Holder]) -> usize
+        requires user { IsUserPage page }
+        ensures taking { Taking self.old self.new (at_page pid page) (take result lost.new) }
+        ensures alone { result < length lost.old → IsAlone self.new.state (at_page pid page) }
+        ensures most { result ≤ length lost.old }
+    {
+        let mut count = 0;
+        for number in 0..64u8 {
+            if count == lost.len() || self.is_alone(pid, page) {
+                return count;
+            }
+            let holder = Pid::new(number).unwrap();
+            count = self.take_from(pid, page, holder, lost, count);
+        }
+        self.stands();
+        count
+    }
+
+    /// Why a page can't be looked at, as an Info of it would be refused.
+    fn refusal_of(&self, pid: Pid, page: Page) -> Option<Cause>
+        ensures refused { IfSome result (λ cause. answer self.now.state (info_of_page pid page) ≡ reply.Refused cause) }
+        ensures user { IfNone result (IsUserPage page) }
+    {
+        let event = Event {
+            cpu: 0,
+            pid,
+            call: Call::Info { page },
+        };
+        match self.decide(&event).reply {
+            Reply::Refused(cause) => Some(cause),
+            _ => None,
+        }
+    }
+
+    /// Takes a page back from all others that have it: the run of the Unmaps of every other slot of its group, each of
+    /// which is done. Then the group has this slot alone. `lost` gets the slots that lost it, in that order, and the
+    /// result is how many did; whoever keeps translations invalidates that of each. If `lost` is full, others may have
+    /// the page still, and one calls again. A group has fewer slots than memory has frames, and `page` tells how many.
+    ///
+    /// It looks at the pages that processes have mapped, process by process, until the group has this slot alone.
+    ///
+    /// Refused where an Info of the page would be; then nothing changes.
+    pub fn take_back(&mut self, pid: Pid, page: Page, lost: &mut [Holder]) -> Result<usize, Cause>
+        ensures refused { IfErr result (λ cause. answer self.old.state (info_of_page pid page) ≡ reply.Refused cause) }
+        ensures done { completes (answer self.old.state (info_of_page pid page)) ≡ true → IsOk result }
+        ensures kept { IsErr result → (self.new ≡ self.old) × (lost.new ≡ lost.old) }
+        ensures taken { IfOk result (λ count. TakesBack self.old.state (at_page pid page) (take count lost.new) self.new.state) }
+        ensures ended { IfOk result (λ count. EndAlong (unmaps (take count lost.new)) (pages_of_all (take count lost.new)) self.old self.new) }
+        ensures alone { IfOk result (λ count. count < length lost.old → IsAlone self.new.state (at_page pid page)) }
+        ensures most { IfOk result (λ count. count ≤ length lost.old) }
+        ensures stands { StandsFor (image_of self.new) self.new.state }
+    {
+        self.stands();
+        if let Some(cause) = self.refusal_of(pid, page) {
+            return Err(cause);
+        }
+        let count = self.take_from_all(pid, page, lost);
+        self.stands();
+        Ok(count)
+    }
+}
