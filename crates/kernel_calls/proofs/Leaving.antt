@@ -173,7 +173,7 @@ page_apart q first p page is apart =
     cc
 
 -- no slot of a region is ended, where none of its pages is
-region_spared : (ended : Ended) (p page : ℕ) → ends_in_region ended p (slot_number page) ≡ false
+pub region_spared : (ended : Ended) (p page : ℕ) → ends_in_region ended p (slot_number page) ≡ false
     → is_ended ended (at_page p page) ≡ false
 region_spared end.Nothing p page spared = refl
 region_spared (end.Page q first) p page spared = by (is_slot q first (at_page p page)) refl
@@ -215,7 +215,7 @@ entry_left ended v w p region table all stay spared linked =
     ∙ stay (at_page p m.page) table
     (region_spared ended p m.page (ap (ends_in_region ended p) m.inside ∙ spared)) m.mapped here
 
-entry_stays : (ended : Ended) (v w : View) (p region table : ℕ) → Ends ended v w
+pub entry_stays : (ended : Ended) (v w : View) (p region table : ℕ) → Ends ended v w
     → ends_in_region ended p region ≡ false
     → table_at (memory_of v) p region ≡ Some table → table_at (memory_of w) p region ≡ Some table
 entry_stays ended v w p region table ends = entry_left ended v w p region table ends.linked ends.tables
@@ -225,7 +225,7 @@ read_stays : (ended : Ended) (v w : View) (k : Kept) → Ends ended v w → is_i
 read_stays ended v w (translation t) ends spared given = given_stays ended v w t ends spared given
 read_stays ended v w (directory_entry e) ends spared given = entry_stays ended v w e.pid e.region e.table ends spared given
 
-left_read : (ended : Ended) (v w : View) (kept : List Kept) → Ends ended v w → AreRead v kept → AreRead w (left_by ended kept)
+pub left_read : (ended : Ended) (v w : View) (kept : List Kept) → Ends ended v w → AreRead v kept → AreRead w (left_by ended kept)
 left_read ended v w [] ends given = tt
 left_read ended v w (k ∷ kept) ends given = by (is_invalidated ended k) refl (left_read ended v w kept ends given.1)
   where

@@ -1,6 +1,7 @@
 pub mod Acts
 pub mod Authority
 pub mod Cleaned
+pub mod Beside
 pub mod Decisions
 pub mod Effects
 pub mod Families
@@ -13,8 +14,10 @@ pub mod Machine
 pub mod Pages
 pub mod Places
 pub mod TakenBack
+pub mod Processors
 pub mod Transfers
 pub mod Translations
+pub mod Turns
 pub mod Walked
 pub mod WorkedAccesses
 pub mod WorkedAuthority
@@ -23,3 +26,4 @@ pub mod WorkedIsolation
 pub mod WorkedProcesses
 pub mod WorkedRuns
 pub mod WorkedSharing
+pub mod Written

@@ -2,12 +2,15 @@
 
 ghost use Rattle.kernel_calls.specs.Cleaned.{CleaningKeepsStates, CleaningIsUnseen, EventsEndMarks, KeptThroughMarks, KeptAmongMarks, CleaningIsNoEvent, CleaningShows};
 ghost use Rattle.kernel_calls.specs.Authority.{StatesStayWellFormed, RefusalsChangeNothing, SlotsAreKept, Integrity, NobodyTakesBack, SharingByConsent, SharingStays, OffersByOfferer, ExitsEnd, UnmapsEnd, OffersEnd, OffersStay, ChildrenAreTheirMakers, PlacesStay, MembersToldTheSame, OwnIsEnough, MembersSeeTheSame, OutsidersUnseen, MembersHearTheSame, RunsKeepBorders, OutsidersHearNothing};
+ghost use Rattle.kernel_calls.specs.Beside.{AccessesBeside, OrdersEndTheSame};
 ghost use Rattle.kernel_calls.specs.Effects.{CompletesByKind, DoneMeansDone, SlotsCome, SlotsGo, FlagsChange, OthersNeverRefuse, RunsNeverRefuse};
 ghost use Rattle.kernel_calls.specs.Families.{FamiliesHearTheirOwn, FamiliesEndTheSame, NewbornsAreFamilies};
 ghost use Rattle.kernel_calls.specs.Isolation.{RunsAreIsolated, OthersMakeNoDifference};
 ghost use Rattle.kernel_calls.specs.Laws.{RunsStayWellFormed};
 ghost use Rattle.kernel_calls.specs.Kept.{KeptFind, KeptReply, KeptLoads, KeptStores};
+ghost use Rattle.kernel_calls.specs.Processors.{ProcessorsMakeEvents, EntriesLeadThere};
 ghost use Rattle.kernel_calls.specs.Translations.{KeptAreGiven, KeptThroughRuns};
+ghost use Rattle.kernel_calls.specs.Written.{EventsLeaveToOthers, EventsWriteTheirOwn};
 
 /// Every state of a run of a machine that boots is well formed, and all its live processes together
 /// cost at most its root's quota, which is all frames but frame 0. It computes nothing.
@@ -42,6 +45,33 @@ pub fn kept_translations_serve_accesses()
     ensures reply { KeptReply }
     ensures loads { KeptLoads }
     ensures stores { KeptStores }
+{}
+
+/// Of a core and any number of processors that keep translations. Whatever steps they make, one after another: the core
+/// carries out an event, and all processors invalidate what it ended before anything else is done; a processor makes an
+/// access by its walk, or by translations that it keeps; it marks a word of a directory, keeps what a walk reads then, or
+/// forgets. What each process is told and reads is what the events are answered, in the order of the steps; memory is a
+/// core's in the state after them; and at each moment all that any processor keeps is what the walks read. So a walk that
+/// begins at a kept entry of a directory ends as the walk of the directory does. It computes nothing.
+pub fn processors_make_events()
+    ensures steps { ProcessorsMakeEvents }
+    ensures entries { EntriesLeadThere }
+{}
+
+/// What an event writes of memory: frames that were free, its process's own, and, where it accepts a lazy page, the giver's
+/// directory and table that lead there. Each byte of any other page stays, each word of any other table, and each word
+/// of any other directory, but for accessed. It computes nothing.
+pub fn events_write_their_own()
+    ensures frames { EventsWriteTheirOwn }
+    ensures others { EventsLeaveToOthers }
+{}
+
+/// An access of another process, in pages that an event's process doesn't see, where the event is through no channel to
+/// that process: in either order both are told the same, each leaves what the other has, and both orders end in one state.
+/// It computes nothing.
+pub fn accesses_beside_an_event()
+    ensures told { AccessesBeside }
+    ensures ends { OrdersEndTheSame }
 {}
 
 /// What an event may change. States stay well formed, and a call that is refused or faults changes nothing. A slot that

@@ -1,0 +1,148 @@
+-- Pages that are copied to a new process, and accesses of another, in either order.
+use Rattle.std.proofs.Common.{◌≡◌, ◌≢◌, ℕ, zero, suc, ◌+◌, ◌<◌, Bool, true, false, cond, ◌==◌, List, [], ◌∷◌, length, refl, ap, sym, ◌∙◌, subst, arith, inl, inr, Option, Some, None, unwrap_or, ne_eqb, eqb-true}
+use Rattle.std.specs.Prelude.{◌⊎◌, if◌then◌else◌}
+use Rattle.std.specs.Option.{option_map}
+use Rattle.page_words.specs.Addresses.{page_number, offset_number}
+use Rattle.page_words.specs.FiniteMap as map
+use Rattle.page_words.specs.FiniteMap.{same}
+use Rattle.page_words.specs.FiniteSet as set
+use Rattle.page_words.specs.FiniteSet.{Set}
+use Rattle.page_words.proofs.MapLemmas.{same_map, same_or_not, get-insert, get-map_values}
+use Rattle.address_space.specs.Spaces.{Slot, slot_order, Cell, Spaces, at_page, slot_at, cell_or_fresh, fresh, with_bytes, set_bytes, write_at, store_in, stored, all_stored, accessed, all_accessed, with_page, with_pages, copy_of, copied_at, copied, is_of}
+use Rattle.address_space.proofs.costs.Copied.{get-copied, copied-other}
+use Rattle.process_table.proofs.CellLaws.{get-inserted_other}
+use Rattle.kernel_calls.proofs.Commuting.{at_slot, unchanged, page_is, cell_paged, cell_pages}
+use Rattle.kernel_calls.proofs.CommutingStores.{group_at, group_stored}
+
+module _ (p k : ℕ) (b : Slot) (other : b.pid ≢ p) (old : b.pid ≢ k) where
+  copy_beside : (g : Option Cell → Cell) (S : Spaces) → copied (at_slot b g S) p k ≡ at_slot b g (copied S p k)
+  copy_beside g S = same_map _ _ (λ r.
+      get-copied (at_slot b g S) p k r
+      ∙ by r (is_of k r) refl (same_or_not slot_order r b)
+      ∙ sym (get-insert (copied S p k) b (g (map.get (copied S p k) b)) r
+      ∙ ap (λ (z : Option Cell). cond (same slot_order r b) (Some (g z)) (map.get (copied S p k) r)) (copied-other S p k b old)
+      ∙ ap (cond (same slot_order r b) (Some y)) (get-copied S p k r)))
+    where
+      y : Cell
+      y = g (map.get S b)
+
+      by : (r : Slot) (j : Bool) → is_of k r ≡ j → ((r ≡ b) × (same slot_order r b ≡ true)) ⊎ (same slot_order r b ≡ false)
+          → (if is_of k r then option_map (copy_of r) (map.get (at_slot b g S) (at_page p r.page)) else map.get (at_slot b g S) r)
+          ≡ cond (same slot_order r b) (Some y) (if is_of k r then option_map (copy_of r) (map.get S (at_page p r.page)) else map.get S r)
+      by r true is (inl here) = absurd (
+          let no : is_of k r ≡ false = ap (is_of k) here.0 ∙ ne_eqb b.pid k old in
+          let e : true ≡ false = sym is ∙ no in
+          cc)
+      by r true is (inr apart) =
+          ap (λ c. if c then option_map (copy_of r) (map.get (at_slot b g S) (at_page p r.page)) else map.get (at_slot b g S) r) is
+          ∙ ap (option_map (copy_of r)) (get-inserted_other S b y (at_page p r.page) (λ e. other (sym (ap (λ (x : Slot). x.pid) e))))
+          ∙ sym (ap (λ c. if c then option_map (copy_of r) (map.get S (at_page p r.page)) else map.get S r) is)
+          ∙ sym (ap (λ c. cond c (Some y) (if is_of k r then option_map (copy_of r) (map.get S (at_page p r.page)) else map.get S r)) apart)
+      by r false is (inl here) =
+          ap (λ c. if c then option_map (copy_of r) (map.get (at_slot b g S) (at_page p r.page)) else map.get (at_slot b g S) r) is
+          ∙ get-insert S b y r ∙ ap (λ c. cond c (Some y) (map.get S r)) here.1
+          ∙ sym (ap (λ c. cond c (Some y) (if is_of k r then option_map (copy_of r) (map.get S (at_page p r.page)) else map.get S r)) here.1)
+      by r false is (inr apart) =
+          ap (λ c. if c then option_map (copy_of r) (map.get (at_slot b g S) (at_page p r.page)) else map.get (at_slot b g S) r) is
+          ∙ get-insert S b y r ∙ ap (λ c. cond c (Some y) (map.get S r)) apart
+          ∙ sym (ap (λ c. if c then option_map (copy_of r) (map.get S (at_page p r.page)) else map.get S r) is)
+          ∙ sym (ap (λ c. cond c (Some y) (if is_of k r then option_map (copy_of r) (map.get S (at_page p r.page)) else map.get S r)) apart)
+
+-- bytes of a group that has none of the two processes
+abbrev pub Without : Set slot_order → ℕ → ℕ → Type 0
+Without h p k = ((n : ℕ) → set.contains h (at_page p n) ≡ false) × ((n : ℕ) → set.contains h (at_page k n) ≡ false)
+
+copy_bytes : (S : Spaces) (p k : ℕ) (h : Set slot_order) (ys : List ℕ) → Without h p k
+    → copied (set_bytes S h ys) p k ≡ set_bytes (copied S p k) h ys
+copy_bytes S p k h ys none = same_map _ _ (λ r.
+    get-copied (set_bytes S h ys) p k r
+    ∙ by r (is_of k r) refl
+    ∙ sym (get-map_values slot_order (λ x (c : Cell). if set.contains h x then with_bytes c ys else c) (copied S p k) r
+    ∙ ap (option_map (λ (c : Cell). if set.contains h r then with_bytes c ys else c)) (get-copied S p k r)))
+  where
+    read : (x : Slot) → map.get (set_bytes S h ys) x ≡ option_map (λ (c : Cell). if set.contains h x then with_bytes c ys else c) (map.get S x)
+    read x = get-map_values slot_order (λ x (c : Cell). if set.contains h x then with_bytes c ys else c) S x
+
+    by : (r : Slot) (j : Bool) → is_of k r ≡ j
+        → (if is_of k r then option_map (copy_of r) (map.get (set_bytes S h ys) (at_page p r.page)) else map.get (set_bytes S h ys) r)
+        ≡ option_map (λ (c : Cell). if set.contains h r then with_bytes c ys else c)
+        (if is_of k r then option_map (copy_of r) (map.get S (at_page p r.page)) else map.get S r)
+    by r true is =
+        ap (λ c. if c then option_map (copy_of r) (map.get (set_bytes S h ys) (at_page p r.page)) else map.get (set_bytes S h ys) r) is
+        ∙ ap (option_map (copy_of r)) (read (at_page p r.page) ∙ unchanged (map.get S (at_page p r.page)) ys (set.contains h (at_page p r.page)) (none.0 r.page))
+        ∙ sym (unchanged (option_map (copy_of r) (map.get S (at_page p r.page))) ys (set.contains h r)
+        (ap (λ n. set.contains h (at_page n r.page)) (eqb-true r.pid k is) ∙ none.1 r.page))
+        ∙ sym (ap (λ c. option_map (λ (c : Cell). if set.contains h r then with_bytes c ys else c)
+        (if c then option_map (copy_of r) (map.get S (at_page p r.page)) else map.get S r)) is)
+    by r false is =
+        ap (λ c. if c then option_map (copy_of r) (map.get (set_bytes S h ys) (at_page p r.page)) else map.get (set_bytes S h ys) r) is
+        ∙ read r
+        ∙ sym (ap (λ c. option_map (λ (c : Cell). if set.contains h r then with_bytes c ys else c)
+        (if c then option_map (copy_of r) (map.get S (at_page p r.page)) else map.get S r)) is)
+
+copy_stored : (p k : ℕ) (b : Slot) → b.pid ≢ p → b.pid ≢ k → (S : Spaces) (at : ℕ) (ys : List ℕ) → Without (group_at S b) p k
+    → copied (stored S b at ys) p k ≡ stored (copied S p k) b at ys
+copy_stored p k b other old S at ys none =
+    copy_beside p k b other old (λ _. written) (set_bytes S (group_at S b) bytes)
+    ∙ ap (λ (T : Spaces). map.insert T b written) (copy_bytes S p k (group_at S b) bytes none)
+    ∙ ap (λ (c : Cell). store_in (copied S p k) b c (write_at c.bytes at ys))
+    (sym (ap (λ (z : Option Cell). unwrap_or z (fresh b true)) (copied-other S p k b old)))
+  where
+    bytes : List ℕ
+    bytes = write_at (cell_or_fresh S b).bytes at ys
+
+    written : Cell
+    written = record (cell_or_fresh S b) { bytes = bytes; accessed = true; dirty = true }
+
+-- ---- Whole accesses
+
+module _ (p k q : ℕ) (other : q ≢ p) (old : q ≢ k) where
+  pages_copied : (pages : List ℕ) (S : Spaces) → copied (with_pages S q pages) p k ≡ with_pages (copied S p k) q pages
+  pages_copied [] S = refl
+  pages_copied (n ∷ pages) S =
+      pages_copied pages (with_page S q n)
+      ∙ ap (λ (T : Spaces). with_pages T q pages)
+      (ap (λ (T : Spaces). copied T p k) (page_is S q n)
+      ∙ copy_beside p k (at_page q n) other old (λ x. unwrap_or x (fresh (at_page q n) true)) S
+      ∙ sym (page_is (copied S p k) q n))
+
+  accessed_copied : (pages : List ℕ) (S : Spaces) → copied (all_accessed S q pages) p k ≡ all_accessed (copied S p k) q pages
+  accessed_copied [] S = refl
+  accessed_copied (n ∷ pages) S =
+      accessed_copied pages (accessed S (at_page q n))
+      ∙ ap (λ (T : Spaces). all_accessed T q pages)
+      (copy_beside p k (at_page q n) other old (λ x. record (unwrap_or x (fresh (at_page q n) true)) { accessed = true }) S)
+
+  -- none of the two processes is in a group into which bytes go
+  abbrev pub WithoutEach : Spaces → ℕ → List ℕ → Type 0
+  WithoutEach S address bytes = (i : ℕ) → i < length bytes → Without (group_at S (slot_at q (address + i))) p k
+
+  bytes_copied : (bytes : List ℕ) (S : Spaces) (address : ℕ) → WithoutEach S address bytes
+      → copied (all_stored S q address bytes) p k ≡ all_stored (copied S p k) q address bytes
+  bytes_copied [] S address none = refl
+  bytes_copied (b ∷ bytes) S address none =
+      let zero_is : address + 0 ≡ address = omega arith in
+      let T = stored S (slot_at q address) (offset_number address) (b ∷ []) in
+      bytes_copied bytes T (address + 1)
+      (λ i l.
+      let next : address + suc i ≡ address + 1 + i = omega arith in
+      subst (λ (g : Set slot_order). Without g p k)
+      (sym (group_stored S (slot_at q address) (slot_at q (address + 1 + i)) (offset_number address) (b ∷ [])))
+      (subst (λ n. Without (group_at S (slot_at q n)) p k) next (none (suc i) (omega (arith, l)))))
+      ∙ ap (λ (U : Spaces). all_stored U q (address + 1) bytes)
+      (copy_stored p k (slot_at q address) other old S (offset_number address) (b ∷ [])
+      (subst (λ n. Without (group_at S (slot_at q n)) p k) zero_is (none 0 (omega arith))))
+
+  pub load_copied : (pages : List ℕ) (S : Spaces)
+      → copied (all_accessed (with_pages S q pages) q pages) p k ≡ all_accessed (with_pages (copied S p k) q pages) q pages
+  load_copied pages S =
+      accessed_copied pages (with_pages S q pages) ∙ ap (λ (T : Spaces). all_accessed T q pages) (pages_copied pages S)
+
+  pub store_copied : (pages : List ℕ) (S : Spaces) (address : ℕ) (bytes : List ℕ) → WithoutEach S address bytes
+      → copied (all_stored (with_pages S q pages) q address bytes) p k
+      ≡ all_stored (with_pages (copied S p k) q pages) q address bytes
+  store_copied pages S address bytes none =
+      bytes_copied bytes (with_pages S q pages) address
+      (λ i l. subst (λ (g : Set slot_order). Without g p k)
+      (sym (ap (λ (c : Cell). c.holders) (cell_pages pages S q (slot_at q (address + i))))) (none i l))
+      ∙ ap (λ (T : Spaces). all_stored T q address bytes) (pages_copied pages S)

@@ -1,0 +1,201 @@
+-- Slots of one process that go, and accesses of another, in either order.
+use Rattle.std.proofs.Common.{◌≡◌, ℕ, ◌+◌, Bool, true, false, not, cond, ◌&&◌, List, [], ◌∷◌, refl, ap, sym, ◌∙◌, subst, inl, inr, Option, Some, None, unwrap_or}
+use Rattle.std.specs.Prelude.{◌⊎◌, if◌then◌else◌}
+use Rattle.std.specs.Option.{option_map}
+use Rattle.page_words.specs.Addresses.{page_number, offset_number}
+use Rattle.page_words.specs.FiniteMap as map
+use Rattle.page_words.specs.FiniteMap.{same}
+use Rattle.page_words.specs.FiniteSet as set
+use Rattle.page_words.specs.FiniteSet.{Set}
+use Rattle.page_words.proofs.MapLemmas.{same_map, same_set, same_or_not, get-insert, get-retain_keys, get-map_values, contains-retain}
+use Rattle.address_space.specs.Spaces.{Slot, slot_order, Cell, Spaces, at_page, slot_at, cell_or_fresh, fresh, with_bytes, with_holders, set_bytes, write_at, stored, all_stored, accessed, all_accessed, with_page, with_pages, without}
+use Rattle.kernel_calls.proofs.Commuting.{at_slot, page_is, cell_paged, cell_pages}
+use Rattle.kernel_calls.proofs.CommutingStores.{group_at, group_stored}
+
+-- none of the slots that go is in a group
+abbrev pub NoneOf : (Slot → Bool) → Set slot_order → Type 0
+NoneOf gone g = (x : Slot) → set.contains g x ≡ true → gone x ≡ false
+
+kept_all : (gone : Slot → Bool) (g : Set slot_order) → NoneOf gone g → set.retain g (λ x. not (gone x)) ≡ g
+kept_all gone g none = same_set _ _ (λ x. contains-retain g (λ y. not (gone y)) x ∙ by x (set.contains g x) refl)
+  where
+    by : (x : Slot) (b : Bool) → set.contains g x ≡ b → (b && not (gone x)) ≡ b
+    by x false is = refl
+    by x true is = ap not (none x is)
+
+-- a cell without them
+abbrev pub fewer : (Slot → Bool) → Cell → Cell
+fewer gone c = with_holders c (set.retain c.holders (λ x. not (gone x)))
+
+fewer_same : (gone : Slot → Bool) (c : Cell) → NoneOf gone c.holders → fewer gone c ≡ c
+fewer_same gone c none = ap (with_holders c) (kept_all gone c.holders none)
+
+pub get_gone : (S : Spaces) (gone : Slot → Bool) (x : Slot)
+    → map.get (without S gone) x ≡ option_map (fewer gone) (cond (not (gone x)) (map.get S x) None)
+get_gone S gone x =
+    get-map_values slot_order (λ _ (c : Cell). fewer gone c) (map.retain_keys S (λ s. not (gone s))) x
+    ∙ ap (option_map (fewer gone)) (get-retain_keys S (λ s. not (gone s)) x)
+
+module _ (gone : Slot → Bool) (b : Slot) (stays : gone b ≡ false) where
+  -- a slot that stays is changed
+  pub gone_beside : (g : Option Cell → Cell) (S : Spaces) → NoneOf gone (group_at S b) → NoneOf gone (g (map.get S b)).holders
+      → without (at_slot b g S) gone ≡ at_slot b g (without S gone)
+  gone_beside g S none new = same_map _ _ (λ r.
+      get_gone (at_slot b g S) gone r
+      ∙ ap (λ (z : Option Cell). option_map (fewer gone) (cond (not (gone r)) z None)) (get-insert S b (g (map.get S b)) r)
+      ∙ by r (same_or_not slot_order r b)
+      ∙ sym (get-insert (without S gone) b (g (map.get (without S gone) b)) r
+      ∙ ap (λ (z : Option Cell). cond (same slot_order r b) (Some (g z)) (map.get (without S gone) r)) (there (map.get S b) refl)
+      ∙ ap (cond (same slot_order r b) (Some (g (map.get S b)))) (get_gone S gone r)))
+    where
+      there : (z : Option Cell) → map.get S b ≡ z → map.get (without S gone) b ≡ map.get S b
+      there None is =
+          get_gone S gone b ∙ ap (λ k. option_map (fewer gone) (cond (not k) (map.get S b) None)) stays
+          ∙ ap (option_map (fewer gone)) is ∙ sym is
+      there (Some c) is =
+          get_gone S gone b ∙ ap (λ k. option_map (fewer gone) (cond (not k) (map.get S b) None)) stays
+          ∙ ap (option_map (fewer gone)) is
+          ∙ ap (λ (k : Cell). Some k) (fewer_same gone c
+          (subst (NoneOf gone) (ap (λ (z : Option Cell). (unwrap_or z (fresh b true)).holders) is) none))
+          ∙ sym is
+
+      by : (r : Slot) → ((r ≡ b) × (same slot_order r b ≡ true)) ⊎ (same slot_order r b ≡ false)
+          → option_map (fewer gone) (cond (not (gone r)) (cond (same slot_order r b) (Some (g (map.get S b))) (map.get S r)) None)
+          ≡ cond (same slot_order r b) (Some (g (map.get S b))) (option_map (fewer gone) (cond (not (gone r)) (map.get S r) None))
+      by r (inl is) =
+          (λ i. option_map (fewer gone) (cond (not (gone (is.0 i))) (cond (is.1 i) (Some (g (map.get S b))) (map.get S r)) None))
+          ∙ ap (λ k. option_map (fewer gone) (cond (not k) (Some (g (map.get S b))) None)) stays
+          ∙ ap (λ (k : Cell). Some k) (fewer_same gone (g (map.get S b)) new)
+          ∙ sym (ap (λ k. cond k (Some (g (map.get S b))) (option_map (fewer gone) (cond (not (gone r)) (map.get S r) None))) is.1)
+      by r (inr other) =
+          ap (λ k. option_map (fewer gone) (cond (not (gone r)) (cond k (Some (g (map.get S b))) (map.get S r)) None)) other
+          ∙ sym (ap (λ k. cond k (Some (g (map.get S b))) (option_map (fewer gone) (cond (not (gone r)) (map.get S r) None))) other)
+
+  cell_beside : (S : Spaces) → NoneOf gone (group_at S b) → cell_or_fresh (without S gone) b ≡ cell_or_fresh S b
+  cell_beside S none = by (map.get S b) refl
+    where
+      by : (z : Option Cell) → map.get S b ≡ z → cell_or_fresh (without S gone) b ≡ cell_or_fresh S b
+      by None is = ap (λ (z : Option Cell). unwrap_or z (fresh b true))
+          (get_gone S gone b ∙ ap (λ k. option_map (fewer gone) (cond (not k) (map.get S b) None)) stays
+          ∙ ap (option_map (fewer gone)) is ∙ sym is)
+      by (Some c) is = ap (λ (z : Option Cell). unwrap_or z (fresh b true))
+          (get_gone S gone b ∙ ap (λ k. option_map (fewer gone) (cond (not k) (map.get S b) None)) stays
+          ∙ ap (option_map (fewer gone)) is
+          ∙ ap (λ (k : Cell). Some k) (fewer_same gone c
+          (subst (NoneOf gone) (ap (λ (z : Option Cell). (unwrap_or z (fresh b true)).holders) is) none))
+          ∙ sym is)
+
+-- bytes of a group
+bytes_gone : (S : Spaces) (gone : Slot → Bool) (h : Set slot_order) (ys : List ℕ)
+    → without (set_bytes S h ys) gone ≡ set_bytes (without S gone) h ys
+bytes_gone S gone h ys = same_map _ _ (λ r.
+    get_gone (set_bytes S h ys) gone r
+    ∙ ap (λ (z : Option Cell). option_map (fewer gone) (cond (not (gone r)) z None))
+    (get-map_values slot_order (λ k (c : Cell). if set.contains h k then with_bytes c ys else c) S r)
+    ∙ by (not (gone r)) (set.contains h r) (map.get S r)
+    ∙ sym (get-map_values slot_order (λ k (c : Cell). if set.contains h k then with_bytes c ys else c) (without S gone) r
+    ∙ ap (option_map (λ (c : Cell). if set.contains h r then with_bytes c ys else c)) (get_gone S gone r)))
+  where
+    by : (j k : Bool) (z : Option Cell)
+        → option_map (fewer gone) (cond j (option_map (λ (c : Cell). if k then with_bytes c ys else c) z) None)
+        ≡ option_map (λ (c : Cell). if k then with_bytes c ys else c) (option_map (fewer gone) (cond j z None))
+    by false k z = refl
+    by true k None = refl
+    by true true (Some c) = refl
+    by true false (Some c) = refl
+
+group_set : (S : Spaces) (h : Set slot_order) (ys : List ℕ) (b : Slot) → group_at (set_bytes S h ys) b ≡ group_at S b
+group_set S h ys b =
+    ap (λ (z : Option Cell). (unwrap_or z (fresh b true)).holders)
+    (get-map_values slot_order (λ k (c : Cell). if set.contains h k then with_bytes c ys else c) S b)
+    ∙ by (set.contains h b) (map.get S b)
+  where
+    by : (k : Bool) (z : Option Cell)
+        → (unwrap_or (option_map (λ (c : Cell). if k then with_bytes c ys else c) z) (fresh b true)).holders
+        ≡ (unwrap_or z (fresh b true)).holders
+    by k None = refl
+    by true (Some c) = refl
+    by false (Some c) = refl
+
+stored_gone : (gone : Slot → Bool) (b : Slot) → gone b ≡ false → (S : Spaces) (at : ℕ) (ys : List ℕ)
+    → NoneOf gone (group_at S b) → without (stored S b at ys) gone ≡ stored (without S gone) b at ys
+stored_gone gone b stays S at ys none =
+    gone_beside gone b stays (λ _. written) (set_bytes S (group_at S b) new)
+    (subst (NoneOf gone) (sym (group_set S (group_at S b) new b)) none) none
+    ∙ ap (λ (T : Spaces). map.insert T b written) (bytes_gone S gone (group_at S b) new)
+    ∙ ap (λ (c : Cell). map.insert (set_bytes (without S gone) c.holders (write_at c.bytes at ys)) b
+    (record c { bytes = write_at c.bytes at ys; accessed = true; dirty = true })) (sym (cell_beside gone b stays S none))
+  where
+    new : List ℕ
+    new = write_at (cell_or_fresh S b).bytes at ys
+
+    written : Cell
+    written = record (cell_or_fresh S b) { bytes = new; accessed = true; dirty = true }
+
+-- ---- Whole accesses
+
+-- no slot that goes is in a group of a process
+abbrev pub NoneWith : (Slot → Bool) → ℕ → Spaces → Type 0
+NoneWith gone q S = (n : ℕ) → NoneOf gone (group_at S (at_page q n))
+
+module _ (gone : Slot → Bool) (q : ℕ) (stays : (n : ℕ) → gone (at_page q n) ≡ false) where
+  pages_gone : (pages : List ℕ) (S : Spaces) → NoneWith gone q S
+      → without (with_pages S q pages) gone ≡ with_pages (without S gone) q pages
+  pages_gone [] S none = refl
+  pages_gone (n ∷ pages) S none =
+      pages_gone pages (with_page S q n)
+      (λ m. subst (NoneOf gone) (sym (ap (λ (c : Cell). c.holders) (cell_paged S q n (at_page q m)))) (none m))
+      ∙ ap (λ (T : Spaces). with_pages T q pages)
+      (ap (λ (T : Spaces). without T gone) (page_is S q n)
+      ∙ gone_beside gone (at_page q n) (stays n) (λ x. unwrap_or x (fresh (at_page q n) true)) S (none n) (none n)
+      ∙ sym (page_is (without S gone) q n))
+
+  -- a group stays where accessed is set
+  group_accessed : (S : Spaces) (n m : ℕ) → group_at (accessed S (at_page q n)) (at_page q m) ≡ group_at S (at_page q m)
+  group_accessed S n m = elim (same_or_not slot_order (at_page q m) (at_page q n)) [
+    | inl here ↦
+        ap (λ (z : Option Cell). (unwrap_or z (fresh (at_page q m) true)).holders)
+        (get-insert S (at_page q n) new (at_page q m) ∙ ap (λ k. cond k (Some new) (map.get S (at_page q m))) here.1)
+        ∙ ap (group_at S) (sym here.0)
+    | inr other ↦
+        ap (λ (z : Option Cell). (unwrap_or z (fresh (at_page q m) true)).holders)
+        (get-insert S (at_page q n) new (at_page q m) ∙ ap (λ k. cond k (Some new) (map.get S (at_page q m))) other)
+  ]
+    where
+      new : Cell
+      new = record (cell_or_fresh S (at_page q n)) { accessed = true }
+
+  accessed_gone : (pages : List ℕ) (S : Spaces) → NoneWith gone q S
+      → without (all_accessed S q pages) gone ≡ all_accessed (without S gone) q pages
+  accessed_gone [] S none = refl
+  accessed_gone (n ∷ pages) S none =
+      accessed_gone pages (accessed S (at_page q n))
+      (λ m. subst (NoneOf gone) (sym (group_accessed S n m)) (none m))
+      ∙ ap (λ (T : Spaces). all_accessed T q pages)
+      (gone_beside gone (at_page q n) (stays n) (λ x. record (unwrap_or x (fresh (at_page q n) true)) { accessed = true }) S (none n) (none n))
+
+  bytes_beside_gone : (bytes : List ℕ) (S : Spaces) (address : ℕ) → NoneWith gone q S
+      → without (all_stored S q address bytes) gone ≡ all_stored (without S gone) q address bytes
+  bytes_beside_gone [] S address none = refl
+  bytes_beside_gone (b ∷ bytes) S address none =
+      bytes_beside_gone bytes (stored S (slot_at q address) (offset_number address) (b ∷ [])) (address + 1)
+      (λ m. subst (NoneOf gone) (sym (group_stored S (slot_at q address) (at_page q m) (offset_number address) (b ∷ []))) (none m))
+      ∙ ap (λ (T : Spaces). all_stored T q (address + 1) bytes)
+      (stored_gone gone (slot_at q address) (stays (page_number address)) S (offset_number address) (b ∷ []) (none (page_number address)))
+
+  none_paged : (pages : List ℕ) (S : Spaces) → NoneWith gone q S → NoneWith gone q (with_pages S q pages)
+  none_paged pages S none m =
+      subst (NoneOf gone) (sym (ap (λ (c : Cell). c.holders) (cell_pages pages S q (at_page q m)))) (none m)
+
+  pub load_gone : (pages : List ℕ) (S : Spaces) → NoneWith gone q S
+      → without (all_accessed (with_pages S q pages) q pages) gone ≡ all_accessed (with_pages (without S gone) q pages) q pages
+  load_gone pages S none =
+      accessed_gone pages (with_pages S q pages) (none_paged pages S none)
+      ∙ ap (λ (T : Spaces). all_accessed T q pages) (pages_gone pages S none)
+
+  pub store_gone : (pages : List ℕ) (S : Spaces) (address : ℕ) (bytes : List ℕ) → NoneWith gone q S
+      → without (all_stored (with_pages S q pages) q address bytes) gone
+      ≡ all_stored (with_pages (without S gone) q pages) q address bytes
+  store_gone pages S address bytes none =
+      bytes_beside_gone bytes (with_pages S q pages) address (none_paged pages S none)
+      ∙ ap (λ (T : Spaces). all_stored T q address bytes) (pages_gone pages S none)

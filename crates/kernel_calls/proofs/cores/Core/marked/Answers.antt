@@ -1,0 +1,42 @@
+use Rattle.std.proofs.Common.{rules, ◌≡◌, true, not, ap, sym, ◌∙◌, is_some}
+use Rattle.page_words.specs.Addresses.{IsUserPage}
+use Rattle.process_table.specs.State.{is_live}
+use Rattle.kernel_calls.specs.Processors.{marked, first, none}
+use Rattle.kernel_calls.proofs.TurnSteps.{is_core, home_live, contained_live}
+use Rattle.kernel_calls.proofs.cores.Core.marked.Goals as goal
+
+pub set_walked-requires-clause-live : goal.set_walked-requires-clause-live
+set_walked-requires-clause-live c =
+    contained_live c.args.self.now.state c.args.pid (sym (ap is_some c.container.ensures) ∙ c.is_none.ensures ∙ ap not c.if-is_none.false)
+
+pub returns-then-not-in_user_range : goal.returns-then-not-in_user_range
+returns-then-not-in_user_range c = λ keeps. none
+
+pub returns-then-is_none : goal.returns-then-is_none
+returns-then-is_none c = λ keeps. none
+
+pub returns : goal.returns
+returns c = λ keeps.
+    let was = c.stands.ensures in
+    let now = c.stands-2.ensures in
+    let told = c.set_walked.ensures in
+    let v = c.args.self.now in
+    let live : is_live v.state c.args.pid ≡ true = contained_live v.state c.args.pid (sym (ap is_some c.container.ensures) ∙ c.is_none.ensures ∙ ap not c.if-is_none.false) in
+    let user : IsUserPage c.args.page = search rules in
+    let d = home_live v (is_core was.image was.walks was.ways was.well_formed) c.args.pid live in
+    first (marked (record {
+      pid = c.args.pid;
+      page = c.args.page;
+      walked = c.args.walked;
+      user = user;
+      directory = d.0;
+      live = d.1;
+      left = λ _. record {
+        bytes = told.bytes d.0 d.1;
+        directories = told.directories;
+        roles = told.roles;
+        state = told.state;
+        ends = told.ends;
+        core = is_core now.image now.walks now.ways now.well_formed;
+      };
+    })) none

@@ -1,0 +1,34 @@
+-- An access of another process beside an event, where neither shows to the other: the order makes no difference.
+use Rattle.std.specs.Prelude.{◌≡◌, ◌≢◌, ℕ, ◌==◌, Bool, true}
+use Rattle.process_table.specs.State.{State}
+use Rattle.process_table.specs.WellFormed.{IsWellFormed}
+use Rattle.kernel_calls.specs.Authority.{IsQuiet, HaveTheSame}
+use Rattle.kernel_calls.specs.Machine.{answer, next}
+use Rattle.kernel_calls.specs.Places.{is_access}
+use Rattle.kernel_calls.specs.declared.calls.Event.{Event}
+
+-- one process alone
+abbrev pub only : ℕ → ℕ → Bool
+only p q = q == p
+
+-- o is a load or a store of another process, in pages that the event's process doesn't see, and the event is through no
+-- channel to that process: it touches no page that it sees, takes none of its offers, and is no exit of its kin
+pub record AreBeside (s : State) (e o : Event) : Type 0 where
+  pub another : o.pid ≢ e.pid
+  pub access : is_access o.call ≡ true
+  pub unseen : IsQuiet s (only e.pid) o
+  pub unheard : IsQuiet s (only o.pid) e
+
+-- then each is told the same in either order, and has what it had after the other
+pub record InEitherOrder (s : State) (e o : Event) : Type 0 where
+  pub event : answer (next s o) e ≡ answer s e
+  pub access : answer (next s e) o ≡ answer s o
+  pub event_has : HaveTheSame s (next s o) (only e.pid)
+  pub access_has : HaveTheSame s (next s e) (only o.pid)
+
+abbrev pub AccessesBeside : Type 0
+AccessesBeside = (s : State) (e o : Event) → IsWellFormed s → AreBeside s e o → InEitherOrder s e o
+
+-- both orders end in one state
+abbrev pub OrdersEndTheSame : Type 0
+OrdersEndTheSame = (s : State) (e o : Event) → IsWellFormed s → AreBeside s e o → next (next s o) e ≡ next (next s e) o

@@ -1,0 +1,184 @@
+-- What a core and any number of processors do with one memory, one step after another, and which events that is.
+use Rattle.std.specs.Prelude.{◌≡◌, ℕ, ◌==◌, Bool, true, not, ◌&&◌, if◌then◌else◌, List, [], ◌∷◌, ◌++◌, Some, Result, Ok, Err, slice_get}
+use Rattle.page_words.specs.Addresses.{IsUserPage, EachTouched, page_number, slot_number, index_number}
+use Rattle.page_words.specs.Words.{frame_number, is_present, is_writable, is_user}
+use Rattle.phys_memory.specs.Bytes.{word_at, word_place}
+use Rattle.table_walk.specs.declared.Access.{Access}
+use Rattle.table_walk.specs.declared.Access.TheVariants.{Read, Write}
+use Rattle.table_walk.specs.declared.WalkEnd.{WalkEnd}
+use Rattle.table_walk.specs.declared.WalkEnd.TheVariants.{Outside}
+use Rattle.table_walk.specs.Walk.{walk_of, first_that_applies, is_outside, is_write, not_present, not_allowed}
+use Rattle.address_space.specs.ByWalk.{with_walked}
+use Rattle.address_space.specs.Image.{directory_at}
+use Rattle.address_space.specs.Spaces.{at_page}
+use Rattle.address_space.specs.Stays.{WaysAgree}
+use Rattle.address_space.specs.Walks.{WalksAgree}
+use Rattle.process_table.specs.Image.{StandsFor, image_of, memory_of}
+use Rattle.process_table.specs.State.{State, is_live}
+use Rattle.process_table.specs.View.{View}
+use Rattle.process_table.specs.WellFormed.{IsWellFormed}
+use Rattle.kernel_calls.specs.Kept.{reply_kept, bytes_kept, StoresMarked, IsLoad, IsStore}
+use Rattle.kernel_calls.specs.Machine.{answer, answers, next, end_of}
+use Rattle.kernel_calls.specs.Translations.{Kept, translation, DirectoryEntry, directory_entry, IsRead, AreRead, Ends, ended_by, left_by}
+use Rattle.kernel_calls.specs.Walked.{finds_event, reply_found, bytes_accessed}
+use Rattle.kernel_calls.specs.declared.calls.Call.{Call}
+use Rattle.kernel_calls.specs.declared.calls.Call.TheVariants as call
+use Rattle.kernel_calls.specs.declared.calls.Event.{Event}
+use Rattle.kernel_calls.specs.declared.calls.Reply.{Reply}
+use Rattle.kernel_calls.specs.declared.translations.Ended.{Ended}
+use Rattle.kernel_calls.specs.declared.translations.Ended.TheVariants as end
+
+-- memory stands for the state, and each walk ends as that says, as of each core (`Core::stands`)
+pub record IsCore (v : View) : Type 0 where
+  pub image : StandsFor (image_of v) v.state
+  pub walks : WalksAgree (memory_of v) v.state.spaces
+  pub ways : WaysAgree (memory_of v)
+  pub well_formed : IsWellFormed v.state
+
+-- ---- What each processor keeps
+
+-- by the processor's number; one that isn't there keeps nothing
+abbrev pub Processors : Type 0
+Processors = ℕ → List Kept
+
+-- one keeps this from then on, and each other what it kept
+abbrev pub with_kept : Processors → ℕ → List Kept → Processors
+with_kept keeps i kept j = if j == i then kept else keeps j
+
+-- all invalidate these
+abbrev pub all_left_by : Ended → Processors → Processors
+all_left_by ended keeps i = left_by ended (keeps i)
+
+abbrev pub AllAreRead : View → Processors → Type 0
+AllAreRead v keeps = (i : ℕ) → AreRead v (keeps i)
+
+-- each of these is one of those
+abbrev pub AreAmong : List Kept → List Kept → Type 0
+AreAmong left kept = (m : ℕ) (k : Kept) → slice_get left m ≡ Some k → (n : ℕ) × (slice_get kept n ≡ Some k)
+
+-- one of these is of a page of a process and lets an access through, to this frame: a write where it lets writes
+-- through and dirty was set
+pub record LetsThrough (kept : List Kept) (p page frame : ℕ) (access : Access) : Type 0 where
+  pub place : ℕ
+  pub write : Bool
+  pub dirty : Bool
+  pub there : slice_get kept place
+      ≡ Some (translation (record { slot = at_page p page; frame = frame; write = write; dirty = dirty }))
+  pub right : access ≡ Write → (write ≡ true) × (dirty ≡ true)
+
+-- so it is with each page that an access touches, to these frames of pages
+abbrev pub LetCall : List Kept → ℕ → (ℕ → ℕ) → Call → Type 0
+LetCall kept p frames (call.Load addr size) = EachTouched addr size (λ page. LetsThrough kept p page (frames page) Read)
+LetCall kept p frames (call.Store addr size value) = EachTouched addr size (λ page. LetsThrough kept p page (frames page) Write)
+LetCall kept p frames _ = ⊥
+
+-- ---- Steps
+
+-- the core carries out an event and tells the reply (`Core::step`)
+pub record IsCarried (v : View) (e : Event) (r : Reply) (w : View) : Type 0 where
+  pub reply : r ≡ answer v.state e
+  pub state : w.state ≡ next v.state e
+  pub ends : Ends (ended_by v e) v w
+  pub core : IsCore w
+
+-- a processor left these bytes, and memory is a core's in this state, as the function says that is named below
+pub record IsLeft (v : View) (s : State) (written : List ℕ) (w : View) : Type 0 where
+  pub bytes : w.bytes ≡ written
+  pub directories : w.directories ≡ v.directories
+  pub roles : w.roles ≡ v.roles
+  pub state : w.state ≡ s
+  pub ends : Ends end.Nothing v w
+  pub core : IsCore w
+
+-- a processor makes an access by its walk, which finds a frame for each page (`Core::accessed`)
+pub record IsWalked (v : View) (e : Event) (r : Reply) (w : View) : Type 0 where
+  pub finds : finds_event v e ≡ true
+  pub directory : ℕ
+  pub live : directory_at (memory_of v) e.pid ≡ Some directory
+  pub found : r ≡ reply_found v.bytes directory e.call
+  pub left : IsLeft v (next v.state e) (bytes_accessed v.bytes directory e.call) w
+
+-- a processor loads by what it keeps, from the frames there; nothing changes
+pub record IsLoaded (kept : List Kept) (v : View) (e : Event) (r : Reply) : Type 0 where
+  pub load : IsLoad e.call
+  pub frames : ℕ → ℕ
+  pub through : LetCall kept e.pid frames e.call
+  pub found : r ≡ reply_kept frames v.bytes e.call
+
+-- a processor stores by what it keeps, into the frames there (`Core::store_kept`, which requires the first two of `left`)
+pub record IsStored (kept : List Kept) (v : View) (e : Event) (r : Reply) (w : View) : Type 0 where
+  pub store : IsStore e.call
+  pub frames : ℕ → ℕ
+  pub through : LetCall kept e.pid frames e.call
+  pub found : r ≡ reply_kept frames v.bytes e.call
+  pub left : finds_event v e ≡ true → StoresMarked v.state e.pid e.call
+      → IsLeft v (next v.state e) (bytes_kept frames v.bytes e.call) w
+
+-- a processor sets or clears accessed in a word of a directory (`Core::set_walked`)
+pub record IsMarked (v w : View) : Type 0 where
+  pub pid : ℕ
+  pub page : ℕ
+  pub walked : Bool
+  pub user : IsUserPage page
+  pub directory : ℕ
+  pub live : directory_at (memory_of v) pid ≡ Some directory
+  pub left : is_live v.state pid ≡ true → IsLeft v v.state (with_walked v.bytes directory page walked) w
+
+-- One step, by its rule, with the event that it is, if any, and what is told or read: the core carries out an event, and
+-- before anything else all processors invalidate what it ended; or a processor makes an access by its walk or by what it
+-- keeps, marks a directory's word, comes to keep what a walk reads then, or forgets some of what it keeps.
+pub data Step : View → Processors → List Event → List Reply → View → Processors → Type 0 where
+  carried : {v w : View} {keeps : Processors} {e : Event} {r : Reply} → IsCarried v e r w
+      → Step v keeps (e ∷ []) (r ∷ []) w (all_left_by (ended_by v e) keeps)
+  walked : {v w : View} {keeps : Processors} {e : Event} {r : Reply} → IsWalked v e r w
+      → Step v keeps (e ∷ []) (r ∷ []) w keeps
+  loaded : {v : View} {keeps : Processors} {e : Event} {r : Reply} (i : ℕ) → IsLoaded (keeps i) v e r
+      → Step v keeps (e ∷ []) (r ∷ []) v keeps
+  stored : {v w : View} {keeps : Processors} {e : Event} {r : Reply} (i : ℕ) → IsStored (keeps i) v e r w
+      → Step v keeps (e ∷ []) (r ∷ []) w keeps
+  marked : {v w : View} {keeps : Processors} → IsMarked v w → Step v keeps [] [] w keeps
+  refilled : {v : View} {keeps : Processors} (i : ℕ) (k : Kept) → IsRead v k
+      → Step v keeps [] [] v (with_kept keeps i (k ∷ keeps i))
+  forgotten : {v : View} {keeps : Processors} (i : ℕ) (left : List Kept) → AreAmong left (keeps i)
+      → Step v keeps [] [] v (with_kept keeps i left)
+
+-- steps, one after another, in any order
+pub data Steps : View → Processors → List Event → List Reply → View → Processors → Type 0 where
+  none : {v : View} {keeps : Processors} → Steps v keeps [] [] v keeps
+  first : {v w x : View} {keeps between last : Processors} {es events : List Event} {rs replies : List Reply}
+      → Step v keeps es rs w between → Steps w between events replies x last
+      → Steps v keeps (es ++ events) (rs ++ replies) x last
+
+-- ---- What they come to
+
+-- what was told and read is what the events are answered one after another, memory is a core's in their last state, and
+-- the walks read all that any processor keeps
+pub record AreTheEvents (v : View) (events : List Event) (told : List Reply) (x : View) (last : Processors) : Type 0 where
+  pub replies : told ≡ answers v.state events
+  pub state : x.state ≡ end_of v.state events
+  pub core : IsCore x
+  pub kept : AllAreRead x last
+
+-- so it is at the end of all steps from a core, where the walks read all that is kept: at each moment, since each is the
+-- end of the steps until then
+abbrev pub ProcessorsMakeEvents : Type 0
+ProcessorsMakeEvents = (v x : View) (keeps last : Processors) (events : List Event) (replies : List Reply) → IsCore v
+    → AllAreRead v keeps → Steps v keeps events replies x last → AreTheEvents v events replies x last
+
+-- how a walk ends that begins at a table which is kept by itself: by the table word alone
+abbrev pub walk_from : List ℕ → ℕ → ℕ → Access → Result ℕ WalkEnd
+walk_from bytes table address access =
+    let t = word_at bytes (word_place table (index_number (page_number address))) in
+    first_that_applies (
+    (not (is_present t), not_present address access)
+    ∷ (not (is_user t), not_allowed address access)
+    ∷ (is_write access && not (is_writable t), not_allowed address access)
+    ∷ (is_outside bytes (frame_number t), Err Outside)
+    ∷ []) (Ok (frame_number t))
+
+-- it ends as the walk of its process's directory does, as long as what is kept is read
+abbrev pub EntriesLeadThere : Type 0
+EntriesLeadThere = (v : View) (e : DirectoryEntry) (directory address : ℕ) (access : Access) → IsCore v
+    → IsRead v (directory_entry e) → directory_at (memory_of v) e.pid ≡ Some directory
+    → slot_number (page_number address) ≡ e.region
+    → walk_from v.bytes e.table address access ≡ walk_of v.bytes directory address access

@@ -1,0 +1,79 @@
+-- Turns that a core takes with its processors: each is a step, whatever the processors keep then.
+use Rattle.std.specs.Option.{option_to_list}
+use Rattle.std.specs.Prelude.{◌≡◌, ℕ, false, List, [], ◌∷◌, ◌++◌, Option, Some, None}
+use Rattle.process_table.specs.State.{State}
+use Rattle.process_table.specs.View.{View}
+use Rattle.kernel_calls.specs.Kept.{ServesEvent, IsStore}
+use Rattle.kernel_calls.specs.Machine.{answer, answers, next, end_of}
+use Rattle.kernel_calls.specs.Processors.{IsCore, Processors, all_left_by, LetCall, Step, Steps}
+use Rattle.kernel_calls.specs.Translations.{AreRead, ended_by}
+use Rattle.kernel_calls.specs.Walked.{finds_event}
+use Rattle.kernel_calls.specs.declared.calls.Event.{Event}
+use Rattle.kernel_calls.specs.declared.calls.Reply.{Reply}
+use Rattle.kernel_calls.specs.declared.translations.Ended.{Ended}
+use Rattle.kernel_calls.specs.declared.translations.Ended.TheVariants as end
+use Rattle.kernel_calls.specs.declared.turns.Turn.{Turn}
+use Rattle.kernel_calls.specs.declared.turns.Turn.TheVariants as turn
+
+-- the core carries out an event, and tells what it ended
+abbrev pub IsCall : View → Event → Reply → Ended → View → Type 0
+IsCall v e r ended w = (ended ≡ ended_by v e)
+    × ((keeps : Processors) → Step v keeps (e ∷ []) (r ∷ []) w (all_left_by ended keeps))
+
+-- a processor makes an access by its walk, where that finds a frame for each page; where not, nothing is done
+abbrev pub IsWalk : View → Event → Option Reply → View → Type 0
+IsWalk v e (Some r) w = (keeps : Processors) → Step v keeps (e ∷ []) (r ∷ []) w keeps
+IsWalk v e None w = (finds_event v e ≡ false) × (w ≡ v)
+
+-- a store that a processor makes by translations that it keeps: it is the event, whichever these are, and a step of each
+-- processor whose translations let it through
+pub record IsMade (v : View) (e : Event) (r : Reply) (w : View) : Type 0 where
+  pub reply : r ≡ answer v.state e
+  pub state : w.state ≡ next v.state e
+  pub core : IsCore w
+  pub step : (keeps : Processors) (i : ℕ) (frames : ℕ → ℕ) → AreRead v (keeps i) → LetCall (keeps i) e.pid frames e.call
+      → Step v keeps (e ∷ []) (r ∷ []) w keeps
+
+-- where no translations could let it through, nothing is done
+abbrev pub IsStoreKept : View → Event → Option Reply → View → Type 0
+IsStoreKept v e (Some r) w = IsMade v e r w
+IsStoreKept v e None w = (IsStore e.call → (frames : ℕ → ℕ) → ServesEvent v frames e → ⊥) × (w ≡ v)
+
+-- one marks a word of a directory, or nothing is done
+abbrev pub IsMark : View → View → Type 0
+IsMark v w = (keeps : Processors) → Steps v keeps [] [] w keeps
+
+-- a turn: what is told or read, and what was ended. A call always tells something, a mark nothing
+abbrev pub IsTurn : View → Turn → Option Reply → Ended → View → Type 0
+IsTurn v (turn.Call e) (Some r) ended w = IsCall v e r ended w
+IsTurn v (turn.Call e) None ended w = ⊥
+IsTurn v (turn.Walk e) told ended w = (ended ≡ end.Nothing) × IsWalk v e told w
+IsTurn v (turn.Store e) told ended w = (ended ≡ end.Nothing) × IsStoreKept v e told w
+IsTurn v (turn.Mark pid page walked) (Some r) ended w = ⊥
+IsTurn v (turn.Mark pid page walked) None ended w = (ended ≡ end.Nothing) × IsMark v w
+
+-- turns, one after another
+abbrev pub AreTurns : List Turn → List (Option Reply) → List Ended → View → View → Type 0
+AreTurns [] [] [] v w = v ≡ w
+AreTurns (t ∷ turns) (r ∷ told) (x ∷ ended) v w = (u : View) × IsTurn v t r x u × AreTurns turns told ended u w
+AreTurns _ _ _ v w = ⊥
+
+-- the events of the turns that were taken, and what was told or read
+abbrev pub event_of : Turn → Option Reply → List Event
+event_of (turn.Call e) (Some r) = e ∷ []
+event_of (turn.Walk e) (Some r) = e ∷ []
+event_of (turn.Store e) (Some r) = e ∷ []
+event_of _ _ = []
+
+abbrev pub taken : List Turn → List (Option Reply) → List Event
+taken (t ∷ turns) (r ∷ told) = event_of t r ++ taken turns told
+taken _ _ = []
+
+abbrev pub told_in : List (Option Reply) → List Reply
+told_in [] = []
+told_in (r ∷ told) = option_to_list r ++ told_in told
+
+-- what was told and read is what the events are answered, and the state is their last
+pub record AnswerTurns (s : State) (turns : List Turn) (told : List (Option Reply)) (t : State) : Type 0 where
+  pub replies : told_in told ≡ answers s (taken turns told)
+  pub state : t ≡ end_of s (taken turns told)

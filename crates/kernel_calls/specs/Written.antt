@@ -1,0 +1,96 @@
+-- What an event leaves of memory to every process but its own: what it may write.
+use Rattle.std.specs.Prelude.{◌≡◌, ◌≢◌, ◌⊎◌, ℕ, ◌<◌, true, false, Option, Some, None, slice_get}
+use Rattle.page_words.specs.Addresses.{slot_number}
+use Rattle.page_words.specs.Words.{frame_number, is_present}
+use Rattle.phys_memory.specs.Bytes.{frame_bytes}
+use Rattle.alloc_table.specs.declared.Role.{Role}
+use Rattle.alloc_table.specs.declared.Role.TheVariants.{Reserved, Free, Directory, Table, Page}
+use Rattle.address_space.specs.Image as memory
+use Rattle.address_space.specs.Image.{directory_at, table_at, word_of, page_frame, is_lazy_at}
+use Rattle.address_space.specs.Spaces.{Slot, at_page}
+use Rattle.process_table.specs.Image.{memory_of}
+use Rattle.process_table.specs.View.{View}
+use Rattle.kernel_calls.specs.Machine.{next}
+use Rattle.kernel_calls.specs.Processors.{IsCore}
+use Rattle.kernel_calls.specs.Translations.{Ends, ended_by, ends_in_region}
+use Rattle.kernel_calls.specs.declared.calls.Call.TheVariants as call
+use Rattle.kernel_calls.specs.declared.calls.Event.{Event}
+
+-- a process has no page on a frame
+abbrev pub HasNone : memory.Image → ℕ → ℕ → Type 0
+HasNone image p f = (page : ℕ) → page_frame image (at_page p page) ≢ Some f
+
+-- the event takes a page of this region of a giver, which is lazy
+pub record TakesLazy (v : View) (e : Event) (giver region : ℕ) : Type 0 where
+  pub giver_page : ℕ
+  pub page : ℕ
+  pub call : e.call ≡ call.Accept giver giver_page page
+  pub inside : slot_number giver_page ≡ region
+  pub lazy : is_lazy_at (memory_of v) (at_page giver giver_page) ≡ true
+
+-- two words that differ in accessed alone, where both are a directory's
+pub record IsSameButAccessed (before after : ℕ) : Type 0 where
+  pub frame : frame_number after ≡ frame_number before
+  pub present : is_present after ≡ is_present before
+
+-- ---- What stands in frames before an event, and it leaves
+
+pub record LeavesToOthers (v w : View) (e : Event) : Type 0 where
+  -- each byte of frame 0, and of a page that its process doesn't have
+  pub zero : frame_bytes w.bytes 0 ≡ frame_bytes v.bytes 0
+  pub pages : (slot : Slot) (f : ℕ) → page_frame (memory_of v) slot ≡ Some f → HasNone (memory_of v) e.pid f
+      → frame_bytes w.bytes f ≡ frame_bytes v.bytes f
+  -- each word of another's table, which stays that of its region, but for a region where it ends a page
+  pub tables : (q region table index : ℕ) → q ≢ e.pid → ends_in_region (ended_by v e) q region ≡ false
+      → table_at (memory_of v) q region ≡ Some table → index < 1024
+      → (table_at (memory_of w) q region ≡ Some table) × (word_of (memory_of w) table index ≡ word_of (memory_of v) table index)
+  -- each word of another's directory, which stays it, but for accessed, and for such a region
+  pub directories : (q directory region : ℕ) → q ≢ e.pid → ends_in_region (ended_by v e) q region ≡ false
+      → directory_at (memory_of v) q ≡ Some directory → region < 1024
+      → (directory_at (memory_of w) q ≡ Some directory)
+      × IsSameButAccessed (word_of (memory_of v) directory region) (word_of (memory_of w) directory region)
+  -- another's page it ends only where it takes that, lazy
+  pub ended : (q region : ℕ) → q ≢ e.pid → ends_in_region (ended_by v e) q region ≡ true → TakesLazy v e q region
+
+-- ---- By frames
+
+-- the frame is a process's: its directory, a table of it, or that of a page which isn't lazy
+abbrev pub IsOf : memory.Image → ℕ → ℕ → Type 0
+IsOf image p f = (directory_at image p ≡ Some f) ⊎ (((region : ℕ) × (table_at image p region ≡ Some f))
+    ⊎ ((page : ℕ) × (page_frame image (at_page p page) ≡ Some f)))
+
+-- it leads to a lazy page that the event takes: it is the giver's directory, or the table of the page's region
+pub record LeadsToTaken (v : View) (e : Event) (f : ℕ) : Type 0 where
+  pub giver : ℕ
+  pub region : ℕ
+  pub takes : TakesLazy v e giver region
+  pub leads : (directory_at (memory_of v) giver ≡ Some f) ⊎ (table_at (memory_of v) giver region ≡ Some f)
+
+-- what an event may write: what was free, what is its process's, and what leads to a lazy page that it takes
+abbrev pub MayWrite : View → Event → ℕ → Type 0
+MayWrite v e f = (slice_get v.roles f ≡ Some Free) ⊎ (IsOf (memory_of v) e.pid f ⊎ LeadsToTaken v e f)
+
+-- a frame that serves so stands as before: each byte of a page and of frame 0, each word of a table, and each word of a
+-- directory but for accessed
+abbrev pub StandsAsBefore : View → View → ℕ → Option Role → Type 0
+StandsAsBefore v w f (Some Reserved) = frame_bytes w.bytes f ≡ frame_bytes v.bytes f
+StandsAsBefore v w f (Some (Page c)) = frame_bytes w.bytes f ≡ frame_bytes v.bytes f
+StandsAsBefore v w f (Some (Table q s)) =
+    (index : ℕ) → index < 1024 → word_of (memory_of w) f index ≡ word_of (memory_of v) f index
+StandsAsBefore v w f (Some (Directory q)) =
+    (index : ℕ) → index < 1024 → IsSameButAccessed (word_of (memory_of v) f index) (word_of (memory_of w) f index)
+StandsAsBefore v w f (Some Free) = ⊥
+StandsAsBefore v w f None = Unit {0}
+
+-- all that an event may not write stands as before
+abbrev pub WritesItsOwn : View → View → Event → Type 0
+WritesItsOwn v w e = (f : ℕ) → (MayWrite v e f → ⊥) → StandsAsBefore v w f (slice_get v.roles f)
+
+-- so does each event that leads from a core to a core as `Core::step` says
+abbrev pub EventsLeaveToOthers : Type 0
+EventsLeaveToOthers = (v w : View) (e : Event) → IsCore v → IsCore w → w.state ≡ next v.state e → Ends (ended_by v e) v w
+    → LeavesToOthers v w e
+
+abbrev pub EventsWriteTheirOwn : Type 0
+EventsWriteTheirOwn = (v w : View) (e : Event) → IsCore v → IsCore w → w.state ≡ next v.state e → Ends (ended_by v e) v w
+    → WritesItsOwn v w e
