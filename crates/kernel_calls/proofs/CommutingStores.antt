@@ -142,12 +142,6 @@ pub group_paged : (pages : List ℕ) (S : Spaces) (q : ℕ) (x : Slot) → group
 group_paged [] S q x = refl
 group_paged (n ∷ pages) S q x = group_paged pages (with_page S q n) q x ∙ ap (λ (c : Cell). c.holders) (cell_paged S q n x)
 
-group_bytes : (bytes : List ℕ) (S : Spaces) (q address : ℕ) (x : Slot) → group_at (all_stored S q address bytes) x ≡ group_at S x
-group_bytes [] S q address x = refl
-group_bytes (b ∷ bytes) S q address x =
-    group_bytes bytes (stored S (slot_at q address) (offset_number address) (b ∷ [])) q (address + 1) x
-    ∙ group_stored S (slot_at q address) x (offset_number address) (b ∷ [])
-
 -- a slot and each that a store of q writes
 abbrev pub ApartFrom : Spaces → Slot → ℕ → ℕ → List ℕ → Type 0
 ApartFrom S a q address bytes = (i : ℕ) → i < length bytes → AreApart S a (slot_at q (address + i))

@@ -14,13 +14,6 @@ none_left : (xs : List LogEntry) → length xs ≡ 0 → xs ≡ []
 none_left [] e = refl
 none_left (x ∷ xs) e = absurd (omega arith)
 
--- a beginning of the same length is the whole
-pub starts_whole : (log seen : List LogEntry) → StartsWith log seen → length log ≤ length seen → log ≡ seen
-starts_whole log seen h le =
-    let a : length log ≡ length seen + length h.0 = ap length h.1 ∙ length-append seen h.0 in
-    let none : h.0 ≡ [] = none_left h.0 (omega arith) in
-    h.1 ∙ (ap (λ l. seen ++ l) none ∙ append-nil seen)
-
 tail_of : List LogEntry → List LogEntry
 tail_of [] = []
 tail_of (x ∷ xs) = xs

@@ -63,13 +63,6 @@ module _ (image : Image) (fits : IsImage image) (today : image.version ≡ 2) (d
   pub made_sound : IsSound image → machine.IsSoundImage (image_in directories accounts image.bytes image.roles)
   made_sound s = subst machine.IsSoundImage (sym same-image) s
 
-  pub made_root : RootIsItsParent accounts
-  made_root a is = by (process_at image 0) refl (sym (account-is 0) ∙ is)
-    where
-      by : (x : Option Process) → process_at image 0 ≡ x → account_from x ≡ Some a → a.parent ≡ 0
-      by None at h = cc
-      by (Some r) at h = ap (λ o. unwrap_or (option_map (λ (a : quota_tree.Account). a.parent) o) 0) (sym h) ∙ (fits.processes 0 r at).root refl
-
   pub made_stands : (s : State) → machine.StandsFor (image_in directories accounts image.bytes image.roles) s → StandsFor image s
   made_stands s stands = subst (λ (shown : machine.Image). machine.StandsFor shown s) same-image stands
 

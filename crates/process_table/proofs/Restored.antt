@@ -54,11 +54,6 @@ charge_one M p a b x y =
     let t = y.sum in
     omega (arith, tables, pages, s, t)
 
-taken : (b p : Bool) (w word : ℕ) → (if b && p then Some w else None) ≡ Some word → (w ≡ word) × (p ≡ true)
-taken true true w word h = (cc, refl)
-taken true false w word h = cc
-taken false p w word h = cc
-
 module _ (directories : List (Option ℕ)) (accounts : List (Option quota_tree.Account)) (bytes : List ℕ) (roles : List Role)
     (pids : length directories ≡ 64) (least : 16 ≤ length roles) (few : length roles ≤ 1048576) (small : (i : ℕ) → slice_index bytes i < 256)
     (root_parent : RootIsItsParent accounts) (I : IsSoundImage (image_in directories accounts bytes roles)) where

@@ -40,14 +40,6 @@ number-all p accounts = number-from p 0 accounts
 pub children-end : (p k : ℕ) (accounts : List (Option Account)) → length accounts ≤ k → children_from p k (drop k accounts) ≡ 0
 children-end p k accounts past = ap (children_from p k) (drop_all k accounts past)
 
--- one account more
-pub children-step : (p k : ℕ) (accounts : List (Option Account)) (a : Option Account) → k < length accounts → a ≡ get_or accounts k None
-    → children_from p k (drop k accounts) ≡ children_from p (k + 1) (drop (k + 1) accounts) + counts_child p k a
-children-step p k accounts a inside is =
-    let s : children_from p k (drop k accounts) ≡ counts_child p k a + children_from p (k + 1) (drop (k + 1) accounts) =
-    ap (children_from p k) (drop_more accounts k None inside) ∙ ap (λ x. counts_child p k x + children_from p (k + 1) (drop (k + 1) accounts)) (sym is) in
-    omega (arith, s)
-
 -- ---- Containers
 
 pub fill_goes_on : {X : Type 0} (g : ℕ → X) (xs : List X) (k : ℕ) → k < length xs → ((p : ℕ) → p < k → slice_get xs p ≡ Some (g p))
