@@ -25,7 +25,7 @@ finds image p address size access = finds_at image p access address && unwrap_or
 
 -- ---- What an access leaves
 
--- where the byte of an address stands in memory, by the words that lead to it
+-- the place of an address's byte in memory, by the words that lead to it
 abbrev pub byte_place : List ℕ → ℕ → ℕ → ℕ
 byte_place bytes directory address = 4096 * frame_number (table_word bytes directory address) + offset_number address
 

@@ -1,4 +1,4 @@
--- What a finite map from slots to page entries, with bytes for each frame, stands for.
+-- The spaces that a finite map from slots to page entries represents, given bytes for each frame.
 use Rattle.std.proofs.Common.{ℕ, Bool, false, ◌==◌, List, Option, Some, None}
 use Rattle.page_words.specs.FiniteMap as map
 use Rattle.page_words.specs.FiniteMap.{Order, Map}
@@ -8,6 +8,7 @@ use Rattle.std.specs.Prelude.{if◌then◌else◌}
 use Rattle.address_space.specs.Spaces.{Slot, slot_order, Cell, Spaces}
 use Rattle.page_map.specs.declared.PageEntry.{PageEntry}
 
+-- a map from slots to page entries
 abbrev pub Entries : Type 0
 Entries = Map slot_order PageEntry
 
@@ -16,6 +17,7 @@ abbrev pub names : ℕ → Option PageEntry → Bool
 names f None = false
 names f (Some entry) = entry.frame == f
 
+-- no value for an entry
 abbrev pub nothing : Slot → PageEntry → Unit {0}
 nothing slot entry = tt
 
@@ -28,10 +30,11 @@ holders_of entries f = map.retain_keys (map.map_values nothing entries) (λ slot
 abbrev pub group_of : Entries → Slot → ℕ → Set slot_order
 group_of entries slot f = if f == 0 then set.insert set.empty slot else holders_of entries f
 
+-- the cell of an entry, given the bytes of each frame
 abbrev pub cell_of : Entries → (ℕ → List ℕ) → Slot → PageEntry → Cell
 cell_of entries bytes slot entry = record { write = entry.write; may = entry.may; accessed = entry.accessed; dirty = entry.dirty; bytes = bytes entry.frame; holders = group_of entries slot entry.frame }
 
--- the spaces that they stand for
+-- the spaces that these entries and bytes represent
 abbrev pub spaces_of : Entries → (ℕ → List ℕ) → Spaces
 spaces_of entries bytes = map.map_values (cell_of entries bytes) entries
 

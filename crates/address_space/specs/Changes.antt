@@ -61,7 +61,7 @@ pub record SlotJoined (directories : List (Option ℕ)) (giver giver_page p page
 abbrev pub flagged : Spaces → Slot → Bool → Bool → Spaces
 flagged spaces slot write accessed = map.insert spaces slot (record (cell_or_fresh spaces slot) { write = write; accessed = accessed })
 
--- whether a store goes through an entry as it stands: the page may be written, and has a frame of its own
+-- whether a store to an entry succeeds immediately: the page may be written, and has a frame of its own
 abbrev pub takes_stores_through : Option PageEntry → Bool
 takes_stores_through None = false
 takes_stores_through (Some e) = e.write && not e.lazy
@@ -150,7 +150,7 @@ pub record SlotCopied (directories : List (Option ℕ)) (from to page : ℕ) (by
   -- each slot of a directory leads to the table that it led to
   pub linked : (q r : ℕ) → table_in (directory_of directories) (frame_bytes bytes') q r ≡ table_in (directory_of directories) (frame_bytes bytes) q r
 
--- the same, where the frames and the costs agree again
+-- a page of a process has a copy at the same page of another, and the frames and the costs agree again
 pub record PageCopied (directories : List (Option ℕ)) (from to page : ℕ) (bytes : List ℕ) (roles : List Role) (bytes' : List ℕ) (roles' : List Role) : Type 0 where
   pub after : IsSpaces directories bytes' roles'
   pub spaces : spaces_in directories bytes' ≡ map.insert (spaces_in directories bytes) (at_page to page) (copy_of (at_page to page) (cell_or_fresh (spaces_in directories bytes) (at_page from page)))
@@ -173,8 +173,8 @@ pub record CopiedBelow (directories : List (Option ℕ)) (from to next : ℕ) (b
   pub low : 0x40000 ≤ next
   pub high : next ≤ 0xf0000
 
--- a copy has come to an index of a region of the source, whose table this is: it began where the other process had no
--- page, and where the costs left room for all
+-- a copy has reached an index of a region of the source, whose table this is; it began when the other process had no
+-- page, and the costs left room for all
 pub record CopyIn (directories : List (Option ℕ)) (from source to slot table index : ℕ) (bytes : List ℕ) (roles : List Role) (bytes' : List ℕ) (roles' : List Role) : Type 0 where
   pub home : directory_of directories from ≡ Some source
   pub before : IsSpaces directories bytes roles
@@ -187,7 +187,7 @@ pub record CopyIn (directories : List (Option ℕ)) (from source to slot table i
 abbrev pub words_left : List ℕ → ℕ → ℕ → ℕ
 words_left bytes table index = count_range (λ i. is_present (word_in (frame_bytes bytes table) i)) index (1024 - index)
 
--- some copy has come to the first page of a region
+-- some copy has reached the first page of a region
 pub record IsCopying (directories : List (Option ℕ)) (to slot table : ℕ) (bytes' : List ℕ) (roles' : List Role) : Type 0 where
   pub from : ℕ
   pub source : ℕ

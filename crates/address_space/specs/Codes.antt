@@ -5,9 +5,11 @@ use Rattle.page_words.specs.Codes.{map_code, set_code}
 use Rattle.page_words.specs.FiniteSet.{Set}
 use Rattle.address_space.specs.Spaces.{Slot, Cell, Spaces, slot_order}
 
+-- the code of slots
 abbrev pub slot_code : Coded Slot
 slot_code = code_by (ℕ × ℕ) (coded× coded_ℕ coded_ℕ) (λ s. (s.pid, s.page)) (λ p. record { pid = p.0; page = p.1 }) (λ _. refl)
 
+-- the code of cells
 abbrev pub cell_code : Coded Cell
 cell_code =
     code_by ((Bool × Bool) × ((Bool × Bool) × (List ℕ × Set slot_order)))
@@ -16,5 +18,6 @@ cell_code =
     (λ p. record { write = p.0.0; may = p.0.1; accessed = p.1.0.0; dirty = p.1.0.1; bytes = p.1.1.0; holders = p.1.1.1 })
     (λ _. refl)
 
+-- the code of address spaces
 abbrev pub spaces_code : Coded Spaces
 spaces_code = map_code slot_code cell_code

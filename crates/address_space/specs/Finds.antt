@@ -81,6 +81,7 @@ pub record TableIsNew (bytes : List ℕ) (roles : List Role) (p d s t : ℕ) (by
   pub linked : frame_bytes bytes' ≡ with_table (frame_bytes bytes) d s t
   pub long : length bytes' ≡ length bytes
 
+-- a table of the region: the one that was there, or a new one
 abbrev pub TableReady : List ℕ → List Role → ℕ → ℕ → ℕ → ℕ → List ℕ → List Role → Type 0
 TableReady bytes roles p d s t bytes' roles' = TableStays bytes roles d s t bytes' roles' ⊎ TableIsNew bytes roles p d s t bytes' roles'
 
@@ -104,5 +105,6 @@ pub record CopiedReal (bytes : List ℕ) (roles : List Role) (e e' : PageEntry) 
   pub copy : bytes' ≡ with_frame_bytes bytes frame (frame_bytes bytes e.frame)
   pub long : length bytes' ≡ length bytes
 
+-- the copy of an entry, lazy or real
 abbrev pub EntryCopied : List ℕ → List Role → PageEntry → PageEntry → List ℕ → List Role → Type 0
 EntryCopied bytes roles e e' bytes' roles' = CopiedLazy bytes roles e e' bytes' roles' ⊎ CopiedReal bytes roles e e' bytes' roles'

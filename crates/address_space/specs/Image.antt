@@ -1,5 +1,5 @@
--- What memory's own words say: the tables and pages that directories name, when directories, roles and words
--- agree, and which spaces they stand for.
+-- What memory's own words say: the tables and pages that directories name, when directories, roles and words agree, and
+-- which spaces they represent.
 use Rattle.std.specs.Prelude.{◌≡◌, ℕ, ◌+◌, ◌*◌, ◌<◌, ◌≤◌, ◌↔◌, Bool, true, false, not, ◌&&◌, nat_lt, nat_le, if◌then◌else◌, IsTrue, MatchBool, List, length, Option, Some, None, slice_get}
 use Rattle.std.specs.Option.{option_and_then, option_map, unwrap_or}
 use Rattle.page_words.specs.Addresses.{slot_number, index_number}
@@ -37,6 +37,7 @@ image_of v = image_from v.directories v.bytes v.roles
 
 -- ---- What an image names
 
+-- the directory of process p
 abbrev pub directory_at : Image → ℕ → Option ℕ
 directory_at image p = image.directories p
 
@@ -44,6 +45,7 @@ directory_at image p = image.directories p
 abbrev pub word_of : Image → ℕ → ℕ → ℕ
 word_of image frame index = word_in (frame_bytes image.bytes frame) index
 
+-- whether a directory slot is of the user range
 abbrev pub is_user_slot : ℕ → Bool
 is_user_slot s = nat_le 256 s && nat_lt s 960
 
@@ -67,7 +69,7 @@ page_word image slot = option_and_then (λ t. present_word image t (word_of imag
 abbrev pub is_lazy_at : Image → Slot → Bool
 is_lazy_at image slot = unwrap_or (option_map (is_lazy_word image.version) (page_word image slot)) false
 
--- whether a store to a slot goes through as memory stands: it is mapped, with the right to write, and not lazy
+-- whether a store to a slot succeeds as memory is: the slot is mapped, with the right to write, and not lazy
 abbrev pub takes_stores : Spaces → Image → Slot → Bool
 takes_stores spaces image slot = map.contains_key spaces slot && ((cell_or_fresh spaces slot).write && not (is_lazy_at image slot))
 
@@ -124,6 +126,7 @@ pub record CellStands (image : Image) (slot : Slot) (word : ℕ) (cell : Cell) :
   pub bytes : cell.bytes ≡ frame_bytes image.bytes (frame_number word)
   pub group : (other : Slot) → IsTrue (set.contains cell.holders other) ↔ IsOneGroup image slot word other
 
+-- agreement of a slot's table word with its cell
 abbrev pub SlotStands : Image → Slot → Option ℕ → Option Cell → Type 0
 SlotStands image slot None None = Unit {0}
 SlotStands image slot (Some word) (Some cell) = CellStands image slot word cell
@@ -135,6 +138,6 @@ pub record StandsFor (image : Image) (spaces : Spaces) : Type 0 where
   pub sound : IsSoundImage image
   pub cells : (slot : Slot) → SlotStands image slot (page_word image slot) (map.get spaces slot)
 
--- an image stands for at most one set of spaces
+-- an image represents at most one set of spaces
 abbrev pub StandsForOne : Type 0
 StandsForOne = (image : Image) (s t : Spaces) → StandsFor image s → StandsFor image t → s ≡ t

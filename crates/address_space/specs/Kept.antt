@@ -15,7 +15,7 @@ abbrev pub LeadTo : List ℕ → ℕ → Access → (ℕ → ℕ) → ℕ → Si
 LeadTo bytes directory access frames address size = (i : ℕ) → i < byte_count size
     → walk_of bytes directory (address + i) access ≡ Ok (frames (page_number (address + i)))
 
--- where the byte of an address stands in memory, by the frame of its page
+-- the place of an address's byte in memory, by the frame of its page
 abbrev pub kept_place : (ℕ → ℕ) → ℕ → ℕ
 kept_place frames address = 4096 * frames (page_number address) + offset_number address
 

@@ -1,4 +1,4 @@
--- What stands at a page of a process: its place, found by one look.
+-- The place of a page of a process, found by one lookup.
 use Rattle.std.specs.Prelude.{◌≡◌, ℕ, Bool, List, Option, Some, None, is_some}
 use Rattle.std.specs.Option.{option_map}
 use Rattle.page_words.specs.Addresses.{slot_number, IsUserPage}
@@ -15,7 +15,7 @@ use Rattle.address_space.specs.Image.{Image, is_lazy_at, takes_stores}
 use Rattle.address_space.specs.View.{directory_of, table_in}
 use Rattle.address_space.specs.Finds.{found_by, lazy_found, entry_found}
 
--- beside a table: what it has at the page
+-- the place given by a table, and by what the table has at the page
 abbrev pub place_there : ℕ → Option Found → Place
 place_there t None = Open t
 place_there t (Some f) = Mapped f
@@ -51,7 +51,7 @@ table_of_place (Mapped f) = Some f.table
 abbrev pub lazy_place : Place → Bool
 lazy_place place = lazy_found (found_of place)
 
--- whether a store goes through
+-- whether a store to the place succeeds immediately
 abbrev pub takes_place : Place → Bool
 takes_place place = takes_stores_through (entry_found (found_of place))
 
@@ -68,13 +68,15 @@ pub record Flags : Type 0 where
   pub accessed : Bool
   pub dirty : Bool
 
+-- the flags of an entry
 abbrev pub entry_flags : PageEntry → Flags
 entry_flags e = record { write = e.write; may = e.may; accessed = e.accessed; dirty = e.dirty }
 
+-- the flags of a cell
 abbrev pub cell_flags : Cell → Flags
 cell_flags c = record { write = c.write; may = c.may; accessed = c.accessed; dirty = c.dirty }
 
--- what the places of pages tell is what the spaces have there
+-- the places of pages agree with the spaces
 pub record PlacesTell (image : Image) (spaces : Spaces) : Type 0 where
   pub mapped : (p page : ℕ) → IsUserPage page → is_some (found_of (image_place image p page)) ≡ map.contains_key spaces (at_page p page)
   pub flags : (p page : ℕ) → IsUserPage page → option_map entry_flags (entry_found (found_of (image_place image p page))) ≡ option_map cell_flags (map.get spaces (at_page p page))

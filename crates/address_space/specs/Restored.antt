@@ -15,6 +15,7 @@ words_by bytes f (Directory p) = 0
 words_by bytes f (Table p s) = count_range (λ i. is_present (word_in (frame_bytes bytes f) i)) 0 1024
 words_by bytes f (Page count) = 0
 
+-- the number of present words of a frame with this role
 abbrev pub words_where : List ℕ → ℕ → Option Role → ℕ
 words_where bytes f None = 0
 words_where bytes f (Some role) = words_by bytes f role

@@ -46,6 +46,7 @@ slot_same x y e =
 pub slot_total : IsTotalOrder slot_cmp
 slot_total = then_total (on_total (λ s. s.pid) nat_cmp_total) (on_total (λ s. s.page) nat_cmp_total)
 
+-- the order of slots: by process, then by page
 abbrev pub slot_order : Order Slot
 slot_order = record { cmp = slot_cmp; total = slot_total; same = slot_same }
 
@@ -71,9 +72,11 @@ pub record Cell : Type 0 where
   -- the group: the slots that have these bytes in common, this one among them
   pub holders : Set slot_order
 
+-- the address spaces of all processes: a map from slots to cells
 abbrev pub Spaces : Type 0
 Spaces = Map slot_order Cell
 
+-- a page of zeros
 abbrev pub zeros : List ℕ
 zeros = replicate 4096 0
 
@@ -85,9 +88,11 @@ fresh slot write = record { write = write; may = true; accessed = false; dirty =
 abbrev pub cell_or_fresh : Spaces → Slot → Cell
 cell_or_fresh spaces slot = unwrap_or (map.get spaces slot) (fresh slot true)
 
+-- a cell with these bytes
 abbrev pub with_bytes : Cell → List ℕ → Cell
 with_bytes cell bytes = record cell { bytes = bytes }
 
+-- a cell with this group
 abbrev pub with_holders : Cell → Set slot_order → Cell
 with_holders cell holders = record cell { holders = holders }
 
@@ -117,6 +122,7 @@ regions_of pages = set.from_list (map slot_number (set.items pages))
 abbrev pub cost_of : Set nat_order → ℕ
 cost_of pages = 1 + set.len (regions_of pages) + set.len pages
 
+-- the cost of process p, in frames
 abbrev pub cost : Spaces → ℕ → ℕ
 cost spaces p = cost_of (pages_of spaces p)
 

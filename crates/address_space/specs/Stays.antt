@@ -38,7 +38,7 @@ of_process p slot frame = is_of p slot
 abbrev pub of_lazy : ℕ → ℕ → Gone
 of_lazy p page slot frame = is_slot p page slot && (frame == 0)
 
--- what a change leaves of the ways that walks go, but for those that go
+-- the walks that a change leaves, except those that are gone
 pub record FramesStay (gone : Gone) (old new : Image) : Type 0 where
   -- a process that has a way that stays, of a mapped page or not, keeps its directory
   pub directories : (slot : Slot) (directory frame : ℕ) → gone slot frame ≡ false
@@ -63,9 +63,11 @@ pub record WaysAgree (image : Image) : Type 0 where
 
 -- ---- By entries
 
+-- the frame of a slot's entry
 abbrev pub entry_frame : Entries → Slot → Option ℕ
 entry_frame entries slot = option_map (λ (e : PageEntry). e.frame) (map.get entries slot)
 
+-- entries that aren't gone keep their frames
 abbrev pub EntriesStay : Gone → Entries → Entries → Type 0
 EntriesStay gone old new = (slot : Slot) (frame : ℕ) → gone slot frame ≡ false → entry_frame old slot ≡ Some frame
     → entry_frame new slot ≡ Some frame

@@ -1,4 +1,4 @@
--- What address spaces are seen as: the spaces that directories and memory stand for, and what they cost.
+-- The model of address spaces: the spaces that directories and memory represent, and their cost.
 use Rattle.std.specs.Prelude.{◌≡◌, ℕ, zero, suc, if◌then◌else◌, List, Option, None, is_some, slice_get, sum_by, refl}
 use Rattle.std.specs.Coded.{Coded, code_by, coded×, coded_list, coded_ℕ, coded_option}
 use Rattle.address_space.specs.Codes.{spaces_code}
@@ -14,12 +14,15 @@ use Rattle.page_words.specs.FiniteMap.{collect}
 use Rattle.address_space.specs.Slots.{user_slots}
 use Rattle.address_space.specs.Cells.{Entries, spaces_of}
 
+-- each process's directory, if it has one
 abbrev pub Directories : Type 0
 Directories = ℕ → Option ℕ
 
+-- each frame's role
 abbrev pub Roles : Type 0
 Roles = ℕ → Option Role
 
+-- a list of directories, by process
 abbrev pub directory_of : List (Option ℕ) → Directories
 directory_of directories p = unwrap_or (slice_get directories p) None
 
@@ -35,7 +38,7 @@ entry_in D m slot = option_and_then (λ d. entry_at m d slot.page) (D slot.pid)
 unfoldable pub entries_in : Directories → Frames → Entries
 entries_in D m = collect (entry_in D m) user_slots
 
--- the spaces that they stand for
+-- the spaces that directories and bytes represent
 unfoldable pub spaces_in : List (Option ℕ) → List ℕ → Spaces
 spaces_in directories bytes = spaces_of (entries_in (directory_of directories) (frame_bytes bytes)) (frame_bytes bytes)
 
@@ -43,6 +46,7 @@ spaces_in directories bytes = spaces_of (entries_in (directory_of directories) (
 abbrev pub live_cost : Directories → Spaces → ℕ → ℕ
 live_cost D spaces p = if is_some (D p) then cost spaces p else 0
 
+-- the cost of all live processes, in frames
 unfoldable pub total_cost : List (Option ℕ) → Spaces → ℕ
 total_cost directories spaces = sum_by (live_cost (directory_of directories) spaces) (range_with_len 0 64)
 
@@ -61,6 +65,7 @@ role_numbers (Directory pid) = (2, (pid, 0))
 role_numbers (Table pid slot) = (3, (pid, slot))
 role_numbers (Page count) = (4, (count, 0))
 
+-- the role with these numbers
 abbrev pub numbers_role : ℕ → ℕ → ℕ → Role
 numbers_role zero a b = Reserved
 numbers_role (suc zero) a b = Free
@@ -75,6 +80,7 @@ same_role (Directory pid) = refl
 same_role (Table pid slot) = refl
 same_role (Page count) = refl
 
+-- the code of roles
 abbrev pub role_code : Coded Role
 role_code = code_by (ℕ × (ℕ × ℕ)) (coded× coded_ℕ (coded× coded_ℕ coded_ℕ)) role_numbers (λ n. numbers_role n.0 n.1.0 n.1.1) same_role
 

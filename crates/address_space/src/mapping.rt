@@ -213,7 +213,7 @@ pub fn give_frame(memory: &mut Memory, frames: &mut FrameTable, found: &Found) -
     given.entry
 }
 
-/// The count of a table.
+/// Returns how many pages a frame maps as a table.
 pub fn count_at(counts: &Vec<u32>, table: Frame) -> u32
     requires { table < length counts.now.items }
     ensures { slice_get counts.now.items table ≡ Some result }

@@ -1,4 +1,4 @@
-//! What stands at a page: it is looked up once, and what was found is handed on, and what is told by it.
+//! The result of one lookup of a page, which is passed on, and what it says about the page.
 
 ghost use Rattle.std.specs.Prelude.{◌≡◌, ◌≤◌, ◌==◌, ◌&&◌, not, Some, is_some, if◌then◌else◌, ◌≢◌, ℕ, ◌+◌, ◌*◌, ◌<◌, length, slice_get, IfSome, true, false, IfNone};
 ghost use Rattle.page_words.specs.Addresses.{slot_number, page_number, offset_number, byte_count, covered, second_page, EachTouched, IsUserPage};
@@ -39,8 +39,8 @@ impl Found {
     }
 }
 
-/// What stands at a page of a process, by one look: one directory word, and one table word where that leads to a
-/// table.
+/// The result of one lookup of a page of a process. A lookup reads one directory word, and one table word if the
+/// directory word leads to a table.
 #[derive(Clone, Copy, Debug, PartialEq, Eq)]
 pub enum Place {
     /// The page is not mapped, and its region of 1,024 pages has no table.
@@ -324,8 +324,8 @@ impl Spaces {
         Some(accesses::number_at(&self.memory, found.entry.frame, offset_of(address), size))
     }
 
-    /// Gives a lazy page a frame of its own; any other stays as it is, and none becomes lazy. What is mapped stays
-    /// the same. The place is the page's, and the result is the place that it is at then.
+    /// Gives a lazy page a frame of its own, and returns the page's place afterwards. A real page is unchanged, and no
+    /// page becomes lazy. The spaces do not change. `place` is the page's.
     #[inline(always)]
     pub fn fill_at(&mut self, pid: Pid, page: Page, place: &Place) -> Place
         requires mapped { is_some (map.get self.old.spaces (at_page pid page)) ≡ true }
@@ -350,8 +350,8 @@ impl Spaces {
         Place::Mapped(Found { page, table, entry })
     }
 
-    /// Gives a lazy page a frame of its own; any other stays as it is, and none becomes lazy. What is mapped stays
-    /// the same.
+    /// Gives a lazy page a frame of its own. A real page is unchanged, and no page becomes lazy. The spaces do not
+    /// change.
     pub fn fill(&mut self, pid: Pid, page: Page)
         requires mapped { is_some (map.get self.old.spaces (at_page pid page)) ≡ true }
         requires user { IsUserPage page }

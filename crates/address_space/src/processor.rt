@@ -245,7 +245,7 @@ fn walked_word(word: u32, walked: bool) -> u32
     changed.word()
 }
 
-/// The same with the directory word that leads to a page.
+/// Sets or clears accessed in the directory word that leads to a page, if that word is present.
 pub fn set_word_walked(memory: &mut Memory, directory: Frame, page: Page, walked: bool)
     requires inside { 4096 * directory + 4096 ≤ length memory.old }
     requires user { IsUserPage page }

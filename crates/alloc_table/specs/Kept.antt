@@ -7,6 +7,7 @@ use Rattle.alloc_table.specs.declared.Role.TheVariants.{Reserved}
 use Rattle.alloc_table.specs.Roles.{is_free}
 use Rattle.alloc_table.specs.Weights.{EachPageHeld}
 
+-- a frame table: a ledger of the free frames, and the roles
 pub record IsFrameTable (ledger : FreeFrames) (roles : List Role) : Type 0 where
   pub frames : ledger.frames ≡ length roles
   pub free : ledger.free ≡ marked_numbers (map is_free roles)

@@ -3,6 +3,7 @@ use Rattle.std.specs.Prelude.{◌≡◌, ℕ, ◌+◌, ◌-◌, ◌<◌, Bool, t
 use Rattle.alloc_table.specs.declared.Role.{Role}
 use Rattle.alloc_table.specs.declared.Role.TheVariants.{Reserved, Free, Directory, Table, Page}
 
+-- whether a role is Free
 abbrev pub is_free : Role → Bool
 is_free Reserved = false
 is_free Free = true
@@ -10,6 +11,7 @@ is_free (Directory pid) = false
 is_free (Table pid slot) = false
 is_free (Page count) = false
 
+-- the number of free frames
 abbrev pub free_frames : List Role → ℕ
 free_frames roles = count_by is_free roles
 
@@ -42,6 +44,7 @@ pub record IsHeld (old : List Role) (frame : ℕ) (new : List Role) : Type 0 whe
   pub page : slice_get old frame ≡ Some (Page count)
   pub now : new ≡ slice_set old frame (Page (count + 1))
 
+-- whether a frame with this role is a directory, a table or a page
 abbrev pub is_in_use : Role → Bool
 is_in_use Reserved = false
 is_in_use Free = false
@@ -81,5 +84,6 @@ weight (Directory pid) = 1
 weight (Table pid slot) = 1
 weight (Page count) = count
 
+-- the weight of all frames
 abbrev pub frames_weight : List Role → ℕ
 frames_weight roles = sum_by weight roles

@@ -36,7 +36,7 @@ impl Hold {
         }
     }
 
-    /// Holds a core.
+    /// Takes ownership of a core's pointer.
     #[inline(always)]
     pub fn of(core: Loose<Core, Global>) -> Hold
         ensures { result.core ≡ Some core.value }
@@ -48,7 +48,7 @@ impl Hold {
         }
     }
 
-    /// The core that it holds.
+    /// Gives up the core. The hold must not be empty.
     #[inline(always)]
     pub fn into_loose(self) -> Loose<Core, Global>
         requires { IsSome self.core }

@@ -114,7 +114,7 @@ fn settles_with_the_value_read(rt: HostRuntime) -> Result<(), Fail> {
     Ok(())
 }
 
-/// An access of the root of four bytes comes to this.
+/// Checks the result of the root's four-byte access.
 fn check_access(
     rt: &impl Abort,
     processes: &mut Processes,
@@ -223,7 +223,7 @@ fn accesses_two_pages(rt: HostRuntime) -> Result<(), Fail> {
     Ok(())
 }
 
-/// An access of the root of four bytes, tried as memory stands, comes to this.
+/// Checks the result of the root's four-byte access when it is tried as memory stands.
 fn check_tried(
     rt: &impl Abort,
     processes: &mut Processes,

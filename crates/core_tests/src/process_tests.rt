@@ -16,7 +16,7 @@ const OUTSIDE: Page = Page(0x3ffff);
 /// An address in LOW.
 const THERE: Vaddr = Vaddr(0x4000_0008);
 
-/// The same in HIGH.
+/// An address in HIGH.
 const HERE: Vaddr = Vaddr(0x4000_1008);
 
 fn process(rt: &impl Abort, number: u8) -> Pid {

@@ -1,4 +1,4 @@
-//! A whole script, and want of memory.
+//! A whole script, and running out of memory.
 
 use crate::common::same;
 use base_tests::streams::{BrokenWriter, Pieces};

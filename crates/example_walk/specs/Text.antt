@@ -3,6 +3,7 @@ use Rattle.std.specs.Prelude.{ℕ, List, ◌++◌, Option, Some, None, Result, O
 use Rattle.table_walk.specs.declared.WalkEnd.{WalkEnd}
 use Rattle.table_walk.specs.declared.WalkEnd.TheVariants.{Fault, Outside}
 
+-- the line about the end of a walk
 abbrev pub walk_text : Option (Result ℕ WalkEnd) → List ℕ
 walk_text None = codes "walk: no such process"
 walk_text (Some (Ok frame)) = codes "walk: frame " ++ decimal frame

@@ -6,6 +6,7 @@ use Rattle.table_walk.specs.declared.Access.{Access}
 use Rattle.table_walk.specs.declared.Access.TheVariants.{Read, Write}
 use Rattle.address_space.specs.Stays.{Gone, of_lazy}
 
+-- the lazy second page of an access, if it has one
 abbrev pub lazy_second : ℕ → Option ℕ → Gone
 lazy_second p None slot frame = false
 lazy_second p (Some page) slot frame = of_lazy p page slot frame
@@ -15,6 +16,7 @@ abbrev pub lazy_touched : ℕ → ℕ → Size → Gone
 lazy_touched p address size slot frame = of_lazy p (page_number address) slot frame || lazy_second p
     (second_page address size) slot frame
 
+-- the lazy pages that an access fills
 abbrev pub lazy_written : Access → ℕ → ℕ → Size → Gone
 lazy_written Read p address size slot frame = false
 lazy_written Write p address size slot frame = lazy_touched p address size slot frame

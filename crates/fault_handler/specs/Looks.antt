@@ -1,4 +1,4 @@
--- What one look at each page of an access tells, and what the access comes to by it.
+-- What one lookup of each page of an access gives, and the plan that follows from it.
 use Rattle.std.proofs.Common.{ℕ, ◌+◌, ◌-◌, ◌==◌, nat_lt, Bool, true, ◌&&◌, if◌then◌else◌, Option, Some, None}
 use Rattle.std.specs.Option.{option_map}
 use Rattle.page_words.specs.Addresses.{page_number, slot_number, start_number, second_page}
@@ -43,11 +43,11 @@ abbrev pub need_by : Look → Option Look → ℕ
 need_by first None = first.need
 need_by first (Some second) = first.need + (if open_one_region first second then 1 else second.need)
 
--- what an access comes to whose pages the process may have
+-- the plan of an access to pages that the process may have
 abbrev pub ready_by : Look → Option Look → Plan
 ready_by first second = plan.Ready first.step (option_map (λ look. look.step) second)
 
--- and with what is left of the process's quota
+-- that plan, or Quota, by what is left of the process's quota
 abbrev pub roomy_by : Look → Option Look → Container → Planned
 roomy_by first second c = if nat_lt (c.quota - c.used - c.given) (need_by first second) then record { plan = plan.Refused Quota; charge = c.used } else record { plan = ready_by first second; charge = c.used + need_by first second }
 
@@ -56,7 +56,7 @@ abbrev pub fault_by : Option ℕ → Access → Bool → Container → Planned �
 fault_by (Some byte) access present c otherwise = record { plan = plan.Fault (page_fault byte access present); charge = c.used }
 fault_by None access present c otherwise = otherwise
 
--- what an access to pages of the user range comes to
+-- the plan of an access to pages of the user range
 abbrev pub planned_by_looks : Access → Look → Option Look → Container → Planned
 planned_by_looks access first second c = fault_by (barred access first second) access true c (roomy_by first second c)
 

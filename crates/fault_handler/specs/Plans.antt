@@ -1,4 +1,4 @@
--- What an access of a live process comes to.
+-- The plan of an access of a live process.
 use Rattle.std.proofs.Common.{ℕ, Bool, true, false, not, ◌&&◌, if◌then◌else◌, Option, Some, None, Result, Ok, Err}
 use Rattle.std.specs.Prelude.{find}
 use Rattle.std.specs.Option.{option_map}
@@ -91,9 +91,9 @@ takes_no_frame (plan.Ready step.Complete None) = true
 takes_no_frame (plan.Ready step.Complete (Some step.Complete)) = true
 takes_no_frame _ = false
 
--- ---- What became of an access
+-- ---- Results of accesses
 
--- the value of one whose plan goes on, and else why it stops
+-- the value of an access whose plan is Ready, otherwise why it stops
 abbrev pub settled : Plan → ℕ → Result ℕ Stop
 settled (plan.Refused cause) value = Err (stop.Refused cause)
 settled (plan.Fault fault) value = Err (stop.Fault fault)

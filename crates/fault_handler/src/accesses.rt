@@ -113,7 +113,8 @@ pub fn try_access(
     }
 }
 
-/// What an access in one page of the user range comes to, by what stands at the page. The container is the process's.
+/// Returns the plan of an access within one page of the user range, from the page's place. `container` is the
+/// process's.
 fn plan_in_page(
     processes: &Processes,
     pid: Pid,
@@ -168,7 +169,8 @@ fn settle_in_page(
     }
 }
 
-/// Plans an access in one page, which is looked up, and carries it out by that place where it goes on.
+/// Looks up the page of an access within one page, plans the access, and carries it out if its plan is Ready. Otherwise
+/// returns why it stops, and changes nothing.
 #[inline(never)]
 fn plan_and_settle(
     processes: &mut Processes,

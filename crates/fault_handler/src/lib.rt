@@ -1,7 +1,7 @@
-//! An access of a process: what it comes to, and how that is carried out.
+//! Accesses of processes: planning an access, and carrying its plan out.
 //!
-//! A plan is made of a state before anything changes. It is a refusal or a page fault, which change
-//! nothing; or the access completes, at once or after its pages, one or two by where its bytes lie, have been
+//! A plan is made from a state, before anything changes. It is a refusal, a page fault, or completion. Refusals and
+//! faults change nothing. An access completes immediately, or after the one or two pages that it touches have been
 //! mapped or filled.
 #![tactic(auto)]
 

@@ -14,7 +14,7 @@ use page_words::{Page, Pid, Size, Vaddr, page_of, second_page, slot_of, start_of
 use process_table::Processes;
 use table_walk::Access;
 
-/// What a mapped page comes to: a write gives a lazy one its frame first.
+/// Returns the step for a mapped page: Fill for a write to a lazy page, otherwise Complete.
 fn step_there(access: Access, is_lazy: bool) -> PageStep
     ensures { result ≡ step_there access is_lazy }
 {

@@ -1,4 +1,4 @@
-//! What an access comes to, and what its process is charged for after it.
+//! Plans accesses, and computes the charge after each plan.
 
 ghost use Rattle.std.specs.Prelude.{◌≡◌, ◌<◌, ◌≤◌, ℕ, true, false, IfSome, Some, None};
 ghost use Rattle.address_space.specs.Spaces.{cost};
@@ -43,14 +43,15 @@ fn ready(first: &Look, second: &Option<Look>) -> Plan
     }
 }
 
-/// A plan of these parts.
+/// Pairs a plan with the charge after it.
 fn planned(plan: Plan, charge: u32) -> Planned
     ensures { result ≡ record { plan = plan; charge = charge } }
 {
     Planned { plan, charge }
 }
 
-/// What an access to pages that it may have comes to, by what is left of its process's quota.
+/// Plans an access to pages that it may have: Ready if what is left of the process's quota covers what they need,
+/// otherwise Quota.
 #[inline(always)]
 fn by_room(first: &Look, second: &Option<Look>, container: &Container) -> Planned
     requires first { first.now.need ≤ 2 }
@@ -66,7 +67,8 @@ fn by_room(first: &Look, second: &Option<Look>, container: &Container) -> Planne
     }
 }
 
-/// What an access to pages of the user range comes to.
+/// Plans an access to pages of the user range: a fault at the first byte that it may not have, or a plan by the quota
+/// that is left.
 #[inline(always)]
 pub(crate) fn by_looks(
     access: Access,
@@ -88,7 +90,7 @@ pub(crate) fn by_looks(
     }
 }
 
-/// What an access of a live process to pages of the user range comes to.
+/// Plans a live process's access to pages of the user range, from their places.
 #[inline(always)]
 fn plan_within(
     processes: &Processes,
@@ -113,7 +115,7 @@ fn plan_within(
     by_looks(access, &first, &second, container)
 }
 
-/// What an access of a live process comes to, which has this container.
+/// Plans a live process's access; a byte outside the user range is a fault. `container` is the process's.
 #[inline(always)]
 fn planned_of(
     processes: &Processes,
@@ -138,9 +140,9 @@ fn planned_of(
     }
 }
 
-/// What an access of a live process comes to, as `plan` gives it, and what the process is charged for after it: that
-/// of today after a fault or a refusal. The container is the process's, and the places those of the pages that the access
-/// touches.
+/// Returns the plan of a live process's access, as `plan` does, and the process's charge after it. After a fault or a
+/// refusal that is the current charge. `container` is the process's, and `places` are those of the pages that the
+/// access touches.
 #[inline(always)]
 pub fn plan_by(
     processes: &Processes,
@@ -162,12 +164,12 @@ pub fn plan_by(
     planned_of(processes, pid, address, size, access, container, places)
 }
 
-/// What an access of a live process comes to.
+/// Returns the plan of a live process's access.
 ///
-/// The first that applies: a fault of code 4 (a read) or 6 (a write) at the first byte outside the user range; a
-/// fault of code 7 for a write at the first byte in a page that is mapped without the right to write; Quota where
-/// there is no room for the pages that are not mapped. A page that is not mapped is mapped first, and a lazy page
-/// that is written is filled first.
+/// It is the first of these that applies: a fault of code 4 (read) or 6 (write) at the first byte outside the user
+/// range; a fault of code 7 for a write at the first byte in a page that is mapped without the right to write; Quota if
+/// there is no room for the pages that are not mapped. Otherwise the access completes. An unmapped page is mapped
+/// first, and a lazy page that is written is filled first.
 pub fn plan(processes: &Processes, pid: Pid, address: Vaddr, size: Size, access: Access) -> Plan
     requires live { is_live processes.now.state pid ≡ true }
     ensures { result ≡ plan_at processes.now pid address size access }

@@ -1,9 +1,9 @@
-//! What an access comes to.
+//! Plans of accesses, and why an access stops.
 use page_words::Vaddr;
 use process_table::Cause;
 use table_walk::PageFault;
 
-/// What a page that an access touches comes to.
+/// The step that an access needs for one page that it touches.
 #[derive(Clone, Copy, Debug, PartialEq, Eq)]
 pub enum PageStep {
     /// The page is mapped with the right that the access needs, and takes it as memory stands.
@@ -14,7 +14,7 @@ pub enum PageStep {
     Fill,
 }
 
-/// What an access comes to.
+/// The plan of an access: complete it, fault, or refuse it.
 #[derive(Clone, Copy, Debug, PartialEq, Eq)]
 pub enum Plan {
     /// The access completes: by the step of the page that its address lies in, and by that of the next page, where
@@ -41,7 +41,7 @@ pub enum Stop {
 #[derive(Clone, Copy, Debug, PartialEq, Eq)]
 pub struct Planned {
     pub plan: Plan,
-    /// The charge of the process afterwards, in frames: that of today after a fault or a refusal.
+    /// The process's charge afterwards, in frames; after a fault or a refusal, its current charge.
     pub charge: u32,
 }
 
@@ -50,7 +50,7 @@ pub struct Planned {
 pub(crate) struct Look {
     /// The first byte that the access touches in the page.
     pub byte: Vaddr,
-    /// What the page comes to, where the access may have it.
+    /// The step for the page, if the access may have it.
     pub step: PageStep,
     /// Whether the page is mapped without the right to write.
     pub read_only: bool,

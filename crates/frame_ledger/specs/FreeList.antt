@@ -1,5 +1,5 @@
--- The list of free frames in a ledger's places, one number a frame: a free frame's place holds the
--- number of the next free one, the last one's holds 0, and the place of a frame in use a mark.
+-- The list of free frames in a ledger's places, one number a frame. A free frame's place has the number of the next
+-- free one, and the last one's has 0. The place of a frame in use has a mark.
 use Rattle.std.specs.Prelude.{◌≡◌, ◌≢◌, ℕ, ◌≤◌, Bool, not, ◌==◌, List, [], ◌∷◌, length, map, AllPairs, slice_index_or}
 use Rattle.page_words.specs.FiniteSet as set
 use Rattle.page_words.specs.Marked.{marked_numbers}

@@ -11,6 +11,7 @@ use Rattle.kernel_calls.specs.declared.calls.Reply.TheVariants as reply
 use Rattle.guest_cpu.specs.declared.instructions.Instruction.{Instruction}
 use Rattle.guest_cpu.specs.declared.instructions.Instruction.TheVariants.{Set, Add, Load, Store, JumpEq, Jump, Sys, Halt}
 
+-- a guest's model: its CPU, process, registers and counter
 pub record GuestView : Type 0 where
   pub cpu : ℕ
   pub pid : ℕ
@@ -19,6 +20,7 @@ pub record GuestView : Type 0 where
   -- the place of the next instruction
   pub counter : ℕ
 
+-- the code of a guest's model
 abbrev pub view_code : Coded GuestView
 view_code =
     code_by (ℕ × (ℕ × (List ℕ × ℕ))) (coded× coded_ℕ (coded× coded_ℕ (coded× (coded_list coded_ℕ) coded_ℕ)))
@@ -28,12 +30,15 @@ view_code =
 abbrev pub opening_guest : ℕ → ℕ → GuestView
 opening_guest cpu pid = record { cpu = cpu; pid = pid; registers = replicate 8 0; counter = 0 }
 
+-- the value of a register
 abbrev pub register_of : GuestView → ℕ → ℕ
 register_of g r = slice_index g.registers r
 
+-- a guest with this value in a register
 abbrev pub with_register : GuestView → ℕ → ℕ → GuestView
 with_register g r value = record { cpu = g.cpu; pid = g.pid; registers = slice_set g.registers r value; counter = g.counter }
 
+-- a guest at this place of its program
 abbrev pub with_counter : GuestView → ℕ → GuestView
 with_counter g place = record { cpu = g.cpu; pid = g.pid; registers = g.registers; counter = place }
 
@@ -92,5 +97,6 @@ place_after g (Load size to address) = g.counter + 1
 place_after g (Store size address value) = g.counter + 1
 place_after g (Sys to call) = g.counter + 1
 
+-- a guest after an instruction
 abbrev pub after : GuestView → Instruction → ℕ → GuestView
 after g instruction given = with_counter (guest_with_result g instruction given) (place_after g instruction)

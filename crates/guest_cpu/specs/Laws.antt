@@ -23,7 +23,7 @@ abbrev pub CoresAnswer : Type 0
 CoresAnswer = (before after : core.View) (events : List Event) (given : List Answer) → Chain IsCoreStep before events given after
     → (given ≡ map Ok (answers before.state events)) × (after.state ≡ end_of before.state events)
 
--- a guest that ran out of turns and is run on, runs as one that had all turns at once
+-- a guest that ran out of turns and is run again runs as one that had all the turns from the start
 abbrev pub RunsGoOn : Type 0
 RunsGoOn = (program : List Instruction) (m n : ℕ) (g h k : GuestView) (given more : List Answer) (events made : List Event) (e : End)
     → IsRun program m g given events end.OutOfTurns h → IsRun program n h more made e k → IsRun program (m + n) g (given ++ more) (events ++ made) e k
@@ -41,11 +41,13 @@ alone g = record { cpu = 0; pid = 1; registers = g.registers; counter = g.counte
 abbrev pub asked : List Exchange → List Event
 asked part = map (λ x. x.0) part
 
+-- the answers in a list of exchanges
 abbrev pub answered : List Exchange → List Answer
 answered part = map (λ x. Ok x.1) part
 
--- Where what a guest asks and is answered begins the part of a process that a run made, and that part involves nobody, the guest ends as it ends over any core
--- in which process 1 is alone with the quota and the pages that the process was given: in the same way, with the same registers and the same counter.
+-- A guest's exchanges begin the part of a process that a run made, and that part involves nobody. Then the guest ends
+-- as it ends over any core in which process 1 is alone with the quota and the pages that the process was given. It ends
+-- in the same way, with the same registers and the same counter.
 abbrev pub GuestsAreIsolated : Type 0
 GuestsAreIsolated = (s : State) (events : List Event) (k p : ℕ) (e : Event) (mine rest : List Exchange) → IsWellFormed s → slice_get events k ≡ Some e
     → slice_get (answers s events) k ≡ Some (Child p) → own p (drop (k + 1) (exchanges s events)) ≡ mine ++ rest → InvolvesNobody (mine ++ rest)
@@ -53,22 +55,25 @@ GuestsAreIsolated = (s : State) (events : List Event) (k p : ℕ) (e : Event) (m
     → (before after : core.View) (last : GuestView) (ends_alone : End) → before.state ≡ alone_with (quota_asked e.call) (pages_given (end_of s (take k events)) e.pid e.call)
     → HasRun IsCoreStep program turns (alone g) before ends_alone last after → (ends_alone ≡ ends) × (last ≡ alone h)
 
--- what is heard of an event: its exchange, and what its call finds
+-- what an event shows its caller: its exchange, and what its call finds
 abbrev pub Told : Type 0
 Told = Exchange × Option ℕ
 
+-- the events in a list
 abbrev pub events_told : List Told → List Event
 events_told xs = map (λ (x : Told). x.0.0) xs
 
+-- the answers in a list
 abbrev pub answers_told : List Told → List Answer
 answers_told xs = map (λ (x : Told). Ok x.0.1) xs
 
+-- what the calls of a list find
 abbrev pub founds : List Told → List (Option ℕ)
 founds xs = map (λ (x : Told). x.1) xs
 
--- where two states look the same to a live process, and outsiders use no channel to it in a run from each, two guests of
--- one program that make all of its calls there, and find the same, are told the same, and end in the same way, with the
--- same registers and the same counter
+-- Two states look the same to a live process, and outsiders use no channel to it in a run from each. Two guests of one
+-- program make all of its calls there, and find the same. Then they get the same replies, and end in the same way, with
+-- the same registers and the same counter.
 abbrev pub GuestsHearTheSame : Type 0
 GuestsHearTheSame = (s t : State) (p : ℕ) (events others : List Event) → IsWellFormed s → IsWellFormed t
     → is_live s p ≡ true → LooksSame s t (λ q. q == p)
@@ -79,8 +84,8 @@ GuestsHearTheSame = (s t : State) (p : ℕ) (events others : List Event) → IsW
     → IsRun program turns g (answers_told mine) (events_told mine) e h
     → IsRun program turns g (answers_told theirs) (events_told theirs) f k → (mine ≡ theirs) × (e ≡ f) × (h ≡ k)
 
--- the same, whatever outsiders do, where the process is a family of its own, which has the same in both states, and keeps
--- within itself in both runs
+-- two guests of one program get the same replies, whatever outsiders do, if their process is a family of its own, has
+-- the same in both states, and keeps within itself in both runs
 abbrev pub GuestsAreUnreached : Type 0
 GuestsAreUnreached = (s t : State) (p : ℕ) (events others : List Event) → IsWellFormed s → IsWellFormed t
     → IsFamily s (λ q. q == p) → IsFamily t (λ q. q == p) → HaveTheSame s t (λ q. q == p)

@@ -45,6 +45,7 @@ pub data IsRun (program : List Instruction) (turns : ℕ) : GuestView → List A
 
 -- ---- Over a port: its states are a chain of its steps, and its answers are the run's
 
+-- a run of a program over a port, with its events and answers
 pub record HasRun {S : Type 0} (step : S → Event → Answer → S → Type 0) (program : List Instruction) (turns : ℕ) (g : GuestView) (before : S) (e : End) (h : GuestView) (after : S) : Type 0 where
   pub events : List Event
   pub answers : List Answer

@@ -30,11 +30,11 @@ pub fn guests_are_isolated()
     ensures { GuestsAreIsolated }
 {}
 
-/// What a guest is told, and how it ends, depends on what its process sees. Of two runs from states that look the same
-/// to a live process, in which others use no channel to it, and in which a guest of one program makes all calls of that
-/// process and finds the same processes live, each tells its guest the same, and both guests end in the same way, with the
-/// same registers and the same counter. Where the process is a family of its own, which keeps within itself, it is so
-/// whatever others do. It computes nothing.
+/// What a guest is told, and how it ends, depends only on what its process sees. Take two runs from states that look
+/// the same to a live process, in which others use no channel to it. In each a guest of one program makes all calls of
+/// the process, and finds the same processes live. Then both guests get the same replies and end in the same way, with
+/// the same registers and counter. If the process is a family of its own that keeps within itself, this holds whatever
+/// others do. It computes nothing.
 pub fn guests_hear_their_own()
     ensures seen { GuestsHearTheSame }
     ensures unreached { GuestsAreUnreached }

@@ -28,8 +28,8 @@ fn next_instruction(guest: &Guest, program: &[Instruction]) -> Option<Instructio
     program.get(guest.counter()).copied()
 }
 
-/// Carries out one instruction. The end of the run, where it comes to one: Halt ends it, and so does a
-/// call that is refused, that faults or that the port doesn't answer.
+/// Carries out one instruction. Returns the end of the run if this ends it: at Halt, and at a call that is refused,
+/// that faults, or that the port does not answer.
 fn execute<P: Port>(guest: &mut Guest, instruction: &Instruction, port: &mut P) -> Option<End>
     requires { guest.old.counter < 2 ^ 63 }
     ensures { HasExecuted P.step instruction.now guest.old port.old result guest.new port.new }

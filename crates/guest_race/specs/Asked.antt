@@ -1,6 +1,6 @@
--- Who was asked in a round, and in several, and what came.
---     IsAsked      that a referee asked a monitor, whose rows are the round's, and then an audit, which found nothing
---     Times step n before last after      n steps, one after another, and what came of the last
+-- Who was questioned in one round and in several, and the answers. IsAsked a referee questioned a monitor, whose rows
+-- are the round's, and then an audit, which found nothing Times step n before last after n steps in sequence, and the
+-- result of the last
 use Rattle.std.specs.Prelude.{◌≡◌, ℕ, ◌+◌, Bool, true, List, Option}
 use Rattle.image_check.specs.Told.{Told, fails_nothing}
 use Rattle.integrity_checker.specs.Steps.{IsOf}
@@ -8,8 +8,7 @@ use Rattle.integrity_checker.specs.declared.parts.Audit.{Audit}
 use Rattle.integrity_checker.specs.declared.parts.Helper.{Helper}
 use Rattle.memory_report.specs.declared.rows.Row.{Row}
 
--- A referee who has asked a monitor, and then an audit: these rows came of the first, and of the second a verdict by which
--- nothing fails.
+-- A referee questioned a monitor, which gave these rows, and then an audit, by whose verdict nothing fails.
 pub record IsAsked {S : Type 0} (reported : S → List (Option Row) → S → Type 0) (judged : S → Told → S → Type 0) (before : S) (rows : List (Option Row)) (after : S) : Type 0 where
   pub between : S
   pub report : reported before rows between
@@ -17,7 +16,7 @@ pub record IsAsked {S : Type 0} (reported : S → List (Option Row) → S → Ty
   pub judged_so : judged between verdict after
   pub sound : fails_nothing verdict ≡ true
 
--- such a verdict came of an audit: by it nothing fails, or something does
+-- the audit gave such a verdict: nothing fails, or something does
 abbrev pub Judges : {S : Type 0} → (S → Told → S → Type 0) → S → Bool → S → Type 0
 Judges {S} judged before sound after = (verdict : Told) × judged before verdict after × (sound ≡ fails_nothing verdict)
 
@@ -25,7 +24,7 @@ Judges {S} judged before sound after = (verdict : Told) × judged before verdict
 abbrev pub IsDone : Audit → Helper → Type 0
 IsDone audit helper = IsOf audit helper × (helper.done ≡ true)
 
--- So many steps, one after another, and what came of the last of them.
+-- That many steps in sequence, and the result of the last.
 pub data Times {S X : Type 0} (step : S → X → S → Type 0) : ℕ → S → X → S → Type 0 where
   once : {s t : S} {x : X} → step s x t → Times step 1 s x t
   more : {n : ℕ} {s t u : S} {x y : X} → Times step n s x t → step t y u → Times step (n + 1) s y u

@@ -10,6 +10,7 @@ use Rattle.page_words.specs.declared.addresses.Size.TheVariants.{Four}
 abbrev pub number_at : ℕ
 number_at = 1073741824
 
+-- the page that both guests use
 abbrev pub page_at : ℕ
 page_at = 262144
 

@@ -20,8 +20,8 @@ use Rattle.memory_report.specs.declared.rows.Row.{Row}
 abbrev pub made_by : Maker → List Event
 made_by cpu = events_of (entries_of cpu.number cpu.seen)
 
--- A guest of the process and CPU of that number, from the entries that the CPU had to those that it has: it ran by the
--- replies that stand in the new entries, made their events, and halted within its turns.
+-- A guest of the process and CPU of that number, from the entries that the CPU had to those that it has. It ran with
+-- the replies in the new entries, made their events, and halted within its turns.
 pub record Halts (number : ℕ) (had has : List LogEntry) : Type 0 where
   pub made : List LogEntry
   pub guest : GuestView
@@ -43,8 +43,8 @@ pub record Reports (frames : ℕ) (by_first by_second : List LogEntry) (rows : L
   pub second : StartsWith log by_second
   pub report : rows ≡ report_of (state_after frames log)
 
--- a kernel that was closed, by the CPUs that came back: its history is legal, begins with what each has seen, and has of
--- each just the calls that it made; and the report of the state after it
+-- A kernel that its returned CPUs closed. The history is legal, begins with what each CPU has seen, and has of each
+-- only the calls that it made. The report is that of the state after it.
 pub record IsClosed (frames : ℕ) (cpus : List Maker) (rows : List (Option Row)) (log : List LogEntry) : Type 0 where
   pub legal : Legal frames log
   pub begins : All (λ c. take (length c.seen) log ≡ c.seen) cpus
@@ -52,6 +52,7 @@ pub record IsClosed (frames : ℕ) (cpus : List Maker) (rows : List (Option Row)
   pub all : All (λ e. Any (λ c. c.number ≡ e.cpu) cpus) log
   pub report : rows ≡ report_of (state_after frames log)
 
+-- the kernel of these CPUs was closed with this report
 abbrev pub Closes : ℕ → List Maker → List (Option Row) → Type 0
 Closes frames cpus rows = (log : List LogEntry) × IsClosed frames cpus rows log
 
@@ -59,9 +60,9 @@ Closes frames cpus rows = (log : List LogEntry) × IsClosed frames cpus rows log
 abbrev pub Audited : ℕ → Maker → Type 0
 Audited frames cpu = (image : Image) × (history : List LogEntry) × IsSnapshot frames cpu image history × (fails_nothing (verdict_on image) ≡ true)
 
--- A round by its history: it is legal, its entries are those of the two guests, its report is also what a monitor
--- reported who was told all that both CPUs had seen, all their own calls among it, and an audit of an image that was
--- taken for the first CPU behind all its calls found nothing.
+-- A round by its history. The history is legal, and its entries are those of the two guests. Its report is also the one
+-- of a monitor that had received all that both CPUs had seen, with all their own calls. An audit of an image that was
+-- taken for the first CPU after all its calls found nothing.
 pub record IsRound (frames : ℕ) (rows : List (Option Row)) (log : List LogEntry) : Type 0 where
   pub legal : Legal frames log
   pub both : BothHalt (entries_of 0 log) (entries_of 1 log)
@@ -74,5 +75,6 @@ pub record IsRound (frames : ℕ) (rows : List (Option Row)) (log : List LogEntr
   pub reported : Reports frames seen_first seen_second rows
   pub audited : Audited frames (maker 0 seen_first)
 
+-- a report is that of some round
 abbrev pub IsReported : ℕ → List (Option Row) → Type 0
 IsReported frames rows = (log : List LogEntry) × IsRound frames rows log

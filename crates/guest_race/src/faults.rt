@@ -7,7 +7,7 @@ use integrity_checker::AuditFault;
 use locked_core::{BootFault, Fault};
 use thiserror::Error;
 
-/// Why a round ends early. Of several causes the first of these is told.
+/// Why a round ends early. If there are several causes, the first in this order is reported.
 #[derive(Clone, Copy, Debug, PartialEq, Eq, Error)]
 pub enum RoundFault {
     /// There is not enough memory.
@@ -79,7 +79,7 @@ pub(crate) fn cause_of(end: &End) -> Option<RoundFault>
     }
 }
 
-/// Of two causes the one that is told.
+/// Returns the graver of two causes: NoMemory, then Turns, then Failed.
 pub(crate) fn graver(a: RoundFault, b: RoundFault) -> RoundFault
     ensures { result ≡ graver a b }
 {
@@ -90,7 +90,7 @@ pub(crate) fn graver(a: RoundFault, b: RoundFault) -> RoundFault
     }
 }
 
-/// The one that is told of two causes, each of which may be none.
+/// Returns the graver of two causes, each of which may be absent.
 pub(crate) fn told_cause(a: Option<RoundFault>, b: Option<RoundFault>) -> Option<RoundFault>
     ensures { result ≡ told_cause a b }
 {

@@ -18,7 +18,7 @@ use std::marker::Brand;
 use std::sync::Wait;
 use std::thread::Threads;
 
-/// What a monitor reports that is told all that both CPUs have seen.
+/// Returns the report of a monitor that has learned what both CPUs have seen; None if it gives none.
 fn report_told<N: Name, F: Referee>(
     referee: &mut F,
     monitor: &mut Monitor<N>,
@@ -52,7 +52,7 @@ fn same_report(reported: Option<Report>, history: &History) -> Result<Report, Ro
     }
 }
 
-/// What a round comes to: where a cause was told, or no report was given twice, the graver of both.
+/// Returns the report if there is no cause. Otherwise returns the cause, or the graver of it and the fault.
 fn judged(
     cause: Option<RoundFault>,
     report: Result<Report, RoundFault>,
@@ -128,9 +128,9 @@ fn play_round<N: Name + Send + Sync, R: Threads + Wait + Sync, F: Referee>(
     judged(told_cause(played, audited), report)
 }
 
-/// A round on a kernel of its own, of 16 to 4,096 frames, whose two questions a referee asks: a monitor for
-/// its report, and then an audit for its verdict, each once. The report on its memory at the end, which is the
-/// one that came of the monitor; by the verdict that came nothing fails.
+/// Plays a round on its own kernel of 16 to 4,096 frames. The referee questions a monitor for its report, and then an
+/// audit for its verdict, once each. Returns the report on the memory at the end, which is the monitor's; by the
+/// audit's verdict nothing fails.
 ///
 /// NoMemory where there is not enough memory, else Turns where a guest ran out of turns, else Failed
 /// where anything else ended it early, as a number of frames that no kernel has.

@@ -20,6 +20,7 @@ HaveRoom counts most = (f : ℕ) → f < length counts → slice_index counts f 
 abbrev pub MayGrow : List ℕ → (ℕ → ℕ) → Type 0
 MayGrow counts k = (f : ℕ) → f < length counts → slice_index counts f + k f < 2 ^ 32
 
+-- counts that are all 0
 abbrev pub AreZeros : List ℕ → Type 0
 AreZeros counts = (f : ℕ) → f < length counts → slice_index counts f ≡ 0
 

@@ -1,4 +1,4 @@
--- The codes of clauses and of what a verdict tells, so that a model's `Value` may be one.
+-- The codes of clauses and of a verdict's parts, so that a model's `Value` may be one.
 use Rattle.std.proofs.Common.{ℕ, List, Option, refl, ◌≡◌, ◌==◌, if◌then◌else◌}
 use Rattle.std.specs.Coded.{Coded, code_by, coded×, coded_list, coded_ℕ, coded_option}
 use Rattle.image_check.specs.declared.clauses.ProcessClause.{ProcessClause}
@@ -17,6 +17,7 @@ process_number of_process.Used = 5
 process_number of_process.Given = 6
 process_number of_process.Quota = 7
 
+-- the clause of processes with this number
 abbrev pub numbered_process : ℕ → ProcessClause
 numbered_process n =
     if n == 1 then of_process.Parent
@@ -36,6 +37,7 @@ same_process of_process.Used = refl
 same_process of_process.Given = refl
 same_process of_process.Quota = refl
 
+-- the number of a clause of frames
 abbrev pub frame_number : FrameClause → ℕ
 frame_number of_frame.Reserved = 1
 frame_number of_frame.Directory = 2
@@ -43,6 +45,7 @@ frame_number of_frame.Table = 3
 frame_number of_frame.Page = 4
 frame_number of_frame.Free = 5
 
+-- the clause of frames with this number
 abbrev pub numbered_frame : ℕ → FrameClause
 numbered_frame n =
     if n == 1 then of_frame.Reserved
@@ -58,12 +61,15 @@ same_frame of_frame.Table = refl
 same_frame of_frame.Page = refl
 same_frame of_frame.Free = refl
 
+-- the code of clauses of processes
 abbrev pub process_clause_code : Coded ProcessClause
 process_clause_code = code_by ℕ coded_ℕ process_number numbered_process same_process
 
+-- the code of clauses of frames
 abbrev pub frame_clause_code : Coded FrameClause
 frame_clause_code = code_by ℕ coded_ℕ frame_number numbered_frame same_frame
 
+-- the code of verdicts
 abbrev pub told_code : Coded Told
 told_code =
     code_by (List (Option ProcessClause) × List (Option FrameClause))

@@ -45,9 +45,11 @@ pages_by image p = count_range (λ page. is_some (page_word (memory_of image) (a
 
 -- ---- Of all
 
+-- how often directories name frame f
 unfoldable pub names : Image → ℕ → ℕ
 names image f = sum_range (λ p. names_by image p f) 0 64
 
+-- how often tables map frame f
 unfoldable pub maps : Image → ℕ → ℕ
 maps image f = sum_range (λ p. maps_by image p f) 0 64
 

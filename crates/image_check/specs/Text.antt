@@ -20,11 +20,14 @@ abbrev pub lines_from : {C : Type 0} → (ℕ → C → List ℕ) → ℕ → Li
 lines_from line n [] = []
 lines_from line n (c ∷ cs) = line n c ++ lines_from line (n + 1) cs
 
+-- the lines of the processes that fail a clause
 abbrev pub process_lines : Told → List ℕ
 process_lines told = lines_from process_line 0 told.processes
 
+-- the lines of the frames that fail a clause
 abbrev pub frame_lines : Told → List ℕ
 frame_lines told = lines_from frame_line 0 told.frames
 
+-- the text of a verdict
 unfoldable pub verdict_text : Told → List ℕ
 verdict_text told = if fails_nothing told then codes "sound" ++ 10 ∷ [] else process_lines told ++ frame_lines told

@@ -21,18 +21,22 @@ use Rattle.image_check.specs.WordTests.{names_table, names_page}
 
 -- ---- Roles
 
+-- whether a role is that of process p's directory
 abbrev pub is_directory_of : ℕ → Option Role → Bool
 is_directory_of p (Some (Directory q)) = q == p
 is_directory_of p _ = false
 
+-- whether a role is that of process p's table for region s
 abbrev pub is_table_of : ℕ → ℕ → Option Role → Bool
 is_table_of p s (Some (Table q r)) = q == p && r == s
 is_table_of p s _ = false
 
+-- whether a role is that of a page
 abbrev pub is_page : Option Role → Bool
 is_page (Some (Page count)) = true
 is_page _ = false
 
+-- whether a role is Reserved
 abbrev pub is_reserved : Option Role → Bool
 is_reserved (Some Reserved) = true
 is_reserved _ = false
@@ -51,6 +55,7 @@ has_directory image p r = not (r.directory == 0) && is_directory_of p (role_at i
 abbrev pub links_table : Image → ℕ → ℕ → ℕ → Bool
 links_table image p s word = word == 0 || (is_user_slot s && names_table word && is_table_of p s (role_at image (frame_number word)))
 
+-- whether each word of a directory is clear or links a table
 unfoldable pub links_tables : Image → ℕ → Process → Bool
 links_tables image p r = all_range (λ s. links_table image p s (word_of (memory_of image) r.directory s)) 0 1024
 
@@ -63,6 +68,7 @@ abbrev pub table_is_right : Image → Option ℕ → Bool
 table_is_right image None = true
 table_is_right image (Some t) = nat_le 1 (words_in image t) && all_range (λ i. maps_page image (word_of (memory_of image) t i)) 0 1024
 
+-- whether the tables of process p have correct words
 unfoldable pub maps_pages : Image → ℕ → Bool
 maps_pages image p = all_range (λ s. table_is_right image (table_at (memory_of image) p s)) 256 704
 
@@ -74,9 +80,11 @@ uses_its_frames image p r = r.used == 1 + tables_by image p + pages_by image p
 unfoldable pub quotas_from : Image → ℕ → ℕ
 quotas_from image p = sum_range (λ q. quota_from p q (account_at image q)) 0 64
 
+-- whether what a process gave is its children's quotas together
 abbrev pub gives_its_children : Image → ℕ → Process → Bool
 gives_its_children image p r = r.given == quotas_from image p
 
+-- whether what a process uses and gave is within its quota
 abbrev pub keeps_its_quota : Process → Bool
 keeps_its_quota r = nat_le (r.used + r.given) r.quota
 
@@ -97,14 +105,17 @@ abbrev pub clause_of : Image → ℕ → Option Process → Option ProcessClause
 clause_of image p None = if p == 0 then Some of_process.Parent else None
 clause_of image p (Some r) = live_clause image p r
 
+-- the first clause that process p fails
 abbrev pub process_clause : Image → ℕ → Option ProcessClause
 process_clause image p = clause_of image p (process_at image p)
 
 -- ---- Frames
 
+-- whether no table maps frame f
 abbrev pub is_unmapped : Image → ℕ → Bool
 is_unmapped image f = maps image f == 0
 
+-- whether no directory names frame f
 abbrev pub is_unnamed : Image → ℕ → Bool
 is_unnamed image f = names image f == 0
 
@@ -120,10 +131,12 @@ serves image f Free = (is_unnamed image f && is_unmapped image f, of_frame.Free)
 abbrev pub is_blank_and_reserved : Image → Bool
 is_blank_and_reserved image = is_reserved (role_at image 0) && list_all (λ b. b == 0) (frame_bytes image.bytes 0)
 
+-- the clause that frame f fails, by its role
 abbrev pub clause_by_role : Image → ℕ → Option Role → Option FrameClause
 clause_by_role image f None = None
 clause_by_role image f (Some role) = first_failing (serves image f role ∷ [])
 
+-- the first clause that frame f fails
 abbrev pub frame_clause : Image → ℕ → Option FrameClause
 frame_clause image f = if f == 0 then first_failing ((is_blank_and_reserved image, of_frame.Reserved) ∷ []) else clause_by_role image f (role_at image f)
 

@@ -9,9 +9,11 @@ use Rattle.address_space.specs.ImageWords.{NamesPageIn}
 abbrev pub are_clear : ℕ → List ℕ → Bool
 are_clear word places = list_all (λ k. not (flag word k)) places
 
+-- whether a directory word links a table as the kernel writes it
 abbrev pub names_table : ℕ → Bool
 names_table word = nat_le 1 (frame_number word) && is_present word && is_writable word && is_user word && are_clear word (3 ∷ 4 ∷ 6 ∷ 7 ∷ 8 ∷ 9 ∷ 10 ∷ 11 ∷ [])
 
+-- whether a holds only together with b
 abbrev pub only_with : Bool → Bool → Bool
 only_with a b = not a || b
 
@@ -34,6 +36,7 @@ names_any_page word = is_lazy_or_real word && is_present word && is_user word &&
     && are_equal (is_writable word) (is_granted word && not (is_lazy word))
     && only_with (is_granted word) (has_may word) && only_with (is_dirty word) (is_accessed word)
 
+-- whether a table word is one of its version
 abbrev pub names_page : ℕ → ℕ → Bool
 names_page version word = if version == 2 then names_any_page word else names_real_page word
 

@@ -15,7 +15,7 @@ use Rattle.image_map.specs.declared.runs.Run.{Run}
 use Rattle.image_map.specs.Runs.{runs_at, pages_in}
 use Rattle.image_map.specs.Text.{run_line, pages_text, holders, limit}
 
--- a page, and the flags that its line tells
+-- a page, and the flags that its line shows
 pub record Listed : Type 0 where
   pub page : ℕ
   pub write : Bool

@@ -19,11 +19,12 @@ pages_of image s t = flat_map (λ i. page_of (1024 * s + i) (word_of (memory_of 
 abbrev pub goes_on : Run → Run → Bool
 goes_on run next = run.last + 1 == next.first && run.word == next.word
 
--- a run, and those behind it, of which each that goes on with it is joined to it
+-- a run and those after it, each joined to it if it continues it
 abbrev pub runs_from : Run → List Run → List Run
 runs_from run [] = run ∷ []
 runs_from run (next ∷ rest) = if goes_on run next then runs_from (record run { last = next.last }) rest else run ∷ runs_from next rest
 
+-- pages joined into runs
 abbrev pub runs_of : List Run → List Run
 runs_of [] = []
 runs_of (run ∷ rest) = runs_from run rest
@@ -33,6 +34,7 @@ abbrev pub own_if : Image → ℕ → ℕ → Option ℕ → Option ℕ
 own_if image p s None = None
 own_if image p s (Some t) = if is_table_of p s (role_at image t) then Some t else None
 
+-- the table of process p for region s, if the frame's role says so
 abbrev pub own_table : Image → ℕ → ℕ → Option ℕ
 own_table image p s = own_if image p s (table_at (memory_of image) p s)
 
@@ -41,6 +43,7 @@ abbrev pub runs_in : Image → ℕ → Option ℕ → List Run
 runs_in image s None = []
 runs_in image s (Some t) = runs_of (pages_of image s t)
 
+-- the runs of process p in region s
 abbrev pub runs_at : Image → ℕ → ℕ → List Run
 runs_at image p s = runs_in image s (own_table image p s)
 

@@ -41,12 +41,15 @@ padding n = if nat_lt n 10 then codes "   " else if nat_lt n 100 then codes "  "
 abbrev pub row_line : Image → ℕ → List ℕ
 row_line image row = padding (64 * row) ++ decimal (64 * row) ++ 32 ∷ letters image (64 * row) (min 64 (frames image - 64 * row)) ++ 10 ∷ []
 
+-- the rows of all frames, 64 a row
 unfoldable pub rows_text : Image → List ℕ
 rows_text image = flat_map (row_line image) (range_with_len 0 ((frames image + 63) / 64))
 
+-- the line above the rows, with the legend
 abbrev pub frames_heading : List ℕ
 frames_heading = codes "frames # reserved . free D directory T table P page S shared" ++ 10 ∷ []
 
+-- the part about frames
 unfoldable pub frames_text : Image → List ℕ
 frames_text image = frames_heading ++ rows_text image
 
@@ -69,6 +72,7 @@ abbrev pub holders : Option Role → ℕ
 holders (Some (Page count)) = count
 holders _ = 0
 
+-- the number of holders of a shared page
 abbrev pub holders_text : ℕ → List ℕ
 holders_text n = if nat_lt 1 n then codes " holders " ++ decimal n else []
 
@@ -92,6 +96,7 @@ limit image = if fails_nothing (verdict_on image) then 1024 else frames image
 abbrev pub runs_text : Image → ℕ → List Run → List ℕ
 runs_text image most runs = flat_map (run_line image) (take most runs) ++ more_line (length runs - most)
 
+-- the runs of process p in region s
 abbrev pub slot_text : Image → ℕ → ℕ → ℕ → List ℕ
 slot_text image most p s = runs_text image most (runs_at image p s)
 
@@ -101,9 +106,11 @@ slot_text image most p s = runs_text image most (runs_at image p s)
 abbrev pub marks : ℕ → ℕ → ℕ
 marks n quota = if quota == 0 then 0 else (40 * n + (quota - 1)) / quota
 
+-- the marks of a bar for what a process uses, at most 40
 abbrev pub used_marks : Process → ℕ
 used_marks r = min (marks r.used r.quota) 40
 
+-- the marks of a bar for what a process gave
 abbrev pub given_marks : Process → ℕ
 given_marks r = min (marks r.given r.quota) (40 - used_marks r)
 
@@ -111,11 +118,13 @@ given_marks r = min (marks r.given r.quota) (40 - used_marks r)
 abbrev pub bar : Process → List ℕ
 bar r = replicate (used_marks r) 35 ++ replicate (given_marks r) 103 ++ replicate (40 - used_marks r - given_marks r) 46
 
+-- the line of a process
 unfoldable pub process_line : ℕ → Process → List ℕ
 process_line p r =
     codes "process " ++ decimal p ++ codes " parent " ++ decimal r.parent ++ codes " quota " ++ decimal r.quota ++ codes " used " ++ decimal r.used ++ codes " given " ++ decimal r.given
     ++ codes " room " ++ decimal (r.quota - r.used - r.given) ++ 10 ∷ []
 
+-- the line of a process's bar
 unfoldable pub bar_line : Process → List ℕ
 bar_line r = codes "  [" ++ bar r ++ codes "]" ++ 10 ∷ []
 
@@ -123,19 +132,23 @@ bar_line r = codes "  [" ++ bar r ++ codes "]" ++ 10 ∷ []
 unfoldable pub pages_text : Image → ℕ → ℕ → List ℕ
 pages_text image most p = flat_map (slot_text image most p) (range_with_len 256 704)
 
+-- the part about a process
 unfoldable pub process_text : Image → ℕ → ℕ → Option Process → List ℕ
 process_text image most p None = []
 process_text image most p (Some r) = process_line p r ++ (bar_line r ++ pages_text image most p)
 
 -- ---- The whole
 
+-- the first line of a map
 unfoldable pub image_line : Image → List ℕ
 image_line image =
     codes "image version " ++ decimal image.version ++ codes " frames " ++ decimal (frames image) ++ codes " reserved " ++ decimal (frames_with image 35) ++ codes " free " ++ decimal (frames_with image 46)
     ++ codes " directory " ++ decimal (frames_with image 68) ++ codes " table " ++ decimal (frames_with image 84) ++ codes " page " ++ decimal (frames_with image 80) ++ codes " shared " ++ decimal (frames_with image 83) ++ 10 ∷ []
 
+-- the part about processes
 unfoldable pub processes_text : Image → ℕ → List ℕ
 processes_text image most = flat_map (λ p. process_text image most p (process_at image p)) (range_with_len 0 64)
 
+-- the text of an image's map
 unfoldable pub map_text : Image → List ℕ
 map_text image = image_line image ++ (processes_text image (limit image) ++ (frames_text image ++ verdict_text (verdict_on image)))

@@ -34,7 +34,7 @@ pub(crate) struct Look {
     pub font: u32,
     /// The base line of its label, below its upper edge.
     pub label: u32,
-    /// The same, where a clause stands below it.
+    /// The base line of its label if a clause stands below the label.
     pub upper: u32,
     /// The base line of the clause that it fails.
     pub clause: u32,

@@ -1,4 +1,4 @@
--- Cores that one image stands for answer alike.
+-- Cores that one image represents give the same replies.
 use Rattle.std.specs.Prelude.{◌≡◌, List}
 use Rattle.kernel_calls.specs.declared.calls.Event.{Event}
 use Rattle.kernel_calls.specs.Machine.{answers, end_of}

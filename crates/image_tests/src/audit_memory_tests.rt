@@ -11,14 +11,14 @@ fn begun<R: AllocGlobal + Abort>(rt: &R, core: &Core) -> Result<usize, AuditFaul
     Audit::new(rt.alloc(), image_of(rt, core), 2).map(|made| made.1.len())
 }
 
-/// The fault is want of memory; the same call then gives two helpers, and a line is printed that says so.
+/// The fault is NoMemory. The same call then gives two helpers, and prints a line that says so.
 fn begin_again<R: AllocGlobal + Abort + Print>(rt: &R, core: &Core, fault: AuditFault) {
     same(rt, &fault, &AuditFault::NoMemory);
     same(rt, &begun(rt, core), &Ok(2));
     say(rt, "NoMemory, and then an audit");
 }
 
-/// An audit of a core has two helpers, at once or after want of memory.
+/// An audit of a core has two helpers, immediately or after NoMemory.
 fn check_begun<R: AllocGlobal + Abort + Print>(rt: &R, core: &Core) {
     match begun(rt, core) {
         Ok(helpers) => same(rt, &helpers, &2),

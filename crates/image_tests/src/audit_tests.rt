@@ -351,7 +351,7 @@ fn check_audit<R: AllocGlobal + Threads + Abort + Sync>(
     check_agrees(rt, &verdict, told, frames, helpers);
 }
 
-/// The same by 1 to 8 helpers, of the image with these words put to it.
+/// Checks audits by 1 to 8 helpers, of the image with these words put to it.
 fn check_audits<R: AllocGlobal + Threads + Abort + Sync>(
     rt: &R,
     changes: &[(usize, u32)],
@@ -363,7 +363,7 @@ fn check_audits<R: AllocGlobal + Threads + Abort + Sync>(
     }
 }
 
-/// The same, where the image is sound or not.
+/// Checks audits by 1 to 8 helpers of the changed image, and that the check's verdict is `sound`.
 fn check_case<R: AllocGlobal + Threads + Abort + Sync>(
     rt: &R,
     changes: &[(usize, u32)],
@@ -375,7 +375,7 @@ fn check_case<R: AllocGlobal + Threads + Abort + Sync>(
     check_audits(rt, changes, &told, in_threads);
 }
 
-/// The same of all cases.
+/// Checks every case of CASES.
 fn check_cases<R: AllocGlobal + Threads + Abort + Sync>(rt: &R, in_threads: bool) {
     for (changes, sound) in CASES {
         check_case(rt, changes, sound, in_threads);

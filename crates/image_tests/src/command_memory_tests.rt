@@ -1,8 +1,8 @@
 //! What the commands answer where memory is refused.
 //!
-//! `rt try --test --fail-alloc N` refuses the Nth allocation of each test here, and no other. A call that
-//! meets it answers want of memory, with nothing written, the same call with memory then succeeds, and a line
-//! is printed that says so.
+//! `rt try --test --fail-alloc N` refuses the Nth allocation of each test here, and no other. A call that meets the
+//! refusal answers that memory ran out, with nothing written. The same call with memory then succeeds, and a line is
+//! printed that says so.
 
 use crate::command_lines::TwoWords;
 use crate::common::say;
@@ -32,14 +32,14 @@ fn check_race(rt: &impl Abort, asked: Result<Job<'static>, ErrorKind>) {
     same(rt, &asked, &Ok(race));
 }
 
-/// Words were refused for want of memory; they are read again, and a line is printed that says so.
+/// Arguments were refused for lack of memory. They are read again, and a line is printed that says so.
 fn ask_again<R: AllocGlobal + Abort + Print>(rt: &R, kind: ErrorKind) {
     same(rt, &kind, &ErrorKind::OutOfMemory);
     check_race(rt, race_asked(rt.alloc()));
     say(rt, "OutOfMemory, and then a job");
 }
 
-/// The words of a race are read, at once or after want of memory.
+/// Reads the arguments of a race, immediately or after OutOfMemory.
 fn check_asked<R: AllocGlobal + Abort + Print>(rt: &R) {
     match race_asked(rt.alloc()) {
         Ok(race) => check_race(rt, Ok(race)),
@@ -58,14 +58,14 @@ fn count_words(alloc: Global) -> Result<usize, WordsFault> {
     words(&(line, alloc)).map(|words| words.len())
 }
 
-/// Words were not read for want of memory; they are read again, and a line is printed that says so.
+/// Arguments were not read for lack of memory. They are read again, and a line is printed that says so.
 fn read_again<R: AllocGlobal + Abort + Print>(rt: &R, fault: WordsFault) {
     same(rt, &fault, &WordsFault::NoMemory);
     same(rt, &count_words(rt.alloc()), &Ok(2));
     say(rt, "NoMemory, and then words");
 }
 
-/// Two words are read, at once or after want of memory.
+/// Reads two arguments, immediately or after NoMemory.
 fn check_read<R: AllocGlobal + Abort + Print>(rt: &R) {
     match count_words(rt.alloc()) {
         Ok(count) => same(rt, &count, &2),
@@ -84,14 +84,14 @@ fn imaged(alloc: Global, bytes: &mut Vec<u8>) -> Option<ScriptFault> {
     write_script_image(alloc, &mut reader, bytes, 16).err()
 }
 
-/// Nothing was written of an image for want of memory; it is made again, and a line is printed that says so.
+/// For lack of memory nothing was written of an image. It is made again, and a line is printed that says so.
 fn image_again<R: AllocGlobal + Abort + Print>(rt: &R, bytes: &mut Vec<u8>, fault: ScriptFault) {
     same(rt, &(fault, bytes.len()), &(ScriptFault::NoMemory, 0));
     same(rt, &imaged(rt.alloc(), bytes), &None);
     say(rt, "NoMemory, and then an image");
 }
 
-/// Makes the image after a script, at once or after want of memory.
+/// Makes the image after a script, immediately or after NoMemory.
 fn make_image<R: AllocGlobal + Abort + Print>(rt: &R, bytes: &mut Vec<u8>) {
     match imaged(rt.alloc(), bytes) {
         None => {}
@@ -99,8 +99,7 @@ fn make_image<R: AllocGlobal + Abort + Print>(rt: &R, bytes: &mut Vec<u8>) {
     }
 }
 
-/// Nothing was written of a verdict for want of memory; the image is checked again, and a line is printed that
-/// says so.
+/// For lack of memory nothing was written of a verdict. The image is checked again, and a line is printed that says so.
 fn judge_again<R: AllocGlobal + Abort + Print>(
     rt: &R,
     bytes: &[u8],
@@ -112,7 +111,7 @@ fn judge_again<R: AllocGlobal + Abort + Print>(
     say(rt, "NoMemory, and then a verdict");
 }
 
-/// Checks an image, at once or after want of memory.
+/// Checks an image, immediately or after NoMemory.
 fn judge<R: AllocGlobal + Abort + Print>(rt: &R, bytes: &[u8], text: &mut Vec<u8>) {
     match check_bytes(rt.alloc(), bytes, text) {
         Ok(sound) => same(rt, &sound, &true),

@@ -115,7 +115,7 @@ fn refused_words(alloc: Global) -> Option<WordsFault> {
     words(&(line, alloc)).err()
 }
 
-/// What comes of words that were not read has this status.
+/// Checks the status of the answer to arguments that could not be read.
 fn check_status(rt: &impl Abort, fault: WordsFault, status: u8) {
     same(rt, &status_of(&answer_of_words(fault)), &status);
 }

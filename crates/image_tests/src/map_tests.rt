@@ -24,14 +24,14 @@ fn drawn(alloc: Global, form: Form, bytes: &[u8]) -> Result<(Vec<u8>, bool), Too
     Ok((map, sound))
 }
 
-/// The same as text.
+/// An image's map as text, and whether the image is sound.
 fn text_of<R: AllocGlobal + Abort>(rt: &R, bytes: &[u8]) -> (Vec<u8>, bool) {
     drawn(rt.alloc(), Form::Text, bytes)
         .ok()
         .expect(rt, "a map as text")
 }
 
-/// The same as a picture.
+/// An image's map as a picture, and whether the image is sound.
 fn picture_of<R: AllocGlobal + Abort>(rt: &R, bytes: &[u8]) -> (Vec<u8>, bool) {
     drawn(rt.alloc(), Form::Picture, bytes)
         .ok()
@@ -164,7 +164,7 @@ fn check_after<R: AllocGlobal + Abort>(rt: &R, worked: &Worked) {
     assert!(rt; ends_in(rt, &image, b"sound\n", true), "{}", worked.name);
 }
 
-/// The same, where the script has no malformed line.
+/// Checks the map after a worked script, unless the script has a malformed line.
 fn check_worked<R: AllocGlobal + Abort>(rt: &R, worked: &Worked) {
     if worked.malformed.is_none() {
         check_after(rt, worked);

@@ -201,7 +201,8 @@ fn check_pages<R: AllocGlobal + Abort>(rt: &R, own: &Image, changes: &[(usize, u
     check_same(rt, rt.alloc(), own, &other, true, pages);
 }
 
-/// The same of version 2, and of processes or not.
+/// Checks that the other kernel's image of version 2, with these words put to it, says the same of pages, and of
+/// processes or not.
 fn check_processes<R: AllocGlobal + Abort>(
     rt: &R,
     own: &Image,

@@ -19,7 +19,7 @@ fn verdict_after(alloc: Global, script: &str, frames: u32) -> Result<Vec<u8>, To
     Ok(text)
 }
 
-/// No image comes of a script with a malformed line.
+/// A script with a malformed line gives no image.
 fn check_malformed<R: AllocGlobal + Abort>(rt: &R, worked: &Worked) {
     let verdict = verdict_after(rt.alloc(), worked.script, worked.frames);
     let found = (worked.name, verdict.err());

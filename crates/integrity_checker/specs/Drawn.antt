@@ -8,6 +8,7 @@ use Rattle.memory_image.specs.Image.{Image}
 use Rattle.image_check.specs.Draws.{times}
 use Rattle.integrity_checker.specs.declared.draw.Drawer.{Drawer}
 
+-- a helper's view with these parts
 abbrev pub drawer : Image → ℕ → List ℕ → Bool → Drawer
 drawer image share drawn done = record { image = image; share = share; drawn = drawn; done = done }
 
@@ -20,6 +21,7 @@ total f (v ∷ vs) = f v + total f vs
 abbrev pub once_below : ℕ → ℕ → ℕ
 once_below x n = counted (nat_lt x n)
 
+-- the share in a view
 abbrev pub share_of : Drawer → ℕ
 share_of v = v.share
 
@@ -32,6 +34,7 @@ where_so false k = 0
 abbrev pub spent_of : Drawer → ℕ
 spent_of v = where_so v.done v.share
 
+-- how often a view has drawn x
 abbrev pub times_of : ℕ → Drawer → ℕ
 times_of x v = times x v.drawn
 
@@ -39,12 +42,12 @@ times_of x v = times x v.drawn
 abbrev pub IsIdle : Drawer → Type 0
 IsIdle v = (v.drawn ≡ []) × (v.done ≡ false)
 
--- a seat without a share has drawn nothing, and one that is done stands beside a word of 64 or more
+-- a seat without a share has drawn nothing, and the word of one that is done is 64 or more
 abbrev pub FitsSeat : ℕ → Drawer → Type 0
 FitsSeat word v = (v.share ≡ 0 → v.drawn ≡ []) × (v.done ≡ true → 64 ≤ word)
 
--- The word and the views of n helpers: each number below 64 and below the word stands in one list, once,
--- and no other in any; the shares are those of n helpers; each helper that is done has drawn once more.
+-- The word and the views of n helpers. Each number below 64 and below the word is in one list, once, and no other
+-- number is in any. The shares are those of n helpers, and each helper that is done has drawn once more.
 abbrev pub ViewsFit : ℕ → ℕ → List Drawer → Type 0
 ViewsFit n word views =
     ((x : ℕ) → total (times_of x) views ≡ once_below x (min word 64))
@@ -52,6 +55,7 @@ ViewsFit n word views =
     × (word ≤ 64 + total spent_of views)
     × ((seat : ℕ) (v : Drawer) → get_elem? views seat ≡ some v → FitsSeat word v)
 
+-- the rule of n helpers, at most 8, over one word
 abbrev pub Given : ℕ → State ℕ Drawer → Type 0
 Given n s = (n ≤ 8) × (length s.words ≡ 1) × ViewsFit n (slice_index s.words 0) s.views
 

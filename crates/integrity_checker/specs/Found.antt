@@ -12,6 +12,7 @@ use Rattle.image_check.specs.Draws.{times}
 abbrev pub clause_found : Image → List ℕ → ℕ → Option ProcessClause
 clause_found image drawn p = if times p drawn == 0 then None else process_clause image p
 
+-- the clause of process p in a list
 abbrev pub clause_at : List (Option ProcessClause) → ℕ → Option ProcessClause
 clause_at clauses p = unwrap_or (slice_get clauses p) None
 

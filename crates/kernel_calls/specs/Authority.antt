@@ -28,6 +28,7 @@ pub record Flags : Type 0 where
   pub accessed : Bool
   pub dirty : Bool
 
+-- the flags of a cell
 abbrev pub flags_of : Cell → Flags
 flags_of cell = record { write = cell.write; may = cell.may; accessed = cell.accessed; dirty = cell.dirty }
 
@@ -61,8 +62,8 @@ StatesStayWellFormed = (s : State) (e : Event) → IsWellFormed s → IsWellForm
 abbrev pub RefusalsChangeNothing : Type 0
 RefusalsChangeNothing = (s : State) (e : Event) → completes (answer s e) ≡ false → next s e ≡ s
 
--- the event is a store of its process that covers this byte, through a slot of its own, with write, whose page this
--- slot shares; and the byte there is then that byte of the value
+-- the event is a store of its process that covers this byte, through a writable slot of its own whose page this slot
+-- shares, and the byte there is then that byte of the value
 pub record IsStoreInto (s t : State) (e : Event) (slot : Slot) (place : ℕ) : Type 0 where
   pub address : ℕ
   pub size : Size
@@ -77,8 +78,9 @@ pub record IsStoreInto (s t : State) (e : Event) (slot : Slot) (place : ℕ) : T
   pub shared : IsTrue (set.contains own.holders slot)
   pub stored : byte_in t slot place ≡ slice_index (bytes_of (byte_count size) value) (byte - address)
 
--- of a slot that is mapped before and after an event, whosever it is, the event leaves `may`; the right to
--- write, but for a Protect by its process; what was accessed and dirty; and each byte, but for a store into it
+-- What an event keeps of a slot that is mapped before and after it, whichever process owns the slot. It keeps `may`,
+-- and accessed and dirty, once set. It keeps the right to write, unless its process protects the slot, and each byte
+-- that no store to the slot covers.
 pub record IsKept (s t : State) (e : Event) (slot : Slot) (before after : Cell) : Type 0 where
   pub may : after.may ≡ before.may
   pub write : (after.write ≡ before.write) ⊎ ((slot.pid ≡ e.pid) × (e.call ≡ call.Protect slot.page after.write))
@@ -86,19 +88,22 @@ pub record IsKept (s t : State) (e : Event) (slot : Slot) (before after : Cell) 
   pub bytes : (place : ℕ) → (slice_index after.bytes place ≡ slice_index before.bytes place)
       ⊎ IsStoreInto s t e slot place
 
+-- an event keeps each slot that is mapped before and after it, within these limits
 abbrev pub SlotsAreKept : Type 0
 SlotsAreKept = (s : State) (e : Event) (slot : Slot) (before after : Cell) → IsWellFormed s
     → map.get s.spaces slot ≡ Some before → map.get (next s e).spaces slot ≡ Some after
     → IsKept s (next s e) e slot before after
 
--- the event of another leaves a live process its place in the book; its mapped pages with their flags, so that they
--- cost the same; and what it has given to how many children, unless it is the exit of one
+-- What another's event leaves a live process. It leaves its place in the book, and its mapped pages with their flags,
+-- so that they cost the same. It leaves what the process has given to how many children, unless the event is the exit
+-- of one.
 pub record IsUntouched (s t : State) (e : Event) (p : ℕ) : Type 0 where
   pub member : map.get t.book p ≡ map.get s.book p
   pub flags : (page : ℕ) → flags_at t (at_page p page) ≡ flags_at s (at_page p page)
   pub given : ((given t.book p ≡ given s.book p) × (number_of_children t.book p ≡ number_of_children s.book p))
       ⊎ ((is_child_of s p e.pid ≡ true) × (e.call ≡ call.Exit))
 
+-- an event of another leaves a live process untouched
 abbrev pub Integrity : Type 0
 Integrity = (s : State) (e : Event) (p : ℕ) → IsWellFormed s → is_live s p ≡ true → p ≢ e.pid
     → IsUntouched s (next s e) e p
@@ -110,8 +115,8 @@ NobodyTakesBack = (s : State) (events : List Event) (p page : ℕ) → IsWellFor
 
 -- ---- Consent: how authority spreads
 
--- the event accepts a pending offer to its process, at this new slot: the slot joins the group of the slot that was
--- offered, with the right of the offer, and not with more than that slot may have
+-- The event accepts a pending offer to its process, at this new slot. The slot joins the group of the offered slot,
+-- with the right of the offer, and no more than that slot may have.
 pub record IsJoin (s : State) (e : Event) (slot other : Slot) : Type 0 where
   pub own : slot.pid ≡ e.pid
   pub new : map.get s.spaces slot ≡ None
@@ -131,7 +136,7 @@ SharingByConsent = (s : State) (e : Event) (slot other : Slot) → IsWellFormed 
     → shares (next s e) slot other ≡ true
     → (shares s slot other ≡ true) ⊎ (IsJoin s e slot other ⊎ IsJoin s e other slot)
 
--- the event gives this slot up: it unmaps it, or its process exits
+-- the event releases this slot: it unmaps it, or its process exits
 pub record IsLeave (e : Event) (slot : Slot) : Type 0 where
   pub own : slot.pid ≡ e.pid
   pub how : (e.call ≡ call.Unmap slot.page) ⊎ (e.call ≡ call.Exit)
@@ -154,6 +159,7 @@ pub record HasLeft (t : State) (slot : Slot) : Type 0 where
   pub groups : (other : Slot) → shares t other slot ≡ false
   pub offers : (target : ℕ) → map.get t.offers (offer_key slot.pid slot.page target) ≡ None
 
+-- the slot of an Unmap that is Done has left
 abbrev pub UnmapsEnd : Type 0
 UnmapsEnd = (s : State) (e : Event) (page : ℕ) → e.call ≡ call.Unmap page → answer s e ≡ reply.Done
     → HasLeft (next s e) (at_page e.pid page)
@@ -167,6 +173,7 @@ pub record HasExited (s t : State) (p : ℕ) : Type 0 where
   pub returned : (member : Member) → map.get s.book p ≡ Some member
       → given s.book member.parent ≡ given t.book member.parent + member.quota
 
+-- a process whose Exit is Done has exited
 abbrev pub ExitsEnd : Type 0
 ExitsEnd = (s : State) (e : Event) → e.call ≡ call.Exit → answer s e ≡ reply.Done → HasExited s (next s e) e.pid
 
@@ -175,6 +182,7 @@ abbrev pub Settles : Event → OfferKey → Type 0
 Settles e key = ((e.pid ≡ key.offerer) × (e.call ≡ call.Withdraw key.page key.target))
     ⊎ ((e.pid ≡ key.target) × ((page : ℕ) × (e.call ≡ call.Accept key.offerer key.page page)))
 
+-- an offer that a completed call settles is no longer pending
 abbrev pub OffersEnd : Type 0
 OffersEnd = (s : State) (e : Event) (key : OfferKey) → Settles e key → answer s e ≡ reply.Done
     → map.get (next s e).offers key ≡ None
@@ -187,8 +195,8 @@ OffersStay = (s : State) (e : Event) (key : OfferKey) (right : Bool) → map.get
 
 -- ---- Births
 
--- the child was not live; it is, as its maker's, with the quota that was asked for; after a spawn it has no page, after
--- a fork copies of its maker's, each with a group of its own, and no other
+-- The child was not live. Now it is, as its parent's, with the quota of the call. After a spawn it has no page. After a
+-- fork it has copies of its parent's pages, each with a group of its own, and no other page.
 pub record IsBorn (s t : State) (e : Event) (child : ℕ) : Type 0 where
   pub free : map.get s.book child ≡ None
   pub member : map.get t.book child ≡ Some (record { parent = e.pid; quota = quota_asked e.call })
@@ -197,7 +205,7 @@ pub record IsBorn (s t : State) (e : Event) (child : ℕ) : Type 0 where
   pub forked : (quota page : ℕ) → e.call ≡ call.Fork quota → map.get t.spaces (at_page child page)
       ≡ option_map (copy_of (at_page child page)) (map.get s.spaces (at_page e.pid page))
 
--- so it is with the child whose number its maker is told
+-- the same holds of each child whose number its parent gets
 abbrev pub ChildrenAreTheirMakers : Type 0
 ChildrenAreTheirMakers = (s : State) (e : Event) (child : ℕ) → answer s e ≡ reply.Child child
     → IsBorn s (next s e) e child
@@ -209,20 +217,22 @@ PlacesStay = (s : State) (e : Event) (p : ℕ) → (map.get (next s e).book p �
 
 -- ---- Views: what is enough to know
 
--- what shows of a page, whoever has it: its bytes, and how many slots share it
+-- what a page shows, whichever process owns it: its bytes, and how many slots share it
 pub record Shown : Type 0 where
   pub bytes : List ℕ
   pub holders : ℕ
 
+-- what a cell shows: its bytes, and the size of its group
 abbrev pub shown_of : Cell → Shown
 shown_of cell = record { bytes = cell.bytes; holders = set.len cell.holders }
 
+-- what the page of a slot shows
 abbrev pub shown_at : State → Slot → Option Shown
 shown_at s slot = option_map shown_of (map.get s.spaces slot)
 
--- two states are one to the members of Q, who see these offers and the pages of these slots: which members are live,
--- with what quota, what each has given to how many children, and whose child it is among them; the flags of their
--- pages; the offers; the pages, and which of all of them are one
+-- Two states are one to the members of Q, who see these offers and the pages of these slots. They agree on which
+-- members are live, with what quota, what each has given to how many children, and whose child it is among them. They
+-- agree on the flags of their pages, the offers, the pages, and which of these pages are one.
 pub record AreOne (s t : State) (Q : ℕ → Bool) (Known : OfferKey → Type 0) (Seen : Slot → Type 0) : Type 0 where
   pub live : (q : ℕ) → Q q ≡ true → is_live s q ≡ is_live t q
   pub quota : (q : ℕ) → Q q ≡ true → quota_of s.book q ≡ quota_of t.book q
@@ -253,8 +263,8 @@ found s (call.Spawn _) = next_number s.book
 found s (call.Fork _) = next_number s.book
 found s _ = None
 
--- a member is told the same where members have the same and it finds the same, and where an accept finds the offer that
--- it takes in both states or in neither, whatever stands in the page that is offered
+-- A member gets the same reply in two states in which members have the same and it finds the same. The accept of an
+-- offer must find it in both states or in neither. What the offered page has makes no difference.
 abbrev pub MembersToldTheSame : Type 0
 MembersToldTheSame = (s t : State) (e : Event) (Q : ℕ → Bool) → HaveTheSame s t Q → Q e.pid ≡ true
     → found s e.call ≡ found t e.call → ((giver page own : ℕ) → e.call ≡ call.Accept giver page own
@@ -266,7 +276,7 @@ OwnIsEnough = (s t : State) (e : Event) → HaveTheSame s t (λ q. q == e.pid) �
     → ((giver page own : ℕ) → e.call ≢ call.Accept giver page own)
     → HaveTheSame (next s e) (next t e) (λ q. q == e.pid)
 
--- who is a member after an event: of those who are live then, who was one, and who is new where its maker was one
+-- whether a process is a member after an event: if it is live then, and was one, or is new and its parent was one
 abbrev pub members_after : State → (ℕ → Bool) → Event → ℕ → Bool
 members_after s Q e p = is_live (next s e) p && (if is_live s p then Q p else Q e.pid)
 
@@ -285,9 +295,9 @@ IsUnseen s Q slot = (other : Slot) → shares s slot other ≡ true → Sees s Q
 abbrev pub IsStranger : State → (ℕ → Bool) → ℕ → Type 0
 IsStranger s Q p = (q page : ℕ) → Q q ≡ true → (is_child_of s q p || is_offered s p (at_page q page)) ≡ false
 
--- p's call is through no channel: it offers nothing to a member, withdraws nothing from one, takes no offer of one,
--- stores into no page, leaves none and joins none that a member sees, makes nobody with a member's number, and is no
--- exit but a stranger's
+-- p's call uses no channel to members: it offers them nothing, withdraws nothing from them and takes no offer of
+-- theirs. It stores into no page that a member sees, leaves none and joins none. It makes no process with a member's
+-- number, and is no exit except a stranger's.
 abbrev pub IsQuietCall : State → (ℕ → Bool) → ℕ → Call → Type 0
 IsQuietCall s Q p (call.Store address size _) =
     (byte : ℕ) → address ≤ byte → byte < address + byte_count size → IsUnseen s Q (slot_at p byte)
@@ -314,27 +324,29 @@ abbrev pub Along : (State → (ℕ → Bool) → Event → Type 0) → State →
 Along P s Q [] = Unit {0}
 Along P s Q (e ∷ events) = P s Q e × Along P (next s e) (members_after s Q e) events
 
--- what members ask and are told in a run (an exchange is an event with its reply), each with what its call finds
+-- the exchanges of members in a run (an exchange is an event with its reply), each with what its call finds
 abbrev pub heard : State → (ℕ → Bool) → List Exchange → List (Exchange × Option ℕ)
 heard s Q [] = []
 heard s Q (x ∷ run) =
     let later = heard (next s x.0) (members_after s Q x.0) run in
     if Q x.0.pid then (x, found s x.0.call) ∷ later else later
 
--- as long as they are told the same, members ask and find the same
+-- while their replies are the same, members make the same calls and find the same
 abbrev pub AskAlike : List (Exchange × Option ℕ) → List (Exchange × Option ℕ) → Type 0
 AskAlike [] [] = Unit {0}
 AskAlike (x ∷ xs) (y ∷ ys) = (x.0.0 ≡ y.0.0) × (x.1 ≡ y.1) × (x ≡ y → AskAlike xs ys)
 AskAlike _ _ = ⊥
 
--- in a run with these replies live members that ask and find alike are told what they are told in any other run, from a
--- state that looks the same to them, where outsiders use no channel in either
+-- In a run with these replies, live members get the replies that they get in any other run in which they make the same
+-- calls and find the same. The other run begins in a state that looks the same to them, and outsiders use no channel in
+-- either.
 abbrev pub HearTheirOwn : State → List Event → List Reply → Type 0
 HearTheirOwn s events replies = (t : State) (Q : ℕ → Bool) (other : List Event) → IsWellFormed t
     → ((q : ℕ) → Q q ≡ true → is_live s q ≡ true) → LooksSame s t Q → Along IsQuiet s Q events → Along IsQuiet t Q other
     → AskAlike (heard s Q (zip events replies)) (heard t Q (exchanges t other))
     → heard s Q (zip events replies) ≡ heard t Q (exchanges t other)
 
+-- the law for each run from a well-formed state
 abbrev pub MembersHearTheSame : Type 0
 MembersHearTheSame = (s : State) (events : List Event) → IsWellFormed s → HearTheirOwn s events (answers s events)
 
@@ -367,9 +379,9 @@ pub record IsAsBefore (s t : State) (p : ℕ) : Type 0 where
   pub pages : (page : ℕ) → map.get t.spaces (at_page p page) ≡ map.get s.spaces (at_page p page)
   pub offers : (page target : ℕ) → map.get t.offers (offer_key p page target) ≡ map.get s.offers (offer_key p page target)
 
--- what a run from s to t leaves of each confined set: where its members' events keep within it, it stays confined as a
--- set of numbers, whoever has these, and with all children that its members make, and their children; and events of
--- outsiders leave a live member its place in the book, its pages and the offers that it made
+-- What a run from s to t leaves of each confined set. If its members' events keep within it, it stays confined as a set
+-- of numbers, whichever processes have these, together with all children that its members make, and their children.
+-- Events of outsiders leave a live member its place in the book, its pages and the offers that it made.
 pub record KeepsBorders (s : State) (events : List Event) (t : State) : Type 0 where
   pub numbers : (C : ℕ → Bool) → IsConfined s C → All (KeepsWithin C) events → IsConfined t C
   pub families : (C : ℕ → Bool) → IsConfined s C → Along (λ _. KeepsWithin) s C events
@@ -377,6 +389,7 @@ pub record KeepsBorders (s : State) (events : List Event) (t : State) : Type 0 w
   pub untouched : (C : ℕ → Bool) (p : ℕ) → IsConfined s C → C p ≡ true → is_live s p ≡ true
       → All (λ (e : Event). C e.pid ≡ false) events → IsAsBefore s t p
 
+-- each run from a well-formed state keeps the borders of confined sets
 abbrev pub RunsKeepBorders : Type 0
 RunsKeepBorders = (s : State) (events : List Event) → IsWellFormed s → KeepsBorders s events (end_of s events)
 
@@ -389,8 +402,8 @@ abbrev pub IsDiscreet : State → (ℕ → Bool) → Event → Type 0
 IsDiscreet s C e = C e.pid ≡ true
     → (keeps_within C e.call ≡ true) × (e.call ≡ call.Exit → IsStranger s (outside s C) e.pid)
 
--- where two states have the same outsiders of a confined set and look the same to them, those who ask and find alike
--- are told the same in any two runs, whatever the members have and do, as long as it is discreet
+-- Two states have the same outsiders of a confined set, and look the same to them. Then outsiders that make the same
+-- calls and find the same get the same replies in any two runs, whatever the members have and do, while it is discreet.
 abbrev pub OutsidersHearNothing : Type 0
 OutsidersHearNothing = (s t : State) (C : ℕ → Bool) (events others : List Event) → IsWellFormed s → IsWellFormed t
     → IsConfined s C → IsConfined t C → ((p : ℕ) → outside s C p ≡ outside t C p) → LooksSame s t (outside s C)

@@ -1,4 +1,4 @@
--- An access of another process beside an event, where neither shows to the other: the order makes no difference.
+-- An access and an event of another process, if neither shows to the other: the order makes no difference.
 use Rattle.std.specs.Prelude.{◌≡◌, ◌≢◌, ℕ, ◌==◌, Bool, true}
 use Rattle.process_table.specs.State.{State}
 use Rattle.process_table.specs.WellFormed.{IsWellFormed}
@@ -11,21 +11,22 @@ use Rattle.kernel_calls.specs.declared.calls.Event.{Event}
 abbrev pub only : ℕ → ℕ → Bool
 only p q = q == p
 
--- o is a load or a store of another process, in pages that the event's process doesn't see, and the event is through no
--- channel to that process: it touches no page that it sees, takes none of its offers, and is no exit of its kin
+-- o is a load or a store of another process, in pages that the event's process doesn't see. The event uses no channel
+-- to that process: it touches no page that the process sees, takes none of its offers, and is no exit of its kin.
 pub record AreBeside (s : State) (e o : Event) : Type 0 where
   pub another : o.pid ≢ e.pid
   pub access : is_access o.call ≡ true
   pub unseen : IsQuiet s (only e.pid) o
   pub unheard : IsQuiet s (only o.pid) e
 
--- then each is told the same in either order, and has what it had after the other
+-- each then gets the same reply in either order, and has what it had after the other
 pub record InEitherOrder (s : State) (e o : Event) : Type 0 where
   pub event : answer (next s o) e ≡ answer s e
   pub access : answer (next s e) o ≡ answer s o
   pub event_has : HaveTheSame s (next s o) (only e.pid)
   pub access_has : HaveTheSame s (next s e) (only o.pid)
 
+-- the law: such an access and event have the same outcome in either order
 abbrev pub AccessesBeside : Type 0
 AccessesBeside = (s : State) (e o : Event) → IsWellFormed s → AreBeside s e o → InEitherOrder s e o
 

@@ -1,4 +1,4 @@
--- Dirty and accessed of a slot: who has them, and what clearing them would change.
+-- Dirty and accessed of a slot: which slots have them, and what clearing them would change.
 use Rattle.std.proofs.Common.{◌≡◌, ◌≢◌, ℕ, Bool, true, false, List, ◌∷◌, Some, unwrap_or}
 use Rattle.std.specs.Option.{option_map}
 use Rattle.page_words.specs.FiniteMap as map
@@ -31,7 +31,8 @@ CleaningKeepsStates = (s : State) (slot : Slot) → IsWellFormed s → is_mapped
 abbrev pub CleaningIsUnseen : Type 0
 CleaningIsUnseen = (s : State) (slot : Slot) (Q : ℕ → Bool) → is_mapped s slot ≡ true → Q slot.pid ≡ false → LooksSame s (cleaned s slot) Q
 
--- what a change leaves of what processors keep, as `Ends` says it, but for marks of slots that are ended
+-- what a change leaves of the translations that processors keep, as `Ends` says it, except the marks of slots that are
+-- ended
 pub record EndsMarks (ended : Ended) (v w : View) : Type 0 where
   pub translations : TranslationsStay ended (memory_of v) (memory_of w)
   pub slots : SlotsStay ended v.state w.state
@@ -45,6 +46,7 @@ pub record EndsMarks (ended : Ended) (v w : View) : Type 0 where
 abbrev pub EventsEndMarks : Type 0
 EventsEndMarks = (ended : Ended) (v w : View) → Ends ended v w → EndsMarks ended v w
 
+-- what is kept stays read through a change of marks
 abbrev pub KeptThroughMarks : Type 0
 KeptThroughMarks = (ended : Ended) (v w : View) (kept : List Kept) → EndsMarks ended v w → AreRead v kept → AreRead w (left_by ended kept)
 
@@ -66,7 +68,7 @@ abbrev pub CleaningIsNoEvent : Type 0
 CleaningIsNoEvent = (s : State) (slot : Slot) (cell : Cell) (ended : Ended) (v w : View) → map.get s.spaces slot ≡ Some cell → cell.accessed ≡ true
     → v.state ≡ s → w.state ≡ cleaned s slot → Ends ended v w → ⊥
 
--- and an Info of its own process tells it
+-- an Info of its own process shows it
 abbrev pub CleaningShows : Type 0
 CleaningShows = (s : State) (p page : ℕ) (cell : Cell) → IsWellFormed s → map.get s.spaces (record { pid = p; page = page }) ≡ Some cell → cell.accessed ≡ true
     → answer (cleaned s (record { pid = p; page = page })) (info_of_page p page) ≢ answer s (info_of_page p page)

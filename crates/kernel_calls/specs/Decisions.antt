@@ -29,7 +29,7 @@ abbrev pub refused_plan : Option Cause → Plan
 refused_plan (Some cause) = plan.Refused cause
 refused_plan None = at_once
 
--- what a call of a live process comes to, as memory stands
+-- the plan of a call of a live process, as memory stands
 abbrev pub plan_of_call : View → ℕ → Call → Plan
 plan_of_call v p (call.Load addr size) = plan_at v p addr size Read
 plan_of_call v p (call.Store addr size value) = plan_at v p addr size Write
@@ -45,6 +45,7 @@ plan_of_call v p (call.Fork quota) = refused_plan (fork_refusal v.state p quota)
 plan_of_call v p call.Exit = refused_plan (exit_refusal v.state p)
 plan_of_call v p call.Quota = at_once
 
+-- the plan of an event
 abbrev pub plan_of_event : View → Event → Plan
 plan_of_event v e = if is_live v.state e.pid then plan_of_call v e.pid e.call else plan.Refused cause.NoProcess
 
@@ -90,7 +91,7 @@ planned (plan.Refused cause) r charge = refusal_of cause charge
 planned (plan.Fault fault) r charge = record { plan = plan.Fault fault; reply = reply.Fault fault.addr fault.code; used_after = charge }
 planned (plan.Ready first second) r charge = record { plan = plan.Ready first second; reply = r; used_after = charge }
 
--- done, or refused, by what came of a call
+-- the reply to a call with this result: Done, or the refusal
 abbrev pub done_told : Result (Unit {0}) Cause → Reply
 done_told (Ok done) = reply.Done
 done_told (Err cause) = reply.Refused cause
@@ -100,7 +101,7 @@ abbrev pub child_told : Result Pid Cause → Reply
 child_told (Ok child) = reply.Child child
 child_told (Err cause) = reply.Refused cause
 
--- the reply to a process that asks for its quota
+-- the reply to a Quota call
 abbrev pub quota_told : Container → Reply
 quota_told c = reply.Quota c.quota c.used c.given
 

@@ -34,6 +34,7 @@ Tells s p call.Quota r =
     (c : Container) × (container_of s p ≡ Some c) × (r ≡ reply.Quota c.quota c.used c.given)
 Tells s p _ r = r ≡ reply.Done
 
+-- a call that completes gets a reply of its kind
 abbrev pub CompletesByKind : Type 0
 CompletesByKind = (s : State) (e : Event) → completes (answer s e) ≡ true → Tells s e.pid e.call (answer s e)
 
@@ -105,7 +106,7 @@ abbrev pub SlotsCome : Type 0
 SlotsCome = (s : State) (e : Event) (slot : Slot) → is_mapped s slot ≡ false → is_mapped (next s e) slot ≡ true
     → ((slot.pid ≡ e.pid) × Maps e.call slot.page) ⊎ (answer s e ≡ reply.Child slot.pid)
 
--- a slot is unmapped only if its process gives it up
+-- a slot is unmapped only if its process releases it
 abbrev pub SlotsGo : Type 0
 SlotsGo = (s : State) (e : Event) (slot : Slot) → IsWellFormed s → is_mapped s slot ≡ true
     → is_mapped (next s e) slot ≡ false → IsLeave e slot
@@ -127,8 +128,9 @@ lost (call.Spawn _) = Some (reply.Refused TableFull)
 lost (call.Fork _) = Some (reply.Refused TableFull)
 lost _ = None
 
--- the event o makes a call of p impossible: the target of p's new offer exits; the target of p's pending offer exits or
--- accepts it; the giver of an offer to p exits, unmaps the page or withdraws the offer; or o makes a child
+-- The event o makes a call of p impossible. It may be the exit of the target of p's new offer, or an exit or accept by
+-- the target of p's pending offer. It may be the giver of an offer to p, which exits, unmaps the page or withdraws the
+-- offer. Or it makes a child.
 abbrev pub Loses : State → Event → ℕ → Call → Type 0
 Loses s o p (call.Offer _ target _) = (o.pid ≡ target) × (o.call ≡ call.Exit)
 Loses s o p (call.Withdraw page target) = (o.pid ≡ target)

@@ -16,8 +16,9 @@ pub record IsFamily (s : State) (C : ℕ → Bool) : Type 0 where
   pub live : (p : ℕ) → C p ≡ true → is_live s p ≡ true
   pub children : (p q : ℕ) → C p ≡ true → is_child_of s p q ≡ true → C q ≡ true
 
--- in a run with these replies a family that keeps within itself, with all children that it makes, is told what it is
--- told in any other, from a state in which it has the same, in which it asks and finds alike, whatever others do
+-- In a run with these replies, a family that keeps within itself, with all children that it makes, gets the replies
+-- that it gets in any other. The other run begins in a state in which the family has the same. In both it makes the
+-- same calls and finds the same, whatever others do.
 abbrev pub IsUnreached : State → List Event → List Reply → Type 0
 IsUnreached s events replies = (t : State) (C : ℕ → Bool) (other : List Event) → IsWellFormed t
     → IsFamily s C → IsFamily t C → HaveTheSame s t C
@@ -25,6 +26,7 @@ IsUnreached s events replies = (t : State) (C : ℕ → Bool) (other : List Even
     → AskAlike (heard s C (zip events replies)) (heard t C (exchanges t other))
     → heard s C (zip events replies) ≡ heard t C (exchanges t other)
 
+-- the law for each run from a well-formed state
 abbrev pub FamiliesHearTheirOwn : Type 0
 FamiliesHearTheirOwn = (s : State) (events : List Event) → IsWellFormed s → IsUnreached s events (answers s events)
 

@@ -8,6 +8,7 @@ use Rattle.kernel_calls.specs.declared.calls.Call.{Call}
 use Rattle.kernel_calls.specs.declared.calls.Call.TheVariants as call
 use Rattle.kernel_calls.specs.declared.calls.Event.{Event}
 
+-- the frames that a completed call takes from slots
 abbrev pub gone_of_call : ℕ → Call → Gone
 gone_of_call p (call.Store addr size value) slot frame = lazy_touched p addr size slot frame
 gone_of_call p (call.Unmap page) slot frame = of_page p page slot frame
@@ -15,5 +16,6 @@ gone_of_call p (call.Accept giver giver_page page) slot frame = of_lazy giver gi
 gone_of_call p call.Exit slot frame = of_process p slot frame
 gone_of_call p _ slot frame = false
 
+-- the frames that an event takes from slots
 abbrev pub gone_by : State → Event → Gone
 gone_by s e slot frame = if completes (answer s e) then gone_of_call e.pid e.call slot frame else false

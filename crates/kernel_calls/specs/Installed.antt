@@ -15,6 +15,7 @@ use Rattle.kernel_calls.specs.declared.calls.Reply.{Reply}
 abbrev pub map_of : ℕ → ℕ → Bool → Event
 map_of p page write = record { cpu = 0; pid = p; call = call.Map page write }
 
+-- a Protect of process p's page
 abbrev pub protect_of : ℕ → ℕ → Bool → Event
 protect_of p page write = record { cpu = 0; pid = p; call = call.Protect page write }
 
@@ -45,7 +46,7 @@ pub record Installs (s : State) (p address : ℕ) (bytes : List ℕ) (write : Bo
   pub all : carried s (install_run s p address bytes write) ≡ install_run s p address bytes write
   pub after : end_of s (install_run s p address bytes write) ≡ t
 
--- the event that was to make the page writable was told this, and is refused
+-- the event that was to make the page writable got this reply, which is a refusal
 pub record IsNotOpened (s : State) (p page : ℕ) (told : Reply) : Type 0 where
   pub event : Event
   pub first : opening s p page ≡ event ∷ []

@@ -1,4 +1,4 @@
--- What a process is told in a run, and what that depends on.
+-- The replies that a process gets in a run, and what they depend on.
 use Rattle.std.proofs.Common.{◌≡◌, ℕ, ◌+◌, Bool, true, false, if◌then◌else◌, ◌==◌, List, [], ◌∷◌, ◌++◌, length, map, filter, take, drop, Some}
 use Rattle.std.specs.List.{All, zip, slice_get}
 use Rattle.page_words.specs.FiniteMap as map
@@ -21,6 +21,7 @@ Exchange = Event × Reply
 abbrev pub exchanges : State → List Event → List Exchange
 exchanges s events = zip events (answers s events)
 
+-- whether a call is an Exit
 abbrev pub is_exit : Call → Bool
 is_exit call.Exit = true
 is_exit _ = false
@@ -42,10 +43,11 @@ own p (x ∷ later) = if x.0.pid == p then x ∷ (if is_exit x.0.call then [] el
 abbrev pub calls_of : List Exchange → List Call
 calls_of run = map (λ x. x.0.call) run
 
+-- the replies in a list of exchanges
 abbrev pub replies_of : List Exchange → List Reply
 replies_of run = map (λ x. x.1) run
 
--- a process that keeps to itself
+-- a process that shares nothing
 abbrev pub InvolvesNobody : List Exchange → Type 0
 InvolvesNobody run = All (λ c. involves_others c ≡ false) (calls_of run)
 
@@ -53,7 +55,7 @@ InvolvesNobody run = All (λ c. involves_others c ≡ false) (calls_of run)
 abbrev pub solo : ℕ → Map nat_order FirstPage → List Call → List Reply
 solo quota pages calls = answers (alone_with quota pages) (map (λ c. record { cpu = 0; pid = 1; call = c }) calls)
 
--- the quota that a call asks for the child that it makes
+-- the quota that a call gives the child that it makes
 abbrev pub quota_asked : Call → ℕ
 quota_asked (call.Spawn quota) = quota
 quota_asked (call.Fork quota) = quota
@@ -64,11 +66,11 @@ abbrev pub pages_given : State → ℕ → Call → Map nat_order FirstPage
 pages_given s p (call.Fork _) = pages_held s p
 pages_given s p _ = map.empty
 
--- a part that involves nobody is told what process 1 is told alone with that quota and these pages
+-- a part that involves nobody gets the replies that process 1 gets alone with that quota and these pages
 abbrev pub IsAsAlone : ℕ → Map nat_order FirstPage → List Exchange → Type 0
 IsAsAlone quota pages part = InvolvesNobody part → replies_of part ≡ solo quota pages (calls_of part)
 
--- each process that a run makes, at some place, is told afterwards what it is told alone
+-- each process that a run makes, at some place, gets afterwards the replies that it gets alone
 abbrev pub IsIsolated : State → List Event → List Reply → Type 0
 IsIsolated s events replies = (k p : ℕ) (e : Event) → slice_get events k ≡ Some e → slice_get replies k ≡ Some (reply.Child p)
     → IsAsAlone (quota_asked e.call) (pages_given (end_of s (take k events)) e.pid e.call) (own p (drop (k + 1) (zip events replies)))
@@ -77,11 +79,11 @@ IsIsolated s events replies = (k p : ℕ) (e : Event) → slice_get events k ≡
 abbrev pub RunsAreIsolated : Type 0
 RunsAreIsolated = (s : State) (events : List Event) → IsWellFormed s → IsIsolated s events (answers s events)
 
--- what a process asks and is told behind one event of a run, up to its first Exit
+-- the exchanges of a process after one event of a run, up to its first Exit
 abbrev pub own_behind : ℕ → State → List Event → Event → List Event → List Exchange
 own_behind p s before e later = own p (drop (length before + 1) (exchanges s (before ++ e ∷ later)))
 
--- behind the event that made it, a process is told the same in the run without the later events of all others
+-- after the event that made it, a process gets the same replies in the run without the later events of all others
 abbrev pub OthersMakeNoDifference : Type 0
 OthersMakeNoDifference = (s : State) (before : List Event) (e : Event) (later : List Event) (p : ℕ) → IsWellFormed s → answer (end_of s before) e ≡ reply.Child p
     → InvolvesNobody (own_behind p s before e later)

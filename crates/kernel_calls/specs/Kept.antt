@@ -33,10 +33,11 @@ ServesCall v p frames (call.Load addr size) = EachTouched addr size (λ page. Se
 ServesCall v p frames (call.Store addr size value) = EachTouched addr size (λ page. Serves v p page (frames page) Write)
 ServesCall v p frames _ = ⊥
 
+-- kept translations serve an event
 abbrev pub ServesEvent : View → (ℕ → ℕ) → Event → Type 0
 ServesEvent v frames e = ServesCall v e.pid frames e.call
 
--- what the access comes to there: for a load the number that stands at its bytes
+-- the reply to the access there: for a load the number at its bytes
 abbrev pub reply_kept : (ℕ → ℕ) → List ℕ → Call → Reply
 reply_kept frames bytes (call.Load addr size) = reply.Value (number_at frames bytes addr size)
 reply_kept frames bytes _ = reply.Done
@@ -51,10 +52,12 @@ abbrev pub StoresMarked : State → ℕ → Call → Type 0
 StoresMarked s p (call.Store addr size value) = EachTouched addr size (λ page. is_marked s.spaces (at_page p page) ≡ true)
 StoresMarked s p _ = ⊥
 
+-- a call is a Load
 abbrev pub IsLoad : Call → Type 0
 IsLoad (call.Load addr size) = Unit {0}
 IsLoad _ = ⊥
 
+-- a call is a Store
 abbrev pub IsStore : Call → Type 0
 IsStore (call.Store addr size value) = Unit {0}
 IsStore _ = ⊥

@@ -1,4 +1,4 @@
--- What stands at the pages of an access, each found by one look.
+-- The places of the pages of an access, each found by one lookup.
 use Rattle.std.proofs.Common.{ℕ, Bool, true, false, None}
 use Rattle.process_table.specs.Places.{access_places}
 use Rattle.process_table.specs.View.{View}
@@ -7,6 +7,7 @@ use Rattle.kernel_calls.specs.declared.calls.Call.{Call}
 use Rattle.kernel_calls.specs.declared.calls.Call.TheVariants as call
 use Rattle.kernel_calls.specs.declared.calls.Event.{Event}
 
+-- the places of an event that looks no page up
 abbrev pub no_places : Places
 no_places = record { first = None; second = None }
 
@@ -22,5 +23,6 @@ is_access (call.Load addr size) = true
 is_access (call.Store addr size value) = true
 is_access _ = false
 
+-- the places of the pages of an event
 abbrev pub places_of : View → Event → Places
 places_of v e = places_of_call v e.pid e.call

@@ -28,7 +28,7 @@ use Rattle.kernel_calls.specs.declared.calls.Reply.{Reply}
 use Rattle.kernel_calls.specs.declared.translations.Ended.{Ended}
 use Rattle.kernel_calls.specs.declared.translations.Ended.TheVariants as end
 
--- memory stands for the state, and each walk ends as that says, as of each core (`Core::stands`)
+-- memory represents the state, and each walk ends as the state says, as in each core (`Core::stands`)
 pub record IsCore (v : View) : Type 0 where
   pub image : StandsFor (image_of v) v.state
   pub walks : WalksAgree (memory_of v) v.state.spaces
@@ -49,6 +49,7 @@ with_kept keeps i kept j = if j == i then kept else keeps j
 abbrev pub all_left_by : Ended → Processors → Processors
 all_left_by ended keeps i = left_by ended (keeps i)
 
+-- walks read all that each processor keeps
 abbrev pub AllAreRead : View → Processors → Type 0
 AllAreRead v keeps = (i : ℕ) → AreRead v (keeps i)
 
@@ -74,7 +75,7 @@ LetCall kept p frames _ = ⊥
 
 -- ---- Steps
 
--- the core carries out an event and tells the reply (`Core::step`)
+-- the core carries out an event and returns the reply (`Core::step`)
 pub record IsCarried (v : View) (e : Event) (r : Reply) (w : View) : Type 0 where
   pub reply : r ≡ answer v.state e
   pub state : w.state ≡ next v.state e
@@ -124,9 +125,10 @@ pub record IsMarked (v w : View) : Type 0 where
   pub live : directory_at (memory_of v) pid ≡ Some directory
   pub left : is_live v.state pid ≡ true → IsLeft v v.state (with_walked v.bytes directory page walked) w
 
--- One step, by its rule, with the event that it is, if any, and what is told or read: the core carries out an event, and
--- before anything else all processors invalidate what it ended; or a processor makes an access by its walk or by what it
--- keeps, marks a directory's word, comes to keep what a walk reads then, or forgets some of what it keeps.
+-- One step, by its rule, with the event that it is, if any, and the reply or the value read. The core carries out an
+-- event, and before anything else all processors invalidate what it ended. Or a processor makes an access by its walk
+-- or by what it keeps, marks a directory's word, begins to keep what a walk reads then, or forgets some of what it
+-- keeps.
 pub data Step : View → Processors → List Event → List Reply → View → Processors → Type 0 where
   carried : {v w : View} {keeps : Processors} {e : Event} {r : Reply} → IsCarried v e r w
       → Step v keeps (e ∷ []) (r ∷ []) w (all_left_by (ended_by v e) keeps)
@@ -151,8 +153,8 @@ pub data Steps : View → Processors → List Event → List Reply → View → 
 
 -- ---- What they come to
 
--- what was told and read is what the events are answered one after another, memory is a core's in their last state, and
--- the walks read all that any processor keeps
+-- replies and values read are the answers to the events in sequence, memory is a core's in their last state, and the
+-- walks read all that any processor keeps
 pub record AreTheEvents (v : View) (events : List Event) (told : List Reply) (x : View) (last : Processors) : Type 0 where
   pub replies : told ≡ answers v.state events
   pub state : x.state ≡ end_of v.state events
@@ -176,7 +178,7 @@ walk_from bytes table address access =
     ∷ (is_outside bytes (frame_number t), Err Outside)
     ∷ []) (Ok (frame_number t))
 
--- it ends as the walk of its process's directory does, as long as what is kept is read
+-- it ends as the walk of its process's directory does, if walks read all that is kept
 abbrev pub EntriesLeadThere : Type 0
 EntriesLeadThere = (v : View) (e : DirectoryEntry) (directory address : ℕ) (access : Access) → IsCore v
     → IsRead v (directory_entry e) → directory_at (memory_of v) e.pid ≡ Some directory

@@ -1,4 +1,4 @@
--- Slots that are beside a slot in its group, and their Unmaps.
+-- The other slots of a slot's group, and their Unmaps.
 use Rattle.std.proofs.Common.{◌≡◌, ℕ, Bool, true, not, ◌&&◌, List, map}
 use Rattle.std.specs.List.{All, list_any}
 use Rattle.std.specs.Option.{option_map}
@@ -47,7 +47,7 @@ without_slots s gone = record s {
   offers = map.retain_keys s.offers (λ key. not (gone (at_page key.offerer key.page)));
 }
 
--- these slots, each beside another in its group, were unmapped in this order, which led from s to t
+-- these slots, each another one of the group, were unmapped in this order, which led from s to t
 pub record TakesBack (s : State) (own : Slot) (holders : List Holder) (t : State) : Type 0 where
   pub beside : All (λ (h : Holder). is_beside s own (at_page h.pid h.page) ≡ true) holders
   -- the run of their Unmaps, of which each is done
@@ -58,7 +58,7 @@ pub record TakesBack (s : State) (own : Slot) (holders : List Holder) (t : State
   -- the slot itself has its flags and its bytes
   pub kept : option_map ungrouped (map.get t.spaces own) ≡ option_map ungrouped (map.get s.spaces own)
 
--- the Unmap of a slot that is beside another, and what it ends
+-- the Unmap of another slot of the group, and what it ends
 pub record Unmapped (w u : View) (own : Slot) (h : Holder) : Type 0 where
   pub beside : is_beside w.state own (at_page h.pid h.page) ≡ true
   pub state : u.state ≡ next w.state (unmap_of h)

@@ -1,4 +1,4 @@
--- A process's memory in and out: the accesses of one byte each that it stands for, up to the first that stops.
+-- A process's memory in and out: the accesses of one byte each that it represents, up to the first that stops.
 use Rattle.std.proofs.Common.{◌≡◌, ℕ, zero, suc, ◌+◌, if◌then◌else◌, ◌&&◌, ◌==◌, List, [], ◌∷◌, map, Option, Some, None}
 use Rattle.std.specs.Prelude.{nat_le}
 use Rattle.page_words.specs.Addresses.{page_number}
@@ -44,16 +44,16 @@ abbrev pub stop_of : State → List Event → Option Reply
 stop_of s [] = None
 stop_of s (e ∷ events) = if completes (answer s e) then stop_of (next s e) events else Some (answer s e)
 
--- the value that a load is told
+-- the value that a load returns
 abbrev pub value_in : Reply → ℕ
 value_in (reply.Value value) = value
 value_in _ = 0
 
--- the values that loads are told, in order
+-- the values that loads return, in order
 abbrev pub values : List Reply → List ℕ
 values replies = map value_in replies
 
--- the ways of a process's lazy pages, from that of an address to that of the address so many bytes behind it
+-- the walks to a process's lazy pages, from that of an address to that of the address so many bytes later
 abbrev pub of_lazy_pages : ℕ → ℕ → ℕ → Gone
 of_lazy_pages p address count slot frame =
     (is_of p slot && (nat_le (page_number address) slot.page && nat_le slot.page (page_number (address + count)))) && (frame == 0)

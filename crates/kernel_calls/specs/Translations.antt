@@ -1,6 +1,6 @@
--- Which translations an event ends: those that a walk gave before it and gives no more, so that a processor that keeps
--- them has to invalidate them. A translation is what a walk gives for a page of a process: a frame, and whether a
--- write is let through.
+-- The translations that an event ends: those that a walk gave before it and gives no longer, so that a processor that
+-- keeps them has to invalidate them. A translation is what a walk gives for a page of a process: a frame, and whether
+-- it allows writes.
 use Rattle.std.specs.Prelude.{◌⊎◌}
 use Rattle.std.proofs.Common.{◌≡◌, ◌≢◌, ◌==◌, ◌<◌, ◌^◌, ℕ, Bool, true, false, not, ◌&&◌, ◌||◌, if◌then◌else◌, List, [], ◌∷◌, Option, Some, None, Ok}
 use Rattle.page_words.specs.FiniteMap as map
@@ -41,22 +41,26 @@ abbrev pub page_filled : ℕ → PageStep → Option ℕ
 page_filled page step.Fill = Some page
 page_filled page _ = None
 
+-- the second page of a plan, if the plan fills it
 abbrev pub second_filled : Option ℕ → Option PageStep → Option ℕ
 second_filled (Some page) (Some how) = page_filled page how
 second_filled _ _ = None
 
+-- the end of the translations of at most two pages
 abbrev pub of_pages : ℕ → Option ℕ → Option ℕ → Ended
 of_pages p None None = end.Nothing
 of_pages p (Some page) None = end.Page p page
 of_pages p None (Some page) = end.Page p page
 of_pages p (Some first) (Some second) = end.Pages p first second
 
+-- what an access with this plan ends
 abbrev pub of_plan : ℕ → ℕ → Size → Plan → Ended
 of_plan p address size (plan.Ready first second) = of_pages p (page_filled (page_number address) first) (second_filled (second_page address size) second)
 of_plan p address size _ = end.Nothing
 
--- of a call that completes: an Unmap ends its page's, a Protect one that let writes through and lets none from then
--- on, a Store those of the lazy pages that it fills, an Accept that of a page that was lazy, an Exit all of its process
+-- What a call that completes ends: an Unmap its page's translation, a Protect one that allowed writes and no longer
+-- does. A Store ends those of the lazy pages that it fills, an Accept that of a page that was lazy, and an Exit all of
+-- its process.
 abbrev pub of_call : View → ℕ → Call → Ended
 of_call v p (call.Store addr size value) = of_plan p addr size (plan_at v p addr size Write)
 of_call v p (call.Unmap page) = end.Page p page
@@ -82,8 +86,8 @@ TranslationsStay ended old new = (p directory address frame : ℕ) (access : Acc
     → is_ended ended (slot_at p address) ≡ false → walk_of old.bytes directory address access ≡ Ok frame
     → (directory_at new p ≡ Some directory) × (walk_of new.bytes directory address access ≡ Ok frame)
 
--- and none is ended for nothing: where a walk found a frame for a read of a slot that is one of these, there is a walk,
--- for a read or for a write, that found the frame and doesn't any more
+-- None is ended for nothing: if a walk found a frame for a read of a slot that is one of these, some walk, for a read
+-- or for a write, found the frame and no longer does.
 abbrev pub EndsNoMore : Ended → memory.Image → memory.Image → Type 0
 EndsNoMore ended old new = (p directory address frame : ℕ) → directory_at old p ≡ Some directory → address < 2 ^ 32 → is_ended ended (slot_at p address) ≡ true
     → walk_of old.bytes directory address Read ≡ Ok frame
@@ -144,7 +148,7 @@ pub record Ends (ended : Ended) (v w : View) : Type 0 where
 
 -- ---- What a processor keeps
 
--- a translation that is kept: a page of a process, its frame, whether writes are let through, and whether dirty was set
+-- a translation that is kept: a page of a process, its frame, whether writes are allowed, and whether dirty was set
 pub record Translation : Type 0 where
   pub slot : Slot
   pub frame : ℕ
@@ -174,11 +178,12 @@ pub data Kept : Type 0 where
   translation : Translation → Kept
   directory_entry : DirectoryEntry → Kept
 
--- it is what a walk reads: where the walk goes and what it finds, or the table that it goes through
+-- what is kept is what a walk reads: the place of the walk and what it finds, or the table that it uses
 abbrev pub IsRead : View → Kept → Type 0
 IsRead v (translation t) = IsGiven v t
 IsRead v (directory_entry e) = table_at (memory_of v) e.pid e.region ≡ Some e.table
 
+-- walks read all that is kept
 abbrev pub AreRead : View → List Kept → Type 0
 AreRead v [] = Unit {0}
 AreRead v (k ∷ kept) = IsRead v k × AreRead v kept

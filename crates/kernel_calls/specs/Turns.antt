@@ -15,7 +15,7 @@ use Rattle.kernel_calls.specs.declared.translations.Ended.TheVariants as end
 use Rattle.kernel_calls.specs.declared.turns.Turn.{Turn}
 use Rattle.kernel_calls.specs.declared.turns.Turn.TheVariants as turn
 
--- the core carries out an event, and tells what it ended
+-- the core carries out an event, and reports what it ended
 abbrev pub IsCall : View → Event → Reply → Ended → View → Type 0
 IsCall v e r ended w = (ended ≡ ended_by v e)
     × ((keeps : Processors) → Step v keeps (e ∷ []) (r ∷ []) w (all_left_by ended keeps))
@@ -39,11 +39,11 @@ abbrev pub IsStoreKept : View → Event → Option Reply → View → Type 0
 IsStoreKept v e (Some r) w = IsMade v e r w
 IsStoreKept v e None w = (IsStore e.call → (frames : ℕ → ℕ) → ServesEvent v frames e → ⊥) × (w ≡ v)
 
--- one marks a word of a directory, or nothing is done
+-- accessed of a directory word is set or cleared, or nothing is done
 abbrev pub IsMark : View → View → Type 0
 IsMark v w = (keeps : Processors) → Steps v keeps [] [] w keeps
 
--- a turn: what is told or read, and what was ended. A call always tells something, a mark nothing
+-- A turn: its reply or value, and what was ended. A call always gives a reply, a mark none.
 abbrev pub IsTurn : View → Turn → Option Reply → Ended → View → Type 0
 IsTurn v (turn.Call e) (Some r) ended w = IsCall v e r ended w
 IsTurn v (turn.Call e) None ended w = ⊥
@@ -58,22 +58,24 @@ AreTurns [] [] [] v w = v ≡ w
 AreTurns (t ∷ turns) (r ∷ told) (x ∷ ended) v w = (u : View) × IsTurn v t r x u × AreTurns turns told ended u w
 AreTurns _ _ _ v w = ⊥
 
--- the events of the turns that were taken, and what was told or read
+-- the events of the turns that were taken, and their replies or values
 abbrev pub event_of : Turn → Option Reply → List Event
 event_of (turn.Call e) (Some r) = e ∷ []
 event_of (turn.Walk e) (Some r) = e ∷ []
 event_of (turn.Store e) (Some r) = e ∷ []
 event_of _ _ = []
 
+-- the events of the turns that were taken
 abbrev pub taken : List Turn → List (Option Reply) → List Event
 taken (t ∷ turns) (r ∷ told) = event_of t r ++ taken turns told
 taken _ _ = []
 
+-- the replies and values in a list
 abbrev pub told_in : List (Option Reply) → List Reply
 told_in [] = []
 told_in (r ∷ told) = option_to_list r ++ told_in told
 
--- what was told and read is what the events are answered, and the state is their last
+-- replies and values are the answers to the events, and the state is their last
 pub record AnswerTurns (s : State) (turns : List Turn) (told : List (Option Reply)) (t : State) : Type 0 where
   pub replies : told_in told ≡ answers s (taken turns told)
   pub state : t ≡ end_of s (taken turns told)

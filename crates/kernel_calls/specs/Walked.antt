@@ -18,6 +18,7 @@ finds_call v p (call.Load addr size) = finds (memory_of v) p addr size Read
 finds_call v p (call.Store addr size value) = finds (memory_of v) p addr size Write
 finds_call v p _ = false
 
+-- whether a processor's walks find all that an event accesses
 abbrev pub finds_event : View → Event → Bool
 finds_event v e = finds_call v e.pid e.call
 

@@ -178,7 +178,7 @@ BehindItsBack = Gives 16
     (reply.Info true true true true 3) ∷
     [])
 
--- an offer to a number is one to whoever has it by then
+-- an offer to a number is one to whichever process has the number by then
 abbrev pub NumberComesAgain : Type 0
 NumberComesAgain = Gives 32
     ((event 0 0 (call.Store 0x40000000 Four 0x7)) ∷
@@ -256,7 +256,8 @@ TwoHaveOnePage = Gives 64
     (reply.Value 0x7) ∷
     [])
 
--- processes 1 and 2 have asked and were told the same, and have a page each: what 2 stores does not show to 1
+-- processes 1 and 2 have made the same calls, got the same replies, and have a page each: what 2 stores does not show
+-- to 1
 abbrev pub TwoHaveTwoPages : Type 0
 TwoHaveTwoPages = Gives 64
     ((event 0 0 (call.Spawn 6)) ∷
@@ -332,25 +333,28 @@ ExitEndsOffers = Gives 32
     [])
     (reply.Done ∷ (reply.Child 1) ∷ reply.Done ∷ reply.Done ∷ (reply.Refused cause.NoOffer) ∷ [])
 
--- process 1, to which the root gave 8, with what it makes: a child joins, and leaves as it exits; who has its number
--- then does not
+-- process 1, to which the root gave 8, with what it makes: a child joins, and leaves as it exits; the next process with
+-- its number does not join
 abbrev pub first_child : State
 first_child = end_of (open_with 32) ((event 0 0 (call.Spawn 8)) ∷ [])
 
+-- which of the processes 0, 1 and 2 are members after these events
 abbrev pub family_after : List Event → List Bool
 family_after events = each (λ p. members_at_end first_child (λ q. q == 1) events p) (0 ∷ 1 ∷ 2 ∷ [])
 
+-- a child joins the family, and leaves it as it exits
 abbrev pub FamilyGrows : Type 0
 FamilyGrows = (family_after ((event 1 1 (call.Spawn 4)) ∷ []) ≡ (false ∷ true ∷ true ∷ []))
     × (family_after ((event 1 1 (call.Spawn 4)) ∷ (event 2 2 call.Exit) ∷ []) ≡ (false ∷ true ∷ false ∷ []))
     × (family_after ((event 1 1 (call.Spawn 4)) ∷ (event 2 2 call.Exit) ∷ (event 0 0 (call.Spawn 4)) ∷ [])
     ≡ (false ∷ true ∷ false ∷ []))
 
--- and what that family hears of such a run: who asks for a child finds its number
+-- what that family observes of such a run: a call for a child finds its number
 abbrev pub family_run : List Event
 family_run = (event 1 1 (call.Spawn 4)) ∷ (event 0 0 call.Quota) ∷ (event 2 2 call.Exit) ∷ (event 0 0 (call.Spawn 4))
     ∷ (event 2 2 call.Quota) ∷ []
 
+-- the exchanges that the family observes of that run
 abbrev pub FamilyHears : Type 0
 FamilyHears = heard first_child (λ q. q == 1) (exchanges first_child family_run)
     ≡ (((event 1 1 (call.Spawn 4), reply.Child 2), Some 2) ∷ ((event 2 2 call.Exit, reply.Done), None) ∷ [])

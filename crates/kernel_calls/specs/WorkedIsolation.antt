@@ -1,4 +1,4 @@
--- A process that is told the same alone and beside others, in machines of different sizes.
+-- A process that gets the same replies alone and next to others, in machines of different sizes.
 use Rattle.std.proofs.Common.{ℕ, true, false, List, [], ◌∷◌, ◌++◌, map, drop, ◌≡◌, replicate}
 use Rattle.std.specs.List.{zip}
 use Rattle.page_words.specs.declared.addresses.Size.TheVariants.{One, Two, Four}
@@ -14,7 +14,7 @@ use Rattle.kernel_calls.specs.Machine.{end_of}
 use Rattle.kernel_calls.specs.Isolation.{own, calls_of, replies_of, solo, pages_given}
 use Rattle.kernel_calls.specs.WorkedRuns.{event, Gives}
 
--- what a process asks, and is told
+-- the calls of a process, which have the same replies in both machines
 abbrev pub quiet_calls : List Call
 quiet_calls =
     (call.Load 0x40000000 Four) ∷
@@ -26,6 +26,7 @@ quiet_calls =
     call.Quota ∷
     []
 
+-- the replies to these calls
 abbrev pub quiet_replies : List Reply
 quiet_replies =
     (reply.Value 0x0) ∷
@@ -51,10 +52,11 @@ noise =
     (event 0 0 (call.Spawn 9)) ∷
     map (λ page. event 0 2 (call.Store page One 0xaa)) (0x40000000 ∷ 0x40001000 ∷ 0x40002000 ∷ 0x40003000 ∷ 0x40004000 ∷ 0x40005000 ∷ 0x40006000 ∷ 0x40007000 ∷ [])
 
+-- the replies to the other process
 abbrev pub noise_replies : List Reply
 noise_replies = (reply.Child 2) ∷ replicate 7 reply.Done ++ (reply.Refused cause.Quota) ∷ []
 
--- the same beside it
+-- the events of that process, and of another that stores until it is refused
 abbrev pub noisy_events : List Event
 noisy_events =
     (event 0 0 (call.Spawn 5)) ∷ noise
@@ -62,6 +64,7 @@ noisy_events =
     ∷ (event 0 1 (call.Load 0x40003000 Four)) ∷ (event 0 1 (call.Unmap 0x40000)) ∷ noise
     ++ (event 0 1 (call.Load 0x40003000 Four)) ∷ (event 0 1 call.Quota) ∷ []
 
+-- the replies to both
 abbrev pub noisy_replies : List Reply
 noisy_replies =
     (reply.Child 1) ∷ noise_replies
@@ -69,6 +72,7 @@ noisy_replies =
     ∷ (reply.Refused cause.Quota) ∷ reply.Done ∷ noise_replies
     ++ (reply.Value 0x0) ∷ (reply.Quota 5 5 0) ∷ []
 
+-- the run with both processes, on a number of frames
 abbrev pub ToldBesideNoise : ℕ → Type 0
 ToldBesideNoise frames = Gives frames noisy_events noisy_replies
 
@@ -82,10 +86,11 @@ OwnOfNoise = (calls_of (own 1 (drop 1 (zip noisy_events noisy_replies))) ≡ qui
 abbrev pub before_copy : List Event
 before_copy = (event 0 0 (call.Spawn 9)) ∷ (event 0 1 (call.Store 0x40000ffe Four 0x4030201)) ∷ []
 
+-- a fork with a quota of 5
 abbrev pub copy : Call
 copy = call.Fork 5
 
--- what the copy asks, over the edges of pages, and is told
+-- the calls of the copy, over the edges of pages
 abbrev pub copy_calls : List Call
 copy_calls =
     (call.Load 0x40000ffe Four) ∷
@@ -96,6 +101,7 @@ copy_calls =
     call.Quota ∷
     []
 
+-- the replies to the copy
 abbrev pub copy_replies : List Reply
 copy_replies =
     (reply.Value 0x4030201) ∷
@@ -110,7 +116,7 @@ copy_replies =
 abbrev pub CopyToldAlone : Type 0
 CopyToldAlone = solo 5 (pages_given (end_of (open_with 16) before_copy) 1 copy) copy_calls ≡ copy_replies
 
--- beside its parent, which stores to the same page of its own meanwhile
+-- the copy's replies while its parent stores to the same page of its own
 abbrev pub CopyToldBeside : ℕ → Type 0
 CopyToldBeside frames = Gives frames
     (before_copy ++ (event 0 1 copy) ∷ (event 0 1 (call.Store 0x40000ffe Four 0x0)) ∷ map (event 0 2) copy_calls)

@@ -10,6 +10,7 @@ use Rattle.kernel_calls.specs.declared.calls.Reply.{Reply}
 use Rattle.kernel_calls.specs.declared.calls.Reply.TheVariants as reply
 use Rattle.kernel_calls.specs.Machine.{answers}
 
+-- an event from its parts
 abbrev pub event : ℕ → ℕ → Call → Event
 event cpu p c = record { cpu = cpu; pid = p; call = c }
 
@@ -39,7 +40,7 @@ MapStoreLoad = Gives 16
     (reply.Fault 0x3ffffffc 4) ∷
     [])
 
--- a process that has used its whole quota tells so
+-- a process that has used its whole quota: its Quota call shows it
 abbrev pub OneProcessIsFull : Type 0
 OneProcessIsFull = Gives 16
     ((event 0 0 (call.Load 0x40000000 Four)) ∷
@@ -127,7 +128,7 @@ FramesComeBack = Gives 16
     (reply.Refused cause.NotMapped) ∷
     [])
 
--- the first and last byte of the user range, and the bytes beside them
+-- the first and last byte of the user range, and their neighbours
 abbrev pub UserRangeEdges : Type 0
 UserRangeEdges = Gives 16
     ((event 0 0 (call.Load 0x3fffffff One)) ∷
@@ -171,7 +172,7 @@ TableIsCharged = Gives 16
     (reply.Quota 15 4 11) ∷
     [])
 
--- the table whose last page goes is returned at once
+-- a table is returned with its last page
 abbrev pub UnmapReturnsTable : Type 0
 UnmapReturnsTable = Gives 16
     ((event 0 0 (call.Map 0x40000 true)) ∷
@@ -193,7 +194,8 @@ UnmapReturnsTable = Gives 16
     (reply.Quota 15 1 0) ∷
     [])
 
--- a page that was mapped read-only may be stored to once it is protected as writable; no answer tells when it gets a frame
+-- a page that was mapped read-only may be stored to once it is protected as writable; no reply shows when it gets a
+-- frame
 abbrev pub LazyPage : Type 0
 LazyPage = Gives 16
     ((event 0 0 (call.Map 0x40000 false)) ∷

@@ -35,16 +35,17 @@ pub record IsSameButAccessed (before after : ℕ) : Type 0 where
 
 -- ---- What stands in frames before an event, and it leaves
 
+-- what an event from v to w leaves of frames that aren't its process's
 pub record LeavesToOthers (v w : View) (e : Event) : Type 0 where
   -- each byte of frame 0, and of a page that its process doesn't have
   pub zero : frame_bytes w.bytes 0 ≡ frame_bytes v.bytes 0
   pub pages : (slot : Slot) (f : ℕ) → page_frame (memory_of v) slot ≡ Some f → HasNone (memory_of v) e.pid f
       → frame_bytes w.bytes f ≡ frame_bytes v.bytes f
-  -- each word of another's table, which stays that of its region, but for a region where it ends a page
+  -- each word of another's table, which stays that of its region, unless the event ends a page in the region
   pub tables : (q region table index : ℕ) → q ≢ e.pid → ends_in_region (ended_by v e) q region ≡ false
       → table_at (memory_of v) q region ≡ Some table → index < 1024
       → (table_at (memory_of w) q region ≡ Some table) × (word_of (memory_of w) table index ≡ word_of (memory_of v) table index)
-  -- each word of another's directory, which stays it, but for accessed, and for such a region
+  -- each word of another's directory, which stays the process's, except accessed, and except the word of such a region
   pub directories : (q directory region : ℕ) → q ≢ e.pid → ends_in_region (ended_by v e) q region ≡ false
       → directory_at (memory_of v) q ≡ Some directory → region < 1024
       → (directory_at (memory_of w) q ≡ Some directory)
@@ -70,8 +71,8 @@ pub record LeadsToTaken (v : View) (e : Event) (f : ℕ) : Type 0 where
 abbrev pub MayWrite : View → Event → ℕ → Type 0
 MayWrite v e f = (slice_get v.roles f ≡ Some Free) ⊎ (IsOf (memory_of v) e.pid f ⊎ LeadsToTaken v e f)
 
--- a frame that serves so stands as before: each byte of a page and of frame 0, each word of a table, and each word of a
--- directory but for accessed
+-- what a frame with such a role keeps: each byte of a page and of frame 0, each word of a table, and each word of a
+-- directory except accessed
 abbrev pub StandsAsBefore : View → View → ℕ → Option Role → Type 0
 StandsAsBefore v w f (Some Reserved) = frame_bytes w.bytes f ≡ frame_bytes v.bytes f
 StandsAsBefore v w f (Some (Page c)) = frame_bytes w.bytes f ≡ frame_bytes v.bytes f
@@ -91,6 +92,7 @@ abbrev pub EventsLeaveToOthers : Type 0
 EventsLeaveToOthers = (v w : View) (e : Event) → IsCore v → IsCore w → w.state ≡ next v.state e → Ends (ended_by v e) v w
     → LeavesToOthers v w e
 
+-- the law: an event writes only the frames that it may write
 abbrev pub EventsWriteTheirOwn : Type 0
 EventsWriteTheirOwn = (v w : View) (e : Event) → IsCore v → IsCore w → w.state ≡ next v.state e → Ends (ended_by v e) v w
     → WritesItsOwn v w e

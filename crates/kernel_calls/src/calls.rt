@@ -107,7 +107,7 @@ pub enum Reply {
     Refused(Cause),
 }
 
-/// What came of an event that was carried out.
+/// The reply to an event that was carried out, and the charge after it.
 #[derive(Clone, Copy, Debug, PartialEq, Eq)]
 pub struct Outcome {
     pub reply: Reply,
@@ -119,12 +119,12 @@ pub struct Outcome {
 #[derive(Clone, Copy, Debug, PartialEq, Eq)]
 pub struct Decision {
     pub event: Event,
-    /// What the call comes to: that of a call which is neither refused nor a fault is Ready, and where an
-    /// access maps a page or gives it a frame first, the page's step is MapZero or Fill.
+    /// The call's plan. It is Ready unless the call is refused or faults. Where an access first maps a page or gives it
+    /// a frame, that page's step is MapZero or Fill.
     pub plan: Plan,
     pub reply: Reply,
     /// The charge of the event's process after it, in frames; 0 where it is not live then.
     pub used_after: u32,
-    /// What stands at the pages of an access.
+    /// The places of an access's pages.
     pub(crate) places: Places,
 }

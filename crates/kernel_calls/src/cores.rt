@@ -357,11 +357,11 @@ impl Core {
         self.reply_to(event)
     }
 
-    /// Carries out events in order, and writes the reply to each in its place. What a process is told that
-    /// was made on the way, and that involves no other, is what it would be told alone. The members of any set
-    /// are told what they would be told in any other run in which they ask and find the same, and others use no
-    /// channel to them; a set that keeps to itself stays confined; and such a family is told the same, whatever
-    /// others do. Where each reply is a refusal or a fault, nothing changes, and no byte of memory either.
+    /// Carries out events in order, and writes each reply in its place. If no event completes, nothing changes, not
+    /// even a byte of memory. A process that the run made, and that involves no other, gets the replies that it would
+    /// get alone. Members of any set get the replies that they would get in any other run in which they make the same
+    /// calls, find the same, and others use no channel to them. A set that keeps to itself stays confined. Such a
+    /// family gets the same replies, whatever others do.
     pub fn run(&mut self, events: &[Event], replies: &mut [Reply])
         requires { length events.now ≡ length replies.old }
         ensures replies { replies.new ≡ answers self.old.state events.now }

@@ -18,11 +18,10 @@ pub fn runs_stay_well_formed()
     ensures { RunsStayWellFormed }
 {}
 
-/// In every run from a well formed state, what a new process is told, up to its first Exit, is what it
-/// would be told as process 1 of a machine where it is alone with its quota and the pages that it got from
-/// a fork, as long as it asks for no offer, no accept and no child, refused ones too: so neither the number of
-/// frames, nor its own number, nor any other process has an effect on it. And it is told the same in the run
-/// without the later events of all others. It computes nothing.
+/// In any run from a well-formed state, take a new process that makes no Offer, Accept, Spawn or Fork, not even a
+/// refused one. Up to its first Exit its replies are those of process 1 of a machine where it is alone, with its quota
+/// and the pages that it got from a fork. So the number of frames, its own number and all other processes have no
+/// effect on it. It gets the same replies in the run without the later events of all others. It computes nothing.
 pub fn processes_are_isolated()
     ensures alone { RunsAreIsolated }
     ensures others { OthersMakeNoDifference }
@@ -88,9 +87,9 @@ pub fn processes_keep_their_integrity()
     ensures runs { NobodyTakesBack }
 {}
 
-/// Two slots come to share a page by an Accept alone, which the owner of a slot of that page offered, with no
-/// more right than that slot may have; they share it until one of them is given up; and an offer is made by its offerer
-/// alone. It computes nothing.
+/// Two slots come to share a page only by an Accept, of an offer by the owner of a slot of that page, with no more
+/// right than that slot may have. They share it until one of them is given up. Only its offerer makes an offer. It
+/// computes nothing.
 pub fn authority_spreads_by_consent()
     ensures sharing { SharingByConsent }
     ensures stays { SharingStays }
@@ -114,31 +113,31 @@ pub fn children_are_their_makers()
     ensures places { PlacesStay }
 {}
 
-/// What a process is told, and what it has after any call but an accept, depends on what it has alone, and for an offer,
-/// a spawn and a fork on what these find of who is live; what an accept is told depends also on whether the offer that it
-/// takes is pending, whatever stands in the page. It computes nothing.
+/// A process's replies, and what it has after any call but an Accept, depend only on what it has. For Offer, Spawn and
+/// Fork they also depend on which processes the call finds live, and the reply to an Accept on whether its offer is
+/// pending, whatever stands in the page. It computes nothing.
 pub fn what_a_process_has_is_enough()
     ensures told { MembersToldTheSame }
     ensures own { OwnIsEnough }
 {}
 
 /// What the members of a set of processes see together after an event of one of them, with the child that it may make,
-/// depends on what they see together alone; the event of another through none of the channels that are listed leaves
-/// that; so in two runs in which the members ask and find the same, they are told the same, whatever others do through no
-/// channel, also where these make processes and exit. It computes nothing.
+/// depends only on what they saw together. An event of another process through none of the listed channels leaves that
+/// unchanged. So in two runs in which members make the same calls and find the same, they get the same replies,
+/// whatever others do through no channel, even where these make processes and exit. It computes nothing.
 pub fn members_see_their_own()
     ensures sees { MembersSeeTheSame }
     ensures unseen { OutsidersUnseen }
     ensures runs { MembersHearTheSame }
 {}
 
-/// A set of processes that has no page in common with others and offers them none, and that from then on asks for no
-/// offer but to members and for no accept but from members, refused ones too, stays so in every run, as a set of numbers
-/// and with all children that its members make; no run of events of others changes a member's place in the book, its
-/// pages or the offers that it made; and others learn nothing of what members have and do, but which numbers are free,
-/// as long as no child of theirs, and nobody to whom they offer a page, exits among the members. Such a set of live
-/// processes with all their children is told the same, whatever others do, but which numbers are free. It computes
-/// nothing.
+/// Takes a set of processes that shares no page with others and offers them none. From then on it makes no offer but to
+/// members and no accept but from members, not even a refused one. It stays so in every run, as a set of numbers and
+/// with all children that its members make. No run of events of others changes a member's place in the book, its pages
+/// or its offers. Others learn nothing of what members have and do except which numbers are free, as long as no child
+/// of theirs, and no process to which they offer a page, exits among the members. A set of live processes with all
+/// their children that is confined in this way gets the same replies whatever others do, except for which numbers are
+/// free. It computes nothing.
 pub fn confined_processes_stay_confined()
     ensures borders { RunsKeepBorders }
     ensures unheard { OutsidersHearNothing }

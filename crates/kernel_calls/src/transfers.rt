@@ -1,5 +1,5 @@
-//! A process's memory in and out, as copyin and copyout are: what the accesses of one byte each come to, up to the
-//! first that is refused or faults. A page that is ready is looked up once, and its bytes go as one slice.
+//! Copies a process's memory in and out, as copyin and copyout do: with the effect of one-byte accesses, up to the
+//! first that is refused or faults. A page that is ready is looked up once, and its bytes are copied as one slice.
 
 ghost use Rattle.std.specs.Prelude.{◌≡◌, ◌+◌, ◌++◌, ◌<◌, ◌≤◌, Some, None, IfSome, IsSome, IsNone, false, length, drop, slice_index};
 ghost use Rattle.page_words.specs.Addresses.{page_number, offset_number, IsUserPage};
@@ -84,8 +84,8 @@ pub(crate) fn count_in_page(address: Vaddr, left: usize) -> usize
 }
 
 impl Core {
-    /// Loads the bytes from an address on, which lie in one page. None where all went; else what the load of the first
-    /// was told, and nothing changes.
+    /// Loads bytes from an address on, all in one page. Returns None if all were loaded. Otherwise returns the reply to
+    /// the load of the first byte, and nothing changes.
     fn load_in_page(&mut self, pid: Pid, address: Vaddr, out: &mut [u8]) -> Option<Reply>
         requires within { offset_number address + length out.old ≤ 4096 }
         requires some { 0 < length out.old }
@@ -102,7 +102,8 @@ impl Core {
         self.load_first(pid, address, out)
     }
 
-    /// The same, where the load of the first byte comes first: it maps the page, where it may.
+    /// Loads bytes of one page as `load_in_page` does, but loads the first byte by itself, which maps the page if it
+    /// may.
     #[inline(never)]
     fn load_first(&mut self, pid: Pid, address: Vaddr, out: &mut [u8]) -> Option<Reply>
         requires within { offset_number address + length out.old ≤ 4096 }
@@ -143,9 +144,9 @@ impl Core {
         all_of(done)
     }
 
-    /// Reads a process's memory from an address on: what the loads of one byte each come to, in order, up to the first
-    /// that is refused or faults. A page that is not mapped is mapped first, which may take a table; none gets a frame.
-    /// The rest of `out` stays as it was.
+    /// Reads a process's memory from an address on, with the effect of one-byte loads in order, up to the first that is
+    /// refused or faults. An unmapped page is mapped first, which may take a table; no page gets a frame. The rest of
+    /// `out` is unchanged.
     pub fn read_bytes(&mut self, pid: Pid, address: Vaddr, out: &mut [u8]) -> Transfer
         ensures count { result.count ≡ length (carried self.old.state (loads pid address (length out.old))) }
         ensures stop { result.stop ≡ stop_of self.old.state (loads pid address (length out.old)) }
@@ -160,8 +161,8 @@ impl Core {
         transfer
     }
 
-    /// Stores bytes from an address on, which lie in one page. None where all went; else what the store of the first
-    /// was told, and nothing changes.
+    /// Stores bytes from an address on, all in one page. Returns None if all were stored. Otherwise returns the reply
+    /// to the store of the first byte, and nothing changes.
     fn store_in_page(&mut self, pid: Pid, address: Vaddr, part: &[u8]) -> Option<Reply>
         requires within { offset_number address + length part.now ≤ 4096 }
         requires some { 0 < length part.now }
@@ -178,7 +179,8 @@ impl Core {
         self.store_first(pid, address, part)
     }
 
-    /// The same, where the store of the first byte comes first: it maps the page or gives it a frame, where it may.
+    /// Stores bytes of one page as `store_in_page` does, but stores the first byte by itself, which maps the page or
+    /// gives it a frame if it may.
     #[inline(never)]
     fn store_first(&mut self, pid: Pid, address: Vaddr, part: &[u8]) -> Option<Reply>
         requires within { offset_number address + length part.now ≤ 4096 }
@@ -222,10 +224,10 @@ impl Core {
         all_of(done)
     }
 
-    /// Writes a process's memory from an address on: what the stores of one byte each come to, in order, up to the
-    /// first that is refused or faults. A page that is not mapped is mapped first, and a lazy one gets a frame. Each way
-    /// to a frame stays but those of lazy pages: whoever keeps translations invalidates those of the process's pages
-    /// from the first byte's to that of the address behind the last.
+    /// Writes a process's memory from an address on, with the effect of one-byte stores in order, up to the first that
+    /// is refused or faults. An unmapped page is mapped first, and a lazy one gets a frame. Only ways to frames of lazy
+    /// pages change: whoever caches translations invalidates those of the process's pages from the first byte's page to
+    /// the page of the address after the last byte.
     pub fn write_bytes(&mut self, pid: Pid, address: Vaddr, bytes: &[u8]) -> Transfer
         ensures count { result.count ≡ length (carried self.old.state (stores pid address bytes.now)) }
         ensures stop { result.stop ≡ stop_of self.old.state (stores pid address bytes.now) }

@@ -8,9 +8,9 @@ use Rattle.locked_core.specs.Moments.{core_after, entries_in}
 use Rattle.locked_core.specs.declared.moment.Moment.{Moment}
 use Rattle.process_table.specs.View.{View}
 
--- These are what the event of the last entry that the CPU has seen ended: in the core that the entries before it left,
--- which is the core of the last moment before it, or the one that the kernel opened with; and it left the core of the last
--- moment, with all else that processors keep. Both are of the kernel's one history, which all of its CPUs see.
+-- What the event of the last entry that the CPU has seen ended, in the core that the entries before it left. That is
+-- the core of the last moment before it, or the one that the kernel opened with. The event left the core of the last
+-- moment, with all else that processors keep. Both moments are of the kernel's one history, which all of its CPUs see.
 pub record EndsAtLast (frames : ℕ) (opening : View) (cpu : Maker) (ended : Ended) : Type 0 where
   pub before : List Moment
   pub last : Moment
@@ -20,6 +20,6 @@ pub record EndsAtLast (frames : ℕ) (opening : View) (cpu : Maker) (ended : End
   pub told : ended ≡ ended_by (core_after opening before) (event_of last.entry)
   pub ends : Ends ended (core_after opening before) last.core
 
--- what is told of a call is one thing: the moments that its CPU has seen settle it
+-- what is reported of a call is fixed by the moments that its CPU has seen
 abbrev pub ToldOnce : Type 0
 ToldOnce = (frames : ℕ) (opening : View) (cpu : Maker) (a b : Ended) → EndsAtLast frames opening cpu a → EndsAtLast frames opening cpu b → a ≡ b

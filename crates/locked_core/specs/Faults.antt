@@ -3,6 +3,7 @@ use Rattle.std.specs.Prelude.{ℕ}
 use Rattle.locked_core.specs.declared.faults.Fault.{Fault}
 use Rattle.locked_core.specs.declared.faults.Fault.TheVariants as fault
 
+-- the number of a fault
 abbrev pub fault_number : Fault → ℕ
 fault_number fault.NoMemory = 1
 fault_number (fault.Stale front) = 2

@@ -11,8 +11,9 @@ use Rattle.locked_core.specs.Pages.{Page, LagsBehind, page}
 use Rattle.locked_core.specs.Published.{view_of}
 use Rattle.locked_core.specs.declared.rule.WhichKernel.{WhichKernel}
 
--- what lies under the lock of a kernel with so many frames and this book: the core, its log and what it adds to the
--- history, the total of the calls that its CPUs count as theirs, and the two sides of what is published, of which readers see one
+-- What a kernel with so many frames and this book has under its lock: the core, its log and what it adds to the
+-- history. Also the total of the calls that its CPUs count as theirs, and the two sides of what is published, of which
+-- readers see one.
 pub record IsUnderLock (frames : ℕ) (book : Book) (opening core : View) (log : List LogEntry) (added : List Moment) (total : ℕ) (is_watched : Bool) (side other : Page) (seat : WhichKernel) : Type 0 where
   pub legal : Legal frames log
   pub stands : core.state ≡ state_after frames log

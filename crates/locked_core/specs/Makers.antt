@@ -13,7 +13,7 @@ use Rattle.memory_image.specs.Machine.{IsImageOf}
 use Rattle.locked_core.specs.Moments.{Begins, Follows, core_after, entries_in}
 use Rattle.locked_core.specs.declared.moment.Moment.{Moment}
 
--- its number, the entries that it has seen, and the same with the core after each
+-- its number, the entries that it has seen, and these entries each with the core after it
 pub record Maker : Type 0 where
   pub number : ℕ
   pub seen : List LogEntry
@@ -27,8 +27,8 @@ maker number seen = record { number = number; seen = seen; moments = [] }
 abbrev pub maker_of : ℕ → List Moment → Maker
 maker_of number moments = record { number = number; seen = entries_in moments; moments = moments }
 
--- What a CPU that made a call has seen: its moments have the entries that it has seen, begin with those that it had seen, and
--- follow one after another from the core that the kernel opened with.
+-- What a CPU that made a call has seen. Its moments have the entries that it has seen, begin with those that it had
+-- seen, and follow one another from the core that the kernel opened with.
 pub record IsFollowed (opening : View) (before after : Maker) : Type 0 where
   pub entries : entries_in after.moments ≡ after.seen
   pub begins : Begins after.moments before.moments
@@ -39,8 +39,8 @@ abbrev pub new_makers : ℕ → List Maker
 new_makers zero = []
 new_makers (suc n) = new_makers n ++ maker n [] ∷ []
 
--- Where a call of a CPU was made: what it has seen now is a legal history, which begins with what it had seen and ends with the entry of that call, and of
--- its own entries it has those that it had and this one.
+-- A call that a CPU made. What the CPU has seen now is a legal history, which begins with what it had seen and ends
+-- with the entry of that call. Of its own entries it has those that it had, and this one.
 pub record IsMade (frames : ℕ) (before : Maker) (pid : ℕ) (call : Call) (reply : Reply) (after : Maker) (between : List LogEntry) (e : LogEntry) : Type 0 where
   pub legal : Legal frames after.seen
   pub grown : after.seen ≡ (before.seen ++ between) ++ e ∷ []
@@ -50,6 +50,7 @@ pub record IsMade (frames : ℕ) (before : Maker) (pid : ℕ) (call : Call) (rep
   pub with_reply : e.reply ≡ reply
   pub own : entries_of before.number after.seen ≡ entries_of before.number before.seen ++ e ∷ []
 
+-- a call of a CPU was made, with this reply
 abbrev pub Makes : ℕ → Maker → ℕ → Call → Maker → Reply → Type 0
 Makes frames before pid call after reply = (between : List LogEntry) × (e : LogEntry) × IsMade frames before pid call reply after between e
 
@@ -57,23 +58,25 @@ Makes frames before pid call after reply = (between : List LogEntry) × (e : Log
 abbrev pub BeginOne : ℕ → List LogEntry → List LogEntry → Type 0
 BeginOne frames log seen = (history : List LogEntry) × Legal frames history × StartsWith history log × StartsWith history seen
 
--- Why a CPU is refused on the log that was found, in the order in which it is asked. Of Unread nothing is said. Stale tells the
--- log's length: the log and what was seen are beginnings of one legal history, and the log is shorter or has another number of this CPU's entries. NoMemory
--- only where the log is legal, begins with what was seen and has as many of this CPU's entries. Nothing else refuses it.
+-- Why a CPU is refused on the log that was found, in the order of the tests. Of Unread nothing is said. Stale has the
+-- log's length: the log and what was seen are prefixes of one legal history, and the log is shorter or has another
+-- number of this CPU's entries. NoMemory comes only if the log is legal, begins with what was seen and has as many of
+-- this CPU's entries. Nothing else refuses it.
 abbrev pub IsRefused : ℕ → List LogEntry → Maker → Fault → Type 0
 IsRefused frames log cpu Unread = Unit {0}
 IsRefused frames log cpu (Stale front) = (front ≡ length log) × BeginOne frames log cpu.seen × ((length log < length cpu.seen) ⊎ (calls_of cpu.number log ≢ calls_of cpu.number cpu.seen))
 IsRefused frames log cpu NoMemory = Legal frames log × StartsWith log cpu.seen × (calls_of cpu.number log ≡ calls_of cpu.number cpu.seen)
 IsRefused frames log cpu Disagree = ⊥
 
--- what can keep a call that was judged from being carried out: want of memory, and Unread
+-- the faults that can stop a call after it was checked: out of memory, and Unread
 abbrev pub Prevents : Fault → Type 0
 Prevents NoMemory = Unit {0}
 Prevents Unread = Unit {0}
 Prevents (Stale front) = ⊥
 Prevents Disagree = ⊥
 
--- Where an image was taken for a CPU: it stands for the state after a legal history, which begins with what the CPU has seen and has the calls that it made.
+-- An image that was taken for a CPU. It represents the state after a legal history, which begins with what the CPU has
+-- seen and has the calls that it made.
 pub record IsSnapshot (frames : ℕ) (cpu : Maker) (image : Image) (history : List LogEntry) : Type 0 where
   pub legal : Legal frames history
   pub begins : StartsWith history cpu.seen
@@ -101,6 +104,7 @@ pub record AreAll (count : ℕ) (log : List LogEntry) (cpus : List Maker) : Type
   pub fit : All (λ c. IsFit log c) cpus
   pub known : All (λ e. IsOneOf cpus e.cpu) log
 
--- what closing by these CPUs comes to on that log: it is done exactly where they are all of so many and agree with it, and else refused as Disagree
+-- the result of closing with these CPUs on that log: it succeeds exactly if they are all of that many and agree with
+-- the log, and is otherwise refused as Disagree
 abbrev pub Closes : {X : Type 0} → ℕ → List LogEntry → List Maker → Result X Fault → Type 0
 Closes count log cpus result = (IsOk result ↔ AreAll count log cpus) × IfErr result (λ f. f ≡ Disagree)

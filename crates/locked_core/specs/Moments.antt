@@ -8,6 +8,7 @@ use Rattle.memory_report.specs.declared.entries.LogEntry.{LogEntry}
 use Rattle.process_table.specs.View.{View}
 use Rattle.locked_core.specs.declared.moment.Moment.{Moment}
 
+-- an entry, and the core after it
 abbrev pub moment : LogEntry → View → Moment
 moment entry core = record { entry = entry; core = core }
 

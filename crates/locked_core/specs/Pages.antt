@@ -6,12 +6,13 @@ use Rattle.memory_report.specs.Reports.{report_of}
 use Rattle.memory_report.specs.declared.entries.LogEntry.{LogEntry}
 use Rattle.memory_report.specs.declared.rows.Row.{Row}
 
--- a beginning of the history of a kernel, which has so many frames and this book
+-- a prefix of the history of a kernel, which has so many frames and this book
 pub record Page : Type 0 where
   pub frames : ℕ
   pub book : Book
   pub log : List LogEntry
 
+-- what is published of a kernel
 abbrev pub page : ℕ → Book → List LogEntry → Page
 page frames book log = record { frames = frames; book = book; log = log }
 

@@ -16,8 +16,8 @@ abbrev pub by_number : Result Reply Fault → Answer
 by_number (Ok reply) = Ok reply
 by_number (Err fault) = Err (fault_number fault)
 
--- What a port does with an event of its CPU, and with one of another: the caller makes one call, and what came of that call is the answer, its fault by its
--- number; or nothing is called, and the answer is 6.
+-- What a port does with an event. If the event is of the port's CPU, the caller makes one call; the answer is the
+-- call's result, with a fault replaced by its number. Otherwise nothing is called, and the answer is 6.
 abbrev pub step_by : {S : Type 0} → (S → ℕ → Call → Result Reply Fault → S → Type 0) → Bool → S → Event → Answer → S → Type 0
 step_by called true before event answer after = (given : Result Reply Fault) × called before event.pid event.call given after × (answer ≡ by_number given)
 step_by called false before event answer after = (answer ≡ Err another_cpu) × (after ≡ before)
@@ -26,7 +26,8 @@ step_by called false before event answer after = (answer ≡ Err another_cpu) ×
 abbrev pub IsPortStep : {S : Type 0} → (S → ℕ) → (S → ℕ → Call → Result Reply Fault → S → Type 0) → S → Event → Answer → S → Type 0
 IsPortStep cpu_of called before event answer after = step_by called (event.cpu == cpu_of before) before event answer after
 
--- What came of a call of a CPU: a reply is that of its entry, and a fault one that refused it, which leaves what the CPU has seen.
+-- The result of a CPU's call: a reply is that of the call's entry; a fault is one that refused the call, and leaves
+-- what the CPU has seen.
 abbrev pub IsCpuCall : ℕ → Maker → ℕ → Call → Result Reply Fault → Maker → Type 0
 IsCpuCall frames before pid call (Ok reply) after = (after.number ≡ before.number) × Makes frames before pid call after reply
 IsCpuCall frames before pid call (Err fault) after = (after ≡ before) × ((log : List LogEntry) × IsRefused frames log before fault)
@@ -35,8 +36,8 @@ IsCpuCall frames before pid call (Err fault) after = (after ≡ before) × ((log
 abbrev pub IsNumberOfRefusal : ℕ → Maker → ℕ → Type 0
 IsNumberOfRefusal frames cpu number = (fault : Fault) × (log : List LogEntry) × IsRefused frames log cpu fault × (number ≡ fault_number fault)
 
--- a reply is that of one call of this CPU; a fault leaves what it has seen, is 6 exactly for an event of another CPU, and else the number of the fault that refused
--- the call
+-- A reply is that of one call of this CPU. A fault leaves what the CPU has seen: it is 6 exactly for an event of
+-- another CPU, and otherwise the number of the fault that refused the call.
 abbrev pub IsCpuStep : ℕ → Maker → Event → Answer → Maker → Type 0
 IsCpuStep frames before event (Ok reply) after = (event.cpu ≡ before.number) × (after.number ≡ before.number) × Makes frames before event.pid event.call after reply
 IsCpuStep frames before event (Err fault) after = (after ≡ before) × (event.cpu ≢ before.number → fault ≡ another_cpu) × (fault ≡ another_cpu → event.cpu ≢ before.number) × (event.cpu ≡ before.number → IsNumberOfRefusal frames before fault)

@@ -1,4 +1,4 @@
--- The rule of the history, and what the step that adds to it tells.
+-- The rule of the history, and the result of the step that adds to it.
 use Rattle.std.specs.Prelude.{ℕ, ◌≡◌, ◌==◌, true, List, [], ◌∷◌, ◌++◌, length, MatchBool}
 use Rattle.logbook.specs.Pages.{Cell, Step, View, Book, Named}
 use Rattle.locked_core.specs.declared.moment.Moment.{Moment}
@@ -15,6 +15,6 @@ head_of b = record { tracked = true; key = 0; book = b }
 abbrev pub Adds : Step Moment → View Moment ℕ → ℕ → View Moment ℕ → Type 0
 Adds s v found w = MatchBool (found == s.old) (w.0 ≡ v.0 ++ s.ask ∷ []) (length w.0 ≡ found)
 
--- the length of the history was found, of which all that had been seen is a beginning
+-- the length of the history was found, of which all that had been seen is a prefix
 abbrev pub LooksUp : Step Moment → View Moment ℕ → ℕ → View Moment ℕ → Type 0
 LooksUp s v found w = length w.0 ≡ found

@@ -141,7 +141,7 @@ pub struct Opened {
 }
 
 impl Opened {
-    /// A new book.
+    /// Opens a book with an empty history.
     pub fn new() -> Opened
         ensures { result.seen.log ≡ [] }
     {
@@ -202,7 +202,7 @@ impl<N: Name> Front<N> {
         self.count
     }
 
-    /// A copy.
+    /// Returns another token of the same prefix of the history.
     pub fn again(&self) -> Front<N>
         ensures { result ≡ self.now }
     {

@@ -98,7 +98,7 @@ impl CallLog {
         entries.push_reserved(LogEntry { call, ..*entry });
     }
 
-    /// The entries.
+    /// Returns all entries, in the order in which their calls had the lock.
     pub fn entries(&self) -> &[LogEntry]
         ensures { result.now ≡ self.now.entries }
     {

@@ -3,13 +3,13 @@
 /// Where a call is.
 #[derive(Clone, Copy, Debug, PartialEq, Eq)]
 pub enum Point {
-    /// The call is judged, and nothing has changed: what it comes to is decided behind this point.
+    /// The call is judged, and nothing has changed. Its result is decided after this point.
     Locked,
     /// The call is carried out, logged and published.
     Published,
 }
 
-/// What is reached at each point, under the lock: where it waits, the call waits with the lock held.
+/// Called at each point, under the lock. While it waits, the call waits with the lock held.
 pub trait Gate {
     fn reach(&self, point: Point);
 }

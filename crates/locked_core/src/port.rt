@@ -21,7 +21,7 @@ pub trait Caller<K> {
     /// The number of its CPU.
     ghost cpu_of: { Self → ℕ };
 
-    /// What a call does: the caller before it, the process, the call, what came of it, and the caller after it.
+    /// The relation of a call: the caller before, the process, the call, the result, and the caller after.
     ghost called: { Self → ℕ → Call → Result Reply Fault → Self → Type 0 };
 
     /// The number of its CPU.
@@ -84,7 +84,7 @@ impl<'a, N: Name, G: Gate + Drop, R: Wait> CallerPort<'a, Cpu<N>, OnKernel<'a, N
     }
 }
 
-/// What came of a call, its fault by its number.
+/// Returns the result of a call, with a fault replaced by its number.
 fn by_number(given: Result<Reply, Fault>) -> Result<Reply, PortFault>
     ensures { result ≡ by_number given }
 {
@@ -94,8 +94,8 @@ fn by_number(given: Result<Reply, Fault>) -> Result<Reply, PortFault>
     }
 }
 
-/// Each call is one call of the caller, and its fault is told by its number, of whatever kind it is. An event
-/// of another CPU is answered by 6, and nothing is called.
+/// Each call is one call of the caller; a fault of any kind is reported by its number. The answer to an event of
+/// another CPU is 6, and nothing is called.
 impl<'a, C: Caller<K>, K: Drop> Port for CallerPort<'a, C, K> {
     ghost use Rattle.std.specs.Prelude.{◌≡◌};
     ghost use Rattle.locked_core.specs.Ports.{IsPortStep};

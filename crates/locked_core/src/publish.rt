@@ -108,7 +108,7 @@ pub fn publish<R: Wait>(rt: &R, writer: &mut LogWriter, log: &[LogEntry], seen: 
     )
 }
 
-/// The same, where a monitor reads what is published; else nothing changes.
+/// Publishes the report as `publish` does, if a monitor reads what is published. Otherwise changes nothing.
 pub fn keep_up<R: Wait>(
     rt: &R,
     writer: &mut LogWriter,

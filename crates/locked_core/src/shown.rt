@@ -63,7 +63,7 @@ impl Shown {
         Front::new(self.count, self.seen.again())
     }
 
-    /// A copy.
+    /// Copies the page, with a token of the same prefix of the history.
     pub fn again(&self) -> Shown
         ensures { result ≡ self.now }
     {

@@ -1,4 +1,4 @@
--- What is drawn of the bytes of an image, and what comes of a command line that asks for it.
+-- The drawing of the bytes of an image, and the answer to a command line that requests it.
 use Rattle.std.specs.Prelude.{◌≡◌, ◌⊎◌, ℕ, Bool, true, false, List, [], Option, Some, None, option_and_then, slice_get, codes}
 use Rattle.std.specs.Option.{option_map_or}
 use Rattle.std.specs.Str.{bytes_eq}
@@ -36,7 +36,7 @@ abbrev pub ShowsFront : Form → Image → Option (List ℕ) → Option (List �
 ShowsFront form.Text image held holds = AppendsFront held holds (map_text image)
 ShowsFront form.Picture image held holds = Unit {0}
 
--- the bytes spell an image, which was drawn; it says whether the image is sound
+-- the bytes encode an image, which was drawn; the result is whether the image is sound
 abbrev pub Draws : Form → List ℕ → Bool → Option (List ℕ) → Option (List ℕ) → Type 0
 Draws form bytes sound held holds = (image : Image) × Spells bytes image × (sound ≡ fails_nothing (verdict_on image)) × Shows form image held holds
 
@@ -65,25 +65,30 @@ form_of false = form.Text
 abbrev pub is_svg : List Row → Bool
 is_svg rows = option_map_or (λ text. bytes_eq text (codes "true")) (option_and_then (λ (values : List Text). slice_get values 0) (all_of (codes "svg") rows)) false
 
+-- the form that the arguments request: SVG, or text
 abbrev pub form_in : List Row → Form
 form_in rows = form_of (is_svg rows)
 
--- what the words ask for: a form, and a file's name
+-- what the arguments request: a form, and a file's name
 abbrev pub Asked : Type 0
 Asked = Form × Text
 
+-- a request as the definitions name it
 abbrev pub as_asked : Request → Asked
 as_asked request = (request.form, request.file.now)
 
+-- the request in what `clap` found
 abbrev pub request_in : List Row → Asked
 request_in rows = (form_in rows, file_in rows)
 
+-- the request in a command line
 abbrev pub request_asked : List Text → Asked
 request_asked words = request_in (matches_of map_app words)
 
 -- ---- Answers
 
--- what was read spells an image, which was drawn, and it is sound or not; or the file was not read; or what was read is refused
+-- what was read encodes an image, which was drawn, and it is sound or not; or the file was not read; or what was read
+-- is refused
 abbrev pub DrawsFile : Form → Answer → Option (List ℕ) → Option (List ℕ) → Option (List ℕ) → Type 0
 DrawsFile form Done remained held holds = (bytes : List ℕ) × IsRead remained bytes × Draws form bytes true held holds
 DrawsFile form NotSound remained held holds = (bytes : List ℕ) × IsRead remained bytes × Draws form bytes false held holds

@@ -1,7 +1,6 @@
--- The film of a script, and what comes of a command line that asks for one.
---     page_text rows      the page of a film with these rows
---     FilmsScript frames answer ..      what was read and written by a film that came to that answer
---     AnswersAll words answer ..      the same of any command line
+-- The film of a script, and the answer to a command line that requests it. page_text rows the page of a film with
+-- these rows FilmsScript frames answer .. what a film with that answer read and wrote AnswersAll words answer .. what
+-- any command line with that answer read and wrote
 use Rattle.std.specs.Prelude.{◌≡◌, ◌⊎◌, ℕ, Bool, true, false, List, [], ◌++◌, Option, Some, unwrap_or, codes}
 use Rattle.std.specs.List.{list_any}
 use Rattle.std.specs.Str.{bytes_eq}
@@ -55,6 +54,7 @@ film_flag = record (new_rule (codes "film")) { long = Some (codes "film"); actio
 abbrev pub film_app : App
 film_app = with_rule (with_rule (new_app (codes "memory_map")) film_flag) frames_option
 
+-- whether an argument is --film
 abbrev pub is_film : Text → Bool
 is_film word = bytes_eq word (codes "--film")
 
@@ -62,18 +62,19 @@ is_film word = bytes_eq word (codes "--film")
 abbrev pub asks_film : List Text → Bool
 asks_film words = list_any is_film words
 
--- the number of frames that the words ask for, or 16
+-- the number of frames that the arguments give, or 16
 abbrev pub frames_asked : List Text → ℕ
 frames_asked words = unwrap_or (frames_in (matches_of film_app words)) 16
 
 -- ---- Answers
 
+-- the answer for the end of a film
 abbrev pub answer_of_end : End → Answer
 answer_of_end Whole = Done
 answer_of_end Cut = Done
 answer_of_end (Malformed line) = Failed (tool.Malformed line)
 
--- a film was written whose end comes to this answer
+-- a film was written whose end gives this answer
 abbrev pub WritesSome : ℕ → List ℕ → Answer → Option (List ℕ) → Option (List ℕ) → Type 0
 WritesSome frames script answer held holds = (end : End) × (answer ≡ answer_of_end end) × WritesFilm frames script end held holds
 
@@ -95,10 +96,11 @@ AnswersFilm words answer remained held holds =
     ((clap_faults film_app words ≡ []) × FilmsScript (frames_asked words) answer remained held holds)
     ⊎ ((error : Error) × HasKind (clap_faults film_app words) error × Refuses error answer × Keeps held holds)
 
--- words with --film ask for a film, and all others for a drawing
+-- arguments with --film request a film, and all others a drawing
 abbrev pub AnswersBy : Bool → List (List ℕ) → Answer → Option (List ℕ) → Option (List ℕ) → Option (List ℕ) → Type 0
 AnswersBy true words answer remained held holds = AnswersFilm words answer remained held holds
 AnswersBy false words answer remained held holds = AnswersWords words answer held holds
 
+-- what any command line with that answer read and wrote
 abbrev pub AnswersAll : List (List ℕ) → Answer → Option (List ℕ) → Option (List ℕ) → Option (List ℕ) → Type 0
 AnswersAll words answer remained held holds = AnswersBy (asks_film words) words answer remained held holds

@@ -1,4 +1,4 @@
-//! What comes of a command line of `memory_map`.
+//! Runs a command line of `memory_map`.
 
 ghost use Rattle.std.specs.Prelude.{◌≡◌, None, map};
 ghost use Rattle.map_jobs.specs.Drawings.{AnswersWords, DrawsFile};

@@ -55,7 +55,7 @@ pub fn write_film<O: Write>(
     }
 }
 
-/// What a film's end comes to: a script with a malformed line is told as such.
+/// Returns the answer for a film's end: the fault for a malformed line, otherwise Done.
 fn answer_of_end(end: End) -> Answer
     ensures { result ≡ answer_of_end end }
 {

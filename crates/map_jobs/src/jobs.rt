@@ -68,8 +68,7 @@ fn form_in(matches: &ArgMatches<'_>) -> Form
 /// What the words ask for, of which the first is the program's name. What they do not spell is refused by
 /// `clap`, with its own text; a call for help is refused so too.
 pub fn request_of<'a, S: AsStr>(alloc: Global, words: &'a [S]) -> Result<Request<'a>, Error>
-    // An Ok comes only where `clap` finds no fault in the words, and an error is want of memory or of
-    // a kind that `clap` finds.
+    // Ok comes only if `clap` finds no fault in the arguments. An error is OutOfMemory, or of a kind that `clap` finds.
     ensures fails { FailsBy (fault_of map_app (map S.text words.now)) result }
     ensures request { IfOk result (λ request. as_asked request ≡ request_asked (map S.text words.now)) }
 {
@@ -124,8 +123,7 @@ fn film_command<'a>(alloc: Global) -> Result<Command<'a>, AllocError>
 /// they give none. What they do not spell is refused by `clap`, with its own text; a call for help is refused so
 /// too.
 pub fn frames_of<S: AsStr>(alloc: Global, words: &[S]) -> Result<u32, Error>
-    // An Ok comes only where `clap` finds no fault in the words, and an error is want of memory or of
-    // a kind that `clap` finds.
+    // Ok comes only if `clap` finds no fault in the arguments. An error is OutOfMemory, or of a kind that `clap` finds.
     ensures fails { FailsBy (fault_of film_app (map S.text words.now)) result }
     ensures frames { IfOk result (λ frames. frames ≡ frames_asked (map S.text words.now)) }
 {

@@ -1,5 +1,5 @@
-//! The command of `memory_map`: its command line, and the drawing or the film that it asks for. What comes of it is an
-//! answer, as of a command of `tower`.
+//! The command of `memory_map`: its command line, and the drawing or film that it requests. The result is an answer, as
+//! for `tower`.
 #![tactic(auto)]
 
 mod commands;

@@ -6,6 +6,7 @@ use Rattle.address_space.specs.View.{role_code}
 use Rattle.memory_image.specs.declared.processes.Process.{Process}
 use Rattle.memory_image.specs.Image.{Image}
 
+-- the code of a process's record
 abbrev pub process_code : Coded Process
 process_code =
     code_by ((ℕ × ℕ) × (ℕ × (ℕ × ℕ)))
@@ -14,6 +15,7 @@ process_code =
     (λ p. record { parent = p.0.0; quota = p.0.1; used = p.1.0; given = p.1.1.0; directory = p.1.1.1 })
     (λ _. refl)
 
+-- the code of images
 abbrev pub image_code : Coded Image
 image_code =
     code_by ((ℕ × List (Option Process)) × (List Role × List ℕ))

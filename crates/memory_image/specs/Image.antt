@@ -6,6 +6,7 @@ use Rattle.alloc_table.specs.declared.Role.TheVariants.{Reserved, Free, Director
 use Rattle.address_space.specs.Image as memory
 use Rattle.memory_image.specs.declared.processes.Process.{Process}
 
+-- an image: version, processes, roles and bytes
 pub record Image : Type 0 where
   -- which words its tables hold: 1, or 2 where pages can be lazy
   pub version : ℕ
@@ -16,15 +17,19 @@ pub record Image : Type 0 where
   -- 4,096 bytes for each frame
   pub bytes : List ℕ
 
+-- the number of frames
 abbrev pub frames : Image → ℕ
 frames image = length image.roles
 
+-- the record of process p, if it is live
 abbrev pub process_at : Image → ℕ → Option Process
 process_at image p = unwrap_or (slice_get image.processes p) None
 
+-- the role of frame f
 abbrev pub role_at : Image → ℕ → Option Role
 role_at image f = slice_get image.roles f
 
+-- the directory in a process's record
 abbrev pub directory_from : Option Process → Option ℕ
 directory_from process = option_map (λ r. r.directory) process
 
@@ -48,6 +53,7 @@ pub record IsProcess (n p : ℕ) (r : Process) : Type 0 where
   pub given : IsWord r.given
   pub directory : r.directory < n
 
+-- a role's numbers are within their limits
 abbrev pub IsRole : Role → Type 0
 IsRole Reserved = Unit {0}
 IsRole Free = Unit {0}
@@ -55,6 +61,7 @@ IsRole (Directory p) = p < 64
 IsRole (Table p s) = (p < 64) × (s < 1024)
 IsRole (Page count) = IsWord count
 
+-- an image that bytes can encode
 pub record IsImage (image : Image) : Type 0 where
   pub version : (image.version ≡ 1) ⊎ (image.version ≡ 2)
   pub most : frames image ≤ 4096

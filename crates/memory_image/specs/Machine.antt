@@ -24,22 +24,24 @@ pub record IsImageOf (v : View) (image : Image) : Type 0 where
   pub bytes : image.bytes ≡ v.bytes
   pub processes : (p : ℕ) → process_at image p ≡ process_from (container_of v.state p) (directory_of v.directories p)
 
--- the image of a machine stands for the state that the machine's own memory stands for
+-- the image of a machine represents the state that the machine's own memory represents
 abbrev pub ImagesStand : Type 0
 ImagesStand = (v : View) (image : Image) → IsImageOf v image → machine.StandsFor (machine.image_of v) v.state → StandsFor image v.state
 
 -- ---- What the types of the numbers say of them
 
+-- a process's numbers are each within their field
 pub record IsWide (r : Process) : Type 0 where
   pub parent : r.parent < 64
   pub quota : IsWord r.quota
   pub used : IsWord r.used
   pub given : IsWord r.given
 
--- what the machine tells of process p
+-- what the machine shows of process p
 abbrev pub process_told : View → ℕ → Option Process
 process_told v p = process_from (container_of v.state p) (directory_of v.directories p)
 
+-- the numbers of process p, if it is live, are within their fields
 abbrev pub IsToldWide : View → ℕ → Type 0
 IsToldWide v p = IfSome (process_told v p) IsWide
 
@@ -47,5 +49,6 @@ IsToldWide v p = IfSome (process_told v p) IsWide
 abbrev pub HasWord : Role → Type 0
 HasWord role = (count : ℕ) → role ≡ Page count → IsWord count
 
+-- the roles of the first n frames fit their words
 abbrev pub HaveWords : List Role → ℕ → Type 0
 HaveWords roles n = (f : ℕ) (role : Role) → f < n → slice_get roles f ≡ Some role → HasWord role

@@ -1,4 +1,4 @@
--- The image that bytes spell, if they spell one: each field at its place.
+-- The image that bytes encode, if they encode one: each field at its place.
 use Rattle.std.specs.Prelude.{◌≡◌, ℕ, ◌+◌, ◌<◌, ◌==◌, ◌⊎◌, if◌then◌else◌, List, drop, map, Option, Some, None}
 use Rattle.std.specs.List.{range_with_len}
 use Rattle.phys_memory.specs.Bytes.{word_at}
@@ -15,6 +15,7 @@ abbrev pub process_of_numbers : ℕ → ℕ → ℕ → ℕ → ℕ → ℕ → 
 process_of_numbers live parent quota used given directory =
     if live == 1 then Some (record { parent = parent; quota = quota; used = used; given = given; directory = directory }) else None
 
+-- the record of process p in bytes
 abbrev pub process_in : List ℕ → ℕ → Option Process
 process_in bytes p =
     let at = process_place p in
@@ -29,11 +30,13 @@ role_of_numbers role pid slot count =
     else if role == 3 then Table pid slot
     else Page count
 
+-- the role of frame f in bytes
 abbrev pub role_in : List ℕ → ℕ → Role
 role_in bytes f =
     let at = role_place f in
     role_of_numbers (word_at bytes at) (word_at bytes (at + 4)) (word_at bytes (at + 8)) (word_at bytes (at + 12))
 
+-- the image in bytes
 abbrev pub image_in : List ℕ → Image
 image_in bytes = record {
   version = word_at bytes 4;
@@ -50,6 +53,6 @@ HasParent bytes p = word_at bytes (process_place p) ≡ 1 → word_at bytes (pro
 abbrev pub HasOwner : List ℕ → ℕ → Type 0
 HasOwner bytes f = (word_at bytes (role_place f) ≡ 2) ⊎ (word_at bytes (role_place f) ≡ 3) → word_at bytes (role_place f + 4) < 64
 
--- why bytes are refused: the first reason against them, or want of memory where there is none
+-- why bytes are refused: the first reason against them, or out of memory if there is none
 abbrev pub IsRefusal : List ℕ → ImageFault → Type 0
 IsRefusal bytes fault = (fault_of bytes ≡ Some fault) ⊎ ((fault ≡ NoMemory) × (fault_of bytes ≡ None))

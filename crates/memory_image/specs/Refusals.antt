@@ -18,8 +18,8 @@ begins _ = false
 abbrev pub Field : Type 0
 Field = Bool × ℕ
 
--- the fields of the record of process p at a place, which has these numbers, in an image of n frames: where it
--- isn't live all others are 0, and process 0 is its own parent
+-- The fields of the record of process p at a place, which has these numbers, in an image of n frames. If the process
+-- isn't live, all others are 0. Process 0 is its own parent.
 abbrev pub process_tests : ℕ → ℕ → ℕ → ℕ → ℕ → ℕ → ℕ → ℕ → ℕ → List Field
 process_tests n p place live parent quota used given directory =
     let is_live = live == 1 in
@@ -48,11 +48,13 @@ process_place p = 12 + 24 * p
 abbrev pub role_place : ℕ → ℕ
 role_place f = 1548 + 16 * f
 
+-- the tests of the record of process p
 abbrev pub process_fields : List ℕ → ℕ → ℕ → List Field
 process_fields bytes n p =
     let at = process_place p in
     process_tests n p at (word_at bytes at) (word_at bytes (at + 4)) (word_at bytes (at + 8)) (word_at bytes (at + 12)) (word_at bytes (at + 16)) (word_at bytes (at + 20))
 
+-- the tests of the role of frame f
 abbrev pub role_fields : List ℕ → ℕ → List Field
 role_fields bytes f =
     let at = role_place f in
@@ -66,9 +68,11 @@ fields bytes n = flat_map (process_fields bytes n) (range_with_len 0 64) ++ flat
 abbrev pub first_bad : List ℕ → ℕ → Option ℕ
 first_bad bytes n = first_failing (fields bytes n)
 
+-- the fault of a field at this offset
 abbrev pub bad_field : ℕ → ImageFault
 bad_field offset = BadField offset
 
+-- the first fault of bytes that say they have n frames
 abbrev pub fault_with : List ℕ → ℕ → Option ImageFault
 fault_with bytes n =
     if nat_lt n 16 || nat_lt 4096 n then Some (BadField 8)
@@ -83,6 +87,6 @@ fault_of bytes =
     else if not (word_at bytes 4 == 1 || word_at bytes 4 == 2) then Some BadVersion
     else fault_with bytes (word_at bytes 8)
 
--- there is a reason against bytes exactly where they spell no image
+-- there is a reason against bytes exactly if they encode no image
 abbrev pub RefusedWhereNotSpelled : Type 0
 RefusedWhereNotSpelled = (bytes : List ℕ) → ((i : ℕ) → slice_index bytes i < 256) → (fault_of bytes ≡ None) ↔ ((image : Image) × Spells bytes image)

@@ -4,6 +4,7 @@ use Rattle.std.specs.Option.{option_map}
 use Rattle.quota_tree.specs.declared.accounts.Account.{Account}
 use Rattle.memory_image.specs.declared.processes.Process.{Process}
 
+-- the account of a process's record
 abbrev pub as_account : Process → Account
 as_account r = record { parent = r.parent; quota = r.quota; used = r.used; given = r.given }
 

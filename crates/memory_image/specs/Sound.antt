@@ -1,4 +1,4 @@
--- When an image is sound, and which state it stands for: as what a machine shows.
+-- When an image is sound, and which state it represents: as what a machine shows.
 use Rattle.std.specs.Prelude.{◌≡◌, ℕ, Option}
 use Rattle.std.specs.Option.{option_map}
 use Rattle.process_table.specs.State.{State}
@@ -11,6 +11,7 @@ use Rattle.memory_image.specs.Image.{Image, process_at, memory_of}
 abbrev pub account_from : Process → Account
 account_from r = record { parent = r.parent; quota = r.quota; used = r.used; given = r.given }
 
+-- the account of process p
 abbrev pub account_at : Image → ℕ → Option Account
 account_at image p = option_map account_from (process_at image p)
 
@@ -27,6 +28,6 @@ IsSound image = machine.IsSoundImage (shown_by image)
 abbrev pub StandsFor : Image → State → Type 0
 StandsFor image s = machine.StandsFor (shown_by image) s
 
--- an image stands for at most one pair of spaces and book
+-- an image represents at most one pair of spaces and book
 abbrev pub StandsForOne : Type 0
 StandsForOne = (image : Image) (s t : State) → StandsFor image s → StandsFor image t → (s.spaces ≡ t.spaces) × (s.book ≡ t.book)

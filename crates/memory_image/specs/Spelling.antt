@@ -32,15 +32,16 @@ role_bytes (Page count) = number 4 ++ number 0 ++ number 0 ++ number count
 unfoldable pub spelling : Image → List ℕ
 spelling image = magic ++ (number image.version ++ (number (frames image) ++ (flat_map process_bytes image.processes ++ (flat_map role_bytes image.roles ++ image.bytes))))
 
+-- bytes encode an image
 pub record Spells (bytes : List ℕ) (image : Image) : Type 0 where
   pub fits : IsImage image
   pub is : bytes ≡ spelling image
 
--- how long spellings are
+-- how long encoded images are
 abbrev pub SpellingsAreLong : Type 0
 SpellingsAreLong = (image : Image) → IsImage image → length (spelling image) ≡ 1548 + 4112 * frames image
 
--- each image has one spelling, and no bytes spell two images
+-- each image has one encoding, and no bytes encode two images
 pub record SpellingIsExact : Type 0 where
   pub has : (image : Image) → IsImage image → (bytes : List ℕ) × Spells bytes image
   pub one : (bytes more : List ℕ) (image : Image) → Spells bytes image → Spells more image → bytes ≡ more

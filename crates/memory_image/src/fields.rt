@@ -162,7 +162,7 @@ fn is_known(version: u32) -> bool
     version == 1 || version == 2
 }
 
-/// The first reason why bytes are no image, apart from want of memory: None exactly where they spell one.
+/// Returns the first reason why bytes are no image, apart from a lack of memory: None exactly if they encode one.
 ///
 /// In this order: NotImage, where they don't begin with the four bytes of an image; BadLength, where they
 /// are fewer than 12; BadVersion; BadField at 8, where the number of frames isn't 16 to 4,096; BadLength,

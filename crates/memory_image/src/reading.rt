@@ -127,10 +127,10 @@ fn image_in(alloc: Global, bytes: &[u8]) -> Option<Image>
     Some(Image::with_parts(number_at(bytes, 4), processes_in(bytes), roles, body))
 }
 
-/// Reads an image. It is Ok exactly where the bytes spell one, want of memory aside.
+/// Reads an image. If memory is there, it returns Ok exactly for bytes that encode an image.
 ///
-/// NoMemory where there is no memory for the image, and nothing else against the bytes; each other fault is
-/// the first reason against them, in the order of `fault_in`.
+/// NoMemory if there is no memory for the image and nothing else is wrong with the bytes. Any other fault is the first
+/// reason against them, in the order of `fault_in`.
 pub fn read_image(alloc: Global, bytes: &[u8]) -> Result<Image, ImageFault>
     ensures spelled { IfOk result (λ image. Spells bytes.now image) }
     ensures refused { IfErr result (λ fault. IsRefusal bytes.now fault) }

@@ -1,7 +1,7 @@
-//! `memory_map [--svg] FILE`: writes the map of the memory in an image, as text or as a picture: its frames,
-//! and what each process holds. `memory_map --film [--frames N]`: writes the film of a script from standard
-//! input, as a page. It ends with 0 for a film and for a sound image, 3 for an image that is not, 2 for a
-//! refused command line, script or file, and 1 for want of memory or a device's fault.
+//! `memory_map [--svg] FILE`: writes the map of the memory in an image, as text or as a picture: its frames, and what
+//! each process holds. `memory_map --film [--frames N]`: writes the film of a script from standard input, as a page. It
+//! exits with 0 for a film or a sound image, 3 for an unsound image, 2 for a refused command line, script or file, and
+//! 1 if memory runs out or a device fails.
 #![tactic(auto)]
 
 use map_jobs::answer;

@@ -11,12 +11,15 @@ use Rattle.kernel_calls.specs.declared.calls.Reply.{Reply}
 use Rattle.memory_report.specs.declared.entries.LogEntry.{LogEntry}
 use Rattle.process_table.specs.State.{State, open_with}
 
+-- the event of an entry
 abbrev pub event_of : LogEntry → Event
 event_of e = record { cpu = e.cpu; pid = e.pid; call = e.call }
 
+-- the events of entries
 abbrev pub events_of : List LogEntry → List Event
 events_of log = map event_of log
 
+-- the replies of entries
 abbrev pub replies_of : List LogEntry → List Reply
 replies_of log = map (λ e. e.reply) log
 
@@ -28,12 +31,13 @@ state_after frames log = end_of (open_with frames) (events_of log)
 abbrev pub exchanges_of : List LogEntry → List Exchange
 exchanges_of log = map (λ e. (event_of e, e.reply)) log
 
--- each process that these entries make is told behind the entry that made it, up to its first Exit, what it would be told alone, as long as it keeps to itself
+-- each process that these entries make gets, after the entry that made it and up to its first Exit, the replies that it
+-- would get alone, while it shares nothing
 abbrev pub AreIsolated : ℕ → List LogEntry → Type 0
 AreIsolated frames log = IsIsolated (open_with frames) (events_of log) (replies_of log)
 
--- from each place of these entries on, the members of every set hear their own, every set that keeps to itself stays
--- confined, and every such family is told the same, whatever others do
+-- From each place of these entries on, the members of every set get their own replies. Every set that shares nothing
+-- stays confined, and every such family gets the same replies, whatever others do.
 pub record AreGuarded (frames : ℕ) (log : List LogEntry) : Type 0 where
   pub heard : (before later : List LogEntry) → log ≡ before ++ later
       → HearTheirOwn (state_after frames before) (events_of later) (replies_of later)

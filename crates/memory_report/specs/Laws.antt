@@ -18,21 +18,21 @@ EmptyIsLegal = (frames : ℕ) → 16 ≤ frames → frames ≤ 4096 → Legal fr
 abbrev pub GrowsLegal : Type 0
 GrowsLegal = (frames : ℕ) (log : List LogEntry) (cpu pid : ℕ) (call : Call) → Legal frames log → Legal frames (log ++ entry_after frames log cpu pid call ∷ [])
 
--- a beginning of a legal history is legal
+-- a prefix of a legal history is legal
 abbrev pub BeginsLegal : Type 0
 BeginsLegal = (frames : ℕ) (log rest : List LogEntry) → Legal frames (log ++ rest) → Legal frames log
 
--- what a process is told in a legal history is what it is told alone
+-- the replies of a process in a legal history are those that it gets alone
 abbrev pub HistoriesAreIsolated : Type 0
 HistoriesAreIsolated = (frames : ℕ) (log : List LogEntry) → Legal frames log → AreIsolated frames log
 
--- and what it is told in the machine's run without the later events of all others
+-- they are also those of the machine's run without the later events of all others
 abbrev pub OthersMakeNoDifference : Type 0
 OthersMakeNoDifference = (frames : ℕ) (before : List LogEntry) (e : LogEntry) (later : List LogEntry) (p : ℕ) → Legal frames (before ++ e ∷ later) → e.reply ≡ Child p
     → InvolvesNobody (own p (exchanges_of later))
     → own_behind p (open_with frames) (events_of before) (event_of e) (filter (λ (other : Event). other.pid == p) (events_of later)) ≡ own p (exchanges_of later)
 
--- from each place of a legal history on, members of sets are told their own, and confined sets stay so
+-- from each place of a legal history on, members of sets get their own replies, and confined sets stay so
 abbrev pub HistoriesAreGuarded : Type 0
 HistoriesAreGuarded = (frames : ℕ) (log : List LogEntry) → Legal frames log → AreGuarded frames log
 

@@ -1,4 +1,4 @@
--- What one event leaves of a report's rows, by the event, its reply and the charge that it tells.
+-- The rows of a report after one event, by the event, its reply and the charge.
 use Rattle.std.specs.Prelude.{◌≡◌, ℕ, ◌+◌, ◌-◌, ◌≤◌, List, Option, Some, None, slice_index_or, slice_set, if◌then◌else◌}
 use Rattle.std.specs.Option.{option_map}
 use Rattle.kernel_calls.specs.Machine.{completes}
@@ -9,6 +9,7 @@ use Rattle.kernel_calls.specs.declared.calls.Reply.TheVariants as reply
 use Rattle.memory_report.specs.declared.entries.LogEntry.{LogEntry}
 use Rattle.memory_report.specs.declared.rows.Row.{Row}
 
+-- the row of process p
 abbrev pub at : List (Option Row) → ℕ → Option Row
 at rows p = slice_index_or rows p None
 
@@ -24,6 +25,7 @@ with_given_back rows p quota = slice_set rows p (option_map (λ (row : Row). rec
 abbrev pub child_row : ℕ → ℕ → ℕ → Row
 child_row parent quota used = record { parent = parent; quota = quota; used = used; given = 0 }
 
+-- rows after process p made a child
 abbrev pub opened_by : List (Option Row) → ℕ → ℕ → ℕ → ℕ → Option Row → List (Option Row)
 opened_by rows p quota child used None = rows
 opened_by rows p quota child used (Some row) = slice_set (slice_set rows p (Some (record row { given = row.given + quota }))) child (Some (child_row p quota used))
@@ -32,6 +34,7 @@ opened_by rows p quota child used (Some row) = slice_set (slice_set rows p (Some
 abbrev pub opened : List (Option Row) → ℕ → ℕ → ℕ → ℕ → List (Option Row)
 opened rows p quota child used = opened_by rows p quota child used (at rows p)
 
+-- rows after process p exited
 abbrev pub closed_by : List (Option Row) → ℕ → Option Row → List (Option Row)
 closed_by rows p None = rows
 closed_by rows p (Some row) = slice_set (with_given_back rows row.parent row.quota) p None
@@ -61,7 +64,7 @@ after_call rows p _ told used = with_used rows p used
 abbrev pub absorbed : List (Option Row) → LogEntry → List (Option Row)
 absorbed rows e = if completes e.reply then after_call rows e.pid e.call e.reply e.used_after else rows
 
--- a spawn and a fork ask for a quota that their process can give
+-- a spawn and a fork give a quota that their process has
 abbrev pub IsRoomy : List (Option Row) → ℕ → Call → Type 0
 IsRoomy rows p (call.Spawn quota) = HasRoom rows p quota
 IsRoomy rows p (call.Fork quota) = HasRoom rows p quota

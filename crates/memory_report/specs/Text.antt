@@ -17,8 +17,10 @@ abbrev pub lines_from : ℕ → List (Option Row) → List ℕ
 lines_from p [] = []
 lines_from p (row ∷ rows) = line_of p row ++ lines_from (p + 1) rows
 
+-- the last line of a report
 unfoldable pub total_line : ℕ → List ℕ
 total_line total = codes "total " ++ decimal total ++ 10 ∷ []
 
+-- the text of a report
 unfoldable pub report_text : List (Option Row) → List ℕ
 report_text rows = lines_from 0 rows ++ total_line (total_of rows)

@@ -21,10 +21,10 @@ pub fn histories_are_isolated()
     ensures others { OthersMakeNoDifference }
 {}
 
-/// From each place of a legal history on, the members of any set are told what they would be told in any run from a state
-/// that looks the same to them, in which they ask and find the same and others use no channel to them; and a set that
-/// shares and offers nothing outside and keeps to itself stays so, has from the calls of others what it had, and is told
-/// the same, as a family, whatever others do. It computes nothing.
+/// From each place of a legal history on, the members of any set get the replies that they would get in any run from a
+/// state that looks the same to them, in which they make the same calls, find the same, and others use no channel to
+/// them. A set that shares and offers nothing outside and keeps to itself stays so, and keeps through the calls of
+/// others what it had. As a family it gets the same replies, whatever others do. It computes nothing.
 pub fn histories_are_guarded()
     ensures { HistoriesAreGuarded }
 {}

@@ -7,6 +7,7 @@ use Rattle.page_words.specs.Words.{with_flag, word_with_frame, frame_number, is_
 use Rattle.phys_memory.specs.Bytes.{frame_bytes, word_in, with_word_in, with_frame}
 use Rattle.page_map.specs.declared.PageEntry.{PageEntry}
 
+-- the bytes of each frame
 abbrev pub Frames : Type 0
 Frames = ℕ → List ℕ
 

@@ -78,6 +78,7 @@ pub record TouchesEntry (bytes : List ℕ) (directory page : ℕ) (access : Acce
   pub stays : IsPageMap after directory
   pub foreign : (frame : ℕ) → IsForeign (frame_bytes bytes) directory frame → frame_bytes after frame ≡ frame_bytes bytes frame
 
+-- a walk's marks touch only the entry of its page
 abbrev pub MarksTouchEntries : Type 0
 MarksTouchEntries = (bytes : List ℕ) (directory address : ℕ) (access : Access) (e : PageEntry) → IsPageMap bytes directory → CanBeMarked bytes directory address access → IsUserPage (page_number address)
     → entry_at (frame_bytes bytes) directory (page_number address) ≡ Some e → TouchesEntry bytes directory (page_number address) access e (marked bytes directory address access)

@@ -411,7 +411,8 @@ fn next_in_table(memory: &Memory, directory: Frame, slot: u32, first: u32) -> Op
     Some(slot * 1024 + index)
 }
 
-/// The same, where most slots have no table.
+/// Returns the lowest mapped page of a slot from a first page on. Passes quickly over a slot without a table, as most
+/// are.
 fn next_in_slot(memory: &Memory, directory: Frame, slot: u32, first: u32) -> Option<u32>
     requires slot { slot < 1024 }
     requires map { IsPageMap memory.now directory }

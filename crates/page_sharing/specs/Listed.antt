@@ -21,7 +21,7 @@ with_list lists p offers = slice_set lists p (record { items = offers })
 abbrev pub all_pending : List (ArrayVec Offer) → ℕ
 all_pending lists = sum_by (λ list. length list.items) lists
 
--- those of a process beside others
+-- the offers of a process, added to others
 abbrev pub with_offers : ℕ → List Offer → Offers → Offers
 with_offers p [] others = others
 with_offers p (offer ∷ offers) others = map.insert (with_offers p offers others) (offer_key p offer.page offer.target) offer.write
@@ -31,6 +31,7 @@ abbrev pub offers_from : ℕ → List (ArrayVec Offer) → Offers
 offers_from p [] = map.empty
 offers_from p (list ∷ lists) = with_offers p list.items (offers_from (p + 1) lists)
 
+-- the offers in the lists of all processes
 unfoldable pub offers_in : List (ArrayVec Offer) → Offers
 offers_in lists = offers_from 0 lists
 
@@ -39,6 +40,7 @@ abbrev pub IsDistinct : List Offer → Type 0
 IsDistinct [] = Unit {0}
 IsDistinct (offer ∷ offers) = (find (is_of offer.page offer.target) offers ≡ None) × IsDistinct offers
 
+-- lists that hold each offer once
 pub record IsOffers (lists : List (ArrayVec Offer)) : Type 0 where
   pub places : length lists ≡ 64
   pub distinct : (p : ℕ) → IsDistinct (offers_by lists p)

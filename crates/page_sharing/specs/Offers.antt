@@ -44,6 +44,7 @@ offer_same x y e =
 pub offer_total : IsTotalOrder offer_cmp
 offer_total = then_total (on_total (λ k. k.offerer) nat_cmp_total) (then_total (on_total (λ k. k.page) nat_cmp_total) (on_total (λ k. k.target) nat_cmp_total))
 
+-- the order of offers: by offerer, page and target
 abbrev pub offer_order : Order OfferKey
 offer_order = record { cmp = offer_cmp; total = offer_total; same = offer_same }
 
@@ -51,9 +52,11 @@ offer_order = record { cmp = offer_cmp; total = offer_total; same = offer_same }
 abbrev pub Offers : Type 0
 Offers = Map offer_order Bool
 
+-- the code of an offer's key
 abbrev pub offer_code : Coded OfferKey
 offer_code = code_by (ℕ × (ℕ × ℕ)) (coded× coded_ℕ (coded× coded_ℕ coded_ℕ)) (λ k. (k.offerer, (k.page, k.target))) (λ p. record { offerer = p.0; page = p.1.0; target = p.1.1 }) (λ _. refl)
 
+-- the code of offers
 abbrev pub offers_code : Coded Offers
 offers_code = map_code offer_code coded_bool
 

@@ -24,7 +24,7 @@ offset_number address = address % 4096
 abbrev pub IsUserPage : ℕ → Type 0
 IsUserPage page = (0x40000 ≤ page) × (page < 0xf0000)
 
--- the same, as a test
+-- whether the page is one of the user range, as a truth value
 abbrev pub is_user_page : ℕ → Bool
 is_user_page page = nat_le 0x40000 page && nat_le page 0xeffff
 

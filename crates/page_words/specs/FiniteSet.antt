@@ -3,6 +3,7 @@ use Rattle.std.proofs.Common.{ℕ, Bool, List, [], ◌∷◌}
 use Rattle.page_words.specs.FiniteMap as map
 use Rattle.page_words.specs.FiniteMap.{Order, Map}
 
+-- a finite set: a finite map to nothing
 abbrev pub Set : {K : Type 0} → Order K → Type 0
 Set o = Map o (Unit {0})
 

@@ -9,5 +9,6 @@ abbrev pub marked_from : ℕ → List Bool → Set nat_order
 marked_from start [] = set.empty
 marked_from start (mark ∷ marks) = cond mark (set.insert (marked_from (start + 1) marks) start) (marked_from (start + 1) marks)
 
+-- the set of the numbers of marks that are true
 unfoldable pub marked_numbers : List Bool → Set nat_order
 marked_numbers marks = marked_from 0 marks

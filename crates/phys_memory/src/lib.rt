@@ -101,7 +101,7 @@ impl Memory {
         self.bytes.as_ptr()
     }
 
-    /// The byte at a place.
+    /// Reads a byte. `place` must lie inside memory.
     pub fn read_byte(&self, place: usize) -> u8
         requires { place < length self.now }
         ensures { result ≡ slice_index self.now place }
@@ -109,7 +109,7 @@ impl Memory {
         self.bytes[place]
     }
 
-    /// Writes the byte at a place.
+    /// Writes a byte, and no other. `place` must lie inside memory.
     pub fn write_byte(&mut self, place: usize, value: u8)
         requires { place < length self.old }
         ensures bytes { self.new ≡ slice_set self.old place value }

@@ -18,6 +18,7 @@ pub record Held : Type 0 where
   pub dirty : Bool
   pub bytes : List ℕ
 
+-- what a process holds in a cell: all but the group
 abbrev pub held_in : Cell → Held
 held_in cell = record { write = cell.write; may = cell.may; accessed = cell.accessed; dirty = cell.dirty; bytes = cell.bytes }
 

@@ -1,5 +1,5 @@
--- Laws on processes apart: what is told of one, and what its calls do, depends on what it has alone, and the calls of
--- others leave it as it was.
+-- Laws on processes apart: a process's replies and the effects of its calls depend on what it has alone, and the calls
+-- of others leave it as it was.
 use Rattle.std.proofs.Common.{◌≡◌, ◌≢◌, ℕ, Bool, true, Option, None}
 use Rattle.page_words.specs.FiniteMap as map
 use Rattle.page_words.specs.FiniteSet as set
@@ -12,7 +12,7 @@ use Rattle.process_table.specs.WellFormed.{IsWellFormed}
 use Rattle.process_table.specs.Apart.{IsApart, AreAlike, held_in, pages_held, alone_with}
 use Rattle.process_table.specs.declared.causes.Cause.{Cause}
 
--- it is the same of two alike processes
+-- two alike processes get the same
 abbrev pub IsToldAlike : {A : Type 0} → (State → ℕ → A) → Type 0
 IsToldAlike tell = (s t : State) (p q : ℕ) → AreAlike s p t q → tell s p ≡ tell t q
 

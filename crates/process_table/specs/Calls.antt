@@ -14,6 +14,7 @@ use Rattle.process_table.specs.declared.causes.Cause.TheVariants.{BadPage, NotMa
 
 -- ---- Why a call is refused: the first cause that applies
 
+-- the refusals of a Map, in order
 abbrev pub map_refusal : State → ℕ → ℕ → Option Cause
 map_refusal s p page =
     if not (is_user_page page) then Some BadPage else
@@ -21,13 +22,14 @@ map_refusal s p page =
     if has_no_room s (at_page p page) then Some Quota else
     None
 
+-- the refusals of an Unmap, in order
 abbrev pub unmap_refusal : State → ℕ → ℕ → Option Cause
 unmap_refusal s p page =
     if not (is_user_page page) then Some BadPage else
     if not (is_mapped s (at_page p page)) then Some NotMapped else
     None
 
--- also of a look at a page, with no right asked
+-- the refusals of a Protect, and of an Info, which requires no right
 abbrev pub protect_refusal : State → ℕ → ℕ → Bool → Option Cause
 protect_refusal s p page write =
     if not (is_user_page page) then Some BadPage else
@@ -35,6 +37,7 @@ protect_refusal s p page write =
     if write && not (cell_or_fresh s.spaces (at_page p page)).may then Some Rights else
     None
 
+-- the refusals of an Offer, in order
 abbrev pub offer_refusal : State → ℕ → ℕ → ℕ → Bool → Option Cause
 offer_refusal s p page target write =
     if not (is_user_page page) then Some BadPage else
@@ -46,12 +49,14 @@ offer_refusal s p page target write =
     if nat_le 32 (map.len (pending s.offers p)) then Some TooManyOffers else
     None
 
+-- the refusals of a Withdraw, in order
 abbrev pub withdraw_refusal : State → ℕ → ℕ → ℕ → Option Cause
 withdraw_refusal s p page target =
     if not (is_user_page page) then Some BadPage else
     if not (map.contains_key s.offers (offer_key p page target)) then Some NoOffer else
     None
 
+-- the refusals of an Accept, in order
 abbrev pub accept_refusal : State → ℕ → ℕ → ℕ → ℕ → Option Cause
 accept_refusal s p giver giver_page page =
     if not (is_user_page page) then Some BadPage else
@@ -60,6 +65,7 @@ accept_refusal s p giver giver_page page =
     if has_no_room s (at_page p page) then Some Quota else
     None
 
+-- the refusals of a Spawn, in order
 abbrev pub spawn_refusal : State → ℕ → ℕ → Option Cause
 spawn_refusal s p quota =
     if quota == 0 then Some BadQuota else
@@ -76,6 +82,7 @@ fork_refusal s p quota =
     if nat_lt (room s p) quota then Some Quota else
     None
 
+-- the refusals of an Exit, in order
 abbrev pub exit_refusal : State → ℕ → Option Cause
 exit_refusal s p =
     if p == 0 then Some RootExit else
@@ -108,6 +115,7 @@ abbrev pub after_access : State → ℕ → ℕ → Size → Access → ℕ → 
 after_access s p address size Read value = after_load s p address size
 after_access s p address size Write value = after_store s p address size value
 
+-- the state after a Map
 abbrev pub after_map : State → ℕ → ℕ → Bool → State
 after_map s p page write = record s { spaces = map.insert s.spaces (at_page p page) (fresh (at_page p page) write) }
 
@@ -122,9 +130,11 @@ after_unmap s p page = record s {
 abbrev pub after_protect : State → ℕ → ℕ → Bool → State
 after_protect s p page write = record s { spaces = protected s.spaces (at_page p page) write }
 
+-- the state after an Offer
 abbrev pub after_offer : State → ℕ → ℕ → ℕ → Bool → State
 after_offer s p page target write = record s { offers = map.insert s.offers (offer_key p page target) write }
 
+-- the state after a Withdraw
 abbrev pub after_withdraw : State → ℕ → ℕ → ℕ → State
 after_withdraw s p page target = record s { offers = map.remove s.offers (offer_key p page target) }
 

@@ -1,4 +1,4 @@
--- What a machine shows outside, when that is sound, and which state it stands for.
+-- What a machine shows outside, when that is sound, and which state it represents.
 use Rattle.std.specs.Prelude.{◌≡◌, ℕ, ◌+◌, ◌≤◌, ◌&&◌, ◌==◌, not, true, if◌then◌else◌, IsTrue, length, Option, Some, None, is_some, sum_by}
 use Rattle.std.specs.Option.{option_map}
 use Rattle.std.specs.List.{range_with_len}
@@ -11,13 +11,14 @@ use Rattle.process_table.specs.State.{State}
 use Rattle.process_table.specs.View.{View}
 use Rattle.address_space.specs.Spaces.{cost, at_page}
 
--- what an image tells of a live process
+-- what an image has of a live process
 pub record Account : Type 0 where
   pub parent : ℕ
   pub quota : ℕ
   pub used : ℕ
   pub given : ℕ
 
+-- what a machine shows outside: memory and accounts
 pub record Image : Type 0 where
   -- directories, bytes and roles
   pub memory : memory.Image
@@ -64,12 +65,12 @@ pub record IsSoundImage (image : Image) : Type 0 where
   pub within : (p : ℕ) (c : Account) → image.accounts p ≡ Some c → c.used + c.given ≤ c.quota
   pub used : (p : ℕ) (c : Account) → image.accounts p ≡ Some c → IsCharge image.memory p c.used
 
--- the image is sound, memory stands for the spaces, and the accounts are the state's
+-- the image is sound, memory represents the spaces, and the accounts are the state's
 pub record StandsFor (image : Image) (s : State) : Type 0 where
   pub sound : IsSoundImage image
   pub memory : memory.StandsFor image.memory s.spaces
   pub accounts : (p : ℕ) → image.accounts p ≡ account_of s p
 
--- an image stands for at most one pair of spaces and book
+-- an image represents at most one pair of spaces and book
 abbrev pub StandsForOne : Type 0
 StandsForOne = (image : Image) (s t : State) → StandsFor image s → StandsFor image t → (s.spaces ≡ t.spaces) × (s.book ≡ t.book)

@@ -12,6 +12,7 @@ use Rattle.process_table.specs.WellFormed.{IsWellFormed, total}
 abbrev pub OpeningIsWellFormed : Type 0
 OpeningIsWellFormed = (n : ℕ) → 2 ≤ n → IsWellFormed (open_with n)
 
+-- a Map keeps states well formed
 abbrev pub MapKeeps : Type 0
 MapKeeps = (s : State) (p page : ℕ) (write : Bool) → IsWellFormed s → is_live s p ≡ true → map_refusal s p page ≡ None → IsWellFormed (after_map s p page write)
 
@@ -19,9 +20,11 @@ MapKeeps = (s : State) (p page : ℕ) (write : Bool) → IsWellFormed s → is_l
 abbrev pub UnmapKeeps : Type 0
 UnmapKeeps = (s : State) (p page : ℕ) → IsWellFormed s → IsWellFormed (after_unmap s p page)
 
+-- a Protect keeps states well formed
 abbrev pub ProtectKeeps : Type 0
 ProtectKeeps = (s : State) (p page : ℕ) (write : Bool) → IsWellFormed s → is_live s p ≡ true → protect_refusal s p page write ≡ None → IsWellFormed (after_protect s p page write)
 
+-- an Offer keeps states well formed
 abbrev pub OfferKeeps : Type 0
 OfferKeeps = (s : State) (p page target : ℕ) (write : Bool) → IsWellFormed s → is_live s p ≡ true → offer_refusal s p page target write ≡ None → IsWellFormed (after_offer s p page target write)
 
@@ -29,15 +32,19 @@ OfferKeeps = (s : State) (p page target : ℕ) (write : Bool) → IsWellFormed s
 abbrev pub WithdrawKeeps : Type 0
 WithdrawKeeps = (s : State) (p page target : ℕ) → IsWellFormed s → IsWellFormed (after_withdraw s p page target)
 
+-- an Accept keeps states well formed
 abbrev pub AcceptKeeps : Type 0
 AcceptKeeps = (s : State) (p giver giver_page page : ℕ) → IsWellFormed s → is_live s p ≡ true → accept_refusal s p giver giver_page page ≡ None → IsWellFormed (after_accept s p giver giver_page page)
 
+-- a Spawn keeps states well formed
 abbrev pub SpawnKeeps : Type 0
 SpawnKeeps = (s : State) (p quota : ℕ) → IsWellFormed s → is_live s p ≡ true → spawn_refusal s p quota ≡ None → IsWellFormed (after_spawn s p quota)
 
+-- a Fork keeps states well formed
 abbrev pub ForkKeeps : Type 0
 ForkKeeps = (s : State) (p quota : ℕ) → IsWellFormed s → is_live s p ≡ true → fork_refusal s p quota ≡ None → IsWellFormed (after_fork s p quota)
 
+-- an Exit keeps states well formed
 abbrev pub ExitKeeps : Type 0
 ExitKeeps = (s : State) (p : ℕ) → IsWellFormed s → is_live s p ≡ true → exit_refusal s p ≡ None → IsWellFormed (after_exit s p)
 

@@ -1,4 +1,4 @@
--- What stands at the pages of a call, each found by one look.
+-- The places of the pages of a call, each found by one lookup.
 use Rattle.std.specs.Prelude.{ℕ, if◌then◌else◌, Option, Some, None}
 use Rattle.std.specs.Option.{option_and_then}
 use Rattle.page_words.specs.Addresses.{page_number, second_page, is_user_page}

@@ -7,6 +7,7 @@ use Rattle.quota_tree.specs.declared.accounts.Account as quota_tree
 use Rattle.quota_tree.specs.Accounts.{account_at}
 use Rattle.process_table.specs.Image.{Account, Image}
 
+-- the account of an image's record
 abbrev pub account_told : quota_tree.Account → Account
 account_told a = record { parent = a.parent; quota = a.quota; used = a.used; given = a.given }
 

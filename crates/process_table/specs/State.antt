@@ -8,6 +8,7 @@ use Rattle.quota_tree.specs.Book.{Book, Member, given, quota_of, number_of_child
 use Rattle.quota_tree.specs.declared.Container.{Container}
 use Rattle.page_sharing.specs.Offers.{Offers}
 
+-- the state: the spaces, the book and the offers
 pub record State : Type 0 where
   pub spaces : Spaces
   pub book : Book
@@ -17,9 +18,11 @@ pub record State : Type 0 where
 abbrev pub open_with : ℕ → State
 open_with n = record { spaces = map.empty; book = map.insert map.empty 0 (record { parent = 0; quota = n - 1 }); offers = map.empty }
 
+-- whether process p is live
 abbrev pub is_live : State → ℕ → Bool
 is_live s p = map.contains_key s.book p
 
+-- whether a slot is mapped
 abbrev pub is_mapped : State → Slot → Bool
 is_mapped s slot = map.contains_key s.spaces slot
 

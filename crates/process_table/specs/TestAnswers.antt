@@ -1,4 +1,4 @@
--- What the test of each call answers: the first cause against it, or else what comes of it.
+-- What the test of each call returns: the first cause against the call, or otherwise its result.
 use Rattle.std.proofs.Common.{ℕ, Bool, true, false, if◌then◌else◌, Option, Some, None, Result, Ok, Err}
 use Rattle.page_words.specs.declared.addresses.Pid.{Pid}
 use Rattle.address_space.specs.Spaces.{cost}
@@ -19,6 +19,7 @@ abbrev pub number_unless : Option Cause → ℕ → Result ℕ Cause
 number_unless (Some cause) number = Err cause
 number_unless None number = Ok number
 
+-- the child's number, unless there is a cause against the call
 abbrev pub child_unless : Option Cause → ℕ → Result Pid Cause
 child_unless (Some cause) child = Err cause
 child_unless None child = Ok child
@@ -40,9 +41,11 @@ unmap_answer s p page = number_unless (first_cause s p (unmap_refusal s p page))
 abbrev pub protect_answer : State → ℕ → ℕ → Bool → Result ℕ Cause
 protect_answer s p page write = number_unless (first_cause s p (protect_refusal s p page write)) (cost s.spaces p)
 
+-- the answer of the test of an Offer: the charge, or the first cause
 abbrev pub offer_answer : State → ℕ → ℕ → ℕ → Bool → Result ℕ Cause
 offer_answer s p page target write = number_unless (first_cause s p (offer_refusal s p page target write)) (cost s.spaces p)
 
+-- the answer of the test of a Withdraw: the charge, or the first cause
 abbrev pub withdraw_answer : State → ℕ → ℕ → ℕ → Result ℕ Cause
 withdraw_answer s p page target = number_unless (first_cause s p (withdraw_refusal s p page target)) (cost s.spaces p)
 

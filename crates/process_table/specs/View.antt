@@ -14,6 +14,7 @@ use Rattle.page_sharing.specs.Offers.{Offers, offers_code}
 use Rattle.process_table.specs.State.{State}
 use Rattle.process_table.specs.WellFormed.{IsWellFormed}
 
+-- a process table's model: the state, and the memory that represents it
 pub record View : Type 0 where
   pub state : State
   -- each process's directory, where it has one
@@ -23,9 +24,11 @@ pub record View : Type 0 where
   -- one for each frame
   pub roles : List Role
 
+-- the state of spaces, containers and offers
 abbrev pub state_of : frames.View → Containers → Offers → State
 state_of spaces quotas offers = record { spaces = spaces.spaces; book = quotas.book; offers = offers }
 
+-- the model of spaces, containers and offers
 abbrev pub view_of : frames.View → Containers → Offers → View
 view_of spaces quotas offers = record { state = state_of spaces quotas offers; directories = spaces.directories; bytes = spaces.bytes; roles = spaces.roles }
 
@@ -43,11 +46,13 @@ pub record IsWhole (spaces : frames.View) (quotas : Containers) (offers : Offers
 
 -- ---- Codes
 
+-- the code of states
 abbrev pub state_code : Coded State
 state_code =
     code_by (Spaces × (Book × Offers)) (coded× spaces_code (coded× book_code offers_code))
     (λ s. (s.spaces, (s.book, s.offers))) (λ p. record { spaces = p.0; book = p.1.0; offers = p.1.1 }) (λ _. refl)
 
+-- the code of the model
 abbrev pub view_code : Coded View
 view_code =
     code_by (State × (List (Option ℕ) × (List ℕ × List Role)))

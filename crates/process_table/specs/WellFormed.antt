@@ -25,6 +25,7 @@ pub record IsOfferIn (s : State) (key : OfferKey) (right : Bool) : Type 0 where
   pub another : key.target ≢ key.offerer
   pub offered : (c : Cell) × (map.get s.spaces (at_page key.offerer key.page) ≡ Some c) × (IsTrue right → IsTrue c.may)
 
+-- a well-formed state
 pub record IsWellFormed (s : State) : Type 0 where
   pub root : IsTrue (is_live s 0)
   -- the root is its own parent, so that a process that exits leaves none without one

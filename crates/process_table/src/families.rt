@@ -82,7 +82,7 @@ impl Processes {
         child
     }
 
-    /// As `spawn`, where the caller has the child's number.
+    /// Makes a child as `spawn` does, with the number that the test returned.
     pub fn spawn_as(&mut self, pid: Pid, quota: u32, child: Pid)
         requires { spawn_answer self.old.state pid quota ≡ Ok child }
         ensures state { self.new.state ≡ after_spawn self.old.state pid quota }
@@ -150,7 +150,7 @@ impl Processes {
         copy
     }
 
-    /// As `fork`, where the caller has the copy's number.
+    /// Makes a copy as `fork` does, with the number that the test returned.
     pub fn fork_as(&mut self, pid: Pid, quota: u32, copy: Pid)
         requires { fork_answer self.old.state pid quota ≡ Ok copy }
         ensures state { self.new.state ≡ after_fork self.old.state pid quota }

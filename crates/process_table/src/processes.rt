@@ -115,7 +115,7 @@ impl Processes {
         &self.spaces
     }
 
-    /// The pending offers.
+    /// Returns all offers that are pending, of all processes.
     pub fn offers(&self) -> &Offers
         ensures { result.now ≡ self.now.state.offers }
     {

@@ -9,6 +9,7 @@ use Rattle.quota_tree.specs.Collected.{collected}
 use Rattle.quota_tree.specs.Containers.{Containers}
 use Rattle.quota_tree.specs.Kept.{HasRoot}
 
+-- the member of an account
 abbrev pub member_in : Account → Member
 member_in a = record { parent = a.parent; quota = a.quota }
 
@@ -16,6 +17,7 @@ member_in a = record { parent = a.parent; quota = a.quota }
 abbrev pub book_in : List (Option Account) → Book
 book_in accounts = collected member_in accounts
 
+-- the containers of accounts, by process
 abbrev pub containers_in : List (Option Account) → Containers
 containers_in accounts = record { book = book_in accounts; used = collected (λ a. a.used) accounts }
 

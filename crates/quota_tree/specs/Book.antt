@@ -16,9 +16,11 @@ pub record Member : Type 0 where
 abbrev pub Book : Type 0
 Book = Map nat_order Member
 
+-- the code of members
 abbrev pub member_code : Coded Member
 member_code = code_by (ℕ × ℕ) (coded× coded_ℕ coded_ℕ) (λ m. (m.parent, m.quota)) (λ p. record { parent = p.0; quota = p.1 }) (λ _. refl)
 
+-- the code of books
 abbrev pub book_code : Coded Book
 book_code = map_code coded_ℕ member_code
 
@@ -30,6 +32,7 @@ is_child p entry = not (entry.0 == 0) && (entry.1.parent == p)
 abbrev pub children : Book → ℕ → List (ℕ × Member)
 children book p = filter (is_child p) book.entries
 
+-- how many children process p has
 abbrev pub number_of_children : Book → ℕ → ℕ
 number_of_children book p = length (children book p)
 
@@ -37,6 +40,7 @@ number_of_children book p = length (children book p)
 abbrev pub given : Book → ℕ → ℕ
 given book p = sum_by (λ entry. entry.1.quota) (children book p)
 
+-- the quota of process p, 0 if it isn't live
 abbrev pub quota_of : Book → ℕ → ℕ
 quota_of book p = unwrap_or (option_map (λ member. member.quota) (map.get book p)) 0
 

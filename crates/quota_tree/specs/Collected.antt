@@ -9,5 +9,6 @@ collected_from f start [] = map.empty
 collected_from f start (None ∷ values) = collected_from f (start + 1) values
 collected_from f start (Some value ∷ values) = map.insert (collected_from f (start + 1) values) start (f value)
 
+-- a map of the values that are there, by place
 unfoldable pub collected : {C X : Type 0} → (C → X) → List (Option C) → Map nat_order X
 collected f values = collected_from f 0 values

@@ -11,17 +11,21 @@ use Rattle.quota_tree.specs.declared.QuotaFault.{QuotaFault}
 use Rattle.quota_tree.specs.declared.QuotaFault.TheVariants.{BadQuota, TableFull, NoRoom}
 use Rattle.quota_tree.specs.Book.{Member, Book, book_code, given, number_of_children, quota_of, next_number}
 
+-- the containers' model: the book, and the charges
 pub record Containers : Type 0 where
   pub book : Book
   -- how many frames each live process is charged for
   pub used : Map nat_order ℕ
 
+-- the code of the model
 abbrev pub containers_code : Coded Containers
 containers_code = code_by (Book × Map nat_order ℕ) (coded× book_code (map_code coded_ℕ coded_ℕ)) (λ c. (c.book, c.used)) (λ p. record { book = p.0; used = p.1 }) (λ _. refl)
 
+-- process p is live
 abbrev pub IsLive : Containers → ℕ → Type 0
 IsLive c p = map.contains_key c.book p ≡ true
 
+-- the charge of process p, 0 if it isn't live
 abbrev pub used_of : Containers → ℕ → ℕ
 used_of c p = unwrap_or (map.get c.used p) 0
 
@@ -37,6 +41,7 @@ charged_with c frames = record c { used = frames }
 abbrev pub giver_after_split : Container → ℕ → Container
 giver_after_split g quota = record g { given = g.given + quota; children = g.children + 1 }
 
+-- a parent's container after the exit of a child with this quota
 abbrev pub giver_after_close : Container → ℕ → Container
 giver_after_close g quota = record g { given = g.given - quota; children = g.children - 1 }
 
@@ -79,6 +84,7 @@ with_used c p used = record { book = c.book; used = map.insert c.used p used }
 abbrev pub after_close : Containers → ℕ → Containers
 after_close c p = record { book = map.remove c.book p; used = map.remove c.used p }
 
+-- the container of process p
 abbrev pub as_container : Containers → ℕ → Member → Container
 as_container c p member = record {
   parent = member.parent;

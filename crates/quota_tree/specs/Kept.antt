@@ -6,9 +6,11 @@ use Rattle.quota_tree.specs.Book.{Member, Book, given, number_of_children}
 use Rattle.quota_tree.specs.Collected.{collected}
 use Rattle.quota_tree.specs.Containers.{Containers}
 
+-- the member of a container
 abbrev pub member_of : Container → Member
 member_of c = record { parent = c.parent; quota = c.quota }
 
+-- the model of a list of containers
 abbrev pub seen_as : List (Option Container) → Containers
 seen_as containers = record { book = collected member_of containers; used = collected (λ c. c.used) containers }
 
@@ -25,6 +27,7 @@ pub record HasRoot (book : Book) : Type 0 where
   pub quota : ℕ
   pub is : map.get book 0 ≡ Some (record { parent = 0; quota = quota })
 
+-- containers that agree with one another
 pub record IsQuotas (containers : List (Option Container)) : Type 0 where
   pub places : length containers ≡ 64
   pub root : HasRoot (collected member_of containers)

@@ -236,7 +236,7 @@ impl Quotas {
         self.split_test(&self.live(parent), parent, quota)
     }
 
-    /// As `can_split`, where the caller has the parent's container.
+    /// Returns what `can_split` returns, from the parent's container.
     pub fn split_test(
         &self,
         container: &Container,
@@ -271,7 +271,7 @@ impl Quotas {
         child
     }
 
-    /// As `split`, where the caller has the child's number.
+    /// Does what `split` does, with the number that `split_test` returned.
     pub fn split_as(&mut self, parent: Pid, quota: u32, child: Pid)
         requires live { IsLive self.old parent }
         requires can { split_answer self.old parent quota ≡ Ok child }
@@ -281,7 +281,7 @@ impl Quotas {
         add_child(&mut self.containers, parent, giver, quota, child, 1);
     }
 
-    /// As `split_as`, but the child uses as many frames as its parent, which is at most its quota.
+    /// Does what `split_as` does, but charges the child what its parent uses, which is at most `quota`.
     pub fn fork_as(&mut self, parent: Pid, quota: u32, child: Pid)
         requires live { IsLive self.old parent }
         requires can { split_answer self.old parent quota ≡ Ok child }

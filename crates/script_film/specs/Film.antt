@@ -20,20 +20,20 @@ use Rattle.script_film.specs.Changes.{changes}
 abbrev pub most_events : ℕ
 most_events = 2000
 
--- the rows of a line that asks for an event: the line, the reply, and what changed
+-- the rows of a line with an event: the line, the reply, and what changed
 unfoldable pub event_rows : List ℕ → Reply → Image → Image → List ℕ
 event_rows bytes reply before after = line_row bytes ++ (reply_row reply ++ changes (Some before) after)
 
--- What a film has shown: the lines so far and how many events they asked for, the rows that tell them, and the state and
--- its image after them. Each line is the script's next; each event is carried out on the state that the lines before left,
--- and its row of the reply is the answer to it.
+-- What a film has shown: the lines so far and how many events they had, their rows, and the state and its image after
+-- them. Each line is the script's next. Each event is carried out on the state that the lines before left, and its row
+-- of the reply is the answer to it.
 pub data Shows (frames : ℕ) : List (List ℕ) → ℕ → List ℕ → State → Image → Type 0 where
   -- the machine as it boots
   boots : {image : Image} → StandsFor image (open_with frames) → Shows frames [] 0 (changes None image) (open_with frames) image
-  -- a line that asks for nothing
+  -- a line without an event
   skips : {lines : List (List ℕ)} {events : ℕ} {rows : List ℕ} {s : State} {image : Image}
       → Shows frames lines events rows s image → (bytes : List ℕ) → line_of bytes ≡ line.Skipped → Shows frames (lines ++ bytes ∷ []) events (rows ++ line_row bytes) s image
-  -- a line that asks for an event
+  -- a line with an event
   steps : {lines : List (List ℕ)} {events : ℕ} {rows : List ℕ} {s : State} {before after : Image}
       → Shows frames lines events rows s before → (bytes : List ℕ) (event : Event) → line_of bytes ≡ line.Event event → StandsFor after (next s event)
       → Shows frames (lines ++ bytes ∷ []) (events + 1) (rows ++ event_rows bytes (answer s event) before after) (next s event) after
@@ -44,7 +44,7 @@ abbrev pub EndsAt : End → List (List ℕ) → ℕ → List (List ℕ) → Type
 EndsAt Whole shown events rest = rest ≡ []
 -- the next line, whose number counts from 1, is malformed
 EndsAt (Malformed number) shown events rest = (number ≡ length shown + 1) × ((bad : List ℕ) × (others : List (List ℕ)) × (rest ≡ bad ∷ others) × (line_of bad ≡ line.Malformed))
--- the next line asks for one event more than a film shows
+-- the next line has one event more than a film shows
 EndsAt Cut shown events rest = (events ≡ most_events) × ((bytes : List ℕ) × (others : List (List ℕ)) × (event : Event) × (rest ≡ bytes ∷ others) × (line_of bytes ≡ line.Event event))
 
 -- The data of a script's film on a machine of so many frames.

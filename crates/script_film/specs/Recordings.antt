@@ -1,4 +1,4 @@
--- A film while it is made, and what comes of a line.
+-- A film while it is recorded, and the result of recording a line.
 use Rattle.std.specs.Prelude.{◌≡◌, ℕ, List, [], ◌∷◌, ◌++◌}
 use Rattle.kernel_calls.specs.declared.calls.Event.{Event}
 use Rattle.script_run.specs.declared.lines.Line.TheVariants as line
@@ -14,7 +14,7 @@ use Rattle.script_film.specs.Film.{Shows, EndsAt, most_events}
 abbrev pub Records : ℕ → List (List ℕ) → Recording → Type 0
 Records frames lines recording = Shows frames lines recording.events recording.rows.items recording.core.state recording.image
 
--- the line is told, or it is malformed, or it asks for one event more than a film shows
+-- the line was recorded, or it is malformed, or it is an event beyond the most that a film shows
 abbrev pub Follows : Shot → ℕ → List (List ℕ) → List ℕ → Recording → Type 0
 Follows Told frames lines bytes recording = Records frames (lines ++ bytes ∷ []) recording
 Follows Malformed frames lines bytes recording = Records frames lines recording × (line_of bytes ≡ line.Malformed)

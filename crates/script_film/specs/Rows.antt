@@ -20,11 +20,13 @@ is_plain byte = nat_le 32 byte && nat_lt byte 127 && not (byte == 60) && not (by
 abbrev pub escaped : ℕ → List ℕ
 escaped byte = if is_plain byte then byte ∷ [] else 92 ∷ digit_char (byte / 16) ∷ digit_char (byte % 16) ∷ []
 
+-- the row of a script's line
 unfoldable pub line_row : List ℕ → List ℕ
 line_row bytes = codes "line " ++ flat_map escaped bytes ++ 10 ∷ []
 
--- ---- What comes of it
+-- ---- Replies and changes
 
+-- the row of a reply
 unfoldable pub reply_row : Reply → List ℕ
 reply_row reply = codes "reply " ++ reply_line reply
 
@@ -55,13 +57,16 @@ process_row p before after = codes "process " ++ decimal p ++ codes " " ++ proce
 
 -- ---- The film
 
+-- the first row: the number of frames
 unfoldable pub frames_row : ℕ → List ℕ
 frames_row n = codes "frames " ++ decimal n ++ 10 ∷ []
 
+-- the end of a film, in words
 abbrev pub end_text : End → List ℕ
 end_text Whole = codes "whole"
 end_text (Malformed line) = codes "malformed " ++ decimal line
 end_text Cut = codes "cut"
 
+-- the last row
 unfoldable pub end_row : End → List ℕ
 end_row end = codes "end " ++ end_text end ++ 10 ∷ []

@@ -31,14 +31,14 @@ pub(crate) struct Recording {
     pub rows: Vec<u8>,
 }
 
-/// What comes of a line.
+/// The result of recording a line.
 #[derive(Clone, Copy, Debug, PartialEq, Eq)]
 pub(crate) enum Shot {
-    /// It is told.
+    /// Its rows were recorded.
     Told,
     /// It is malformed.
     Malformed,
-    /// It asks for one event more than a film shows.
+    /// It is an event beyond the most that a film shows.
     TooMany,
 }
 

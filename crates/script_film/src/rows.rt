@@ -73,7 +73,7 @@ pub(crate) fn push_line(text: &mut Vec<u8>, bytes: &[u8]) -> Result<(), AllocErr
     text.extend_from_slice(b"\n")
 }
 
-// ---- What comes of it
+// ---- Replies and changes
 
 /// The row of a reply.
 #[tactic(auto, unfolding(crate::specs::Rows::reply_row))]

@@ -5,6 +5,7 @@ use Rattle.page_words.specs.declared.faults.MachineFault.TheVariants as boot
 use Rattle.script_run.specs.declared.faults.ScriptFault.{ScriptFault}
 use Rattle.script_run.specs.declared.faults.ScriptFault.TheVariants.{BadSize, NoMemory, Malformed, TooLong, ReadFailed, WriteFailed}
 
+-- the message of a fault
 abbrev pub fault_text : ScriptFault → List ℕ
 fault_text BadSize = codes "tower: frames must be 16 to 4096"
 fault_text NoMemory = codes "tower: out of memory"

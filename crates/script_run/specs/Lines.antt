@@ -1,5 +1,5 @@
 -- What a line of a script says: nothing, an event, or nothing that a script may say.
---     event_of_words tokens      the event that the tokens of a line spell
+--     event_of_words tokens      the event in the tokens of a line
 --     call_of op operands      the table of calls, each by its name and its operands
 --     line_of bytes      what a line says, of at most 100 bytes
 use Rattle.std.specs.Prelude.{ℕ, Bool, true, false, ◌||◌, List, [], ◌∷◌, length, nat_lt, ◌==◌, Option, None, Some, if◌then◌else◌, codes}
@@ -15,15 +15,18 @@ use Rattle.script_run.specs.Numbers.{decimal_number, hexadecimal_number, below}
 use Rattle.script_run.specs.Tokens.{tokens_of}
 
 infixl 10 ◌>>=◌
+-- the next step of a reading, if there was a value
 abbrev pub ◌>>=◌ : {A B : Type 0} → Option A → (A → Option B) → Option B
 None >>= f = None
 (Some x) >>= f = f x
 
 -- ---- Operands
 
+-- a token that is a CPU, 0 to 7
 abbrev pub cpu_of : List ℕ → Option ℕ
 cpu_of token = below 8 (decimal_number token)
 
+-- a token that is a process, 0 to 63
 abbrev pub process_of : List ℕ → Option ℕ
 process_of token = below 64 (decimal_number token)
 
@@ -31,6 +34,7 @@ process_of token = below 64 (decimal_number token)
 abbrev pub quota_of : List ℕ → Option ℕ
 quota_of token = below 4294967296 (decimal_number token)
 
+-- a token that is a size in bytes: 1, 2 or 4
 abbrev pub size_of : List ℕ → Option Size
 size_of token = if bytes_eq token (codes "1") then Some One else if bytes_eq token (codes "2") then Some Two else if bytes_eq token (codes "4") then Some Four else None
 
@@ -43,10 +47,12 @@ abbrev pub one : List (List ℕ) → Option (List ℕ)
 one (a ∷ []) = Some a
 one _ = None
 
+-- two tokens, and no more
 abbrev pub two : List (List ℕ) → Option (List ℕ × List ℕ)
 two (a ∷ b ∷ []) = Some (a, b)
 two _ = None
 
+-- three tokens, and no more
 abbrev pub three : List (List ℕ) → Option (List ℕ × List ℕ × List ℕ)
 three (a ∷ b ∷ c ∷ []) = Some (a, b, c)
 three _ = None
@@ -189,10 +195,12 @@ abbrev pub is_comment : List ℕ → Bool
 is_comment [] = false
 is_comment (byte ∷ bytes) = byte == 35
 
+-- whether there is no token
 abbrev pub is_blank : List (List ℕ) → Bool
 is_blank [] = true
 is_blank (token ∷ tokens) = false
 
+-- an event, or a malformed line
 abbrev pub event_or_malformed : Option Event → Line
 event_or_malformed (Some event) = line.Event event
 event_or_malformed None = line.Malformed
@@ -201,6 +209,7 @@ event_or_malformed None = line.Malformed
 abbrev pub is_too_long : List ℕ → Bool
 is_too_long bytes = nat_lt 100 (length bytes)
 
+-- what a line of at most 100 bytes says
 unfoldable pub line_of : List ℕ → Line
 line_of bytes =
     if is_too_long bytes then line.Malformed else

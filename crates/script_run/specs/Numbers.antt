@@ -4,6 +4,7 @@ use Rattle.std.specs.List.{list_all}
 use Rattle.std.specs.Char.{is_digit}
 use Rattle.std.specs.Str.Parse.{digits_value}
 
+-- whether each byte is a digit
 abbrev pub are_digits : ℕ → List ℕ → Bool
 are_digits radix token = list_all (λ byte. is_digit byte radix) token
 

@@ -1,6 +1,6 @@
--- Operands read one behind another: each gives what its token says, and the tokens behind it.
---     first_by read tokens      what the first token says, and the tokens behind it
---     one_by, two_by, three_by      a call of so many operands, behind which no token stands
+-- Operands read in sequence: each gives what its token says, and the tokens after it.
+--     first_by read tokens      what the first token says, and the tokens after it
+--     one_by, two_by, three_by      a call of so many operands, after which there is no token
 use Rattle.std.specs.Prelude.{ℕ, ◌≡◌, ◌≤◌, ◌^◌, Bool, true, List, [], ◌∷◌, Option, None, Some, MatchBool, if◌then◌else◌}
 use Rattle.std.specs.Char.{digit_value, is_digit}
 use Rattle.std.specs.Str.Parse.{digits_value}
@@ -10,7 +10,7 @@ use Rattle.script_run.specs.Lines.{◌>>=◌, alone, cpu_of, process_of, call_of
 use Rattle.script_run.specs.Numbers.{are_digits}
 use Rattle.script_run.specs.Tokens.{is_visible}
 
--- no space stands in front
+-- the tokens begin with no space
 abbrev pub is_trimmed : List ℕ → Bool
 is_trimmed [] = true
 is_trimmed (byte ∷ bytes) = is_visible byte
@@ -23,23 +23,27 @@ worth byte = if is_digit byte 16 then digit_value byte else 2 ^ 32
 abbrev pub IsWorth : List ℕ → ℕ → Type 0
 IsWorth bytes value = MatchBool (are_digits 16 bytes) (value ≡ digits_value 16 bytes) (2 ^ 32 ≤ value)
 
+-- the first token by a reading, and the tokens after it
 unfoldable pub first_by : {A : Type 0} → (List ℕ → Option A) → List (List ℕ) → Option (A × List (List ℕ))
 first_by read [] = None
 first_by read (token ∷ tokens) = do
   said ← read token
   Some (said, tokens)
 
+-- a call of one operand
 unfoldable pub one_by : {A : Type 0} → (List ℕ → Option A) → (A → Call) → List (List ℕ) → Option Call
 one_by read call tokens = do
   first ← first_by read tokens
   alone (call first.0) first.1
 
+-- a call of two operands
 unfoldable pub two_by : {A B : Type 0} → (List ℕ → Option A) → (List ℕ → Option B) → (A → B → Call) → List (List ℕ) → Option Call
 two_by read next call tokens = do
   first ← first_by read tokens
   second ← first_by next first.1
   alone (call first.0 second.0) second.1
 
+-- a call of three operands
 unfoldable pub three_by : {A B C : Type 0} → (List ℕ → Option A) → (List ℕ → Option B) → (List ℕ → Option C) → (A → B → C → Call) → List (List ℕ) → Option Call
 three_by read next last call tokens = do
   first ← first_by read tokens

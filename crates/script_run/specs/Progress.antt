@@ -1,9 +1,9 @@
 -- How far a session has come in a script, when some bytes of it were read.
 --     Reached      no line is malformed so far, and all of them were carried out
---     Begins, Breaks      how the lines of any script that goes on from these bytes begin;  that one of them is malformed
+--     Begins, Breaks      how the lines of any script that begins with these bytes begin;  that one of them is malformed
 --     Stops      why the session stopped at a line
 --     Finished, StopsAtLast      the last line, without a line feed, was carried out too;  why it was not
---     Ran, RanInto      what a run came to, with replies that wait to be written
+-- Ran, RanInto the result of a run, with replies that wait to be written
 --     EndsReading      what a run that ended by a failed read did
 --     EndsBy      what a run that ended by a fault did
 use Rattle.std.specs.Prelude.{◌≡◌, ℕ, ◌+◌, ◌≤◌, Bool, true, false, List, [], ◌∷◌, ◌++◌, length, Option, Some, None, IfSome}
@@ -32,11 +32,13 @@ IsBeforeReading WriteFailed = ⊥
 
 -- ---- One line
 
+-- the state after a line
 abbrev pub state_after : State → Line → State
 state_after state (line.Event event) = next state event
 state_after state line.Skipped = state
 state_after state line.Malformed = state
 
+-- the text of a line's reply
 abbrev pub text_after : State → Line → List ℕ
 text_after state (line.Event event) = reply_line (answer state event)
 text_after state line.Skipped = []
@@ -51,7 +53,7 @@ LineFails NoMemory number bytes waited waits held holds = ⊥
 LineFails TooLong number bytes waited waits held holds = ⊥
 LineFails ReadFailed number bytes waited waits held holds = ⊥
 
--- no line feed stands in the bytes
+-- the bytes have no line feed
 unfoldable pub IsOneLine : List ℕ → Type 0
 IsOneLine bytes = lines_of bytes ≡ bytes ∷ []
 
@@ -66,7 +68,7 @@ pub record Reached (begun : State) (read : List ℕ) (session : Session) (start 
   pub state : session.core.state ≡ end_of begun (events_in (closed_lines read))
   pub text : LeavesUnwritten start now (replies_text begun (events_in (closed_lines read))) session.output
 
--- each script that goes on from these bytes begins with these lines, none of which is malformed
+-- each script that begins with these bytes begins with these lines, none of which is malformed
 pub record Begins (read : List ℕ) (good : List (List ℕ)) : Type 0 where
   pub sound : list_all is_sound good ≡ true
   pub next : (is_whole : Bool) (more : List ℕ) → (others : List (List ℕ)) × (judged_to is_whole (read ++ more) ≡ good ++ others)
@@ -87,11 +89,13 @@ Stops begun read ReadFailed waits start now = ⊥
 
 -- ---- The last line, without a line feed
 
+-- the last line, without a line feed, was carried out too
 pub record Finished (begun : State) (read : List ℕ) (session : Session) (start now : Option (List ℕ)) : Type 0 where
   pub sound : list_all is_sound (closed_lines read ++ open_line read ∷ []) ≡ true
   pub state : session.core.state ≡ end_of begun (events_in (closed_lines read ++ open_line read ∷ []))
   pub text : LeavesUnwritten start now (replies_text begun (events_in (closed_lines read ++ open_line read ∷ []))) session.output
 
+-- why the last line was not carried out
 abbrev pub StopsAtLast : State → List ℕ → ScriptFault → List ℕ → Option (List ℕ) → Option (List ℕ) → Type 0
 StopsAtLast begun read (Malformed found) waits start now = (list_all is_sound (closed_lines read) ≡ true) × (is_malformed (open_line read) ≡ true) × (found ≡ length (closed_lines read) + 1)
     × LeavesUnwritten start now (replies_text begun (events_in (closed_lines read))) waits
@@ -107,7 +111,7 @@ StopsAtLast begun read ReadFailed waits start now = ⊥
 abbrev pub Ran : State → Option (List ℕ) → Session → Option (List ℕ) → Option (List ℕ) → Type 0
 Ran begun remained session held holds = IfSome remained (λ input. (fault_of input ≡ None) × (session.core.state ≡ end_of begun (events_of input)) × LeavesUnwritten held holds (replies_text begun (events_of input)) session.output)
 
--- the same, with all replies written
+-- a whole run of the script that the reader had left, with all replies written
 abbrev pub EndsWhole : State → Option (List ℕ) → Session → Option (List ℕ) → Option (List ℕ) → Type 0
 EndsWhole begun remained session held holds = IfSome remained (λ input. (fault_of input ≡ None) × (session.core.state ≡ end_of begun (events_of input)) × Appends held holds (replies_text begun (events_of input)))
 
@@ -120,6 +124,7 @@ pub record ReadSome (begun : State) (remained remains : Option (List ℕ)) (wait
   pub short : is_too_long (open_line read) ≡ false
   pub text : LeavesUnwritten held holds (replies_text begun (events_in (closed_lines read))) waits
 
+-- a run that ended by a fault, with replies that wait to be written
 abbrev pub RanInto : State → ScriptFault → Option (List ℕ) → Option (List ℕ) → List ℕ → Option (List ℕ) → Option (List ℕ) → Type 0
 RanInto begun (Malformed line) remained remains waits held holds = IfSome remained (λ input. (fault_of input ≡ Some (Malformed line)) × LeavesUnwritten held holds (replies_text begun (events_of input)) waits)
 RanInto begun TooLong remained remains waits held holds = IfSome remained (λ input. (fault_of input ≡ Some TooLong) × LeavesUnwritten held holds (replies_text begun (events_of input)) waits)
@@ -128,9 +133,8 @@ RanInto begun WriteFailed remained remains waits held holds = (waits ≡ []) × 
 RanInto begun BadSize remained remains waits held holds = ⊥
 RanInto begun NoMemory remained remains waits held holds = ⊥
 
--- What was read before a read failed lies within the limit of a script, none of its complete lines
--- is malformed, the line after them is not too long so far, and the replies to the complete lines,
--- and nothing else, were written.
+-- What was read before a read failed is within the limit of a script. None of its complete lines is malformed, and the
+-- line after them is not too long so far. The replies to the complete lines, and nothing else, were written.
 pub record EndsReading (begun : State) (remained remains held holds : Option (List ℕ)) : Type 0 where
   pub read : List ℕ
   pub within : length read ≤ limit
@@ -139,11 +143,10 @@ pub record EndsReading (begun : State) (remained remains held holds : Option (Li
   pub short : is_too_long (open_line read) ≡ false
   pub text : Appends held holds (replies_text begun (events_in (closed_lines read)))
 
--- What a run that ended by this fault read and wrote. A number of frames that may not be, and want of
--- memory, come before the first read. The fault of a malformed line and of a long script is the
--- script's own, and all replies before it were written; after a read that failed, those to the
--- complete lines that were read. A write fails only where there is text to write: a front of the
--- replies was written then, and at least one byte of them was not.
+-- What a run that ended by this fault read and wrote. A refused number of frames, and out of memory, come before the
+-- first read. The fault of a malformed line and of a long script is the script's own, and all replies before it were
+-- written. After a read that failed, those to the complete lines that were read were written. A write fails only if
+-- there is text to write: a prefix of the replies was written then, and at least one byte of them was not.
 abbrev pub EndsBy : State → ScriptFault → Option (List ℕ) → Option (List ℕ) → Option (List ℕ) → Option (List ℕ) → Type 0
 EndsBy begun BadSize remained remains held holds = Keeps remained remains × Keeps held holds
 EndsBy begun NoMemory remained remains held holds = Keeps remained remains × Keeps held holds

@@ -11,6 +11,7 @@ use Rattle.kernel_calls.specs.declared.calls.Reply.TheVariants as reply
 unfoldable pub eight_digits : ℕ → List ℕ
 eight_digits n = map (λ place. digit_char (n / 16 ^ place % 16)) (7 ∷ 6 ∷ 5 ∷ 4 ∷ 3 ∷ 2 ∷ 1 ∷ 0 ∷ [])
 
+-- the name of a cause
 abbrev pub name_of : Cause → List ℕ
 name_of NoProcess = codes "NoProcess"
 name_of BadPage = codes "BadPage"
@@ -38,6 +39,7 @@ bit_of false = codes "0"
 abbrev pub flags_of : Bool → Bool → Bool → Bool → List ℕ
 flags_of write may accessed dirty = bit_of write ++ codes " " ++ bit_of may ++ codes " " ++ bit_of accessed ++ codes " " ++ bit_of dirty
 
+-- a reply as a line, without its line feed
 abbrev pub reply_text : Reply → List ℕ
 reply_text reply.Done = codes "done"
 reply_text (reply.Value value) = codes "value " ++ eight_digits value
@@ -51,5 +53,6 @@ reply_text (reply.Refused cause) = codes "refused " ++ name_of cause
 abbrev pub reply_line : Reply → List ℕ
 reply_line reply = reply_text reply ++ 10 ∷ []
 
+-- the text of replies, a line for each
 unfoldable pub text_of : List Reply → List ℕ
 text_of replies = flat_map reply_line replies

@@ -1,5 +1,5 @@
--- What a script means: the events that it asks for, and the fault that stands in it, if one does.
---     lines_of bytes      the lines: what stands between line feeds
+-- What a script means: its events, and its fault, if it has one.
+--     lines_of bytes      the lines, which line feeds separate
 --     judged bytes      the lines that count, of a script that may be longer than the limit
 --     events_of bytes      the events of the lines before the first malformed one
 --     fault_of bytes      the first malformed line, or else that the script is too long
@@ -23,6 +23,7 @@ limit = 16777216
 
 -- ---- Lines
 
+-- whether a byte is a line feed
 abbrev pub is_line_feed : ℕ → Bool
 is_line_feed byte = byte == 10
 
@@ -30,11 +31,13 @@ is_line_feed byte = byte == 10
 unfoldable pub lines_of : List ℕ → List (List ℕ)
 lines_of bytes = slice_split is_line_feed bytes
 
+-- all lines except the last
 abbrev pub all_but_last : List (List ℕ) → List (List ℕ)
 all_but_last [] = []
 all_but_last (line ∷ []) = []
 all_but_last (line ∷ next ∷ lines) = line ∷ all_but_last (next ∷ lines)
 
+-- the last line, empty if there is none
 abbrev pub last_of : List (List ℕ) → List ℕ
 last_of [] = []
 last_of (line ∷ []) = line
@@ -53,6 +56,7 @@ open_line bytes = last_of (lines_of bytes)
 unfoldable pub judged_to : Bool → List ℕ → List (List ℕ)
 judged_to is_whole bytes = closed_lines bytes ++ filter (λ line. is_whole || is_too_long line) (open_line bytes ∷ [])
 
+-- whether a script is within the limit
 unfoldable pub is_whole : List ℕ → Bool
 is_whole bytes = nat_le (length bytes) limit
 
@@ -62,19 +66,23 @@ judged bytes = judged_to (is_whole bytes) (take limit bytes)
 
 -- ---- Events and faults
 
+-- whether a line is malformed
 abbrev pub says_malformed : Line → Bool
 says_malformed line.Malformed = true
 says_malformed line.Skipped = false
 says_malformed (line.Event event) = false
 
+-- the event of a line
 abbrev pub said_event : Line → Option Event
 said_event line.Malformed = None
 said_event line.Skipped = None
 said_event (line.Event event) = Some event
 
+-- whether the bytes of a line are malformed
 unfoldable pub is_malformed : List ℕ → Bool
 is_malformed bytes = says_malformed (line_of bytes)
 
+-- whether the bytes of a line are not malformed
 abbrev pub is_sound : List ℕ → Bool
 is_sound bytes = not (is_malformed bytes)
 
@@ -82,6 +90,7 @@ is_sound bytes = not (is_malformed bytes)
 unfoldable pub events_in : List (List ℕ) → List Event
 events_in lines = filter_map (λ bytes. said_event (line_of bytes)) lines
 
+-- the events of the lines before the first malformed one
 unfoldable pub events_of : List ℕ → List Event
 events_of bytes = events_in (take_while is_sound (judged bytes))
 
@@ -91,5 +100,6 @@ fault_of bytes = option_or (option_map (λ place. Malformed (place + 1)) (positi
 
 -- ---- Replies
 
+-- the replies to events from a state on, a line for each
 unfoldable pub replies_text : State → List Event → List ℕ
 replies_text begun events = text_of (answers begun events)

@@ -372,7 +372,8 @@ fn any_call_of(line: &[u8]) -> Option<Call>
     }
 }
 
-/// The same; a line as scripts mostly write it is read at once.
+/// Returns the call that the first token names, with the others as its operands. A line in its usual form is read at
+/// once.
 #[inline(always)]
 fn call_of(line: &[u8]) -> Option<Call>
     ensures { result ≡ named_by (tokens_of line.now) }
@@ -396,7 +397,8 @@ fn any_caller_of(line: &[u8]) -> Option<(u64, u64, &[u8])>
     Some((cpu, pid, rest))
 }
 
-/// The same; two numbers of one digit are told by the bytes in front.
+/// Returns the CPU and the process that a line begins with, and the bytes after them. Two one-digit numbers are
+/// recognized by the first bytes.
 #[inline(always)]
 fn caller_of(line: &[u8]) -> Option<(u64, u64, &[u8])>
     ensures cpu { IfSome result (λ found. found.0 < 8) }

@@ -191,7 +191,8 @@ fn decimal(line: &[u8]) -> Option<(u64, &[u8])>
     }
 }
 
-/// The same, for a token of any length.
+/// Returns the number that the first token writes in one to ten decimal digits, and the bytes after it, for a token of
+/// any length.
 #[inline(never)]
 #[tactic(auto, unfolding(crate::specs::Numbers::decimal_number, crate::specs::Operands::first_by))]
 fn long_decimal(line: &[u8]) -> Option<(u64, &[u8])>
@@ -202,7 +203,8 @@ fn long_decimal(line: &[u8]) -> Option<(u64, &[u8])>
     Some((value, rest))
 }
 
-/// The same, for a token that may have more than one digit.
+/// Returns the number that the first token writes in one to ten decimal digits, and the bytes after it, for a token
+/// that may have more than one digit.
 #[inline(always)]
 fn longer_decimal(line: &[u8]) -> Option<(u64, &[u8])>
     ensures { option_map (λ found. (found.0, tokens_of found.1.now)) result ≡ first_by decimal_number (tokens_of line.now) }

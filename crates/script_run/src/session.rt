@@ -20,7 +20,7 @@ use std::io::{Read, Write};
 /// The most bytes of a script.
 const LIMIT: usize = 16_777_216;
 
-/// What has come of a script, and what came of it.
+/// The progress of a script: the machine after the lines so far, and the replies not written yet.
 #[derive(Drop)]
 pub struct Session {
     /// The machine, after the lines so far.

@@ -29,6 +29,7 @@ table_word bytes directory address = word_at bytes (table_place bytes directory 
 abbrev pub is_outside : List ℕ → ℕ → Bool
 is_outside bytes frame = nat_le (length bytes) (4096 * frame)
 
+-- whether an access is a write
 abbrev pub is_write : Access → Bool
 is_write Read = false
 is_write Write = true
@@ -52,7 +53,7 @@ not_present address access = Err (Fault (page_fault address access false))
 abbrev pub not_allowed : ℕ → Access → Result ℕ WalkEnd
 not_allowed address access = Err (Fault (page_fault address access true))
 
--- what stands beside the first test that is true, or else the last
+-- the value paired with the first test that is true, otherwise the last
 abbrev pub first_that_applies : {X : Type 0} → List (Bool × X) → X → X
 first_that_applies [] x = x
 first_that_applies (line ∷ lines) x = if line.0 then line.1 else first_that_applies lines x

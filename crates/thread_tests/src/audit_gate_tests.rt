@@ -122,7 +122,7 @@ fn judge_both<R: Threads + Sync>(
     )
 }
 
-/// The same, while a call of a CPU is held until they have ended.
+/// Two helpers judge in two threads, while a CPU's call is held until they have ended.
 fn judge_beside<N: Name + Send + Sync, R: Threads + Wait + Abort + Sync>(
     rt: &R,
     kernel: &Kernel<N, HeldGate>,

@@ -67,7 +67,7 @@ fn stores_and_loads(address: u32, r: &[Reg; 8]) -> [Instruction; 5] {
     ]
 }
 
-/// What a guest of the root comes to: how it ended, its counter, and what is in some of its registers.
+/// The outcome of a guest of the root: how it ended, its counter, and two of its registers.
 #[derive(Clone, Copy, Debug, PartialEq, Eq)]
 struct Outcome {
     end: End,
@@ -75,7 +75,7 @@ struct Outcome {
     values: [u32; 2],
 }
 
-/// What a guest came to, by two registers.
+/// Returns a guest's outcome, with the two registers looked at.
 fn came_to(guest: &Guest, end: End, looked_at: [Reg; 2]) -> Outcome {
     Outcome {
         end,
@@ -97,7 +97,7 @@ fn ran<R: AllocGlobal + Abort>(
     came_to(&guest, end, looked_at)
 }
 
-/// A program comes to that on a core of 16 frames.
+/// Checks the outcome of a program on a core of 16 frames.
 fn check_run<R: AllocGlobal + Abort>(
     rt: &R,
     program: &[Instruction],
@@ -211,7 +211,7 @@ fn ran_once<R: Abort>(rt: &R, program: &[Instruction], turns: u32, looked_at: [R
     came_to(&guest, end, looked_at)
 }
 
-/// A program comes to that on a port that answers once.
+/// Checks the outcome of a program on a port that answers once.
 fn check_once<R: Abort>(
     rt: &R,
     program: &[Instruction],
@@ -247,7 +247,7 @@ fn in_single_turns<R: AllocGlobal + Abort>(
     [1, 1, 1, 1, 0, 1].map(|turns| run_on(&mut core, guest, program, turns))
 }
 
-/// A program runs out of turns five times so, and then halts; what the guest came to, by two registers.
+/// Checks that a program runs out of turns five times and then halts, and its outcome.
 fn check_single_turns<R: AllocGlobal + Abort>(
     rt: &R,
     program: &[Instruction],

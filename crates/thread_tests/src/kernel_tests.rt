@@ -174,7 +174,7 @@ fn work<N: Name, R: Wait>(
     (cpu, done)
 }
 
-/// What a monitor that reports again and again came to.
+/// The results of a monitor that reports repeatedly.
 #[derive(Clone, Copy, Drop)]
 struct Watched {
     /// How many reports there were.
@@ -238,7 +238,7 @@ fn both_worked<N: Name + Send + Sync, R: Threads + Wait + Abort + Sync>(
     (one.0, two.0)
 }
 
-/// The same, while a monitor reports in a third thread.
+/// Two CPUs call in two threads, a thousand times each, while a monitor reports in a third.
 fn all_worked<N: Name + Send + Sync, R: Threads + Wait + Abort + Sync>(
     rt: &R,
     kernel: &Kernel<N, OpenGate>,

@@ -106,7 +106,7 @@ fn is_made<N: Name, R: Wait + Abort>(
     }
 }
 
-/// The same with memory.
+/// Makes a call of process 0, with memory for it, and checks the reply.
 fn check_made<N: Name, R: Wait + Abort>(
     rt: &R,
     kernel: &Kernel<N, OpenGate>,
@@ -149,7 +149,7 @@ fn store_and_load<N: Name, R: Wait + Abort + Print>(rt: &R, boot: Boot<N, OpenGa
     check_two_entries(rt, &closed(rt, kernel, put(rt, cpus, cpu)));
 }
 
-/// The same; whether the kernel was opened.
+/// Opens the kernel, and stores and loads on one CPU. Returns whether the kernel was opened.
 fn stored_and_loaded<N: Name, R: Wait + Abort + Print>(rt: &R, blank: Blank<OpenGate>) -> bool
     requires { (blank.frames ≡ N.frames) × (blank.book ≡ N.book) }
 {
@@ -162,12 +162,12 @@ fn stored_and_loaded<N: Name, R: Wait + Abort + Print>(rt: &R, blank: Blank<Open
     }
 }
 
-/// The same on a kernel that it boots.
+/// Boots a kernel, and stores and loads on one CPU. Returns whether the kernel was opened.
 fn is_stored_and_loaded<R: AllocGlobal + Wait + Abort + Print>(rt: &R) -> bool {
     stored_and_loaded::<Brand, R>(rt, booted(rt))
 }
 
-/// The same, again where the kernel was not opened.
+/// Stores and loads on a booted kernel, and once more if it was not opened.
 fn check_stored_and_loaded<R: AllocGlobal + Wait + Abort + Print>(rt: &R) {
     if !is_stored_and_loaded(rt) {
         assert!(rt; is_stored_and_loaded(rt));
@@ -211,7 +211,7 @@ fn is_ported<N: Name, R: Wait + Abort>(
     }
 }
 
-/// The same with memory, behind a refusal: the CPU has the calls that it had.
+/// Makes a store by a port, with memory for it, after a refusal: the CPU still has as many calls.
 fn check_ported<N: Name, R: Wait + Abort>(
     rt: &R,
     kernel: &Kernel<N, OpenGate>,
@@ -253,7 +253,7 @@ fn is_taken<N: Name, R: Wait + Abort>(
     }
 }
 
-/// The same with memory, behind a refusal: the CPU has the calls that it had.
+/// Takes a snapshot, with memory for it, after a refusal: the CPU still has as many calls.
 fn check_taken<N: Name, R: Wait + Abort>(
     rt: &R,
     kernel: &Kernel<N, OpenGate>,
@@ -290,7 +290,7 @@ fn port_and_take<N: Name, R: Wait + Abort + Print>(rt: &R, boot: Boot<N, OpenGat
     check_length(rt, &closed(rt, kernel, put(rt, cpus, cpu)), 1);
 }
 
-/// The same; whether the kernel was opened.
+/// Opens the kernel, and makes a port's call and a snapshot. Returns whether the kernel was opened.
 fn ported_and_taken<N: Name, R: Wait + Abort + Print>(rt: &R, blank: Blank<OpenGate>) -> bool
     requires { (blank.frames ≡ N.frames) × (blank.book ≡ N.book) }
 {
@@ -303,12 +303,12 @@ fn ported_and_taken<N: Name, R: Wait + Abort + Print>(rt: &R, blank: Blank<OpenG
     }
 }
 
-/// The same on a kernel that it boots.
+/// Boots a kernel, and makes a port's call and a snapshot. Returns whether the kernel was opened.
 fn is_ported_and_taken<R: AllocGlobal + Wait + Abort + Print>(rt: &R) -> bool {
     ported_and_taken::<Brand, R>(rt, booted(rt))
 }
 
-/// The same, again where the kernel was not opened.
+/// Makes a port's call and a snapshot on a booted kernel, and once more if it was not opened.
 fn check_ported_and_taken<R: AllocGlobal + Wait + Abort + Print>(rt: &R) {
     if !is_ported_and_taken(rt) {
         assert!(rt; is_ported_and_taken(rt));

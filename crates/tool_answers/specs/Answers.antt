@@ -1,6 +1,6 @@
--- What comes of a command line: the answer, its exit status, and what is told on standard error.
---     status_of answer      0 done; 1 want of memory, a device's fault or a failed race; 2 a refused command line, size, script or image; 3 an image that isn't sound
---     Tells program answer held holds      what standard error holds afterwards, where the program has that name
+-- The answer to a command line, its exit status, and its message on standard error. status_of answer 0 done; 1 out of
+-- memory, a device's fault or a failed race; 2 a refused command line, size, script or image; 3 an image that isn't
+-- sound Tells program answer held holds what standard error holds afterwards, for the program of that name
 use Rattle.std.specs.Prelude.{◌≡◌, ◌⊎◌, ℕ, List, [], ◌∷◌, ◌++◌, Option, codes}
 use Rattle.std.specs.Io.KnownBytes.{Appends, Keeps}
 use Rattle.clap.specs.Words.{kind_of}
@@ -15,6 +15,7 @@ use Rattle.tool_answers.specs.declared.given_words.WordsFault.TheVariants as wor
 
 -- ---- Statuses and texts
 
+-- the exit status of an answer
 abbrev pub status_of : Answer → ℕ
 status_of Done = 0
 status_of NotSound = 3
@@ -34,13 +35,13 @@ Tells program (Failed fault) held holds = Appends held holds (told_line program 
 Tells program NotText held holds = Appends held holds (told_line program (words_text words.NotText))
 Tells program (Refused error) held holds = Unit {0}
 
--- what words that were not read come to
+-- the answer to arguments that could not be read
 abbrev pub answer_of_words : WordsFault → Answer
 answer_of_words words.NoMemory = Failed tool.NoMemory
 answer_of_words words.NotText = NotText
 
 -- ---- Words that are refused
 
--- want of memory is a fault, and any other error is `clap`'s own to tell
+-- out of memory is a fault of the program; `clap` reports any other error
 abbrev pub Refuses : Error → Answer → Type 0
 Refuses error answer = ((kind_of error ≡ kind.OutOfMemory) × (answer ≡ Failed tool.NoMemory)) ⊎ (((kind_of error ≡ kind.OutOfMemory) → ⊥) × (answer ≡ Refused error))

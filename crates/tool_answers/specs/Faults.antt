@@ -9,6 +9,7 @@ use Rattle.tool_answers.specs.declared.given_words.WordsFault.{WordsFault}
 use Rattle.tool_answers.specs.declared.given_words.WordsFault.TheVariants as words
 use Rattle.script_run.specs.declared.faults.ScriptFault.TheVariants as script
 
+-- the message of a fault
 abbrev pub tool_text : ToolFault → List ℕ
 tool_text tool.BadSize = codes "frames must be 16 to 4096"
 tool_text tool.NoMemory = codes "out of memory"
@@ -57,6 +58,7 @@ status_of_tool tool.RaceFailed = 1
 
 -- ---- Words of the command line
 
+-- the message of refused arguments
 abbrev pub words_text : WordsFault → List ℕ
 words_text words.NoMemory = codes "out of memory"
 words_text words.NotText = codes "a word of the command line is not text"

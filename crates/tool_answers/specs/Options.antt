@@ -24,5 +24,6 @@ number_named text =
 abbrev pub number_in : Text → ℕ → List Row → Option ℕ
 number_in id absent rows = option_map_or number_named (one_of id rows) (Some absent)
 
+-- the number of frames in what `clap` found, 16 without the option
 abbrev pub frames_in : List Row → Option ℕ
 frames_in rows = number_in (codes "frames") 16 rows

@@ -1,4 +1,4 @@
-//! What comes of a command line: the exit status, and what is told on standard error.
+//! The answer to a command line: its exit status, and its message on standard error.
 
 ghost use Rattle.std.specs.Prelude.{◌≡◌, OnOk};
 ghost use Rattle.std.specs.Io.KnownBytes.{Appends};
@@ -11,7 +11,7 @@ use clap::error::ErrorKind;
 use std::io;
 use std::io::Write;
 
-/// What comes of a command line.
+/// The answer to a command line.
 #[derive(Drop)]
 pub enum Answer {
     /// Its job was done; where that was to check an image, it is sound.
@@ -46,8 +46,8 @@ fn status_of_tool(fault: ToolFault) -> u8
     }
 }
 
-/// The exit status: 0 where the job was done; 1 for want of memory, a device's fault and a failed race; 2
-/// for a refused command line, size, script or image; 3 for an image that is not sound.
+/// Returns the exit status: 0 if the job was done; 1 if memory ran out, a device failed or a race failed; 2 for a
+/// refused command line, size, script or image; 3 for an image that is not sound.
 pub fn status_of(answer: &Answer) -> u8
     ensures { result ≡ status_of answer.now }
 {
@@ -103,7 +103,7 @@ pub fn answer_of_words(fault: WordsFault) -> Answer
     }
 }
 
-/// The answer where words were refused: want of memory is a fault of the program, and `clap` tells all else.
+/// Returns the answer to refused arguments: NoMemory if memory ran out; `clap` reports anything else.
 pub fn refuse(error: clap::Error) -> Answer
     ensures { Refuses error result }
 {

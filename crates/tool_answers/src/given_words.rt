@@ -41,7 +41,7 @@ impl From<AllocError> for WordsFault {
     }
 }
 
-/// Only want of memory is NoMemory.
+/// Only a lack of memory becomes NoMemory.
 impl From<io::Error> for WordsFault {
     ghost use Rattle.std.specs.Prelude.{◌≡◌, ◌↔◌};
     ghost use Rattle.std.specs.IoError.{error_kind};

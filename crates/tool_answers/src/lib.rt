@@ -1,5 +1,5 @@
-//! What the programs share of their command lines: the words, the word that names a file and that file's bytes,
-//! and what comes of a command, which decides the exit status and what is told on standard error.
+//! What the programs share of their command lines: the arguments, the file that one of them names, and the answer to a
+//! command, which decides the exit status and the message on standard error.
 #![tactic(auto)]
 
 mod answers;

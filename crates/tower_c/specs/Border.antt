@@ -35,40 +35,50 @@ use Rattle.kernel_calls.specs.declared.translations.Ended.TheVariants as end
 
 -- ---- Events
 
+-- the size with this number of bytes
 abbrev pub size_of : ℕ → Option Size
 size_of n = if n == 1 then Some One else if n == 2 then Some Two else if n == 4 then Some Four else None
 
+-- the right with this number: 1 to write, 0 to read only
 abbrev pub right_of : ℕ → Option Bool
 right_of n = if n == 0 then Some false else if n == 1 then Some true else None
 
+-- a process number, 0 to 63
 abbrev pub pid_of : ℕ → Option ℕ
 pid_of n = if nat_lt n 64 then Some n else None
 
+-- a Load, if its size is one
 abbrev pub load_with : ℕ → Option Size → Option Call
 load_with addr (Some size) = Some (call.Load addr size)
 load_with addr None = None
 
+-- a Store, if its size is one
 abbrev pub store_with : ℕ → ℕ → Option Size → Option Call
 store_with addr value (Some size) = Some (call.Store addr size value)
 store_with addr value None = None
 
+-- a Map, if its right is one
 abbrev pub map_with : ℕ → Option Bool → Option Call
 map_with page (Some write) = Some (call.Map page write)
 map_with page None = None
 
+-- a Protect, if its right is one
 abbrev pub protect_with : ℕ → Option Bool → Option Call
 protect_with page (Some write) = Some (call.Protect page write)
 protect_with page None = None
 
+-- an Offer, if its target and right are
 abbrev pub offer_with : ℕ → Option ℕ → Option Bool → Option Call
 offer_with page (Some target) (Some write) = Some (call.Offer page target write)
 offer_with page (Some target) None = None
 offer_with page None write = None
 
+-- a Withdraw, if its target is a process number
 abbrev pub withdraw_with : ℕ → Option ℕ → Option Call
 withdraw_with page (Some target) = Some (call.Withdraw page target)
 withdraw_with page None = None
 
+-- an Accept, if its giver is a process number
 abbrev pub accept_with : Option ℕ → ℕ → ℕ → Option Call
 accept_with (Some giver) giver_page page = Some (call.Accept giver giver_page page)
 accept_with None giver_page page = None
@@ -90,6 +100,7 @@ call_of e =
     if e.call == 11 then Some call.Quota else
     if e.call == 12 then Some (call.Fork e.first) else None
 
+-- an event, if its process and call are
 abbrev pub event_by : TowerEvent → Option ℕ → Option Call → Option Event
 event_by e (Some pid) (Some call) = Some (record { cpu = e.cpu; pid = pid; call = call })
 event_by e (Some pid) None = None
@@ -101,6 +112,7 @@ event_in e = event_by e (pid_of e.pid) (call_of e)
 
 -- ---- Replies
 
+-- the number of a cause
 abbrev pub cause_number : Cause → ℕ
 cause_number cause.NoProcess = 1
 cause_number cause.BadPage = 2
@@ -119,6 +131,7 @@ cause_number cause.HasChildren = 15
 cause_number cause.RootExit = 16
 cause_number cause.TooSmall = 17
 
+-- a reply of this kind with three numbers
 abbrev pub numbers : ℕ → ℕ → ℕ → ℕ → TowerReply
 numbers kind first second third = record { kind = kind; first = first; second = second; third = third; write = false; may = false; accessed = false; dirty = false }
 
@@ -168,6 +181,7 @@ none_is_carried_out s (e ∷ events) = not (is_carried_out s (event_in e)) && no
 
 -- ---- Queries
 
+-- a role in numbers
 abbrev pub role_numbers : Role → TowerRole
 role_numbers role.Reserved = record { kind = 0; pid = 0; slot = 0; count = 0 }
 role_numbers role.Free = record { kind = 1; pid = 0; slot = 0; count = 0 }
@@ -175,6 +189,7 @@ role_numbers (role.Directory pid) = record { kind = 2; pid = pid; slot = 0; coun
 role_numbers (role.Table pid slot) = record { kind = 3; pid = pid; slot = slot; count = 0 }
 role_numbers (role.Page count) = record { kind = 4; pid = 0; slot = 0; count = count }
 
+-- a container in numbers
 abbrev pub container_numbers : Container → TowerContainer
 container_numbers c = record { parent = c.parent; quota = c.quota; used = c.used; given = c.given; children = c.children }
 
@@ -183,10 +198,12 @@ abbrev pub given : {A : Type 0} → Bool → A → Option A
 given true written = Some written
 given false written = None
 
+-- the number of frames, 0 without a core
 abbrev pub frames_in : Option View → ℕ
 frames_in (Some core) = length core.roles
 frames_in None = 0
 
+-- the directory of a process, if there is one
 abbrev pub directory_at : View → Option ℕ → Option ℕ
 directory_at core (Some pid) = directory_of core.directories pid
 directory_at core None = None
@@ -196,6 +213,7 @@ abbrev pub directory_in : Option View → ℕ → Option ℕ
 directory_in (Some core) pid = directory_at core (pid_of pid)
 directory_in None pid = None
 
+-- the container of a process in numbers, if it is live
 abbrev pub container_at : View → Option ℕ → Option TowerContainer
 container_at core (Some pid) = option_map container_numbers (container_of core.state pid)
 container_at core None = None
@@ -215,7 +233,7 @@ abbrev pub copy_in : Option View → ℕ → ℕ → Option (List ℕ)
 copy_in (Some core) frame room = if nat_lt frame (length core.roles) && (room == 4096) then Some (frame_bytes core.bytes frame) else None
 copy_in None frame room = None
 
--- what a walk asks for: the right to write, or to read alone
+-- the access of a walk: a write, or a read only
 abbrev pub access_of : Bool → Access
 access_of true = Write
 access_of false = Read
@@ -231,6 +249,7 @@ abbrev pub walk_in : Option View → ℕ → ℕ → Bool → Option TowerWalk
 walk_in (Some core) pid address write = option_map (λ directory. walk_numbers (walk_of core.bytes directory address (access_of write))) (directory_at core (pid_of pid))
 walk_in None pid address write = None
 
+-- what an event ended, in numbers
 abbrev pub ended_numbers : Ended → TowerEnded
 ended_numbers end.Nothing = record { kind = 0; pid = 0; first = 0; second = 0 }
 ended_numbers (end.Page pid page) = record { kind = 1; pid = pid; first = page; second = 0 }

@@ -1,4 +1,4 @@
--- What is told of where a core's memory lies.
+-- The report of where a core's memory lies.
 use Rattle.std.specs.Prelude.{ℕ, Option, Some, None, length}
 use Rattle.process_table.specs.View.{View}
 

@@ -25,7 +25,7 @@ pub record IsNextPage (core : View) (p first page : ℕ) (found : TowerPage) : T
   pub here : option_map page_numbers (page_in core p page) ≡ Some found
   pub least : (other : ℕ) → first ≤ other → other < page → is_mapped core.state (at_page p other) ≡ false
 
--- the same of the process of a number, where it is one
+-- the lowest mapped page from there on, of the process with that number, if there is one
 abbrev pub IsNextIn : View → Option ℕ → ℕ → ℕ → TowerPage → Type 0
 IsNextIn core (Some p) from page found = IsNextPage core p from page found
 IsNextIn core None from page found = ⊥

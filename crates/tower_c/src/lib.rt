@@ -95,7 +95,7 @@ pub extern "C" fn tower_boot_wide(alloc: Global, frames: u32, tower: &mut Tower)
     }
 }
 
-/// What an event comes to on a core.
+/// Carries out an event on a core, and returns its reply. Numbers that are no event change nothing.
 #[tactic(auto, unfolding(crate::specs::Border::is_carried_out))]
 #[inline(always)]
 pub(crate) fn step(core: &mut Core, event: &TowerEvent) -> TowerReply
@@ -194,8 +194,8 @@ fn ended_on(core: &Core, event: &TowerEvent) -> Ended
     }
 }
 
-/// What an event comes to on a core, and which translations it ended: what `Core::step_ending` tells of both. It goes
-/// by `step`, so that whoever doesn't ask what was ended pays nothing for it.
+/// Carries out an event like `step`, and also returns which translations it ended, as `Core::step_ending` does. It
+/// calls `step`, so that callers who do not ask what was ended pay nothing for it.
 fn step_ending(core: &mut Core, event: &TowerEvent) -> (TowerReply, TowerEnded)
     ensures reply { result.0 ≡ reply_in core.old.state (event_in event.now) }
     ensures ended { result.1 ≡ ended_numbers (ends_in core.old (event_in event.now)) }

@@ -186,14 +186,14 @@ fn numbers_from(kind: u32, first: u32, second: u32, third: u32) -> TowerReply
     }
 }
 
-/// What is told where all is done.
+/// Returns the reply Done, as numbers.
 pub fn done() -> TowerReply
     ensures { result ≡ numbers 0 0 0 0 }
 {
     numbers_from(0, 0, 0, 0)
 }
 
-/// What numbers that are no event are told.
+/// Returns the reply to numbers that are no event: kind 7.
 #[inline(always)]
 pub fn no_event() -> TowerReply
     ensures { result ≡ no_event }
@@ -300,7 +300,7 @@ pub struct TowerWalk {
     pub code: u32,
 }
 
-/// What a walk asks for.
+/// Returns the access of a walk: Write if `write`, otherwise Read.
 pub fn access_from(write: bool) -> Access
     ensures { result ≡ access_of write }
 {

@@ -39,7 +39,8 @@ fn page_from(state: &PageState) -> TowerPage
     }
 }
 
-/// The next page of a process from there on, and what stands there.
+/// Returns the lowest mapped page of a process from `from` on, and the page's state. None if there is none, or the
+/// number is no process.
 fn next(core: &Core, pid: u32, from: u32) -> Option<(u32, TowerPage)>
     ensures found { IfSome result (λ next. IsNextIn core.now (pid_of pid) from next.0 next.1) }
     ensures none { IfNone result (HasNone core.now (pid_of pid) from) }
@@ -54,8 +55,8 @@ fn next(core: &Core, pid: u32, from: u32) -> Option<(u32, TowerPage)>
     Some((page.0, page_from(&state)))
 }
 
-/// The least page from there on that a process has mapped, and what stands there: false where there is no core, the
-/// number is no process, or it has none. `from` may be any page.
+/// Finds the lowest mapped page of a process from `from` on, and its state. Returns false if the handle has no core,
+/// the number is no process, or there is no such page. `from` may be any page.
 #[unsafe(no_mangle)]
 pub extern "C" fn tower_next_page(
     alloc: Global,

@@ -12,7 +12,7 @@ use core_handle::{Tower, put, take};
 use kernel_calls::Core;
 use std::alloc::Global;
 
-/// What an event comes to on a core, and whether it is carried out.
+/// Carries out an event on a core, and returns its reply and whether it completed.
 fn step_told(core: &mut Core, event: &TowerEvent) -> (TowerReply, bool)
     ensures reply { result.0 ≡ reply_in core.old.state (event_in event.now) }
     ensures done { result.1 ≡ is_carried_out core.old.state (event_in event.now) }

@@ -25,7 +25,7 @@ fn stop_from(stop: &Option<Reply>) -> TowerReply
     }
 }
 
-/// What a read of a process's memory comes to on a core.
+/// Reads a process's memory. Returns how many bytes were read, and what stopped it.
 fn read(core: &mut Core, pid: u32, address: u32, bytes: &mut [u8]) -> (usize, TowerReply)
     ensures count { result.0 ≡ length (carried core.old.state (loads_in (pid_of pid) address (length bytes.old))) }
     ensures stop { result.1 ≡ stop_in core.old.state (pid_of pid) (loads_in (pid_of pid) address (length bytes.old)) }
@@ -47,9 +47,9 @@ fn read(core: &mut Core, pid: u32, address: u32, bytes: &mut [u8]) -> (usize, To
     }
 }
 
-/// Reads a process's memory from an address on: what the loads of one byte each come to, in order, up to the first that
-/// is refused or faults. `moved` is how many bytes went, `stop` what stopped it: Done where all went, and no event
-/// where the number is no process. The other bytes stay as they were. False where the handle has no core.
+/// Reads a process's memory from an address on, with the effect of one-byte loads in order, up to the first that is
+/// refused or faults. `moved` becomes the number of bytes read, and `stop` what stopped it: Done if all were read, no
+/// event if the number is no process. The other bytes are unchanged. Returns false if the handle has no core.
 #[unsafe(no_mangle)]
 pub extern "C" fn tower_read(
     alloc: Global,
@@ -84,7 +84,7 @@ pub extern "C" fn tower_read(
     }
 }
 
-/// What a write of a process's memory comes to on a core.
+/// Writes a process's memory. Returns how many bytes were written, and what stopped it.
 fn write(core: &mut Core, pid: u32, address: u32, bytes: &[u8]) -> (usize, TowerReply)
     ensures count { result.0 ≡ length (carried core.old.state (stores_in (pid_of pid) address bytes.now)) }
     ensures stop { result.1 ≡ stop_in core.old.state (pid_of pid) (stores_in (pid_of pid) address bytes.now) }
@@ -105,10 +105,10 @@ fn write(core: &mut Core, pid: u32, address: u32, bytes: &[u8]) -> (usize, Tower
     }
 }
 
-/// Writes a process's memory from an address on: what the stores of one byte each come to, in order, up to the first
-/// that is refused or faults. `moved` and `stop` are as for `tower_read`. Each way to a frame stays but those of lazy
-/// pages: whoever keeps translations invalidates those of the process's pages from the first byte's to that of the
-/// address behind the last. False where the handle has no core.
+/// Writes a process's memory from an address on, with the effect of one-byte stores in order, up to the first that is
+/// refused or faults. `moved` and `stop` are as for `tower_read`. Only ways to frames of lazy pages change: whoever
+/// caches translations invalidates those of the process's pages from the first byte's page to the page of the address
+/// after the last byte. Returns false if the handle has no core.
 #[unsafe(no_mangle)]
 pub extern "C" fn tower_write(
     alloc: Global,

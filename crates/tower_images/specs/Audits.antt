@@ -1,4 +1,4 @@
--- What a check tells of bytes, in numbers.
+-- The result of a check of bytes, in numbers.
 use Rattle.std.specs.Prelude.{◌≡◌, ℕ, ◌<◌, List, Option, Some, None}
 use Rattle.std.specs.Option.{option_map}
 use Rattle.memory_image.specs.declared.faults.ImageFault.{ImageFault}
@@ -10,7 +10,7 @@ use Rattle.image_check.specs.Codes.{process_number, frame_number}
 use Rattle.image_check.specs.Verdict.{process_clause, frame_clause}
 use Rattle.tower_images.specs.declared.verdicts.TowerVerdict.{TowerVerdict}
 
--- bytes spell an image of which this holds
+-- bytes encode an image for which this holds
 abbrev pub SpellsOne : List ℕ → (Image → Type 0) → Type 0
 SpellsOne bytes Holds = (image : Image) × (Spells bytes image × Holds image)
 

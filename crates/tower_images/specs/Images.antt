@@ -10,7 +10,7 @@ use Rattle.memory_image.specs.Spelling.{Spells}
 abbrev pub image_length : View → ℕ
 image_length core = 1548 + 4112 * length core.roles
 
--- these bytes spell the image that shows what the core does
+-- these bytes encode the image that shows what the core does
 pub record SpellsCore (core : View) (bytes : List ℕ) : Type 0 where
   pub image : Image
   pub shows : IsImageOf core image

@@ -5,6 +5,6 @@ use Rattle.memory_image.specs.Image.{Image}
 use Rattle.memory_image.specs.Sound.{StandsFor}
 use Rattle.process_table.specs.View.{View}
 
--- the image stands for the core's state, and no offer is pending
+-- the image represents the core's state, and no offer is pending
 abbrev pub StandsForCore : View → Image → Type 0
 StandsForCore core image = StandsFor image core.state × (core.state.offers ≡ map.empty)

@@ -26,9 +26,9 @@ use statuses::{DONE, HAS_CORE, NO_CORE};
 use std::alloc::Global;
 pub use verdicts::TowerVerdict;
 
-/// Writes the image of the core (docs/IMAGES.md) at the front of `bytes`, and tells how many there are: 0. Else nothing is
-/// written there: 1 where the handle has no core, and then no size is told; 2 where there is no memory for it; 3
-/// where there are fewer bytes than it has.
+/// Writes the image of the core (docs/IMAGES.md) at the start of `bytes`, and its length to `size`. Returns 0.
+/// Otherwise `bytes` is unchanged: 1 if the handle has no core (and `size` is unchanged), 2 if memory ran out, 3 if
+/// `bytes` is too short.
 #[unsafe(no_mangle)]
 pub extern "C" fn tower_image(
     alloc: Global,
@@ -59,9 +59,8 @@ pub extern "C" fn tower_image(
     }
 }
 
-/// Checks the core's own image: 0 where it is sound; 1 where the handle has no core; 2 where there is no memory for the
-/// check. No other comes of a core that these libraries alone have written; else 3 and 4 come as for
-/// `tower_check_bytes`.
+/// Checks the core's own image. Returns 0 if it is sound, 1 if the handle has no core, and 2 if memory ran out. For a
+/// core that only these libraries have written these are all; otherwise 3 and 4 are as for `tower_check_bytes`.
 #[unsafe(no_mangle)]
 pub extern "C" fn tower_check(alloc: Global, tower: &mut Tower, verdict: &mut TowerVerdict) -> u32
     requires { IsTower tower.old }

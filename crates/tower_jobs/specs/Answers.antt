@@ -1,6 +1,5 @@
--- What comes of a command line: what was read and written, by the answer that came of it.
---     DoesJob asked answer ..      what was read and written by a job that came to that answer
---     AnswersWords words answer ..      the same of a command line
+-- The answer to a command line, and what was read and written for each answer. DoesJob asked answer .. what a job with
+-- that answer read and wrote AnswersWords words answer .. what a command line with that answer read and wrote
 use Rattle.std.specs.Prelude.{◌≡◌, ◌⊎◌, ℕ, List, true, false, Option, Some, None, IfSome}
 use Rattle.std.specs.Io.KnownBytes.{Appends, Keeps}
 use Rattle.clap.specs.Words.{HasKind, fault_of as clap_faults, subcommand_of}
@@ -38,7 +37,7 @@ ImagesScript frames NotSound remained remains held holds = ⊥
 ImagesScript frames NotText remained remains held holds = ⊥
 ImagesScript frames (Refused error) remained remains held holds = ⊥
 
--- what was read spells an image, and it is sound or not; or the file was not read; or what was read is refused
+-- what was read encodes an image, and it is sound or not; or the file was not read; or what was read is refused
 abbrev pub ChecksFile : Answer → Option (List ℕ) → Option (List ℕ) → Option (List ℕ) → Type 0
 ChecksFile Done remained held holds = (bytes : List ℕ) × IsRead remained bytes × Checks bytes true held holds
 ChecksFile NotSound remained held holds = (bytes : List ℕ) × IsRead remained bytes × Checks bytes false held holds
@@ -46,8 +45,9 @@ ChecksFile (Failed fault) remained held holds = (((fault ≡ tool.NoMemory) ⊎ 
 ChecksFile NotText remained held holds = ⊥
 ChecksFile (Refused error) remained held holds = ⊥
 
--- what was read spells a sound image, and the replies were written of a whole script from a state on that it stands for,
--- without any offer; or it isn't sound; or it was not read, or is refused, or the run ended by the fault
+-- What was read encodes a sound image, and the replies were written of a whole script, from a state that the image
+-- represents, without any offer. Or the image isn't sound. Or it was not read, or is refused, or the run ended by the
+-- fault.
 abbrev pub ResumesFile : Answer → Option (List ℕ) → Option (List ℕ) → Option (List ℕ) → Option (List ℕ) → Option (List ℕ) → Type 0
 ResumesFile Done file remained remains held holds = (bytes : List ℕ) × IsRead file bytes × (core : View) × Restores bytes (Some core) × IsWhole remained × IfSome remained (λ input. Appends held holds (replies_text core.state (events_of input)))
 ResumesFile NotSound file remained remains held holds = (bytes : List ℕ) × IsRead file bytes × Restores bytes None × Keeps remained remains × Keeps held holds
@@ -74,7 +74,8 @@ DoesJob (a_race frames rounds) answer remained remains held holds = PlaysRace fr
 
 -- ---- Command lines
 
--- the job that the words ask for was done; or `clap` refuses them, or there was no memory for them, and nothing was written
+-- the job that the arguments request was done; or `clap` refuses them, or there was no memory for them, and nothing was
+-- written
 abbrev pub AnswersWords : List (List ℕ) → Answer → Option (List ℕ) → Option (List ℕ) → Option (List ℕ) → Option (List ℕ) → Type 0
 AnswersWords words answer remained remains held holds =
     ((asked : Asked) × (job_asked (subcommand_of tower_app words) ≡ Some asked) × DoesJob asked answer remained remains held holds)

@@ -1,7 +1,7 @@
 -- Races: what is written of all rounds.
 --     Raced      that so many rounds were played
 --     race_text rounds rows      the text of so many rounds, with the report of the last one
---     WritesAnswers      that it is the text of what came of a referee's last question to a monitor
+-- WritesAnswers the text of the answer to a referee's last question to a monitor
 --     EndsRace      what a race that ended by a fault wrote
 use Rattle.std.specs.Prelude.{◌≡◌, ℕ, ◌+◌, List, [], ◌∷◌, ◌++◌, length, All, Option, codes, decimal}
 use Rattle.std.specs.Io.KnownBytes.{Appends, Keeps}
@@ -24,6 +24,7 @@ pub record Raced (frames rounds : ℕ) (rows : List (Option Row)) : Type 0 where
 
 -- ---- Texts
 
+-- a text with a line feed
 abbrev pub line : List ℕ → List ℕ
 line text = text ++ 10 ∷ []
 
@@ -39,7 +40,7 @@ race_text rounds rows = race_heading rounds ++ report_text rows
 abbrev pub Writes : ℕ → ℕ → Option (List ℕ) → Option (List ℕ) → Type 0
 Writes frames rounds held holds = (rows : List (Option Row)) × Raced frames rounds rows × Appends held holds (race_text rounds rows)
 
--- so many rounds left a referee so, and then the text of the rows that came of the last of them was written
+-- after that many rounds with this referee, the text of the last round's rows was written
 abbrev pub WritesAnswers : {S : Type 0} → (S → List (Option Row) → S → Type 0) → ℕ → S → S → Option (List ℕ) → Option (List ℕ) → Type 0
 WritesAnswers asks rounds before after held holds = (rows : List (Option Row)) × Times asks rounds before rows after × Appends held holds (race_text rounds rows)
 
@@ -49,7 +50,7 @@ fault_of_round round.NoMemory = tool.NoMemory
 fault_of_round round.Turns = tool.RaceTurns
 fault_of_round round.Failed = tool.RaceFailed
 
--- What a race that ended by this fault wrote: nothing, but for a write that failed, before which all rounds were played.
+-- What a race that ended by this fault wrote: nothing, unless a write failed, before which all rounds were played.
 abbrev pub EndsRace : ℕ → ℕ → ToolFault → Option (List ℕ) → Option (List ℕ) → Type 0
 EndsRace frames rounds tool.WriteFailed held holds = (rows : List (Option Row)) × Raced frames rounds rows × AppendsFront held holds (race_text rounds rows)
 EndsRace frames rounds tool.BadSize held holds = Keeps held holds

@@ -1,6 +1,5 @@
-//! The commands of `tower`: the four jobs that its command line may ask for. A script is run, or run for the image
-//! of its last state; an image is checked; rounds of a race are played. What comes of a job is an answer, which
-//! decides the exit status and what is told on standard error.
+//! The commands of `tower`: running a script, writing the image of a script's last state, checking an image, and
+//! playing rounds of a race. Each job has an answer, which decides the exit status and the message on standard error.
 #![tactic(auto)]
 
 mod commands;

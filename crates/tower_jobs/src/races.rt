@@ -71,11 +71,10 @@ fn write_race<W: Write>(writer: &mut W, rounds: u32, report: &Report) -> Result<
     report.write_text(writer)
 }
 
-/// Plays so many rounds of a race, at least one, each on a freshly booted kernel of so many frames, and
-/// then writes that all histories were legal, all reports equal and all images sound, and the report of the
-/// last round. The referee asks in each round a monitor for its report, and then an audit for its verdict;
-/// the report that is written is the one that came of the last monitor.
-/// It may wait, as each round's threads do.
+/// Plays `rounds` rounds of a race, at least one, each on a freshly booted kernel of `frames` frames. Then writes that
+/// all histories were legal, all reports equal and all images sound, and the report of the last round. In each round
+/// the referee questions a monitor for its report, and then an audit for its verdict; the report written is the last
+/// monitor's. It may wait, as each round's threads do.
 ///
 /// `BadSize` comes where there are not 16 to 4,096 frames. Then the first round that ends early ends the
 /// race: `NoMemory` where memory runs out, else `RaceTurns` where a guest ran out of turns, else

@@ -22,11 +22,11 @@ use Rattle.tool_answers.specs.declared.faults.ToolFault.TheVariants as tool
 
 -- ---- The image of a script
 
--- the image stands for the state that the script ends in, which is whole
+-- the image represents the state that the script ends in, which is whole
 abbrev pub ShowsEnd : ℕ → Option (List ℕ) → Image → Type 0
 ShowsEnd frames remained image = IfSome remained (λ input. (fault_of input ≡ None) × StandsFor image (end_of (open_with frames) (events_of input)))
 
--- an image that spells itself so was written
+-- an image in its own encoding was written
 abbrev pub WritesImage : ℕ → Option (List ℕ) → Option (List ℕ) → Option (List ℕ) → Type 0
 WritesImage frames remained held holds = (image : Image) × ShowsEnd frames remained image × Spells (spelling image) image × Appends held holds (spelling image)
 
@@ -38,7 +38,7 @@ WritesFront frames remained held holds = (image : Image) × ShowsEnd frames rema
 abbrev pub IsWhole : Option (List ℕ) → Type 0
 IsWhole remained = IfSome remained (λ input. fault_of input ≡ None)
 
--- this fault stands in the script
+-- this fault is in the script
 abbrev pub HasFault : Option (List ℕ) → ScriptFault → Type 0
 HasFault remained fault = IfSome remained (λ input. fault_of input ≡ Some fault)
 
@@ -46,8 +46,8 @@ HasFault remained fault = IfSome remained (λ input. fault_of input ≡ Some fau
 abbrev pub HasReplies : ℕ → Option (List ℕ) → Type 0
 HasReplies frames remained = IfSome remained (λ input. 0 < length (replies_text (open_with frames) (events_of input)))
 
--- why a script gave no image: before anything was read, or by its own first fault, or by a read that failed
--- where it did; for want of memory also behind a whole script. Its replies go nowhere.
+-- why a script gave no image: a fault before anything was read, the script's own first fault, or a failed read; if
+-- memory ran out, also after a whole script. Its replies are not written.
 abbrev pub EndsScript : ℕ → ScriptFault → Option (List ℕ) → Option (List ℕ) → Type 0
 EndsScript frames script.BadSize remained remains = Keeps remained remains
 EndsScript frames script.NoMemory remained remains = Keeps remained remains ⊎ IsWhole remained
@@ -62,18 +62,19 @@ EndsImage frames fault remained remains held holds = (EndsScript frames fault re
 
 -- ---- The core of an image
 
--- the bytes spell an image, and the core's state is one that the image stands for, without any offer; or it isn't sound
+-- the bytes encode an image, and the core's state is one that the image represents, without any offer; or the image
+-- isn't sound
 abbrev pub Restores : List ℕ → Option View → Type 0
 Restores bytes (Some core) = (image : Image) × Spells bytes image × StandsFor image core.state × (core.state.offers ≡ map.empty)
 Restores bytes None = (image : Image) × Spells bytes image × (IsSound image → ⊥)
 
 -- ---- The check of an image
 
--- the bytes spell an image, of which the verdict was written; it says whether the image is sound
+-- the bytes encode an image, of which the verdict was written; the result is whether the image is sound
 abbrev pub Checks : List ℕ → Bool → Option (List ℕ) → Option (List ℕ) → Type 0
 Checks bytes sound held holds = (image : Image) × Spells bytes image × (sound ≡ fails_nothing (verdict_on image)) × Appends held holds (verdict_text (verdict_on image))
 
--- what was written before this fault: nothing, but for a write that failed; a refusal is that of the bytes
+-- what was written before this fault: nothing, unless a write failed; a refusal is that of the bytes
 abbrev pub EndsCheck : List ℕ → ToolFault → Option (List ℕ) → Option (List ℕ) → Type 0
 EndsCheck bytes tool.WriteFailed held holds = (image : Image) × Spells bytes image × AppendsFront held holds (verdict_text (verdict_on image))
 EndsCheck bytes tool.NotImage held holds = IsRefusal bytes image.NotImage × Keeps held holds

@@ -1,6 +1,6 @@
--- What a command line asks for.
+-- What a command line requests.
 --     tower_app      the program's commands, as `clap` reads them
---     job_asked found      the job of the subcommand that the words name, and of what was found behind it
+--     job_asked found      the job of the subcommand that the words name, and of the arguments after it
 use Rattle.std.specs.Prelude.{ℕ, ◌&&◌, ◌≤◌, true, nat_le, List, Option, Some, None, pos, codes, option_map, option_and_then, if◌then◌else◌}
 use Rattle.std.specs.Str.{bytes_eq}
 use Rattle.clap.specs.Words.{App, Row, Rule, Text, new_app, new_rule, with_rule, with_subcommand}
@@ -38,6 +38,7 @@ rounds_option = record (new_rule (codes "rounds")) {
 abbrev pub race_app : App
 race_app = with_rule (with_rule (new_app (codes "race")) frames_option) rounds_option
 
+-- the program's commands, as `clap` reads them
 abbrev pub tower_app : App
 tower_app = let app = with_subcommand (with_subcommand (with_subcommand (with_subcommand (with_subcommand (new_app (codes "tower")) run_app.top) race_app.top) image_app.top) check_app.top) resume_app.top in record app { top = record app.top { subcommand_required = true } }
 
@@ -45,6 +46,7 @@ tower_app = let app = with_subcommand (with_subcommand (with_subcommand (with_su
 abbrev pub playable : ℕ → Option ℕ
 playable rounds = if nat_le 1 rounds && nat_le rounds 1000 then Some rounds else None
 
+-- the number of rounds in what `clap` found, 100 without the option
 abbrev pub rounds_in : List Row → Option ℕ
 rounds_in rows = option_and_then playable (number_in (codes "rounds") 100 rows)
 
@@ -56,6 +58,7 @@ pub data Asked : Type 0 where
   a_resume : Text → Asked
   a_race : ℕ → ℕ → Asked
 
+-- a job as the definitions name it
 abbrev pub as_asked : Job → Asked
 as_asked (Run frames) = a_run frames
 as_asked (Image frames) = an_image frames
@@ -67,7 +70,7 @@ as_asked (Race frames rounds) = a_race frames rounds
 abbrev pub race_in : List Row → Option Asked
 race_in rows = option_and_then (λ frames. option_map (λ rounds. a_race frames rounds) (rounds_in rows)) (frames_in rows)
 
--- the job of a subcommand's name, and of what was found behind it
+-- the job of a subcommand's name and of the arguments after it
 abbrev pub job_named : Text → List Row → Option Asked
 job_named name rows =
     if bytes_eq name (codes "run") then option_map (λ frames. a_run frames) (frames_in rows) else
@@ -77,6 +80,7 @@ job_named name rows =
     if bytes_eq name (codes "resume") then Some (a_resume (file_in rows)) else
     None
 
+-- the job of the subcommand that the arguments name
 abbrev pub job_asked : Option (Text × List Row) → Option Asked
 job_asked None = None
 job_asked (Some found) = job_named found.0 found.1

@@ -172,12 +172,11 @@ fn job_named<'a>(name: &str, matches: &ArgMatches<'a>) -> Option<Job<'a>>
 /// The job that the words ask for, of which the first is the program's name. What they do not spell
 /// is refused by `clap`, with its own text; a call for help is refused so too.
 pub fn job_of<'a, S: AsStr>(alloc: Global, words: &'a [S]) -> Result<Job<'a>, Error>
-    // An Ok comes only where `clap` finds no fault in the words, and an error is want of memory or of
-    // a kind that `clap` finds.
+    // Ok comes only if `clap` finds no fault in the arguments. An error is OutOfMemory, or of a kind that `clap` finds.
     ensures fails { FailsBy (fault_of tower_app (map S.text words.now)) result }
     ensures job { IfOk result (λ job. job_asked (subcommand_of tower_app (map S.text words.now)) ≡ Some (as_asked job)) }
     ensures rounds { IfOk result HasRounds }
-    // Where `clap` takes the words, want of memory alone refuses them.
+    // Arguments that `clap` accepts are refused only if memory runs out.
     ensures taken { IfErr result (λ error. takes tower_app (map S.text words.now) ≡ true → kind_of error ≡ ErrorKind.OutOfMemory) }
 {
     let matches = tower_command(alloc)?.try_get_matches_from(words)?;

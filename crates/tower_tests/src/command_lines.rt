@@ -1,10 +1,10 @@
-//! What came of a command line.
+//! The outcome of a command line.
 
 use crate::comparing::{same, same_bytes};
 use std::process::Abort;
 use tool_answers::{Answer, status_of, tell};
 
-/// What came of a command line: its status, and the bytes of standard output and standard error.
+/// The outcome of a command line: its status, and the bytes of standard output and standard error.
 #[derive(Drop)]
 pub(crate) struct Ended {
     pub(crate) status: u8,
@@ -21,7 +21,7 @@ fn told<R: AllocGlobal + Abort>(rt: &R, program: &str, answer: &Answer) -> Vec<u
     errors
 }
 
-/// What a program's answer comes to, with what was written before.
+/// Returns the outcome of a program's answer, with the output written before it.
 pub(crate) fn end_of<R: AllocGlobal + Abort>(
     rt: &R,
     program: &str,
@@ -47,7 +47,7 @@ pub(crate) fn check_answer<R: AllocGlobal + Abort>(
     same_bytes(rt, &told(rt, program, answer), errors.as_bytes());
 }
 
-/// Words came to this status, with nothing on standard output and something on standard error.
+/// Checks a status, an empty standard output, and a message on standard error.
 pub(crate) fn check_nothing_done(rt: &impl Abort, ended: &Ended, status: u8, words: &[&str]) {
     let found = (
         words,

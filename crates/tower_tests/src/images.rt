@@ -16,7 +16,7 @@ pub(crate) fn opening<R: AllocGlobal + Abort>(rt: &R) -> Vec<u8> {
     bytes
 }
 
-/// The same, of which process 0 has this quota.
+/// The bytes of the image of 16 frames after no event, with this quota for process 0.
 pub(crate) fn opening_with_quota<R: AllocGlobal + Abort>(rt: &R, quota: u32) -> Vec<u8> {
     let mut bytes = opening(rt);
     for (i, byte) in quota.to_le_bytes().iter().enumerate() {

@@ -17,7 +17,7 @@ const MALFORMED: &str = "0 0 map 40000 rw\n0 0 map\n";
 
 const BAD_SIZE: &str = "memory_map: frames must be 16 to 4096\n";
 
-/// What comes of words.
+/// Runs a command line.
 fn drawn<R: AllocGlobal + Files + Abort>(rt: &R, words: &[&str]) -> Ended {
     let mut output = Vec::new(rt.alloc());
     let answer = draw(rt, words, &mut output);
@@ -32,7 +32,7 @@ fn remove_file<R: Files + Abort>(rt: &R, name: &str) {
     fs::remove_file(rt, name).ok().expect(rt, "no file");
 }
 
-/// What comes of drawing a file of these bytes.
+/// Draws a file of these bytes.
 fn drawn_file<R: AllocGlobal + Files + Abort>(rt: &R, bytes: &[u8]) -> Ended {
     let name = "drawn.by.a.test.image";
     put_file(rt, name, bytes);
@@ -41,14 +41,14 @@ fn drawn_file<R: AllocGlobal + Files + Abort>(rt: &R, bytes: &[u8]) -> Ended {
     ended
 }
 
-/// A command line came to this status, with this text at the end of standard output and this one on standard error.
+/// Checks a status, the end of standard output, and standard error.
 fn check_ended(rt: &impl Abort, ended: &Ended, status: u8, last: &str, errors: &str) {
     let found = (ended.status, ended.output.ends_with(last.as_bytes()));
     same(rt, &found, &(status, true));
     same_bytes(rt, &ended.errors, errors.as_bytes());
 }
 
-/// Drawing a file of these bytes comes to that.
+/// Checks the outcome of drawing a file of these bytes.
 fn check_file<R: AllocGlobal + Files + Abort>(
     rt: &R,
     bytes: &[u8],
@@ -68,7 +68,7 @@ fn files_are_drawn_by_their_names(rt: HostRuntime) {
     check_file(&rt, b"mC2", 2, "", "memory_map: not an image\n");
 }
 
-/// What comes of drawing a file of these bytes as a picture.
+/// Draws a file of these bytes as a picture.
 fn pictured<R: AllocGlobal + Files + Abort>(rt: &R, bytes: &[u8]) -> Ended {
     let name = "pictured.by.a.test.image";
     put_file(rt, name, bytes);
@@ -125,14 +125,14 @@ fn a_map_that_can_not_be_written_ends_with_status_1(rt: HostRuntime) {
     remove_file(&rt, name);
 }
 
-/// What comes of words and a script on standard input.
+/// Runs a command line, with a script on standard input.
 fn answered<R: AllocGlobal + Files + Abort>(rt: &R, words: &[&str], script: &str) -> Ended {
     let mut output = Vec::new(rt.alloc());
     let answer = answer(rt, words, script.as_bytes(), &mut output);
     end_of(rt, PROGRAM, &answer, output)
 }
 
-/// Words and a script come to this status, to this at the end of standard output, and to this on standard error.
+/// Checks the outcome of a command line with a script: status, the end of standard output, and standard error.
 fn check_film<R: AllocGlobal + Files + Abort>(
     rt: &R,
     words: &[&str],

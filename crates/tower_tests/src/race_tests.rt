@@ -29,7 +29,7 @@ fn raced<R: AllocGlobal + Threads + Wait + Sync>(
     (ended, written)
 }
 
-/// A race comes to its end, with this text.
+/// Checks that a race ends, with this text.
 fn check_played<R: AllocGlobal + Threads + Wait + Abort + Sync>(
     rt: &R,
     frames: u32,
