@@ -4,11 +4,15 @@
 #![tactic(auto)]
 
 #[cfg(test)]
+mod act_tests;
+#[cfg(test)]
 mod common;
 #[cfg(test)]
 mod kernel_tests;
 #[cfg(test)]
 mod lazy_tests;
+#[cfg(test)]
+mod page_tests;
 #[cfg(test)]
 mod plan_tests;
 #[cfg(test)]
@@ -23,5 +27,7 @@ mod space_tests;
 mod stream_tests;
 #[cfg(test)]
 mod transfer_tests;
+#[cfg(test)]
+mod turn_tests;
 #[cfg(test)]
 mod walk_tests;

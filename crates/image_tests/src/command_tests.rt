@@ -109,6 +109,23 @@ fn reads_images_and_checks_as_clap_does(rt: HostRuntime) {
     check_refused(&rt, &["tower", "check", "one", "two"], unknown);
 }
 
+#[test]
+fn reads_a_file_to_resume_as_clap_does(rt: HostRuntime) {
+    let file = "an.image";
+    let frames = ["tower", "resume", "an.image", "--frames=16"];
+    check_asked(
+        &rt,
+        &["tower", "resume", "an.image"],
+        Ok(Job::Resume { file }),
+    );
+    check_refused(
+        &rt,
+        &["tower", "resume"],
+        ErrorKind::MissingRequiredArgument,
+    );
+    check_refused(&rt, &frames, ErrorKind::UnknownArgument);
+}
+
 /// Why a command line whose second word is not text is not read.
 fn refused_words(alloc: Global) -> Option<WordsFault> {
     let line = TwoWords { second: b"\xff" };

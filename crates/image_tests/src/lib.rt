@@ -1,4 +1,5 @@
-//! Tests of images, their check, maps, films, audits and the words of the programs' command lines, by their public calls.
+//! Tests of images, their check, cores restored from them, maps, films, audits and the words of the programs' command lines,
+//! by their public calls.
 //! They stand here and not beside what they test, so that each of those crates is proved once.
 #![tactic(auto)]
 
@@ -26,6 +27,8 @@ mod film_tests;
 mod images;
 #[cfg(test)]
 mod map_tests;
+#[cfg(test)]
+mod restore_tests;
 #[cfg(test)]
 mod spelling_tests;
 #[cfg(test)]

@@ -1,7 +1,8 @@
 //! The image of the core that a handle of C's holds, and the check of an image, for C: an archive of its own beside
 //! that of the core.
 //!
-//! Each function takes the memory that it needs from `rattle_alloc`, and gives all of it back before it ends.
+//! Each function allocates with `rattle_alloc`, and frees all of it before it ends. Only what a restored core needs stays
+//! allocated.
 #![tactic(auto)]
 
 ghost use Rattle.std.specs.Prelude.{◌≡◌, ◌≢◌, ◌↔◌, ◌≤◌, ◌<◌, ◌⊎◌, IfSome, length, take, drop, true, false};

@@ -1,0 +1,228 @@
+//! What a kernel does for its processes: it ends a family, and takes a page back from all others.
+
+use crate::common::same;
+use kernel_calls::{Call, Cause, Core, Event, Holder, Page, Pid, Reply, Size, Vaddr};
+use std::process::Abort;
+use std::test::Fail;
+
+const PAGE: Page = Page(0x40000);
+
+/// The first address of the page.
+const ADDRESS: Vaddr = Vaddr(0x4000_0000);
+
+fn process(rt: &impl Abort, number: u8) -> Pid {
+    Pid::new(number).expect(rt, "a number below 64")
+}
+
+/// A call of a process has this reply.
+fn check(rt: &impl Abort, core: &mut Core, number: u8, call: Call, reply: Reply) {
+    let pid = process(rt, number);
+    same(rt, &core.step(&Event { cpu: 0, pid, call }), &reply);
+}
+
+/// A process gets a child with that quota and this number.
+fn spawn(rt: &impl Abort, core: &mut Core, parent: u8, quota: u32, child: u8) {
+    let child = Reply::Child(process(rt, child));
+    check(rt, core, parent, Call::Spawn { quota }, child);
+}
+
+/// Which of the processes 0 to 5 are live.
+fn live(rt: &impl Abort, core: &Core) -> [bool; 6] {
+    [0, 1, 2, 3, 4, 5].map(|number| core.container(process(rt, number)).is_some())
+}
+
+/// A family can't be ended, for this cause.
+fn refuses_to_end(rt: &impl Abort, core: &mut Core, number: u8, cause: Cause) {
+    let pid = process(rt, number);
+    let mut exited = [pid; 64];
+    same(rt, &core.end_family(pid, &mut exited), &Err(cause));
+}
+
+/// Process 1 with its child 2 and that one's child 3 is ended, and process 4 isn't.
+#[test]
+fn ends_a_family_from_its_leaves_up(rt: HostRuntime) -> Result<(), Fail> {
+    let mut core = Core::boot(rt.alloc(), 32)?;
+    spawn(&rt, &mut core, 0, 20, 1);
+    spawn(&rt, &mut core, 1, 9, 2);
+    spawn(&rt, &mut core, 2, 3, 3);
+    spawn(&rt, &mut core, 0, 4, 4);
+    same(
+        &rt,
+        &live(&rt, &core),
+        &[true, true, true, true, true, false],
+    );
+    let mut exited = [process(&rt, 0); 64];
+    same(&rt, &core.end_family(process(&rt, 1), &mut exited), &Ok(3));
+    let [first, second, third, ..] = exited;
+    same(
+        &rt,
+        &[first, second, third],
+        &[3, 2, 1].map(|number| process(&rt, number)),
+    );
+    same(
+        &rt,
+        &live(&rt, &core),
+        &[true, false, false, false, true, false],
+    );
+    let (quota, used, given) = (31, 1, 4);
+    check(
+        &rt,
+        &mut core,
+        0,
+        Call::Quota,
+        Reply::Quota { quota, used, given },
+    );
+    refuses_to_end(&rt, &mut core, 1, Cause::NoProcess);
+    refuses_to_end(&rt, &mut core, 0, Cause::RootExit);
+    Ok(())
+}
+
+/// The root's page goes to a process too, at one of its pages.
+fn share(rt: &impl Abort, core: &mut Core, number: u8, page: Page) {
+    let (target, write) = (process(rt, number), true);
+    let offer = Call::Offer {
+        page: PAGE,
+        target,
+        write,
+    };
+    let giver = process(rt, 0);
+    let accept = Call::Accept {
+        giver,
+        giver_page: PAGE,
+        page,
+    };
+    check(rt, core, 0, offer, Reply::Done);
+    check(rt, core, number, accept, Reply::Done);
+}
+
+/// The root stores 7 to its page, which process 1 then has at two pages, and process 2 at one.
+fn shared<R: AllocGlobal + Abort>(rt: &R) -> Core {
+    let mut core = Core::boot(rt.alloc(), 16).ok().expect(rt, "a core");
+    let (addr, size, value) = (ADDRESS, Size::Four, 7);
+    check(
+        rt,
+        &mut core,
+        0,
+        Call::Store { addr, size, value },
+        Reply::Done,
+    );
+    spawn(rt, &mut core, 0, 6, 1);
+    spawn(rt, &mut core, 0, 4, 2);
+    share(rt, &mut core, 1, Page(0x50000));
+    share(rt, &mut core, 1, Page(0x50001));
+    share(rt, &mut core, 2, PAGE);
+    core
+}
+
+/// The next page from there on at which a process has the page of a slot too.
+fn beside(rt: &impl Abort, core: &Core, slot: (u8, u32), holder: u8, from: u32, page: Option<u32>) {
+    let (pid, own) = (process(rt, slot.0), Page(slot.1));
+    assert!(rt; page_words::in_user_range(own));
+    let found = core.next_beside(pid, own, process(rt, holder), Page(from));
+    same(rt, &found, &page.map(|page| Page(page)));
+}
+
+#[test]
+fn finds_who_else_has_a_page(rt: HostRuntime) {
+    let core = shared(&rt);
+    beside(&rt, &core, (0, 0x40000), 1, 0, Some(0x50000));
+    beside(&rt, &core, (0, 0x40000), 1, 0x50001, Some(0x50001));
+    beside(&rt, &core, (0, 0x40000), 1, 0x50002, None);
+    beside(&rt, &core, (0, 0x40000), 2, 0, Some(0x40000));
+    beside(&rt, &core, (0, 0x40000), 0, 0, None);
+    beside(&rt, &core, (1, 0x50001), 1, 0, Some(0x50000));
+    beside(&rt, &core, (0, 0x40001), 1, 0, None);
+}
+
+/// A slot that lost its page.
+fn holder(rt: &impl Abort, number: u8, page: u32) -> Holder {
+    let (pid, page) = (process(rt, number), Page(page));
+    Holder { pid, page }
+}
+
+/// The root's page is its own: its bytes and flags as they were, and process 1 and 2 have it no more.
+fn check_alone(rt: &impl Abort, core: &mut Core) {
+    let info = Reply::Info {
+        write: true,
+        may: true,
+        accessed: true,
+        dirty: true,
+        holders: 1,
+    };
+    let (addr, size) = (ADDRESS, Size::Four);
+    let none = Reply::Refused(Cause::NotMapped);
+    check(rt, core, 0, Call::Info { page: PAGE }, info);
+    check(rt, core, 0, Call::Load { addr, size }, Reply::Value(7));
+    check(
+        rt,
+        core,
+        1,
+        Call::Info {
+            page: Page(0x50000),
+        },
+        none,
+    );
+    check(
+        rt,
+        core,
+        1,
+        Call::Info {
+            page: Page(0x50001),
+        },
+        none,
+    );
+    check(rt, core, 2, Call::Info { page: PAGE }, none);
+}
+
+#[test]
+fn takes_a_page_back_from_all_others(rt: HostRuntime) {
+    let mut core = shared(&rt);
+    let root = process(&rt, 0);
+    let none = holder(&rt, 0, 0);
+    let mut lost = [none; 4];
+    same(&rt, &core.take_back(root, PAGE, &mut lost), &Ok(3));
+    let first = holder(&rt, 1, 0x50000);
+    let second = holder(&rt, 1, 0x50001);
+    let third = holder(&rt, 2, 0x40000);
+    same(&rt, &lost, &[first, second, third, none]);
+    check_alone(&rt, &mut core);
+}
+
+/// The root's page is taken back from one slot, where there is one; so many were.
+fn takes_one(rt: &impl Abort, core: &mut Core, count: usize, slot: Holder) {
+    let mut lost = [holder(rt, 0, 0)];
+    same(
+        rt,
+        &core.take_back(process(rt, 0), PAGE, &mut lost),
+        &Ok(count),
+    );
+    same(rt, &lost, &[slot]);
+}
+
+#[test]
+fn takes_a_page_back_slot_by_slot(rt: HostRuntime) {
+    let mut core = shared(&rt);
+    takes_one(&rt, &mut core, 1, holder(&rt, 1, 0x50000));
+    takes_one(&rt, &mut core, 1, holder(&rt, 1, 0x50001));
+    takes_one(&rt, &mut core, 1, holder(&rt, 2, 0x40000));
+    takes_one(&rt, &mut core, 0, holder(&rt, 0, 0));
+    check_alone(&rt, &mut core);
+}
+
+/// A page can't be taken back, for this cause.
+fn refuses_to_take(rt: &impl Abort, core: &mut Core, number: u8, page: u32, cause: Cause) {
+    let mut lost = [];
+    same(
+        rt,
+        &core.take_back(process(rt, number), Page(page), &mut lost),
+        &Err(cause),
+    );
+}
+
+#[test]
+fn takes_back_what_an_info_finds(rt: HostRuntime) {
+    let mut core = shared(&rt);
+    refuses_to_take(&rt, &mut core, 3, 0x40000, Cause::NoProcess);
+    refuses_to_take(&rt, &mut core, 0, 0x3ffff, Cause::BadPage);
+    refuses_to_take(&rt, &mut core, 0, 0x40001, Cause::NotMapped);
+}

@@ -1,0 +1,188 @@
+//! What a kernel does with a page of a process: it clears marks, copies bytes out, and puts bytes in.
+
+use crate::common::same;
+use kernel_calls::{Call, Cause, Core, Event, Page, Pid, Reply, Size, Vaddr};
+use page_words::offset_of;
+use std::process::Abort;
+use std::test::Fail;
+
+const LOW: Page = Page(0x40000);
+
+const HIGH: Page = Page(0x40001);
+
+/// The last four bytes of LOW.
+const ADDRESS: Vaddr = Vaddr(0x4000_0ffc);
+
+fn process(rt: &impl Abort, number: u8) -> Pid {
+    Pid::new(number).expect(rt, "a number below 64")
+}
+
+/// A call of a process has this reply.
+fn check(rt: &impl Abort, core: &mut Core, number: u8, call: Call, reply: Reply) {
+    let pid = process(rt, number);
+    same(rt, &core.step(&Event { cpu: 0, pid, call }), &reply);
+}
+
+/// A process stores the bytes 1 to 4 to the last of LOW.
+fn store(rt: &impl Abort, core: &mut Core, reply: Reply) {
+    let (addr, size, value) = (ADDRESS, Size::Four, 0x0403_0201);
+    check(rt, core, 0, Call::Store { addr, size, value }, reply);
+}
+
+fn map(rt: &impl Abort, core: &mut Core, page: Page, write: bool) {
+    check(rt, core, 0, Call::Map { page, write }, Reply::Done);
+}
+
+/// The root's page goes to process 1 too, at HIGH, with the right to write or without it.
+fn share(rt: &impl Abort, core: &mut Core, write: bool) {
+    let (giver, target) = (process(rt, 0), process(rt, 1));
+    let offer = Call::Offer {
+        page: LOW,
+        target,
+        write,
+    };
+    let accept = Call::Accept {
+        giver,
+        giver_page: LOW,
+        page: HIGH,
+    };
+    check(rt, core, 0, Call::Spawn { quota: 5 }, Reply::Child(target));
+    check(rt, core, 0, offer, Reply::Done);
+    check(rt, core, 1, accept, Reply::Done);
+}
+
+/// A process's page has these flags (write, may, accessed, dirty) and so many holders.
+fn info(rt: &impl Abort, core: &mut Core, number: u8, page: Page, flags: [bool; 4], holders: u32) {
+    let [write, may, accessed, dirty] = flags;
+    let info = Reply::Info {
+        write,
+        may,
+        accessed,
+        dirty,
+        holders,
+    };
+    check(rt, core, number, Call::Info { page }, info);
+}
+
+/// The root's next page from LOW on is LOW, and clears its marks: it was dirty or not.
+fn clean(rt: &impl Abort, core: &mut Core, dirty: bool) {
+    let root = process(rt, 0);
+    let page = core.next_page(root, LOW).expect(rt, "a mapped page");
+    same(rt, &page, &LOW);
+    same(rt, &core.clean(root, page), &dirty);
+}
+
+/// The root's next dirty page from there on.
+fn next_dirty(rt: &impl Abort, core: &Core, from: Page, page: Option<Page>) {
+    same(rt, &core.next_dirty(process(rt, 0), from), &page);
+}
+
+#[test]
+fn clears_marks_and_tells_whether_a_page_was_dirty(rt: HostRuntime) -> Result<(), Fail> {
+    let mut core = Core::boot(rt.alloc(), 16)?;
+    let (addr, size) = (ADDRESS, Size::Four);
+    store(&rt, &mut core, Reply::Done);
+    map(&rt, &mut core, HIGH, true);
+    next_dirty(&rt, &core, Page(0), Some(LOW));
+    next_dirty(&rt, &core, HIGH, None);
+    clean(&rt, &mut core, true);
+    next_dirty(&rt, &core, Page(0), None);
+    info(&rt, &mut core, 0, LOW, [true, true, false, false], 1);
+    check(
+        &rt,
+        &mut core,
+        0,
+        Call::Load { addr, size },
+        Reply::Value(0x0403_0201),
+    );
+    info(&rt, &mut core, 0, LOW, [true, true, true, false], 1);
+    clean(&rt, &mut core, false);
+    info(&rt, &mut core, 0, LOW, [true, true, false, false], 1);
+    Ok(())
+}
+
+/// So many bytes of a process from an address on are copied, and those behind them stay 9.
+fn peek(rt: &impl Abort, core: &Core, number: u8, at: Vaddr, count: usize, bytes: [u8; 6]) {
+    let mut out = [9; 6];
+    same(rt, &core.peek(process(rt, number), at, &mut out), &count);
+    same(rt, &out, &bytes);
+}
+
+/// LOW is real and HIGH lazy; process 1 has LOW at HIGH, where nothing is marked yet.
+#[test]
+fn copies_bytes_up_to_a_hole_and_marks_nothing(rt: HostRuntime) -> Result<(), Fail> {
+    let mut core = Core::boot(rt.alloc(), 16)?;
+    let unmarked = [true, true, false, false];
+    store(&rt, &mut core, Reply::Done);
+    map(&rt, &mut core, HIGH, true);
+    share(&rt, &mut core, true);
+    info(&rt, &mut core, 0, HIGH, unmarked, 1);
+    info(&rt, &mut core, 1, HIGH, unmarked, 2);
+    peek(&rt, &core, 0, Vaddr(0x4000_0ffd), 6, [2, 3, 4, 0, 0, 0]);
+    peek(&rt, &core, 0, Vaddr(0x4000_1ffe), 2, [0, 0, 9, 9, 9, 9]);
+    peek(&rt, &core, 1, Vaddr(0x4000_1ffc), 4, [1, 2, 3, 4, 9, 9]);
+    peek(&rt, &core, 1, ADDRESS, 0, [9; 6]);
+    info(&rt, &mut core, 0, HIGH, unmarked, 1);
+    info(&rt, &mut core, 1, HIGH, unmarked, 2);
+    Ok(())
+}
+
+/// The bytes 1 to 4 go to an address of a process, or the event that would let them answers this.
+fn install(
+    rt: &impl Abort,
+    core: &mut Core,
+    number: u8,
+    at: Vaddr,
+    write: bool,
+    told: Option<Reply>,
+) {
+    assert!(rt; offset_of(at) <= 4092);
+    let put = core.install(process(rt, number), at, &[1, 2, 3, 4], write);
+    same(rt, &put.err(), &told);
+}
+
+#[test]
+fn puts_bytes_into_a_page_and_leaves_its_right(rt: HostRuntime) -> Result<(), Fail> {
+    let mut core = Core::boot(rt.alloc(), 16)?;
+    let (addr, size) = (ADDRESS, Size::Four);
+    map(&rt, &mut core, LOW, false);
+    install(&rt, &mut core, 0, ADDRESS, true, None);
+    info(&rt, &mut core, 0, LOW, [false, true, true, true], 1);
+    check(
+        &rt,
+        &mut core,
+        0,
+        Call::Load { addr, size },
+        Reply::Value(0x0403_0201),
+    );
+    store(&rt, &mut core, Reply::Fault { addr, code: 7 });
+    install(&rt, &mut core, 0, Vaddr(0x4000_1000), false, None);
+    info(&rt, &mut core, 0, HIGH, [false, true, true, true], 1);
+    install(&rt, &mut core, 0, Vaddr(0x4000_2000), true, None);
+    info(
+        &rt,
+        &mut core,
+        0,
+        Page(0x40002),
+        [true, true, true, true],
+        1,
+    );
+    Ok(())
+}
+
+/// Process 1 may never write to its page, and page 3ffff lies below the user range.
+#[test]
+fn puts_no_bytes_where_no_right_comes(rt: HostRuntime) -> Result<(), Fail> {
+    let mut core = Core::boot(rt.alloc(), 16)?;
+    let (rights, page) = (
+        Reply::Refused(Cause::Rights),
+        Reply::Refused(Cause::BadPage),
+    );
+    store(&rt, &mut core, Reply::Done);
+    share(&rt, &mut core, false);
+    install(&rt, &mut core, 1, Vaddr(0x4000_1000), true, Some(rights));
+    install(&rt, &mut core, 0, Vaddr(0x3fff_f000), true, Some(page));
+    peek(&rt, &core, 1, Vaddr(0x4000_1000), 6, [0; 6]);
+    info(&rt, &mut core, 1, HIGH, [false, false, false, false], 2);
+    Ok(())
+}

@@ -1,0 +1,161 @@
+//! Turns of a core and a processor, one after the other.
+
+use crate::common::same;
+use kernel_calls::{Call, Core, Ended, Event, Page, Pid, Reply, Size, Turn, Vaddr};
+use std::process::Abort;
+use std::test::Fail;
+
+const PAGE: Page = Page(0x40000);
+
+const ADDRESS: Vaddr = Vaddr(0x4000_0000);
+
+fn root(rt: &impl Abort) -> Pid {
+    Pid::new(0).expect(rt, "0 is below 64")
+}
+
+fn event(pid: Pid, call: Call) -> Event {
+    Event { cpu: 0, pid, call }
+}
+
+fn load(pid: Pid) -> Event {
+    let (addr, size) = (ADDRESS, Size::Four);
+    event(pid, Call::Load { addr, size })
+}
+
+fn store(pid: Pid, value: u32) -> Event {
+    let (addr, size) = (ADDRESS, Size::Four);
+    event(pid, Call::Store { addr, size, value })
+}
+
+/// Turns of each kind, of which three are not taken: the walk finds no page, the store finds a lazy page, and the
+/// mark changes a word that no event tells of.
+fn turns(pid: Pid) -> [Turn; 9] {
+    let page = PAGE;
+    let map = event(pid, Call::Map { page, write: true });
+    [
+        Turn::Walk(load(pid)),
+        Turn::Call(map),
+        Turn::Store(store(pid, 6)),
+        Turn::Walk(load(pid)),
+        Turn::Call(store(pid, 7)),
+        Turn::Mark {
+            pid,
+            page,
+            walked: false,
+        },
+        Turn::Walk(store(pid, 8)),
+        Turn::Store(store(pid, 9)),
+        Turn::Call(load(pid)),
+    ]
+}
+
+/// What each of them is told.
+const TOLD: [Option<Reply>; 9] = [
+    None,
+    Some(Reply::Done),
+    None,
+    Some(Reply::Value(0)),
+    Some(Reply::Done),
+    None,
+    Some(Reply::Done),
+    Some(Reply::Done),
+    Some(Reply::Value(9)),
+];
+
+/// What each of them ends: the first store that is carried out gives the lazy page its frame.
+fn ended(pid: Pid) -> [Ended; 9] {
+    let mut ended = [Ended::Nothing; 9];
+    ended[4] = Ended::Page { pid, page: PAGE };
+    ended
+}
+
+/// The events of those that are taken, as the core itself answers them.
+fn replies<R: AllocGlobal + Abort>(rt: &R) -> [Reply; 6] {
+    let pid = root(rt);
+    let mut core = Core::boot(rt.alloc(), 16).ok().expect(rt, "a core");
+    let map = event(
+        pid,
+        Call::Map {
+            page: PAGE,
+            write: true,
+        },
+    );
+    [
+        map,
+        load(pid),
+        store(pid, 7),
+        store(pid, 8),
+        store(pid, 9),
+        load(pid),
+    ]
+    .map(|event| core.step(&event))
+}
+
+#[test]
+fn turns_tell_what_events_are_answered(rt: HostRuntime) -> Result<(), Fail> {
+    let mut core = Core::boot(rt.alloc(), 16)?;
+    let pid = root(&rt);
+    let mut told = [None; 9];
+    let mut ends = [Ended::Nothing; 9];
+    core.play(&turns(pid), &mut told, &mut ends);
+    same(&rt, &told, &TOLD);
+    same(&rt, &ends, &ended(pid));
+    let [_, map, _, first, second, _, third, fourth, last] = told;
+    same(
+        &rt,
+        &[map, first, second, third, fourth, last],
+        &replies(&rt).map(|reply| Some(reply)),
+    );
+    Ok(())
+}
+
+/// A turn is told this, and ends this.
+fn check(rt: &impl Abort, core: &mut Core, turn: Turn, told: Option<Reply>, ended: Ended) {
+    same(rt, &core.turn(&turn), &(told, ended));
+}
+
+#[test]
+fn a_turn_is_taken_where_it_can_be(rt: HostRuntime) -> Result<(), Fail> {
+    let mut core = Core::boot(rt.alloc(), 16)?;
+    let (pid, page, nothing) = (root(&rt), PAGE, Ended::Nothing);
+    let nobody = Pid::new(9).expect(&rt, "9 is below 64");
+    let unmap = event(pid, Call::Unmap { page });
+    let mark = Turn::Mark {
+        pid: nobody,
+        page,
+        walked: true,
+    };
+    check(&rt, &mut core, mark, None, nothing);
+    check(&rt, &mut core, Turn::Walk(store(pid, 7)), None, nothing);
+    check(
+        &rt,
+        &mut core,
+        Turn::Call(store(pid, 7)),
+        Some(Reply::Done),
+        nothing,
+    );
+    check(
+        &rt,
+        &mut core,
+        Turn::Store(store(pid, 8)),
+        Some(Reply::Done),
+        nothing,
+    );
+    check(
+        &rt,
+        &mut core,
+        Turn::Walk(load(pid)),
+        Some(Reply::Value(8)),
+        nothing,
+    );
+    check(
+        &rt,
+        &mut core,
+        Turn::Call(unmap),
+        Some(Reply::Done),
+        Ended::Page { pid, page },
+    );
+    check(&rt, &mut core, Turn::Walk(load(pid)), None, nothing);
+    check(&rt, &mut core, Turn::Walk(unmap), None, nothing);
+    Ok(())
+}
