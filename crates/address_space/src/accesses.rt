@@ -166,7 +166,7 @@ fn four_bytes(value: u32) -> [u8; 4]
 }
 
 impl Spaces {
-    /// The byte at an address, which lies in a page or in the one behind it. Each has its place.
+    /// Returns the byte at an address that lies in a page or in the next one. Each page has its place.
     fn byte_over(&self, pid: Pid, address: Vaddr, page: Page, first: &Place, second: &Place) -> u8
         requires user { IsUserPage (page_number address) }
         requires least { page ≤ page_number address }
@@ -199,8 +199,8 @@ impl Spaces {
         )
     }
 
-    /// The number at an address, byte by byte: 0 for each byte whose page is not mapped. The places are those of the
-    /// page that the address lies in, and of the one behind it, where the bytes reach into that.
+    /// Returns the number at an address, byte by byte: 0 for each byte whose page is not mapped. The places are those
+    /// of the address's page and, if the bytes reach into it, of the next one.
     fn number_over(
         &self,
         pid: Pid,

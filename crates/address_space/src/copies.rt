@@ -52,8 +52,8 @@ fn copy_of(memory: &mut Memory, frames: &mut FrameTable, entry: PageEntry) -> Pa
     copied_entry(entry, frame)
 }
 
-/// The first entry of a table from an index on, where so many are left there; None where none is, and then it looks at
-/// no word.
+/// Returns the first entry of a table from an index on, if so many are left there. If none is left, it reads no word
+/// and returns None.
 pub fn next_left(memory: &Memory, table: Frame, first: u32, left: u32) -> Option<Listed>
     requires inside { 4096 * table + 4096 ≤ length memory.now }
     requires left { left ≡ words_left memory.now table first }

@@ -107,7 +107,7 @@ fn opened(memory: Memory, table: FrameTable, counts: Vec<u32>, frames: u32) -> S
     }
 }
 
-/// What a process has at a mapped page, as `Spaces::cell` tells it.
+/// What a process has at a mapped page, as `Spaces::cell` returns it.
 #[derive(Clone, Copy, Debug, PartialEq, Eq)]
 pub struct Cell {
     /// The process may write now.
@@ -206,7 +206,7 @@ impl Spaces {
     }
 }
 
-/// An image stands for at most one set of spaces. It computes nothing.
+/// States that an image represents at most one set of spaces. It computes nothing.
 pub fn images_stand_for_one()
     ensures { StandsForOne }
 {}

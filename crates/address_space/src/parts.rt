@@ -89,9 +89,8 @@ impl Spaces {
         true
     }
 
-    /// Writes bytes from an address on, which lie in one page, where its slot takes a store as memory stands: it is
-    /// mapped, with the right to write, and isn't lazy; accessed and dirty are set. Whether it is so; where it isn't,
-    /// nothing changes.
+    /// Writes bytes from an address on, all in one page, if the slot takes a store as memory is: mapped, with the right
+    /// to write, and not lazy. Sets accessed and dirty. Returns whether it did; otherwise nothing changes.
     pub fn try_write_part(&mut self, pid: Pid, address: Vaddr, part: &[u8]) -> bool
         requires within { offset_number address + length part.now ≤ 4096 }
         requires user { IsUserPage (page_number address) }

@@ -30,7 +30,7 @@ pub struct Found {
 }
 
 impl Found {
-    /// Whether a store goes through: the page may be written, and has a frame of its own.
+    /// Returns whether a store succeeds immediately: the page may be written, and has a frame of its own.
     #[inline(always)]
     pub fn takes_stores(&self) -> bool
         ensures { result ≡ takes_stores_through (Some self.now.entry) }
@@ -95,7 +95,7 @@ impl Place {
         }
     }
 
-    /// Whether a store goes through as memory stands.
+    /// Returns whether a store succeeds as memory is.
     #[inline(always)]
     pub fn takes_stores(&self) -> bool
         ensures { result ≡ takes_place self.now }
@@ -127,8 +127,8 @@ impl Place {
         if self.is_mapped() { 0 } else { self.need() }
     }
 
-    /// What the process needs for the page once it has mapped another, whose place was found before: where that was
-    /// not mapped and lies in the same region of 1,024 pages, the region has a table by then.
+    /// Returns what the process needs for the page once it has mapped another, whose place was found before. If that
+    /// page was not mapped and is in the same region of 1,024 pages, the region has a table by then.
     pub fn need_behind(&self, page: Page, first: &Place, first_page: Page) -> u32
         ensures value { result ≡ (if is_some (found_of self.now) then 0 else (if not (is_some (found_of first.now)) && (slot_number first_page == slot_number page) then 1 else need_of self.now)) }
         ensures most { result ≤ 2 }
@@ -187,7 +187,7 @@ impl Spaces {
         page_map::table(&self.memory, directory, slot_of(page))
     }
 
-    /// What stands at a page of a process, by one look. `stands` says what places tell.
+    /// Returns the place of a page of a process, with one lookup. `stands` states what places say.
     #[inline(always)]
     pub fn place(&self, pid: Pid, page: Page) -> Place
         requires { IsUserPage page }

@@ -56,8 +56,8 @@ impl Spaces {
         self.finds_at(pid, address, access) && self.finds_second(pid, address, size, access)
     }
 
-    /// A load as a processor makes it, where the walks find a frame for each page that it touches: the number that
-    /// stands where they lead, and the words that lead to each page are marked. It is the load that `read` makes.
+    /// Loads as a processor does, if the walks find a frame for each page that it touches. Returns the number at the
+    /// end of the walks, and sets accessed in the words that lead to each page. `read` makes the same load.
     pub fn load_by_walk(&mut self, pid: Pid, address: Vaddr, size: Size) -> u32
         requires { finds (image_of self.old) pid address size Access.Read ≡ true }
         ensures found { (directory : ℕ) → directory_of self.old.directories pid ≡ Some directory → result ≡ number_found self.old.bytes directory address size }
@@ -79,8 +79,8 @@ impl Spaces {
         value
     }
 
-    /// Stores the lowest byte of a number where the walk leads. It gives the address behind it and the number
-    /// without it. Each walk of the process finds a frame as before.
+    /// Stores the lowest byte of a number at the end of the walk. Returns the next address and the rest of the number.
+    /// Each walk of the process finds a frame as before.
     fn store_byte_by_walk(&mut self, pid: Pid, address: Vaddr, value: u32) -> (Vaddr, u32)
         requires finds { finds_at (image_of self.old) pid Access.Write address ≡ true }
         requires fits { address + 1 < 2 ^ 32 }
@@ -140,8 +140,7 @@ impl Spaces {
         self.store_through(pid, address, size, value);
     }
 
-    /// Sets or clears accessed in the directory word that leads to a page, where it is present. Nothing that a space
-    /// has tells of it.
+    /// Sets or clears accessed in the directory word that leads to a page, if the word is present. No space shows it.
     pub fn set_walked(&mut self, pid: Pid, page: Page, walked: bool)
         requires live { is_some (directory_of self.old.directories pid) ≡ true }
         requires user { IsUserPage page }
@@ -220,7 +219,7 @@ pub fn found_number(memory: &Memory, directory: Frame, address: Vaddr, size: Siz
     }
 }
 
-/// Marks the words of a store, and writes the lowest byte of a number where they lead.
+/// Sets accessed and dirty in the words of a store, and writes the lowest byte of a number where they lead.
 pub fn put_byte_found(memory: &mut Memory, directory: Frame, address: Vaddr, value: u32)
     requires found { IsOk (walk_of memory.old directory address Access.Write) }
     requires apart { ForOk (walk_of memory.old directory address Access.Write) (StandsApart memory.old directory address) }
@@ -270,8 +269,8 @@ fn write_byte_found(memory: &mut Memory, directory: Frame, address: Vaddr, value
 }
 
 impl Spaces {
-    /// Stores the lowest byte of a number where the walk leads, in a slot whose accessed and dirty are set. It gives the
-    /// address behind it and the number without it. Each walk of the process goes as before.
+    /// Stores the lowest byte of a number at the end of the walk, in a slot whose accessed and dirty are set. Returns
+    /// the next address and the rest of the number. Each walk of the process ends as before.
     fn store_byte_kept(&mut self, pid: Pid, address: Vaddr, value: u32) -> (Vaddr, u32)
         requires finds { finds_at (image_of self.old) pid Access.Write address ≡ true }
         requires marked { is_marked self.old.spaces (slot_at pid address) ≡ true }

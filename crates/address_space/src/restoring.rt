@@ -53,8 +53,8 @@ fn have_places(directories: &Directories)
 }
 
 impl Spaces {
-    /// The address spaces that directories, bytes and roles stand for: a sound image of 16 to 1,048,576 frames, whose
-    /// processes cost no more than all frames but frame 0.
+    /// The address spaces that directories, bytes and roles represent: a sound image of 16 to 1,048,576 frames, whose
+    /// processes cost no more than all frames except frame 0.
     ///
     /// NoMemory where there is none for the counts of the pages or for the ledger of the free frames.
     pub fn of_image(

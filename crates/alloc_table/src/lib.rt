@@ -174,8 +174,8 @@ impl FrameTable {
         }
     }
 
-    /// Counts one holder less of a page, which is free once it has none, and frees a directory or a
-    /// table. Says whether the frame is free now.
+    /// Counts one holder of a page less, and frees the page if none is left. Frees a directory or a table. Returns
+    /// whether the frame is free now.
     pub fn release(&mut self, frame: Frame) -> bool
         requires { IsInUse self.old frame }
         ensures role { IsReleased self.old frame self.new }
@@ -219,9 +219,9 @@ impl FrameTable {
     }
 }
 
-/// What each call leaves of the sum of weights, where a free frame weighs 0, a page as much as it has
-/// holders, and every other frame 1; and where each page has a holder, the free frames and the weights
-/// together are at least as many as there are frames.
+/// States what each call leaves of the sum of weights. A free frame weighs 0, a page as much as it has holders, and
+/// every other frame 1. If each page has a holder, the free frames and the weights together are at least as many as the
+/// frames.
 pub fn weights_add_up()
     ensures taken { TakingAddsTheRole }
     ensures held { HoldingAddsOne }

@@ -66,7 +66,7 @@ fn takes_16_to_4096_frames(rt: HostRuntime) {
     );
 }
 
-/// The plain reference's count: a scan of one mark a frame, which says whether it is free.
+/// The plain reference's count: a scan of one mark a frame, true if the frame is free.
 fn count_free(marks: &[bool]) -> usize {
     marks.iter().filter(|mark| **mark).count()
 }

@@ -1,7 +1,6 @@
-//! Tests of the crates from page words to page maps: an example of each call, and allocators that fail. They
-//! stand here and not beside what they test, so that each of those crates is proved once; and not with the tests
-//! of the crates above, so that they are proved without these. The readers and writers that fail are those of
-//! the other crates of tests too.
+//! Tests of the crates from page words to page maps: an example of each call, and allocators that fail. They have a
+//! crate of their own, so that each of those crates is proved once. They aren't with the tests of the crates above, so
+//! that they are proved without these. The readers and writers that fail are those of the other crates of tests too.
 #![tactic(auto)]
 
 #[cfg(test)]

@@ -52,7 +52,7 @@ fn check_room(rt: &impl Abort, quotas: &Quotas, pid: Pid, room: u32) {
     assert_eq!(rt; quotas.room(pid), room);
 }
 
-/// What the root is told that would give a child this quota.
+/// Checks the answer to the root if it gives a child this quota.
 fn check_split(rt: &impl Abort, quotas: &Quotas, quota: u32, expected: Result<Pid, QuotaFault>) {
     let root = process(rt, 0);
     assert!(rt; quotas.get(root).is_some());

@@ -1,4 +1,4 @@
-//! Lines put together, and a writer that fails after so many bytes.
+//! Lines built from words and numbers, and a writer that fails after so many bytes.
 
 use crate::streams::{BrokenWriter, Pieces};
 use arrayvec::ArrayVec;

@@ -1,4 +1,4 @@
-//! The walk and the mark on words that stand in memory.
+//! The walk and the mark on words in memory.
 use page_words::{DirWord, Frame, Vaddr};
 use phys_memory::Memory;
 use std::alloc::Global;

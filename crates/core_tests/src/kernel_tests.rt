@@ -175,7 +175,7 @@ fn page_ended(ended: &Ended) -> Option<Page> {
     }
 }
 
-/// A call of the root is done, and ends the translations of that page, or none of one page.
+/// Checks that a call of the root is done, and that it makes the translations of that page stale, or of no page.
 fn ends(rt: &impl Abort, core: &mut Core, call: Call, page: Option<Page>) {
     let told = core.step_ending(&event(root(rt), call));
     same(rt, &told.0, &Reply::Done);

@@ -78,7 +78,7 @@ fn protect() -> Call {
     }
 }
 
-/// What a store without the right is told.
+/// The reply to a store without the right.
 fn fault() -> Reply {
     Reply::Fault {
         addr: ADDRESS,

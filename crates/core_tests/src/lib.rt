@@ -1,6 +1,6 @@
-//! Tests of the crates from address spaces to scripts: an example of each call, and readers, writers and
-//! allocators that fail. They stand here and not beside what they test, so that each of those crates is proved
-//! once. What their calls answer in long runs is compared by the scripts of `checks/`.
+//! Tests of the crates from address spaces to scripts: an example of each call, and readers, writers and allocators
+//! that fail. They have a crate of their own, so that each of those crates is proved once. The scripts of `checks/`
+//! compare the replies of long runs.
 #![tactic(auto)]
 
 #[cfg(test)]

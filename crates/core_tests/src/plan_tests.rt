@@ -223,7 +223,7 @@ fn accesses_two_pages(rt: HostRuntime) -> Result<(), Fail> {
     Ok(())
 }
 
-/// Checks the result of the root's four-byte access when it is tried as memory stands.
+/// Checks the result of the root's four-byte access as memory is.
 fn check_tried(
     rt: &impl Abort,
     processes: &mut Processes,

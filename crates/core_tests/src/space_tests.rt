@@ -108,7 +108,7 @@ fn load_word(rt: &impl Abort, spaces: &mut Spaces, pid: Pid, address: Vaddr, val
     same(rt, &spaces.read(pid, address, Size::Four), &value);
 }
 
-/// Looks at four bytes, none of whose pages has to be mapped.
+/// Reads four bytes, whose pages need not be mapped.
 fn peek_word(rt: &impl Abort, spaces: &Spaces, pid: Pid, address: Vaddr, value: u32) {
     assert!(rt; in_user_range(page_of(address)));
     assert!(rt;
@@ -273,7 +273,7 @@ fn drops_a_space_and_keeps_what_is_shared(rt: HostRuntime) -> Result<(), Fail> {
     Ok(())
 }
 
-/// Loads two bytes at once, of one page of the user range.
+/// Loads two bytes of one page of the user range, as memory is.
 fn load_at_once(
     rt: &impl Abort,
     spaces: &mut Spaces,
@@ -293,7 +293,7 @@ fn load_at_once(
     same(rt, &place.is_mapped(), &value.is_some());
 }
 
-/// Stores beef at once, to one page of the user range, and says whether it is done.
+/// Stores beef to one page of the user range, as memory is, and checks whether it was done.
 fn store_at_once(rt: &impl Abort, spaces: &mut Spaces, pid: Pid, address: Vaddr, done: bool) {
     let page = page_of(address);
     assert!(rt; in_user_range(page));

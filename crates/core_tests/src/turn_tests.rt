@@ -27,8 +27,8 @@ fn store(pid: Pid, value: u32) -> Event {
     event(pid, Call::Store { addr, size, value })
 }
 
-/// Turns of each kind, of which three are not taken: the walk finds no page, the store finds a lazy page, and the
-/// mark changes a word that no event tells of.
+/// Turns of each kind, of which three are not taken. The walk finds no page, the store finds a lazy page, and the mark
+/// changes a word that no event shows.
 fn turns(pid: Pid) -> [Turn; 9] {
     let page = PAGE;
     let map = event(pid, Call::Map { page, write: true });
@@ -49,7 +49,7 @@ fn turns(pid: Pid) -> [Turn; 9] {
     ]
 }
 
-/// What each of them is told.
+/// The reply or value of each of them.
 const TOLD: [Option<Reply>; 9] = [
     None,
     Some(Reply::Done),
@@ -109,7 +109,7 @@ fn turns_tell_what_events_are_answered(rt: HostRuntime) -> Result<(), Fail> {
     Ok(())
 }
 
-/// A turn is told this, and ends this.
+/// Checks the reply or value of a turn, and what it ends.
 fn check(rt: &impl Abort, core: &mut Core, turn: Turn, told: Option<Reply>, ended: Ended) {
     same(rt, &core.turn(&turn), &(told, ended));
 }

@@ -86,8 +86,8 @@ fn try_store(
     Some(0)
 }
 
-/// An access in one page of the user range that completes as memory stands, which is nearly each: it is the one look. The
-/// value read, or 0 after a write; None where it is no such access, and nothing changes.
+/// Tries an access in one page of the user range that completes as memory is, as nearly every access does. It looks the
+/// page up once. Returns the value read, or 0 after a write. For any other access it returns None, and nothing changes.
 #[inline(always)]
 pub fn try_access(
     processes: &mut Processes,

@@ -1,4 +1,4 @@
-//! What the places of the pages of an access tell.
+//! What the places of an access's pages say.
 
 ghost use Rattle.std.specs.Prelude.{◌≡◌, ◌≤◌, IfSome, true};
 ghost use Rattle.std.specs.Option.{option_and_then};
@@ -25,7 +25,7 @@ fn step_there(access: Access, is_lazy: bool) -> PageStep
     }
 }
 
-/// What the place of the page that a byte of an access lies in tells of the access.
+/// Returns what the place of the page with a byte of an access says about the access.
 #[inline(always)]
 pub fn look_at(processes: &Processes, pid: Pid, access: Access, byte: Vaddr, place: &Place) -> Look
     requires live { is_live processes.now.state pid ≡ true }
@@ -51,7 +51,7 @@ pub fn look_at(processes: &Processes, pid: Pid, access: Access, byte: Vaddr, pla
     }
 }
 
-/// What the place of the second page of an access tells, where there is one.
+/// Returns what the place of an access's second page says, if there is one.
 #[inline(always)]
 pub fn look_behind(
     processes: &Processes,

@@ -166,10 +166,10 @@ pub fn plan_by(
 
 /// Returns the plan of a live process's access.
 ///
-/// It is the first of these that applies: a fault of code 4 (read) or 6 (write) at the first byte outside the user
-/// range; a fault of code 7 for a write at the first byte in a page that is mapped without the right to write; Quota if
-/// there is no room for the pages that are not mapped. Otherwise the access completes. An unmapped page is mapped
-/// first, and a lazy page that is written is filled first.
+/// It is the first of these that applies. A fault of code 4 (read) or 6 (write) comes at the first byte outside the
+/// user range. A fault of code 7 comes for a write at the first byte in a page that is mapped without the right to
+/// write. Quota comes if there is no room for the pages that are not mapped. Otherwise the access completes. An
+/// unmapped page is mapped first, and a lazy page that is written is filled first.
 pub fn plan(processes: &Processes, pid: Pid, address: Vaddr, size: Size, access: Access) -> Plan
     requires live { is_live processes.now.state pid ≡ true }
     ensures { result ≡ plan_at processes.now pid address size access }

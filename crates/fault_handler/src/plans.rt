@@ -45,7 +45,7 @@ pub struct Planned {
     pub charge: u32,
 }
 
-/// What one look at a page tells of an access to it.
+/// What one lookup of a page says about an access to it.
 #[derive(Clone, Copy, Debug, PartialEq, Eq)]
 pub(crate) struct Look {
     /// The first byte that the access touches in the page.

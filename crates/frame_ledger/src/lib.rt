@@ -1,7 +1,7 @@
 //! Which frames of physical memory are free.
 //!
-//! A contract sees a ledger as the finite set of its free frames beside the number of frames that it
-//! was made for. Frame 0 is never free.
+//! A contract sees a ledger as the finite set of its free frames, and the number of frames that it was made for. Frame
+//! 0 is never free.
 #![tactic(auto)]
 
 ghost use Rattle.std.specs.Prelude.{◌≡◌, ℕ, ◌<◌, ◌≤◌, ◌↔◌, false, IfOk, IfErr, IsErrOf, IfSome, IsNone};
@@ -18,7 +18,7 @@ use std::marker::Model;
 /// What ends the list of free frames: the number of frame 0, which is never free.
 const END: u32 = 0;
 
-/// What stands in the place of a frame in use: no frame has this number.
+/// The number in the place of a frame in use: no frame has this number.
 const IN_USE: u32 = u32::MAX;
 
 /// The free frames among the frames 0 to n - 1, as a list through one place a frame.

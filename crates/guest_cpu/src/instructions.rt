@@ -46,8 +46,8 @@ impl Reg {
     }
 }
 
-/// What a guest can be told to do. Each instruction but Halt moves the counter on by one, unless it
-/// jumps; sums and differences are modulo 2 to the 32.
+/// What a guest can do. Each instruction except Halt moves the counter on by one, unless it jumps. Sums and differences
+/// are modulo 2 to the 32.
 #[derive(Clone, Copy, Debug, PartialEq, Eq)]
 pub enum Instruction {
     /// The register becomes the value.

@@ -8,8 +8,9 @@ pub fn cores_answer_as_the_machine()
     ensures { CoresAnswer }
 {}
 
-/// A guest that ran out of turns and is run on, runs as one that had all turns at once: its answers and
-/// events are those of the first run and then those of the second, and it ends as the second. It computes nothing.
+/// States that a guest that ran out of turns and is run again runs as one that had all the turns from the start. Its
+/// answers and events are those of the first run and then those of the second, and it ends as the second does. It
+/// computes nothing.
 pub fn runs_go_on()
     ensures { RunsGoOn }
 {}
@@ -20,21 +21,20 @@ pub fn runs_are_determined()
     ensures { RunsAreDetermined }
 {}
 
-/// A guest of a process that keeps to itself ends as it would alone. Where its calls and the answers to them
-/// begin what a new process asks and is told in a run of the machine, from a well formed state, and that part
-/// asks for no offer, no accept and no child, the guest ends, with its registers and its counter, as it does
-/// over a core where it is process 1, alone with the quota and the pages that the process was given.
-/// The replies of a kernel's history are those of such a run, so it holds of guests over its CPUs. It
-/// computes nothing.
+/// States that a guest of a process that shares nothing ends as it would alone. Its exchanges begin those of a new
+/// process in a run of the machine, from a well-formed state, and make no Offer, Accept, Spawn or Fork. Then the guest
+/// ends, with its registers and its counter, as it does over a core in which it is process 1, alone with the quota and
+/// the pages that the process was given. The replies of a kernel's history are those of such a run, so it holds of
+/// guests over its CPUs. It computes nothing.
 pub fn guests_are_isolated()
     ensures { GuestsAreIsolated }
 {}
 
-/// What a guest is told, and how it ends, depends only on what its process sees. Take two runs from states that look
-/// the same to a live process, in which others use no channel to it. In each a guest of one program makes all calls of
-/// the process, and finds the same processes live. Then both guests get the same replies and end in the same way, with
-/// the same registers and counter. If the process is a family of its own that keeps within itself, this holds whatever
-/// others do. It computes nothing.
+/// States that a guest's replies, and how it ends, depend only on what its process sees. Take two runs from states that
+/// look the same to a live process, in which others use no channel to it. In each a guest of one program makes all
+/// calls of the process, and finds the same processes live. Then both guests get the same replies and end in the same
+/// way, with the same registers and counter. If the process is a family of its own that keeps within itself, this holds
+/// whatever others do. It computes nothing.
 pub fn guests_hear_their_own()
     ensures seen { GuestsHearTheSame }
     ensures unreached { GuestsAreUnreached }

@@ -55,9 +55,9 @@ fn execute<P: Port>(guest: &mut Guest, instruction: &Instruction, port: &mut P) 
 
 /// Runs a guest until it ends, for at most `turns` turns, and answers how it ended.
 ///
-/// Before each instruction: a counter outside the program ends the run as Halted; else the run is
-/// OutOfTurns where no turn is left; else a turn is spent. A guest that ran out of turns can be run on,
-/// as one that had them at once.
+/// Before each instruction, a counter outside the program ends the run as Halted. Otherwise the run is OutOfTurns if no
+/// turn is left, or a turn is spent. A guest that ran out of turns can be run again, as one that had all the turns from
+/// the start.
 pub fn run<P: Port>(guest: &mut Guest, program: &[Instruction], turns: u32, port: &mut P) -> End
     ensures { HasRun P.step program.now turns guest.old port.old result guest.new port.new }
 {

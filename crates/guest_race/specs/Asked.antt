@@ -1,6 +1,6 @@
--- Who was questioned in one round and in several, and the answers. IsAsked a referee questioned a monitor, whose rows
--- are the round's, and then an audit, which found nothing Times step n before last after n steps in sequence, and the
--- result of the last
+-- Who was questioned in one round and in several, and the answers.
+--     IsAsked      a referee questioned a monitor, whose rows are the round's, and then an audit, which found nothing
+--     Times step n before last after      n steps in sequence, and the result of the last
 use Rattle.std.specs.Prelude.{◌≡◌, ℕ, ◌+◌, Bool, true, List, Option}
 use Rattle.image_check.specs.Told.{Told, fails_nothing}
 use Rattle.integrity_checker.specs.Steps.{IsOf}

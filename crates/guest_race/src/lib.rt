@@ -1,10 +1,9 @@
-//! One round of a race on a kernel of its own: two guests, each on a CPU and in a thread of its own, count one
-//! number up in turn; then a monitor reports, two helpers judge an image of the memory, and the kernel is
-//! closed.
+//! One round of a race on a kernel of its own. Two guests, each on a CPU and in a thread of its own, count one number
+//! up in turn. Then a monitor reports, two helpers check an image of the memory, and the kernel is closed.
 //!
-//! A round's promise (specs/Rounds.antt): the closed history is legal, it has the calls of both guests and no
-//! others, each guest halted by the replies that stand in it, both reports are the same, and the image is
-//! sound. A referee asks the monitor and the audit, each once (specs/Asked.antt).
+//! A round's promise is in specs/Rounds.antt. The closed history is legal, and has the calls of both guests and no
+//! others. Each guest halted with the replies in it, both reports are the same, and the image is sound. A referee asks
+//! the monitor and the audit, each once (specs/Asked.antt).
 #![tactic(auto)]
 
 mod audits;

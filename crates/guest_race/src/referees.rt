@@ -10,9 +10,8 @@ ghost use Rattle.memory_report.specs.declared.rows.Row.{Row};
 use integrity_checker::{Audit, AuditFault, Helper, Verdict};
 use locked_core::{Monitor, Name, Seen};
 
-/// Asks the two questions of a round. What an answer does to the referee is the referee's to say, so a
-/// round can't leave a question out, nor put another answer in the place of the one that came: a referee that
-/// keeps its answers knows which they were.
+/// Asks the two questions of a round. Only the referee says what an answer does to it. So a round can't leave a
+/// question out, nor replace the answer that came. A referee that keeps its answers knows which they were.
 pub trait Referee {
     /// What a monitor's report does: the referee before it, the rows that came, and the referee after it.
     ghost reported: { Self → List (Option Row) → Self → Type 0 };

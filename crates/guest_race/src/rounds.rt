@@ -99,9 +99,9 @@ fn close_all<N: Name, R: Wait>(
     same_report(reported, &history)
 }
 
-/// A round on a kernel that has just booted: both guests are played, a monitor that was told by both CPUs
-/// reports, an image of the memory is judged, and the kernel is closed. The report, which is the same before
-/// and after.
+/// Plays a round on a kernel that has just booted. Both guests are played, a monitor that received what both CPUs had
+/// seen reports, an image of the memory is checked, and the kernel is closed. Returns the report, which is the same
+/// before and after.
 fn play_round<N: Name + Send + Sync, R: Threads + Wait + Sync, F: Referee>(
     rt: &R,
     alloc: Global,

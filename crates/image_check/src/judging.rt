@@ -206,7 +206,7 @@ fn live_clause(
     }
 }
 
-/// Judges a live process, and adds what it names and maps.
+/// Checks a live process, and adds what it names and maps.
 fn judge_live(
     image: &Image,
     pid: Pid,

@@ -40,7 +40,7 @@ impl Model for Verdict {
     ghost invariant = { λ v. (length v.processes ≡ 64) × (length v.frames.items ≤ 4096) };
 }
 
-/// Judges all processes, and adds what they name and map to counts of zeros.
+/// Checks all processes, and adds what they name and map to counts of zeros.
 fn judge_processes(
     image: &Image,
     names: &mut [u32],
@@ -87,8 +87,8 @@ fn no_frame_fails(clauses: &[Option<FrameClause>]) -> bool
 }
 
 impl Verdict {
-    /// The verdict on an image, of what its 64 processes fail and of how often its frames are named and
-    /// mapped. It takes no memory: `room` has a place for each frame, whatever it holds.
+    /// The verdict on an image, from what its 64 processes fail and how often its frames are named and mapped. It
+    /// allocates nothing: `room` has a place for each frame, whatever it holds.
     pub fn of_counts(
         image: &Image,
         processes: [Option<ProcessClause>; 64],

@@ -35,7 +35,7 @@ pub struct Walked {
     pub pages: u32,
 }
 
-/// Judges each word of a table, and adds what the words name. It reads each once.
+/// Checks each word of a table, and adds what the words name. It reads each once.
 fn walk_table(image: &Image, table: Frame, maps: &mut [u32]) -> TableFound
     requires { HaveRoom maps.old 1024 }
     ensures right { result.right ≡ all_range (λ i. maps_page image.now (word_of (memory_of image.now) table i)) 0 1024 }
@@ -61,7 +61,7 @@ fn is_right(found: &TableFound) -> bool
     found.words >= 1 && found.right
 }
 
-/// Judges the table of a slot, where it has one, and adds what its pages are mapped to.
+/// Checks the table of a slot, if it has one, and adds what its pages are mapped to.
 fn walk_pages(
     image: &Image,
     pid: Pid,
@@ -122,7 +122,7 @@ fn table_count(table: Option<Frame>) -> u32
     if table.is_some() { 1 } else { 0 }
 }
 
-/// Judges the table that a slot of a directory names, and adds what the slot and the table name.
+/// Checks the table that a slot of a directory names, and adds what the slot and the table name.
 fn walk_slot(
     image: &Image,
     pid: Pid,
@@ -152,7 +152,7 @@ fn walk_slot(
     }
 }
 
-/// Judges the tables that a directory names, and adds what its words and the tables name.
+/// Checks the tables that a directory names, and adds what its words and the tables name.
 fn walk_tables(
     image: &Image,
     pid: Pid,
@@ -204,11 +204,11 @@ fn links_all(image: &Image, pid: Pid, directory: Frame) -> bool
     links
 }
 
-/// Judges the words of a process's directory and of its tables, and adds what they name; None where a
-/// word of the directory isn't 0 and leads to no table of its own.
+/// Checks the words of a process's directory and of its tables, and adds what they name. None if a word of the
+/// directory isn't 0 and leads to no table of its own.
 ///
-/// Tables of its own are apart from each other and from those of other processes, so each is read once.
-/// Else a frame may be named by many words, and `count_named` reads it once for all of them.
+/// Tables of its own are apart from each other and from those of other processes, so each is read once. Otherwise many
+/// words may name a frame, and `count_named` reads it once for all of them.
 pub fn walk(
     image: &Image,
     pid: Pid,

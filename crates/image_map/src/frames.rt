@@ -13,7 +13,7 @@ use image_check::Image;
 use page_words::Frame;
 use text_output::{push_decimal, push_word};
 
-/// How many frames stand in a row.
+/// How many frames a row has.
 const ROW: u32 = 64;
 
 /// The letter of a role.

@@ -2,10 +2,10 @@
 
 ghost use Rattle.image_map.specs.Laws.{ListsEachRun, ListsEachSlot, HoldersAreSlots};
 
-/// The text of a sound image has a line for each run of a process. Where the image stands for a state, the
-/// pages of these runs, one after the other, are the slots that the process has mapped, each once, in
-/// ascending order and with the flags of the state; and the number of holders of a page that isn't lazy is
-/// that of the slots which hold it. It computes nothing.
+/// States that the text of a sound image has a line for each run of a process. If the image represents a state, the
+/// pages of these runs, one after the other, are the slots that the process has mapped. Each is there once, in
+/// ascending order and with the flags of the state. The number of holders of a page that isn't lazy is that of its
+/// slots. It computes nothing.
 pub fn maps_list_each_slot()
     ensures runs { ListsEachRun }
     ensures slots { ListsEachSlot }

@@ -55,7 +55,7 @@ impl Scale {
         }
     }
 
-    /// How many squares stand in a row.
+    /// How many squares a row has.
     pub(crate) fn columns(self) -> u32
         ensures { (8 ≤ result) × (result ≤ 64) }
     {

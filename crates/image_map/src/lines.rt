@@ -104,7 +104,7 @@ fn push_holders(line: &mut Line, holders: u32)
     }
 }
 
-/// Puts behind a line where a page is: it is lazy, or has a frame, which may have several holders.
+/// Appends where a page is to a line: it is lazy, or has a frame, which may have several holders.
 fn push_place(line: &mut Line, image: &Image, word: u32)
     requires { array_vec_len line.old + 40 ≤ 256 }
     ensures items { line.new.items ≡ line.old.items ++ place image.now word }

@@ -1,4 +1,4 @@
-//! What stands beside the squares of a picture: the legend, and a bar for each process.
+//! The panel next to the squares of a picture: the legend, and a bar for each process.
 
 ghost use Rattle.std.specs.Prelude.{◌≤◌, ◌<◌};
 
@@ -37,7 +37,7 @@ pub(crate) fn live_processes(image: &Image) -> u32
 /// What the legend says of one kind of square.
 #[derive(Clone, Copy)]
 struct Sample {
-    /// What stands in it.
+    /// The letters in it.
     label: &'static str,
     ground: &'static str,
     /// The colour of its lower half.
@@ -154,7 +154,7 @@ const SAMPLES: [Sample; 10] = [
     },
 ];
 
-/// Draws the square of one line of the legend, but for its letters.
+/// Draws the square of one line of the legend, without its letters.
 fn draw_sample_ground<W: Write>(
     writer: &mut W,
     sample: &Sample,

@@ -54,7 +54,7 @@ fn draw_front<W: Write>(
     )
 }
 
-/// Draws a red edge, and what stands behind it: the letter and the number of a clause.
+/// Draws a red edge, and after it the letter and the number of a clause.
 fn draw_mark<W: Write>(
     writer: &mut W,
     corner: (u32, u32),
@@ -203,9 +203,10 @@ fn draw<W: Write>(writer: &mut W, image: &Image, verdict: &Verdict) -> io::Resul
     write!(writer, "</svg>\n")
 }
 
-/// Writes the picture of an image as SVG: a square for each frame, with a title that says what it is and who
-/// holds it, in the hue of its process and with ticks that tell it from others of that hue; a legend; and for each
-/// live process what it has, a bar of used, given and room, and its lazy pages as dashed squares with their number. A frame that fails a clause has a red edge, a process a red mark, each with the clause.
+/// Writes the picture of an image as SVG. Each frame is a square, in the hue of its process, with ticks that
+/// distinguish it from others of that hue. The square's title says what the frame is and which processes hold it. A
+/// legend follows. Each live process has its record, a bar of used, given and room, and its lazy pages as dashed
+/// squares with their number. A frame that fails a clause has a red edge, a process a red mark, each with the clause.
 ///
 /// WriteFailed where a write fails.
 pub fn write_picture<W: Write>(

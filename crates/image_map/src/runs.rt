@@ -66,7 +66,7 @@ fn pages_of(image: &Image, slot: u32, table: Frame) -> Runs
     pages
 }
 
-/// Whether a run goes on with the next one.
+/// Returns whether a run continues in the next one.
 fn goes_on(run: &Run, next: &Run) -> bool
     ensures { result ≡ goes_on run.now next.now }
 {
@@ -89,7 +89,7 @@ fn take_next(closed: &mut Runs, current: Run, next: &Run) -> Run
     *next
 }
 
-/// Joins runs that go on with each other.
+/// Joins runs that continue one another.
 fn runs_of(pages: &[Run]) -> Runs
     requires { length pages.now ≤ 1024 }
     ensures { result.items ≡ runs_of pages.now }

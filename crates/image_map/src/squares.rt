@@ -40,7 +40,7 @@ pub(crate) fn square_of(image: &Image, verdict: &Verdict, mapped: &Mapped, frame
 /// How many hues there are; process numbers that are apart by so many have the same.
 const HUES: usize = 5;
 
-/// Of a teal, an ochre, a violet, a lime and a pink, which people tell apart who don't see red or green.
+/// A teal, an ochre, a violet, a lime and a pink, which people can distinguish who don't see red or green.
 const DARK: [&str; HUES] = ["#214141", "#524118", "#5a297a", "#526a10", "#7a5a7a"];
 
 const MIDDLE: [&str; HUES] = ["#448888", "#aa8833", "#bb55ff", "#aadd22", "#ffbbff"];
@@ -62,7 +62,7 @@ pub(crate) fn light(pid: Pid) -> &'static str {
     color(&LIGHT, pid)
 }
 
-/// How many ticks tell a process from those of its hue: one for each five numbers below its own.
+/// Returns how many ticks distinguish a process from those of its hue: one for each five numbers below its own.
 pub(crate) fn ticks(pid: Pid) -> u32
     ensures { result ≤ 12 }
 {
@@ -119,8 +119,8 @@ impl Square {
     }
 }
 
-/// What is written in a page's square: the number of its holders, or its process where one slot holds it. Where
-/// more processes map it than its role counts, it is told by these, and where none does, by a dash.
+/// Writes the text of a page's square: the number of its holders, or its process if one slot holds it. If more
+/// processes map it than its role counts, the text names these; if none does, it is a dash.
 fn write_page<W: fmt::Write>(f: &mut fmt::Formatter<W>, count: u32, owners: Owners) -> fmt::Result {
     match owners {
         Owners::Nobody => write!(f, "P-"),
@@ -231,7 +231,7 @@ fn draw_tick<W: Write>(writer: &mut W, left: u32, top: u32, ink: &'static str) -
     )
 }
 
-/// Draws so many ticks behind one another, from a corner on.
+/// Draws so many ticks in sequence, from a corner on.
 pub(crate) fn draw_ticks<W: Write>(
     writer: &mut W,
     corner: (u32, u32),

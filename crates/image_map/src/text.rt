@@ -230,8 +230,8 @@ fn write_image_line<W: Write>(image: &Image, writer: &mut W) -> Result<(), Write
     write_whole(writer, &image_line(image))
 }
 
-/// Writes the text of an image, with the verdict on it: a line for the image; for each live process, in
-/// ascending order, what it has, a bar and the runs of its pages; the frames, 64 in a row; and the lines of
+/// Writes the text of an image, with the verdict on it. It has a line for the image, and for each live process, in
+/// ascending order, its record, a bar and the runs of its pages. Then come the frames, 64 in a row, and the lines of
 /// the verdict.
 ///
 /// Pages are listed of the tables that their process's directory names and that have this role, so that

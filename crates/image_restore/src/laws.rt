@@ -2,9 +2,9 @@
 
 ghost use Rattle.image_restore.specs.Alike.{AnswerAlike};
 
-/// A core whose state is one for which the image of another stands, and that has the same offers, gives for each list of
-/// events the replies that the other gives, and ends in the same state: so does a restored core where the old one had no
-/// offer pending. It computes nothing.
+/// States that two cores with the same offers, one in a state that the image of the other represents, give the same
+/// replies to each list of events, and end in the same state. A restored core does so if the old one had no offer
+/// pending. It computes nothing.
 pub fn restored_cores_answer_alike()
     ensures { AnswerAlike }
 {}

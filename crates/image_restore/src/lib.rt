@@ -1,5 +1,5 @@
-//! A core of an image: where the check finds the image sound, the core of the one state that it stands for, without any
-//! offer.
+//! Cores made of images. If the check finds an image sound, the core is the one of the state that the image represents,
+//! without any offer.
 #![tactic(auto)]
 
 mod faults;

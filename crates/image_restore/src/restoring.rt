@@ -58,11 +58,12 @@ fn first_failed(image: &Image, verdict: &Verdict) -> Option<Failed>
     None
 }
 
-/// A core of an image. It is Ok exactly where the image is sound and has the words of version 2, want of memory aside:
-/// the core's state is then the one that the image stands for, without any offer, and its image is this image.
+/// Makes a core of an image. Apart from NoMemory, it is Ok exactly if the image is sound and has the words of version
+/// 2. Then the core's state is the one that the image represents, without any offer, and its image is this image.
 ///
-/// OldWords where the image is of version 1; else NoMemory where there is no memory for the check; else NotSound with the
-/// first clause that fails; else NoMemory where there is none for what a core keeps beside the image's bytes and roles.
+/// OldWords if the image is of version 1. Otherwise NoMemory if there is no memory for the check. Otherwise NotSound
+/// with the first clause that fails. Otherwise NoMemory if there is none for what a core keeps in addition to the
+/// image's bytes and roles.
 pub fn restore(alloc: Global, image: Image) -> Result<Core, RestoreFault>
     ensures shows { IfOk result (λ core. IsImageOf core image) }
     ensures stands { IfOk result (λ core. StandsFor image core.state) }

@@ -151,7 +151,7 @@ fn round(
     Ok(back)
 }
 
-/// Whether two verdicts tell something else of the process of a number.
+/// Whether two verdicts differ on the process of a number.
 fn differ(one: &Verdict, other: &Verdict, number: u8) -> bool {
     match Pid::new(number) {
         Some(pid) => one.process(pid) != other.process(pid),
@@ -159,7 +159,7 @@ fn differ(one: &Verdict, other: &Verdict, number: u8) -> bool {
     }
 }
 
-/// Of how many processes two verdicts tell something else.
+/// On how many processes two verdicts differ.
 fn count_processes(one: &Verdict, other: &Verdict) -> u64 {
     let mut differing = 0u64;
     for number in 0..64 {
@@ -168,7 +168,7 @@ fn count_processes(one: &Verdict, other: &Verdict) -> u64 {
     differing
 }
 
-/// Of how many of so many frames two verdicts tell something else.
+/// On how many of so many frames two verdicts differ.
 fn count_frames(one: &Verdict, other: &Verdict, frames: u32) -> u64 {
     let mut differing = 0u64;
     for number in 0..frames {
@@ -324,7 +324,7 @@ fn check_answers(rt: &impl Abort, answers: &Answers, helpers: usize) {
     same(rt, &found, &(helpers, [1; 64], 0));
 }
 
-/// A verdict tells the same as the check's of all processes and of so many frames.
+/// Checks that a verdict is the check's on all processes and on so many frames.
 fn check_agrees(rt: &impl Abort, verdict: &Verdict, told: &Verdict, frames: u32, helpers: usize) {
     let processes = count_processes(told, verdict);
     let found = (
@@ -447,8 +447,8 @@ fn turned_first<R: AllocGlobal + Abort>(
     (helpers, answered(&answers))
 }
 
-/// The verdict of two helpers, of which the first judges 32 numbers, the second what is left, and the first
-/// none more; and how many numbers each of the three answered.
+/// The verdict of two helpers, and how many numbers each of the three answered. The first checks 32 numbers, the second
+/// the others, and the first then none.
 fn by_halves<R: AllocGlobal + Abort>(rt: &R, image: Image, told: &Verdict) -> (Verdict, [u64; 3]) {
     let (audit, helpers) = begun(rt, image, 2);
     let (helpers, first) = turned_first(rt, &audit, helpers, told, 32);

@@ -43,7 +43,7 @@ fn check_frames(rt: &impl Abort, told: &Verdict, table: u32, page: u32) {
     }
 }
 
-/// The verdict on these bytes tells process 1 and two frames by their clauses.
+/// Checks that the verdict on these bytes has the clauses of process 1 and of two frames.
 fn check_clauses<R: AllocGlobal + Abort>(rt: &R, bytes: &[u8], at: &Frames) {
     let told = verdict_on(rt, &image_in(rt, bytes));
     check_processes(rt, &told, ProcessClause::Pages);
@@ -61,7 +61,7 @@ fn a_page_turned_to_a_table_is_told(rt: HostRuntime) {
     check_cut(&rt, &bytes);
 }
 
-/// The verdict on an image that the bytes spell has this text.
+/// Checks that the verdict on the image in these bytes has this text.
 fn check_text<R: AllocGlobal + Abort>(rt: &R, bytes: &[u8], expected: &[u8]) {
     let told = verdict_on(rt, &image_in(rt, bytes));
     same_bytes(rt, &text_on(rt, &told), expected);

@@ -15,7 +15,7 @@ use tool_answers::{ToolFault, WordsFault, words};
 use tower_line::{Job, check_bytes, job_of, write_script_image};
 use worked_scripts::sharing::SHARE_BOTH_WAYS;
 
-/// What the words of a race ask for, or why they are refused.
+/// The job in the arguments of a race, or why they are refused.
 fn race_asked(alloc: Global) -> Result<Job<'static>, ErrorKind> {
     match job_of(alloc, &["tower", "race", "--frames", "64", "--rounds=7"]) {
         Ok(job) => Ok(job),
@@ -23,7 +23,7 @@ fn race_asked(alloc: Global) -> Result<Job<'static>, ErrorKind> {
     }
 }
 
-/// The words ask for seven rounds on 64 frames.
+/// Checks that the arguments request seven rounds on 64 frames.
 fn check_race(rt: &impl Abort, asked: Result<Job<'static>, ErrorKind>) {
     let race = Job::Race {
         frames: 64,

@@ -8,7 +8,7 @@ use std::process::Abort;
 use tool_answers::{WordsFault, answer_of_words, status_of, words};
 use tower_line::{Job, job_of};
 
-/// What these words ask for, or why they are refused.
+/// The job in these arguments, or why they are refused.
 fn asked<'a>(alloc: Global, words: &'a [&'a str]) -> Result<Job<'a>, ErrorKind> {
     match job_of(alloc, words) {
         Ok(job) => Ok(job),
@@ -16,7 +16,7 @@ fn asked<'a>(alloc: Global, words: &'a [&'a str]) -> Result<Job<'a>, ErrorKind> 
     }
 }
 
-/// These words ask for this, or are refused so.
+/// Checks that these arguments request this job, or are refused so.
 fn check_asked<'a, R: AllocGlobal + Abort>(
     rt: &R,
     words: &'a [&'a str],
@@ -65,7 +65,7 @@ fn refuses_other_words_as_clap_does(rt: HostRuntime) {
     check_refused(&rt, &["tower"], ErrorKind::MissingSubcommand);
 }
 
-/// These words ask for so many rounds of a race, each on so many frames.
+/// Checks that these arguments request so many rounds of a race, each on so many frames.
 fn check_race<R: AllocGlobal + Abort>(rt: &R, words: &[&str], frames: u32, rounds: u32) {
     check_asked(rt, words, Ok(Job::Race { frames, rounds }));
 }
@@ -87,7 +87,7 @@ fn reads_races_as_clap_does(rt: HostRuntime) {
     check_refused(&rt, &["tower", "race", "--help"], ErrorKind::DisplayHelp);
 }
 
-/// These words ask for an image of so many frames.
+/// Checks that these arguments request an image of so many frames.
 fn check_image<R: AllocGlobal + Abort>(rt: &R, words: &[&str], frames: u32) {
     check_asked(rt, words, Ok(Job::Image { frames }));
 }

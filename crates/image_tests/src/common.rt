@@ -77,7 +77,7 @@ pub(crate) fn image_after<R: AllocGlobal + Abort>(rt: &R, script: &str, frames: 
     bytes
 }
 
-/// The bytes that spell an image of 16 frames, in one allocation.
+/// The bytes of an image of 16 frames, in one allocation.
 pub(crate) fn spelled<R: AllocGlobal + Abort>(rt: &R, image: &Image) -> Vec<u8> {
     let mut bytes = Vec::with_capacity(rt.alloc(), 67_340)
         .ok()
@@ -100,7 +100,7 @@ pub(crate) fn other_bytes<R: AllocGlobal + Abort>(
     bytes
 }
 
-/// The image that bytes spell.
+/// The image in these bytes.
 pub(crate) fn image_in<R: AllocGlobal + Abort>(rt: &R, bytes: &[u8]) -> Image {
     let image = read_image(rt.alloc(), bytes);
     image.ok().expect(rt, "an image of bytes")

@@ -1,4 +1,5 @@
-//! Films of scripts: their rows beside ones that were written down, how they end, their pages, and what is refused.
+//! Films of scripts: their rows compared with ones that were written down, how they end, their pages, and what is
+//! refused.
 
 use crate::comparing::{same, same_bytes};
 use base_tests::streams::{BrokenReader, FullWriter, Pieces};
@@ -7,7 +8,7 @@ use script_film::{End, Film, ScriptFault, film_of};
 use std::process::Abort;
 use tool_answers::{Answer, ToolFault};
 
-/// A line that asks for nothing, a page that is stored to, a load that sets nothing anew, and a page beside it.
+/// A line without an event, a page that is stored to, a load that sets nothing anew, and a neighbouring page.
 const SCRIPT: &str =
     "# a <page>\n0 0 store 40000000 4 7\n0 0 load 40000001 2\n0 0 map 40001 ro\n0 0 unmap 40000";
 

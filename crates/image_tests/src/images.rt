@@ -1,4 +1,4 @@
-//! Images of 16 frames by their words: what stands in them, and what a test puts into one.
+//! Images of 16 frames by their words: what they have, and what a test puts into one.
 
 use std::alloc::{AllocError, Global};
 

@@ -1,6 +1,5 @@
-//! Tests of images, their check, cores restored from them, maps, films, audits and the words of the programs' command lines,
-//! by their public calls.
-//! They stand here and not beside what they test, so that each of those crates is proved once.
+//! Tests of images, their check, maps, films, audits and the arguments of the programs' command lines, by their public
+//! calls. They have a crate of their own, so that each of those crates is proved once.
 #![tactic(auto)]
 
 #[cfg(test)]

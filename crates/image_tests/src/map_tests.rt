@@ -11,7 +11,7 @@ use std::process::Abort;
 use tool_answers::ToolFault;
 use worked_scripts::Worked;
 
-/// A page that was stored to, lazy ones behind it, a child that holds the page too, and a child of that.
+/// A page that was stored to, lazy ones after it, a child that holds the page too, and a child of that.
 const FAMILY: &str =
     "0 0 store 40000000 4 1\n0 0 map 40001 rw\n0 0 map 40002 rw\n0 0 map 40003 rw\n0 0 map 40005 ro\n0 0 load 40003000 1\n0 0 spawn 5\n0 0 offer 40000 1 ro\n1 1 accept 0 40000 403ff\n1 1 spawn 1\n";
 
@@ -86,13 +86,13 @@ fn end_of<R: AllocGlobal + Abort>(rt: &R, bytes: &[u8], lines: &[u8]) -> Vec<u8>
     end
 }
 
-/// Whether the map of an image as text ends in the rows of frames and these lines, and what it tells is sound or not.
+/// Whether the map of an image as text ends in the rows of frames and these lines, and says sound or not.
 fn ends_in<R: AllocGlobal + Abort>(rt: &R, bytes: &[u8], lines: &[u8], sound: bool) -> bool {
     let (text, is_sound) = text_of(rt, bytes);
     text.ends_with(&end_of(rt, bytes, lines)) && is_sound == sound
 }
 
-/// Whether a text goes on with a part behind so many bytes.
+/// Whether a part follows so many bytes of a text.
 fn goes_on(text: &[u8], place: usize, part: &[u8]) -> bool {
     match text.get(place..) {
         Some(rest) => rest.starts_with(part),
@@ -100,7 +100,7 @@ fn goes_on(text: &[u8], place: usize, part: &[u8]) -> bool {
     }
 }
 
-/// At how many places a text goes on with a part.
+/// At how many places a text has a part.
 fn times(text: &[u8], part: &[u8]) -> u64 {
     let mut count = 0u64;
     for place in 0..text.len() {
@@ -188,7 +188,7 @@ fn maps_after_worked_scripts_end_in_sound(rt: HostRuntime) {
     check_groups(&rt, &groups());
 }
 
-/// The picture of a damaged image has as many marks as these lines tell of frames and of processes.
+/// Checks that the picture of a damaged image has as many marks as these lines have frames and processes.
 fn check_marks<R: AllocGlobal + Abort>(rt: &R, damage: &Damage, bytes: &[u8], lines: &[u8]) {
     let (picture, sound) = picture_of(rt, bytes);
     let place = damage.place;
@@ -203,13 +203,13 @@ fn check_marks<R: AllocGlobal + Abort>(rt: &R, damage: &Damage, bytes: &[u8], li
     same(rt, &marks, &told);
 }
 
-/// The map of a damaged image as text tells these lines of what fails, in its last lines.
+/// Checks that the map of a damaged image as text ends with these lines on what fails.
 fn check_lines<R: AllocGlobal + Abort>(rt: &R, damage: &Damage, bytes: &[u8], lines: &[u8]) {
     let place = damage.place;
     assert!(rt; ends_in(rt, bytes, lines, false), "word at {place}");
 }
 
-/// The maps of a damaged image tell what fails.
+/// Checks that the maps of a damaged image show what fails.
 fn check_told<R: AllocGlobal + Abort>(rt: &R, damage: &Damage) {
     let bytes = damaged(rt, damage);
     let lines = lines_of(rt, damage);
@@ -263,7 +263,7 @@ fn tables_everywhere<R: AllocGlobal + Abort>(rt: &R) -> Vec<u8> {
     bytes
 }
 
-/// The map of an image as text goes on with a part at so many places, and is not sound.
+/// Checks that the map of an image as text has a part at so many places, and is not sound.
 fn check_times<R: AllocGlobal + Abort>(rt: &R, bytes: &[u8], part: &[u8], expected: u64) {
     let (text, sound) = text_of(rt, bytes);
     same(rt, &(times(&text, part), sound), &(expected, false));

@@ -1,4 +1,4 @@
-//! Cores of images: they go on as the old core does, and no core comes of an image that fails a clause.
+//! Cores of images: they continue as the old core does, and an image that fails a clause gives no core.
 
 use crate::common::{call, image_in, image_of, other_bytes, process, shared_both_ways, spelled};
 use crate::comparing::{same, same_bytes};

@@ -80,7 +80,7 @@ fn check_roles(rt: &impl Abort, image: &Image, core: &Core) {
     same(rt, &image.role(Frame(16)), &None);
 }
 
-/// Bytes spell an image that agrees with the image that they are of, and with its core.
+/// Checks that bytes encode an image that agrees with the image that they are of, and with its core.
 fn check_read<R: AllocGlobal + Abort>(rt: &R, bytes: &[u8], image: &Image, core: &Core) {
     let (read, root) = (image_in(rt, bytes), process(rt, 0));
     check_roles(rt, &read, core);
@@ -96,7 +96,7 @@ fn reads_back_what_it_wrote(rt: HostRuntime) {
     check_read(&rt, &spelled(&rt, &image), &image, &core);
 }
 
-/// An image with a byte behind it is refused.
+/// Checks that an image with a byte after it is refused.
 fn check_longer<R: AllocGlobal + Abort>(rt: &R, mut bytes: Vec<u8>) {
     bytes.push(0).ok().expect(rt, "memory for a byte");
     check_fault(rt, &bytes, Some(ImageFault::BadLength));
@@ -169,7 +169,7 @@ fn check_frame_words<R: AllocGlobal + Abort>(rt: &R, bytes: &mut [u8]) {
     check_field(rt, bytes, 1800, 1);
 }
 
-/// With another word at the place of the version the bytes spell an image of version 1.
+/// Checks that the bytes encode an image of version 1 with another word at the place of the version.
 fn check_first_version<R: AllocGlobal + Abort>(rt: &R, bytes: &mut [u8]) {
     put(bytes, 4, 1);
     same(rt, &image_in(rt, bytes).version(), &1);
@@ -185,8 +185,8 @@ fn refuses_a_changed_word(rt: HostRuntime) {
     check_first_version(&rt, &mut bytes);
 }
 
-/// An image with a frame of each kind that has numbers: frame 3 is the table of the last index of process 63,
-/// and frame 4 a page that is held as often as can be said.
+/// An image with a frame of each kind that has numbers. Frame 3 is the table of the last index of process 63, and frame
+/// 4 a page with the highest number of holders.
 fn with_roles<R: AllocGlobal + Abort>(rt: &R) -> Image {
     let table = [(1596, 3), (1600, 63), (1604, 1023)];
     let page = [(1612, 4), (1624, u32::MAX)];
@@ -209,7 +209,7 @@ fn tells_the_role_of_each_kind(rt: HostRuntime) {
     check_role(&rt, &image, 4, Role::Page { count: u32::MAX });
 }
 
-/// A writer that fails behind 40 bytes has the first 40 that spell the image.
+/// Checks that a writer that fails after 40 bytes has the first 40 of the image.
 fn check_broken(rt: &impl Abort, image: &Image, bytes: &[u8]) {
     let mut writer = BrokenWriter::new(40, Pieces::Whole);
     same(rt, &write_image(image, &mut writer), &Err(WriteFailed));
@@ -251,7 +251,7 @@ fn made_again<R: AllocGlobal + Abort + Print>(rt: &R, core: &Core) -> Image {
     }
 }
 
-/// The image that bytes spell, in the same way.
+/// The image in bytes, read in the same way.
 fn read_again<R: AllocGlobal + Abort + Print>(rt: &R, bytes: &[u8]) -> Image {
     match read_image(rt.alloc(), bytes) {
         Ok(image) => image,

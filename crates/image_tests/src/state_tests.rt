@@ -1,5 +1,5 @@
-//! What an image stands for: one pair of spaces and book at most. So what is compared is the processes with what
-//! they have, and the mapped pages with their flags, bytes and groups.
+//! What an image represents: one pair of spaces and book at most. So the tests compare the processes with what they
+//! have, and the mapped pages with their flags, bytes and groups.
 
 use crate::common::{image_in, image_of, other_bytes, process, shared_both_ways};
 use crate::comparing::same;
@@ -128,13 +128,13 @@ fn bytes_in(image: &Image, frame: Frame) -> Option<&[u8]> {
     image.bytes().get(start..start.wrapping_add(4096))
 }
 
-/// What an image says of a process, but for the frame of its directory.
+/// What an image has of a process, without the frame of its directory.
 fn record_of(image: &Image, pid: Pid) -> Option<(Pid, [u32; 3])> {
     let process = image.process(pid)?;
     Some((process.parent, [process.quota, process.used, process.given]))
 }
 
-/// Whether two images say the same of all processes.
+/// Whether two images agree on all processes.
 fn have_same_processes(rt: &impl Abort, one: &Image, other: &Image) -> bool {
     for number in 0..64 {
         let pid = process(rt, number);
@@ -160,8 +160,8 @@ fn has_same_group(
     true
 }
 
-/// Whether two images say the same of all pages: which are mapped, with which flags and bytes, and which
-/// of them are one frame.
+/// Whether two images agree on all pages: which are mapped, with which flags and bytes, and which of them are one
+/// frame.
 fn have_same_pages(
     one: &Image,
     other: &Image,
@@ -177,7 +177,7 @@ fn have_same_pages(
     mine.len() == theirs.len()
 }
 
-/// Whether it says the same of processes, and of pages, as an image of ours.
+/// Checks whether it agrees with an image of ours on processes, and on pages.
 fn check_same(
     rt: &impl Abort,
     alloc: Global,
@@ -195,14 +195,15 @@ fn check_same(
     same(rt, &found, &(2, processes, pages));
 }
 
-/// The other kernel's image of version 1, with these words put to it, says the same of processes, and of pages or not.
+/// Checks that the other kernel's image of version 1, with these words put into it, agrees on processes, and on pages
+/// or not.
 fn check_pages<R: AllocGlobal + Abort>(rt: &R, own: &Image, changes: &[(usize, u32)], pages: bool) {
     let other = image_in(rt, &other_bytes(rt, 1, PAGE_WORDS[1], changes));
     check_same(rt, rt.alloc(), own, &other, true, pages);
 }
 
-/// Checks that the other kernel's image of version 2, with these words put to it, says the same of pages, and of
-/// processes or not.
+/// Checks that the other kernel's image of version 2, with these words put into it, agrees on pages, and on processes
+/// or not.
 fn check_processes<R: AllocGlobal + Abort>(
     rt: &R,
     own: &Image,

@@ -1,4 +1,4 @@
-//! The audit: how it is made, and how what its helpers found is put together.
+//! The audit: how it is made, and how what its helpers found is joined.
 
 ghost use Rattle.std.specs.Prelude.{◌≡◌, ◌<◌, ◌≤◌, ◌+◌, ◌-◌, ◌++◌, ◌∷◌, [], ℕ, All, IfOk, IfErr, IfSome, false, length, map, sum_by, true, vec_len};
 ghost use Rattle.std.specs.List.{list_all, range_with_len};
@@ -46,7 +46,7 @@ impl Audit {
         }
     }
 
-    /// Puts together what the helpers found. It takes no memory.
+    /// Joins what the helpers found. It allocates nothing.
     ///
     /// Missing only where a helper isn't handed back, or has not answered that no number is left.
     pub fn finish(self, helpers: Vec<Helper>) -> Result<Verdict, AuditFault>
@@ -109,7 +109,7 @@ fn made(alloc: Global, image: Image, helpers: u64) -> Option<(Audit, Vec<Helper>
     Some((Audit { table, about, room }, seats))
 }
 
-/// Cuts a seat that has drawn nothing in two, which together stand for as many helpers.
+/// Cuts a seat that has drawn nothing in two, which together represent as many helpers.
 fn cut<M: Split<Drawer>>(table: &DrawTable, seat: &mut Seat<u8, Drawer>) -> Seat<u8, Drawer>
     requires own { seat.old.table_id ≡ table.now.shared.table_id }
     requires words { table.now.shared.table_id.words ≡ 1 }
@@ -124,7 +124,7 @@ fn cut<M: Split<Drawer>>(table: &DrawTable, seat: &mut Seat<u8, Drawer>) -> Seat
     table.shared.split_seat::<M>(seat)
 }
 
-/// Cuts the seat of one helper off a seat that has drawn nothing, and stands for one at least.
+/// Cuts the seat of one helper off a seat that has drawn nothing, and represents at least one.
 fn cut_one(table: &DrawTable, rest: &mut Seat<u8, Drawer>) -> Seat<u8, Drawer>
     requires own { rest.old.table_id ≡ table.now.shared.table_id }
     requires words { table.now.shared.table_id.words ≡ 1 }

@@ -9,15 +9,15 @@ use std::collections::LinkedList;
 pub struct About {
     /// How many helpers it has, 1 to 8.
     pub helpers: u64,
-    /// The image that they judge.
+    /// The image that they check.
     pub image: Image,
 }
 
 /// What a helper's seat knows. No value of it is made.
 pub struct Drawer {
-    /// The image that it judges.
+    /// The image that it checks.
     pub image: Image,
-    /// How many helpers it stands for.
+    /// How many helpers it represents.
     pub share: u64,
     /// The numbers that it has drawn.
     pub drawn: LinkedList<u64>,
@@ -46,7 +46,7 @@ impl Play<u8, Drawer> for Draw {
     ghost then = { Drew };
 }
 
-/// The seat that stands for all helpers learns that all numbers were drawn.
+/// The seat that represents all helpers learns that all numbers were drawn.
 pub struct Total;
 
 impl Play<u8, Drawer> for Total {

@@ -15,7 +15,7 @@ use std::alloc::Global;
 /// What was found of some processes.
 #[derive(Drop)]
 pub struct Findings {
-    /// For each process the first clause that it fails, where it was judged.
+    /// For each process the first clause that it fails, if it was checked.
     pub clauses: [Option<ProcessClause>; 64],
     /// For each frame how often the directories of these processes name it.
     pub names: Vec<u32>,
@@ -34,7 +34,7 @@ impl Findings {
         Some(nothing(image, names, maps))
     }
 
-    /// Judges one process more: the first clause that it fails.
+    /// Checks one process more, and returns the first clause that it fails.
     pub fn judge(&mut self, image: &Image, number: u8) -> Option<ProcessClause>
         requires number { number < 64 }
         requires names { HaveRoom self.old.names.items 704 }

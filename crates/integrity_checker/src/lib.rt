@@ -1,5 +1,5 @@
-//! Images of a machine and their check, by one or by several helpers at once, who draw the numbers of
-//! processes from one word. All that is needed for images and verdicts is handed out here.
+//! Images of a machine and their check, by one helper or by several concurrently, which draw the numbers of processes
+//! from one word. The crate exports all that images and verdicts need.
 #![tactic(auto)]
 
 mod audit;

@@ -18,7 +18,7 @@ pub type DrawTable = Table<u8, Drawer, About, Draws, Global>;
 /// What one step gives.
 #[derive(Clone, Copy, Debug, PartialEq, Eq)]
 pub enum Step {
-    /// A process was judged: the first clause that it fails, None where it fails none.
+    /// A process was checked: the first clause that it fails, None if it fails none.
     Checked {
         pid: Pid,
         clause: Option<ProcessClause>,
@@ -27,7 +27,7 @@ pub enum Step {
     NoneLeft,
 }
 
-/// An image that helpers judge. End it by `finish`.
+/// An image that helpers check. End it with `finish`.
 #[derive(Drop)]
 pub struct Audit {
     pub table: DrawTable,
@@ -41,7 +41,7 @@ pub struct Audit {
     ghost frames: { length room.items ≡ frames about.image },
 }
 
-/// One who judges processes of an audit. Its seat carries the numbers that it has answered.
+/// A helper that checks processes of an audit. Its seat carries the numbers that it has answered.
 #[derive(Drop)]
 pub struct Helper {
     pub seat: Seat<u8, Drawer>,

@@ -1,4 +1,4 @@
-//! A helper's step: it draws one number, and judges its process.
+//! A helper's step: it draws one number, and checks its process.
 
 ghost use Rattle.std.specs.Prelude.{◌≡◌, ◌↔◌, [], true, false};
 ghost use Rattle.integrity_checker.specs.Drawn.{drawer};
@@ -25,8 +25,8 @@ impl Helper {
         }
     }
 
-    /// Draws one number and judges its process, or answers that none is left; it draws none after that.
-    /// It waits for nobody and takes no memory.
+    /// Draws one number and checks its process, or answers that none is left; it draws none after that. It never waits
+    /// and allocates nothing.
     pub fn step(&mut self, audit: &Audit) -> Step
         requires { IsOf audit.now self.old }
         ensures own { IsOf audit.now self.new }

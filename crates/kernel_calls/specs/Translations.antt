@@ -86,7 +86,7 @@ TranslationsStay ended old new = (p directory address frame : ℕ) (access : Acc
     → is_ended ended (slot_at p address) ≡ false → walk_of old.bytes directory address access ≡ Ok frame
     → (directory_at new p ≡ Some directory) × (walk_of new.bytes directory address access ≡ Ok frame)
 
--- None is ended for nothing: if a walk found a frame for a read of a slot that is one of these, some walk, for a read
+-- None is ended for nothing. If a walk found a frame for a read of a slot that is one of these, some walk, for a read
 -- or for a write, found the frame and no longer does.
 abbrev pub EndsNoMore : Ended → memory.Image → memory.Image → Type 0
 EndsNoMore ended old new = (p directory address frame : ℕ) → directory_at old p ≡ Some directory → address < 2 ^ 32 → is_ended ended (slot_at p address) ≡ true

@@ -40,7 +40,7 @@ impl Core {
         }
     }
 
-    /// Whether a process is live and has no child, which its container tells.
+    /// Returns whether a process is live and has no child, by its container.
     fn is_leaf(&self, pid: Pid) -> bool
         ensures { result ≡ true → (q : ℕ) → is_child_of self.now.state pid q ≡ false }
     {
@@ -127,9 +127,9 @@ impl Core {
     }
 
     /// Ends a process with all that descend from it, children first: the run of their Exits, each of which is done. It
-    /// leaves the state without them; their quotas are back with the parent, and all others have their pages as they
-    /// were. `exited` gets who exited, in that order, and the result is how many did: whoever keeps translations
-    /// invalidates all of each of these.
+    /// leaves the state without them. Their quotas are back with the parent, and all others have their pages as they
+    /// were. `exited` gets the processes that exited, in that order, and the result is how many did. Each processor
+    /// that cached translations invalidates all of each of these.
     ///
     /// RootExit for process 0, NoProcess where the process is not live; then nothing changes.
     pub fn end_family(&mut self, pid: Pid, exited: &mut [Pid; 64]) -> Result<usize, Cause>

@@ -31,7 +31,7 @@ pub enum Call {
         page: Page,
         write: bool,
     },
-    /// Asks for a page's flags and how many slots share it.
+    /// Requests a page's flags and how many slots share it.
     Info {
         page: Page,
     },
@@ -62,7 +62,7 @@ pub enum Call {
     },
     /// Ends the process, whose quota returns to its parent.
     Exit,
-    /// Asks for the process's quota, and how much of it is used and given.
+    /// Requests the process's quota, and how much of it is used and given.
     Quota,
 }
 

@@ -230,10 +230,10 @@ impl Core {
         Ok(Core { processes })
     }
 
-    /// The core that directories, accounts, bytes and roles stand for: a sound image of 16 to 1,048,576 frames. No offer
-    /// is pending.
+    /// The core that directories, accounts, bytes and roles represent: a sound image of 16 to 1,048,576 frames. No
+    /// offer is pending.
     ///
-    /// NoMemory where there is none for what is kept beside the bytes and the roles.
+    /// NoMemory if there is none for what is kept in addition to the bytes and the roles.
     pub fn of_image(
         alloc: Global,
         directories: [Option<Frame>; 64],
@@ -360,8 +360,8 @@ impl Core {
     /// Carries out events in order, and writes each reply in its place. If no event completes, nothing changes, not
     /// even a byte of memory. A process that the run made, and that involves no other, gets the replies that it would
     /// get alone. Members of any set get the replies that they would get in any other run in which they make the same
-    /// calls, find the same, and others use no channel to them. A set that keeps to itself stays confined. Such a
-    /// family gets the same replies, whatever others do.
+    /// calls, find the same, and others use no channel to them. A set that shares nothing stays confined. Such a family
+    /// gets the same replies, whatever others do.
     pub fn run(&mut self, events: &[Event], replies: &mut [Reply])
         requires { length events.now ≡ length replies.old }
         ensures replies { replies.new ≡ answers self.old.state events.now }
@@ -389,8 +389,9 @@ impl Core {
         }
     }
 
-    /// Decides an event and carries it out, and tells which translations it ended: whoever keeps what the walks gave has
-    /// to invalidate these before anything else is done. The reply alone is for the process; what was ended is not.
+    /// Decides an event and carries it out, and reports which translations it ended. Each processor that cached what
+    /// the walks gave has to invalidate these before anything else is done. Only the reply is for the process; what was
+    /// ended is not.
     pub fn step_ending(&mut self, event: &Event) -> (Reply, Ended)
         ensures reply { result.0 ≡ answer self.old.state event.now }
         ensures ended { result.1 ≡ ended_by self.old event.now }
@@ -404,7 +405,7 @@ impl Core {
         (reply, ended)
     }
 
-    /// Carries out events in order, as `run` does, and tells of each which translations it ended.
+    /// Carries out events in order, as `run` does, and reports of each which translations it ended.
     pub fn run_ending(&mut self, events: &[Event], replies: &mut [Reply], ended: &mut [Ended])
         requires replies { length events.now ≡ length replies.old }
         requires ended { length events.now ≡ length ended.old }
@@ -459,9 +460,9 @@ impl Core {
         walked::finds(&self.processes, event)
     }
 
-    /// Carries out an event as a processor does by itself, where its walks find a frame for each page: the words
-    /// that lead to each page are marked, and the value is read, or its bytes are written, where they lead. It is
-    /// what `step` makes of the event, so that memory which a processor changed so is a core's after the event.
+    /// Carries out an event as a processor does by itself, if its walks find a frame for each page. It sets accessed
+    /// (and dirty) in the words that lead to each page, and reads the value, or writes its bytes, where they lead.
+    /// `step` has the same result, so memory that a processor changed in this way is a core's after the event.
     pub fn accessed(&mut self, event: &Event) -> Reply
         requires { finds_event self.old event.now ≡ true }
         ensures plan { takes_no_frame (plan_of_event self.old event.now) ≡ true }
@@ -482,8 +483,9 @@ impl Core {
         reply
     }
 
-    /// Whether an event is a store that a processor carries out by itself, as `finds` says, and accessed and dirty of
-    /// each page that it touches are set already, so that a processor which kept their translations marks nothing.
+    /// Returns whether an event is a store that a processor carries out by itself, as `finds` says, and accessed and
+    /// dirty of each page that it touches are already set. A processor that cached their translations sets nothing
+    /// then.
     pub fn finds_marked(&self, event: &Event) -> bool
         ensures find { result ≡ true → finds_event self.now event.now ≡ true }
         ensures marked { result ≡ true → StoresMarked self.now.state event.now.pid event.now.call }
@@ -516,8 +518,8 @@ impl Core {
         self.stands();
     }
 
-    /// Sets or clears accessed in the directory word that leads to a page of a live process, where it is present:
-    /// the state and all that is told of it stay, and memory stands for it as before.
+    /// Sets or clears accessed in the directory word that leads to a page of a live process, if the word is present.
+    /// The state and all replies stay, and memory represents the state as before.
     pub fn set_walked(&mut self, pid: Pid, page: Page, walked: bool)
         requires live { is_live self.old.state pid ≡ true }
         requires user { IsUserPage page }
@@ -534,8 +536,9 @@ impl Core {
         self.stands();
     }
 
-    /// Clears accessed and dirty of a mapped page, and tells whether it was dirty. It ends the page's translation:
-    /// whoever keeps it invalidates it before anything else is done. It is no event: an Info of the page tells it.
+    /// Clears accessed and dirty of a mapped page, and returns whether it was dirty. It ends the page's translation:
+    /// each processor that cached it invalidates it before anything else is done. It is no event: an Info of the page
+    /// shows it.
     pub fn clean(&mut self, pid: Pid, page: Page) -> bool
         requires user { IsUserPage page }
         requires mapped { is_mapped self.old.state (at_page pid page) ≡ true }
@@ -554,10 +557,9 @@ impl Core {
         dirty
     }
 
-    /// That memory's own words say what the state says, and that the processor's walk of any directory,
-    /// at any address, ends as the state says; that the frames in use and the lazy pages are together no
-    /// more than all live processes cost; that frame 0 holds zeros; and that the state is well formed. It
-    /// computes nothing.
+    /// States that memory's own words say what the state says, and that the processor's walk of any directory, at any
+    /// address, ends as the state says. The frames in use and the lazy pages are together no more than all live
+    /// processes cost. Frame 0 holds zeros, and the state is well formed. It computes nothing.
     pub fn stands(&self)
         ensures image { StandsFor (image_of self.now) self.now.state }
         ensures walks { WalksAgree (image_of self.now).memory self.now.state.spaces }

@@ -22,7 +22,7 @@ use process_table::{Cause, Places, Processes};
 use quota_tree::Container;
 use table_walk::{Access, PageFault};
 
-/// What is decided of an event, beside the event itself and what stands at its pages.
+/// What is decided of an event, without the event itself and the places of its pages.
 #[derive(Clone, Copy, Debug, PartialEq, Eq)]
 pub struct Judgement {
     pub plan: Plan,
@@ -117,7 +117,7 @@ fn by_plan(plan: &Plan, reply: &Reply, charge: u32) -> Judgement
     }
 }
 
-/// What a load of a live process gives, where it goes on.
+/// The value of a load of a live process whose plan is Ready.
 fn value_by(
     processes: &Processes,
     plan: &Plan,
@@ -227,7 +227,7 @@ fn decide_info(processes: &Processes, event: &Event, page: Page, used: u32) -> J
     }
 }
 
-/// The reply to a process that asks for its quota.
+/// The reply to a Quota call.
 pub(crate) fn quota_told(container: &Container) -> Reply
     ensures { result ≡ quota_told container.now }
 {
@@ -417,7 +417,7 @@ pub(crate) fn judge_access(processes: &Processes, event: &Event, places: &Places
     decide_access(processes, event, &container, places)
 }
 
-/// What is decided of any other call, whose page, where its test asks for one, is looked up for that.
+/// What is decided of any other call, whose page is looked up for its test, if the test needs one.
 #[inline(always)]
 pub(crate) fn judge_call(processes: &Processes, event: &Event) -> Judgement
     requires { is_access event.now.call ≡ false }
@@ -442,7 +442,7 @@ pub(crate) fn judge(processes: &Processes, event: &Event, places: &Places) -> Ju
     }
 }
 
-/// A decision of an event, by what was judged of it and what stands at its pages.
+/// The decision of an event, from its judgement and the places of its pages.
 pub(crate) fn decided(event: &Event, judged: &Judgement, places: &Places) -> Decision
     ensures { result ≡ record { event = event.now; plan = judged.now.plan; reply = judged.now.reply; used_after = judged.now.used_after; places = places.now } }
 {

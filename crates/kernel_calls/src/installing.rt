@@ -77,10 +77,10 @@ impl Core {
         self.step(&protect_of(pid, page_of(address), false));
     }
 
-    /// Puts bytes into one page of a process: where it is not mapped it is mapped, and where it may not be written to
-    /// it gets that right for the time. It is the run of the process's own Map or Protect, of the stores of one byte
-    /// each, and of the Protect that takes the right back; a new page keeps it if asked. Nothing changes where the page
-    /// can't be made writable; then the result is what that event was told.
+    /// Puts bytes into one page of a process. A page that is not mapped is mapped, and one that may not be written to
+    /// gets that right for the time. It is the run of the process's own Map or Protect, of the stores of one byte each,
+    /// and of the Protect that takes the right back. A new page keeps the right if `write` says so. Nothing changes if
+    /// the page can't be made writable; then the result is the reply to that event.
     pub fn install(
         &mut self,
         pid: Pid,

@@ -27,18 +27,18 @@ pub fn processes_are_isolated()
     ensures others { OthersMakeNoDifference }
 {}
 
-/// Of translations that processors keep, and that the walks of memory gave: where each event's are invalidated on all
-/// of them before anything else is done, and more are kept only where a walk gives them, all that is kept is given by
-/// the walks of memory, at each moment. Each event leaves of them what `Core::step` says (`ends`). It computes nothing.
+/// States what holds of translations that processors cached from walks of memory. Each event's are invalidated on all
+/// of them before anything else is done, and more are cached only if a walk gives them. Then walks of memory give all
+/// that is cached, at each moment. Each event leaves of them what `Core::step` says (`ends`). It computes nothing.
 pub fn kept_translations_are_given()
     ensures moments { KeptAreGiven }
     ensures runs { KeptThroughRuns }
 {}
 
-/// What kept translations that the walks give still serve for: the walks find a frame for each page of such an access, so
-/// that a processor makes it by itself; a load finds what stands where the walks lead, which `Core::accessed` answers, and
-/// the event changes nothing; of a store accessed and dirty of each page are set already, as `Core::store_kept` asks, which
-/// says that it is the event. It computes nothing.
+/// States which accesses kept translations that the walks give still serve. The walks find a frame for each page of
+/// such an access, so a processor makes it by itself. A load finds what is at the end of the walks, which
+/// `Core::accessed` answers, and the event changes nothing. Of a store, accessed and dirty of each page are already
+/// set, as `Core::store_kept` requires, which says that it is the event. It computes nothing.
 pub fn kept_translations_serve_accesses()
     ensures find { KeptFind }
     ensures reply { KeptReply }
@@ -46,39 +46,40 @@ pub fn kept_translations_serve_accesses()
     ensures stores { KeptStores }
 {}
 
-/// Of a core and any number of processors that keep translations. Whatever steps they make, one after another: the core
-/// carries out an event, and all processors invalidate what it ended before anything else is done; a processor makes an
-/// access by its walk, or by translations that it keeps; it marks a word of a directory, keeps what a walk reads then, or
-/// forgets. What each process is told and reads is what the events are answered, in the order of the steps; memory is a
-/// core's in the state after them; and at each moment all that any processor keeps is what the walks read. So a walk that
-/// begins at a kept entry of a directory ends as the walk of the directory does. It computes nothing.
+/// States what holds of a core and any number of processors that cache translations, whatever steps they make in
+/// sequence. The core carries out an event, and all processors invalidate what it ended before anything else is done. A
+/// processor makes an access by its walk, or by translations that it cached. It sets or clears accessed of a directory
+/// word, caches what a walk reads then, or forgets. Replies and values read are then the answers to the events, in the
+/// order of the steps. Memory is a core's in the state after them. At each moment the walks read all that any processor
+/// caches. So a walk that begins at a cached directory entry ends as the walk of the directory does. It computes
+/// nothing.
 pub fn processors_make_events()
     ensures steps { ProcessorsMakeEvents }
     ensures entries { EntriesLeadThere }
 {}
 
-/// What an event writes of memory: frames that were free, its process's own, and, where it accepts a lazy page, the giver's
-/// directory and table that lead there. Each byte of any other page stays, each word of any other table, and each word
-/// of any other directory, but for accessed. It computes nothing.
+/// States what an event writes of memory: frames that were free, its process's own and, if it accepts a lazy page, the
+/// giver's directory and table that lead there. Each byte of any other page stays, each word of any other table, and
+/// each word of any other directory except accessed. It computes nothing.
 pub fn events_write_their_own()
     ensures frames { EventsWriteTheirOwn }
     ensures others { EventsLeaveToOthers }
 {}
 
-/// An access of another process, in pages that an event's process doesn't see, where the event is through no channel to
-/// that process: in either order both are told the same, each leaves what the other has, and both orders end in one state.
-/// It computes nothing.
+/// States that an access of another process and an event may come in either order. The access is in pages that the
+/// event's process doesn't see, and the event uses no channel to that process. In either order both get the same
+/// replies, each leaves what the other has, and both orders end in one state. It computes nothing.
 pub fn accesses_beside_an_event()
     ensures told { AccessesBeside }
     ensures ends { OrdersEndTheSame }
 {}
 
-/// What an event may change. States stay well formed, and a call that is refused or faults changes nothing. A slot that
-/// is mapped before and after an event keeps what it may have, the right to write but for a Protect by its process, its
-/// accessed and dirty, and each byte, but for a store by the event through a slot of its own that may write the page
-/// that both share. A live process keeps its place in the book, its mapped pages with their flags, and what it has given,
-/// but for the exit of a child, through each event of another: so nobody can take back a page that it accepted. It
-/// computes nothing.
+/// States what an event may change. States stay well formed, and a call that is refused or faults changes nothing. A
+/// slot that is mapped before and after an event keeps what it may have, and its accessed and dirty. It keeps the right
+/// to write, unless its process protects it. It keeps each byte, unless the event stores through a writable slot of its
+/// own that shares the page. A live process keeps its place in the book and its mapped pages with their flags through
+/// each event of another. It keeps what it has given, unless a child exits. So no event of another takes back a page that it
+/// accepted. It computes nothing.
 pub fn processes_keep_their_integrity()
     ensures well_formed { StatesStayWellFormed }
     ensures refused { RefusalsChangeNothing }
@@ -96,8 +97,9 @@ pub fn authority_spreads_by_consent()
     ensures offers { OffersByOfferer }
 {}
 
-/// What a process gives up goes, once that is answered with Done: an exit leaves nothing of the process, an unmap nothing
-/// of the slot, and an offer that is withdrawn or accepted is gone; nothing else ends one. It computes nothing.
+/// States that what a process releases is gone once the reply is Done. An exit leaves nothing of the process, and an
+/// unmap nothing of the slot. An offer that is withdrawn or accepted is gone, and nothing else ends one. It computes
+/// nothing.
 pub fn what_is_given_up_goes()
     ensures exits { ExitsEnd }
     ensures unmaps { UnmapsEnd }
@@ -105,17 +107,17 @@ pub fn what_is_given_up_goes()
     ensures stays { OffersStay }
 {}
 
-/// The child whose number a process is told was not live, and is, as its child, with the quota that it asked for: with
-/// no page after a spawn, and copies of its maker's after a fork. No other place in the book changes but that of a
-/// process that exits. It computes nothing.
+/// States what a new child has. The child whose number a process gets was not live. Now it is, as its child, with the
+/// quota of the call: with no page after a spawn, and copies of its parent's after a fork. No other place in the book
+/// changes except that of a process that exits. It computes nothing.
 pub fn children_are_their_makers()
     ensures births { ChildrenAreTheirMakers }
     ensures places { PlacesStay }
 {}
 
-/// A process's replies, and what it has after any call but an Accept, depend only on what it has. For Offer, Spawn and
-/// Fork they also depend on which processes the call finds live, and the reply to an Accept on whether its offer is
-/// pending, whatever stands in the page. It computes nothing.
+/// A process's replies, and what it has after any call except an Accept, depend only on what it has. For Offer, Spawn
+/// and Fork they also depend on which processes the call finds live. The reply to an Accept also depends on whether its
+/// offer is pending, but not on the content of the page. It computes nothing.
 pub fn what_a_process_has_is_enough()
     ensures told { MembersToldTheSame }
     ensures own { OwnIsEnough }
@@ -131,13 +133,13 @@ pub fn members_see_their_own()
     ensures runs { MembersHearTheSame }
 {}
 
-/// Takes a set of processes that shares no page with others and offers them none. From then on it makes no offer but to
-/// members and no accept but from members, not even a refused one. It stays so in every run, as a set of numbers and
-/// with all children that its members make. No run of events of others changes a member's place in the book, its pages
-/// or its offers. Others learn nothing of what members have and do except which numbers are free, as long as no child
-/// of theirs, and no process to which they offer a page, exits among the members. A set of live processes with all
-/// their children that is confined in this way gets the same replies whatever others do, except for which numbers are
-/// free. It computes nothing.
+/// Takes a set of processes that shares no page with others and offers them none. From then on it makes no offer except
+/// to members and no accept except from members, not even a refused one. It stays so in every run, as a set of numbers
+/// and with all children that its members make. No run of events of others changes a member's place in the book, its
+/// pages or its offers. Others learn nothing of what members have and do except which numbers are free, if no child of
+/// theirs, and no process to which they offer a page, exits among the members. A set of live processes with all their
+/// children that is confined in this way gets the same replies whatever others do, except for which numbers are free.
+/// It computes nothing.
 pub fn confined_processes_stay_confined()
     ensures borders { RunsKeepBorders }
     ensures unheard { OutsidersHearNothing }
@@ -155,8 +157,9 @@ pub fn done_means_done()
     ensures flags { FlagsChange }
 {}
 
-/// States the reply to each call that completes: the number of the bytes to a Load, the flags and the size of the group to
-/// an Info, the process's container to a Quota, a child to a Spawn and a Fork, and Done to the others. It computes nothing.
+/// States the reply to each call that completes: the number of the bytes to a Load, the flags and the size of the group
+/// to an Info. It is the process's container to a Quota, a child to a Spawn and a Fork, and Done to the others. It
+/// computes nothing.
 pub fn completes_by_kind()
     ensures { CompletesByKind }
 {}
@@ -176,10 +179,10 @@ pub fn others_never_refuse()
     ensures runs { RunsNeverRefuse }
 {}
 
-/// States what clearing accessed and dirty of a mapped slot would change. States stay well formed, and the members of a set
-/// see nothing of it unless the slot is a member's. What processors keep stays what the walks read, if a change leaves the
-/// marks of all slots whose translations it doesn't end, which each event does. But of a slot that was accessed it is what
-/// no event does, and an Info of its process tells it. It computes nothing.
+/// States what clearing accessed and dirty of a mapped slot would change. States stay well formed, and the members of a
+/// set see nothing of it unless the slot is a member's. What processors cache stays what the walks read, if a change
+/// leaves the marks of all slots whose translations it doesn't end, which each event does. No event clears accessed of
+/// a slot that was accessed, and an Info of its process shows the difference. It computes nothing.
 pub fn cleaning_is_its_own()
     ensures states { CleaningKeepsStates }
     ensures unseen { CleaningIsUnseen }

@@ -1,4 +1,4 @@
-//! What stands at a page of a process, as it is told without a call.
+//! The place of a page of a process, and what it shows without a call.
 
 ghost use Rattle.std.specs.Prelude.{◌≡◌};
 ghost use Rattle.page_words.specs.Addresses.{IsUserPage};

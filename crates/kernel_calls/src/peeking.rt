@@ -45,8 +45,8 @@ impl Core {
         true
     }
 
-    /// Copies bytes of a process's memory from an address on as they stand, up to the first that is not mapped, and
-    /// tells how many. No page is mapped, no flag is set, and the rest of `out` stays as it was.
+    /// Copies bytes of a process's memory from an address on, up to the first that is not mapped, and returns how many.
+    /// No page is mapped, no flag is set, and the rest of `out` stays as it was.
     pub fn peek(&self, pid: Pid, address: Vaddr, out: &mut [u8]) -> usize
         ensures most { result ≤ length out.old }
         ensures bytes { out.new ≡ map (byte_at self.now.state.spaces pid) (range_with_len address result) ++ drop result out.old }

@@ -61,7 +61,7 @@ fn reply_access(
     }
 }
 
-/// The reply to a load: at once where it completes as memory stands, in one page, and else by its plan.
+/// The reply to a load: immediate if it completes as memory is, in one page, and otherwise by its plan.
 #[inline(always)]
 fn reply_load(processes: &mut Processes, event: &Event, address: Vaddr, size: Size) -> Reply
     requires { event.now.call ≡ call.Load address size }
@@ -77,7 +77,7 @@ fn reply_load(processes: &mut Processes, event: &Event, address: Vaddr, size: Si
     }
 }
 
-/// The reply to a store: at once where it completes as memory stands, in one page, and else by its plan.
+/// The reply to a store: immediate if it completes as memory is, in one page, and otherwise by its plan.
 #[inline(always)]
 fn reply_store(
     processes: &mut Processes,
@@ -237,7 +237,7 @@ fn info_of(processes: &Processes, pid: Pid, page: Page) -> Reply
     }
 }
 
-/// The reply to a process that asks for its quota.
+/// The reply to a Quota call.
 #[inline(always)]
 fn reply_quota(processes: &Processes, event: &Event) -> Reply
     requires { event.now.call ≡ call.Quota }

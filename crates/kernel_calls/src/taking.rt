@@ -93,8 +93,8 @@ impl Core {
         are_one(frame, found)
     }
 
-    /// The least page from there on at which a process has the page of a slot too, at another slot; None where it has
-    /// it at none. It looks at each page that the process has mapped from there on.
+    /// Returns the lowest page from there on at which a process also has the page of a slot, at another slot; None if
+    /// it has it at none. It looks up each page that the process has mapped from there on.
     pub fn next_beside(&self, pid: Pid, page: Page, holder: Pid, from: Page) -> Option<Page>
         requires user { IsUserPage page }
         ensures found { IfSome result (λ found. is_beside self.now.state (at_page pid page) (at_page holder found) ≡ true) }
@@ -126,7 +126,7 @@ impl Core {
         }
     }
 
-    /// The Unmap of a slot that is beside another.
+    /// Makes the Unmap of another slot of a slot's group.
     fn unmap_beside(&mut self, pid: Pid, page: Page, other: Pid, other_page: Page)
         requires beside { is_beside self.old.state (at_page pid page) (at_page other other_page) ≡ true }
         ensures unmapped { Unmapped self.old self.new (at_page pid page) (record { pid = other; page = other_page }) }
@@ -135,7 +135,7 @@ impl Core {
         self.step(&unmap_of(other, other_page));
     }
 
-    /// Takes the page of a slot from one process, as far as there are places to tell it.
+    /// Takes the page of a slot from one process, while there are places to report it in.
     fn take_from(
         &mut self,
         pid: Pid,
@@ -204,11 +204,12 @@ impl Core {
     }
 
     /// Takes a page back from all others that have it: the run of the Unmaps of every other slot of its group, each of
-    /// which is done. Then the group has this slot alone. `lost` gets the slots that lost it, in that order, and the
-    /// result is how many did; whoever keeps translations invalidates that of each. If `lost` is full, others may have
-    /// the page still, and one calls again. A group has fewer slots than memory has frames, and `page` tells how many.
+    /// which is done. Then the group has only this slot. `lost` gets the slots that lost it, in that order, and the
+    /// result is how many did. Each processor that cached their translations invalidates them. If `lost` is full,
+    /// others may still have the page: call again. A group has fewer slots than memory has frames, and `page` returns
+    /// how many.
     ///
-    /// It looks at the pages that processes have mapped, process by process, until the group has this slot alone.
+    /// It looks up the pages that processes have mapped, process by process, until the group has only this slot.
     ///
     /// Refused where an Info of the page would be; then nothing changes.
     pub fn take_back(&mut self, pid: Pid, page: Page, lost: &mut [Holder]) -> Result<usize, Cause>

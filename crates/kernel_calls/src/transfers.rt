@@ -17,7 +17,7 @@ use page_words::{Pid, Size, Vaddr, offset_of};
 pub struct Transfer {
     /// How many bytes went.
     pub count: usize,
-    /// What the access of the byte behind them was told, which stopped it; None where all went.
+    /// The reply to the access of the byte after them, which stopped the transfer; None if all were transferred.
     pub stop: Option<Reply>,
 }
 

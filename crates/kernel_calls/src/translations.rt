@@ -16,7 +16,7 @@ use fault_handler::{PageStep, Plan};
 use page_words::{Page, Pid, Size, Vaddr, page_of, second_page};
 use process_table::Processes;
 
-/// The cached translations that an event ends: a processor that keeps translations has to invalidate these.
+/// The cached translations that an event ends: a processor that caches them has to invalidate these.
 #[derive(Clone, Copy, Debug, PartialEq, Eq)]
 pub enum Ended {
     /// None.

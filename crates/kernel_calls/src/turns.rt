@@ -66,9 +66,9 @@ impl Core {
         self.stands();
     }
 
-    /// Takes a turn, where it can be taken: what is told or read, and what all processors have to invalidate before anything
-    /// else. None for a turn that tells nothing, or isn't taken. It is a step of the core and its processors, whatever
-    /// these keep.
+    /// Takes a turn, if it can be taken. Returns its reply or value, and what all processors have to invalidate before
+    /// anything else. The reply is None for a turn that gives none, or isn't taken. It is a step of the core and its
+    /// processors, whatever these cache.
     pub fn turn(&mut self, turn: &Turn) -> (Option<Reply>, Ended)
         ensures { IsTurn self.old turn.now result.0 result.1 self.new }
     {
@@ -86,8 +86,8 @@ impl Core {
         }
     }
 
-    /// Takes turns, one after another, and writes in its place what each is told or reads, and what it ended. What is told
-    /// and read is what the events of the turns taken are answered, in their order.
+    /// Takes turns in sequence, and writes each one's reply or value, and what it ended, in its place. Replies and
+    /// values are the answers to the events of the turns taken, in their order.
     pub fn play(&mut self, turns: &[Turn], told: &mut [Option<Reply>], ended: &mut [Ended])
         requires told { length turns.now ≡ length told.old }
         requires ended { length turns.now ≡ length ended.old }

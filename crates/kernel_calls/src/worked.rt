@@ -56,7 +56,8 @@ pub fn worked_runs_of_forks()
     ensures fork_of_shared { ForkOfShared }
 {}
 
-/// A process is told the same alone and beside another, with 16 frames and with 64. It computes nothing.
+/// States that a process gets the same replies alone and next to another, with 16 frames and with 64. It computes
+/// nothing.
 pub fn worked_runs_of_isolation()
     ensures alone { ToldAlone }
     ensures beside_the_root { ToldBesideTheRoot 16 }

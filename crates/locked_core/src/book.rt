@@ -128,7 +128,7 @@ impl<N: Name> Ledger for Calls<N> {
     ghost parts = { N.book.parts };
 }
 
-/// A beginning of the history that was seen. It has no bytes.
+/// A prefix of the history that was seen. It has no bytes.
 pub type Beginning = Seen<Moment, u64, Law>;
 
 /// A book with an empty history, which has no name yet.

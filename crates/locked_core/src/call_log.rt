@@ -77,7 +77,7 @@ impl CallLog {
         self.counts[usize::from(cpu)]
     }
 
-    /// Makes room for one entry more.
+    /// Reserves space for one entry more.
     pub fn reserve(&mut self) -> Result<(), AllocError>
         ensures entries { self.new.entries ≡ self.old.entries }
         ensures room { OnOk result (length self.new.entries < self.new.capacity) }

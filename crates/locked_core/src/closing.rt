@@ -1,4 +1,4 @@
-//! What a closed kernel hands out, and whether the CPUs that came back are all of its log's.
+//! What a closed kernel returns, and whether the CPUs that came back are all of its log's.
 
 ghost use Rattle.std.specs.Prelude.{◌≡◌, ◌↔◌, All, Any, IsTrue};
 ghost use Rattle.locked_core.specs.Makers.{AreAll, IsFit, IsOneOf};

@@ -20,7 +20,7 @@ use std::marker::Model;
 use std::sync::ledger::{Book, Share};
 use std::sync::{MutexGuard, Wait};
 
-/// What a CPU has seen, to be told to a monitor. Contracts see it as the list of entries.
+/// What a CPU has seen, for a monitor. Contracts see it as the list of entries.
 #[derive(Drop)]
 pub struct Told<N: Name> {
     seen: Front<N>,
@@ -37,7 +37,7 @@ impl<N: Name> Model for Told<N> {
 }
 
 impl<N: Name> Told<N> {
-    /// How many entries it tells of.
+    /// Returns how many entries it has.
     pub fn front(&self) -> usize
         ensures { result ≡ length self.now }
     {
@@ -93,7 +93,7 @@ impl<N: Name> Cpu<N> {
         self.calls
     }
 
-    /// What it has seen, to be told to a monitor.
+    /// Returns what it has seen, for a monitor.
     pub fn tell(&self) -> Told<N>
         ensures { result ≡ self.now.seen }
     {
@@ -149,9 +149,9 @@ impl<N: Name> Cpu<N> {
 
     /// Makes a call of a process: waits for the lock, decides, carries out, logs and publishes it.
     ///
-    /// In this order: Unread where the kernel's history is longer than the log; Stale where the log is
-    /// shorter than what this CPU has seen, or has another number of its entries; NoMemory where the log
-    /// can't grow. After each of them nothing has changed: the call added no entry to the history.
+    /// The faults come in this order. Unread: the kernel's history is longer than the log. Stale: the log is shorter
+    /// than what this CPU has seen, or has another number of its entries. NoMemory: the log can't grow. After each of
+    /// them nothing has changed: the call added no entry to the history.
     pub fn call<G: Gate + Drop, R: Wait>(
         &mut self,
         rt: &R,
@@ -189,8 +189,9 @@ impl<N: Name> Cpu<N> {
         Ok(reply)
     }
 
-    /// Makes a call of a process as `call` does, and tells which translations it ended: to what invalidates them on
-    /// all processors, before the lock is let go, and with the reply. The reply alone is for the process.
+    /// Makes a call of a process as `call` does, and reports which translations it ended. It reports them to what
+    /// invalidates them on all processors, before it releases the lock, and with the reply. Only the reply is for the
+    /// process.
     ///
     /// Refused as `call` is; nothing is ended then, and nothing told.
     pub fn call_ending<G: Gate + Drop, I: Invalidate, R: Wait>(

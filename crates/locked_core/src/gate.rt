@@ -3,7 +3,7 @@
 /// Where a call is.
 #[derive(Clone, Copy, Debug, PartialEq, Eq)]
 pub enum Point {
-    /// The call is judged, and nothing has changed. Its result is decided after this point.
+    /// The call is checked, and nothing has changed. Its result is decided after this point.
     Locked,
     /// The call is carried out, logged and published.
     Published,

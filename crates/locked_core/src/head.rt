@@ -49,7 +49,7 @@ impl<N: Name> Head<N> {
         }
     }
 
-    /// How long the history is now: as long as what was added here, or longer.
+    /// Returns how long the history is now: no shorter than what was added here.
     pub fn length(&self) -> u64
         ensures { (history : List Moment) × Begins history self.now × (length history ≡ result) }
     {
@@ -85,8 +85,8 @@ impl<N: Name> Head<N> {
     }
 }
 
-/// Adds the moment of a call that is done to all that was seen, and says whether it did. It did not where the history is
-/// longer.
+/// Adds the moment of a call that is done to all that was seen, and returns whether it did. It did not if the history
+/// is longer.
 fn exchange<N: Name>(
     word: &Word<Moment, u64, Law>,
     count: usize,

@@ -71,7 +71,7 @@ impl<N: Name, G: Gate + Drop> Model for Kernel<N, G> {
     ghost view = { λ k. record { cpus = k.cpus } };
 }
 
-/// What an opened kernel hands out.
+/// What an opened kernel returns.
 pub struct Boot<N: Name, G: Gate + Drop> {
     pub kernel: Kernel<N, G>,
     /// Its CPUs, numbered from 0 in their order.
@@ -125,8 +125,8 @@ impl<N: Name, G: Gate + Drop> Kernel<N, G> {
         })
     }
 
-    /// Takes the lock. While another has it, it is looked at less and less often, so that many calls of one CPU go on
-    /// undisturbed in a row, and their memory need not come from another processor; then the thread sleeps for it.
+    /// Takes the lock. While another thread has it, it polls with back-off, so that many calls of one CPU continue
+    /// undisturbed in a row, and their memory need not come from another processor. Then the thread sleeps for it.
     pub(crate) fn taken<R: Wait>(&self, rt: &R) -> MutexGuard<'_, Locked<N>> {
         let backoff = Backoff::new();
         for _ in 0..LOOKS {
@@ -141,9 +141,8 @@ impl<N: Name, G: Gate + Drop> Kernel<N, G> {
     /// Takes the image of the kernel's memory, of one moment between calls: waits for the lock. The CPU has
     /// the calls and has seen what it had.
     ///
-    /// In this order: Unread where the kernel's history is longer than the log; Stale where the log is
-    /// shorter than what this CPU has seen, or has another number of its entries; NoMemory where there is
-    /// no memory for the image.
+    /// The faults come in this order. Unread: the kernel's history is longer than the log. Stale: the log is shorter
+    /// than what this CPU has seen, or has another number of its entries. NoMemory: there is no memory for the image.
     pub fn snapshot<R: Wait>(&self, rt: &R, cpu: &mut Cpu<N>) -> Result<Image, Fault>
         ensures taken { IfOk result (λ image. (history : List LogEntry) × IsSnapshot N.frames cpu.old image history) }
         ensures shows { IfOk result (λ image. (moments : List Moment) × IsShown N.book.opening cpu.old image moments) }
@@ -156,11 +155,10 @@ impl<N: Name, G: Gate + Drop> Kernel<N, G> {
         image
     }
 
-    /// Ends the kernel, and hands out its history, where each CPU came back once and agrees with the log.
+    /// Ends the kernel, and returns its history, if each CPU came back once and agrees with the log.
     ///
-    /// Disagree where a CPU was not handed back exactly once, has seen more than the log, made another
-    /// number of calls than the log has of it, or where an entry is of none of these CPUs; nothing is
-    /// handed out then.
+    /// Disagree if a CPU did not come back exactly once, has seen more than the log, or made another number of calls
+    /// than the log has of it. Disagree also if an entry is of none of these CPUs. Nothing is returned then.
     pub fn close<R: Wait>(self, rt: &R, cpus: Vec<Cpu<N>>) -> Result<History, Fault>
         ensures legal { IfOk result (λ h. Legal N.frames h.entries.items × (h.core.state ≡ state_after N.frames h.entries.items)) }
         ensures begins { IfOk result (λ h. All (λ c. take (length c.seen) h.entries.items ≡ c.seen) cpus.items) }
@@ -180,9 +178,9 @@ impl<N: Name, G: Gate + Drop> Kernel<N, G> {
 }
 
 impl<G: Gate + Drop> Blank<G> {
-    /// Names the kernel, and hands out its CPUs and monitors.
+    /// Names the kernel, and returns its CPUs and monitors.
     ///
-    /// NoMemory where there is none for them; nothing is handed out then.
+    /// NoMemory if there is none for them; nothing is returned then.
     pub fn open<N: Name, R: Wait>(self, rt: &R) -> Result<Boot<N, G>, BootFault>
         requires { (self.frames ≡ N.frames) × (self.book ≡ N.book) }
         ensures count { IfOk result (λ b. b.kernel.cpus ≡ self.cpus) }

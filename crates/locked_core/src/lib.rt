@@ -1,9 +1,9 @@
 //! One core behind one lock, whose log of calls is one legal history, and reports on it that are read
 //! without waiting for the lock.
 //!
-//! CPUs are handles of threads: each call of one is decided, carried out, logged and published under
-//! the lock (`Cpu::call`). The log is one history of the whole kernel (`Front`), of which each CPU, each
-//! monitor and what is published know a beginning. A monitor reads what is published, and never waits.
+//! CPUs are handles of threads: each call of one is decided, carried out, logged and published under the lock
+//! (`Cpu::call`). The log is one history of the whole kernel (`Front`). Each CPU, each monitor and what is published
+//! know a prefix of it. A monitor reads what is published, and never waits.
 #![tactic(auto)]
 
 mod book;

@@ -29,18 +29,18 @@ use std::marker::Model;
 use std::sync::Wait;
 use std::sync::ledger::Book;
 
-/// A call that was judged under the lock: how many entries its CPU had then, and what it asks. It can be carried
-/// out on the log that it was judged on alone.
+/// A call that was checked under the lock: how many entries its CPU had then, and its event. It can be carried out only
+/// on the log that it was checked on.
 #[derive(Drop)]
 pub struct Ready {
     nth: usize,
     event: Event,
 }
 
-/// The core, the log of all calls, the history that it is, and what publishes it. Contracts see the core
-/// and the log, which is a legal history: the core is in the state after it, it is all that was added to the
-/// kernel's history, what is published reports on it where a monitor is to read it, and else on a beginning of it, as
-/// the side that is not published does.
+/// The core, the log of all calls, the history that it is, and what publishes it. Contracts see the core and the log,
+/// which is a legal history. The core is in the state after it, and it is all that was added to the kernel's history.
+/// If a monitor is to read it, what is published reports on it, and otherwise on a prefix of it, as the side that is
+/// not published does.
 pub struct Locked<N: Name> {
     core: Core,
     log: CallLog,
@@ -135,7 +135,7 @@ impl<N: Name> Locked<N> {
         }
     }
 
-    /// Judges a call of this CPU. Nothing changes.
+    /// Checks a call of this CPU. Nothing changes.
     ///
     /// Unread where the kernel's history is longer than the log; Stale where the log is shorter than what
     /// the CPU has seen, or has another number of its entries.
@@ -157,7 +157,7 @@ impl<N: Name> Locked<N> {
         Ok(Ready { nth, event })
     }
 
-    /// Which translations a call that was judged will end, on the memory as it stands.
+    /// Returns which translations a call that was checked will end, on the memory as it is.
     pub(crate) fn ends(&self, ready: &Ready) -> Ended
         ensures ended { result ≡ ended_by self.now.core ready.now.event }
         ensures state { self.now.core.state ≡ state_after N.frames self.now.log }
@@ -165,9 +165,9 @@ impl<N: Name> Locked<N> {
         self.core.ends(&ready.event)
     }
 
-    /// Carries out a call of this CPU that was judged on this very log: makes room in the log, decides and carries it out in
-    /// one go, adds its entry and the core that it left to the history, logs, counts and publishes it. Its reply; the CPU
-    /// has then seen the log with its entry.
+    /// Carries out a call of this CPU that was checked on this very log. It reserves space in the log, decides and
+    /// carries the call out in one step, and adds its entry and the core that it left to the history. Then it logs,
+    /// counts and publishes it. Returns its reply; the CPU has then seen the log with its entry.
     ///
     /// NoMemory where the log can't grow; nothing has changed then.
     pub(crate) fn carry_out<R: Wait>(
@@ -214,9 +214,9 @@ impl<N: Name> Locked<N> {
         Ok(entry.reply)
     }
 
-    /// Hands out the history, where these CPUs are all of so many, and agree with the log.
+    /// Returns the history, if these CPUs are all of so many, and agree with the log.
     ///
-    /// Disagree where they are not, or do not; nothing is handed out then.
+    /// Disagree if they are not, or do not; nothing is returned then.
     pub(crate) fn close<R: Wait>(self, rt: &R, cpus: &[Cpu<N>], count: u8) -> Result<History, Fault>
         ensures log { Legal N.frames self.log }
         ensures closes { Closes count self.log cpus.now result }

@@ -49,8 +49,8 @@ impl<N: Name> Monitor<N> {
         Monitor { reader, seen }
     }
 
-    /// The report on all that is published, which begins with all that was seen.
-    /// `None` where the crate lets no reader in, or what it shows is older than what was told.
+    /// Returns the report on all that is published, which begins with all that was seen. `None` if the crate lets no
+    /// reader in, or what it shows is older than what was received.
     pub fn report(&mut self) -> Option<Seen>
         ensures front { IfSome result (λ s. s.front ≡ length self.new) }
         ensures later { IfSome result (λ s. StartsWith self.new self.old) }
@@ -69,7 +69,7 @@ impl<N: Name> Monitor<N> {
         })
     }
 
-    /// Takes in what was told. The longer list is kept, which the other begins.
+    /// Takes in what was received. It keeps the longer list, of which the other is a prefix.
     #[tactic(auto, using(crate::proofs::Prefixes::starts_itself))]
     pub fn learn(&mut self, told: Told<N>)
         ensures longer { self.new ≡ longer self.old told }

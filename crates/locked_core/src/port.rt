@@ -16,7 +16,7 @@ use kernel_calls::{Call, Event, Reply};
 use page_words::Pid;
 use std::sync::Wait;
 
-/// Who makes the calls of a port, in some surroundings: a CPU on its kernel, or whoever stands in for one.
+/// Makes the calls of a port, in some surroundings: a CPU on its kernel, or a replacement of one.
 pub trait Caller<K> {
     /// The number of its CPU.
     ghost cpu_of: { Self → ℕ };

@@ -1,7 +1,7 @@
 //! The steps of the writer and of the readers under the rule.
 //!
-//! The side that no reader has any more is brought up to the log, in place, and is shown then. So no page is
-//! copied, and the writer's queue of operations stays empty.
+//! The side that no reader reads is brought up to the log, in place, and is shown then. So no page is copied, and the
+//! writer's queue of operations stays empty.
 ghost use Rattle.std.specs.Prelude.{◌≡◌, ◌<◌, ◌≤◌, ◌^◌, [], true, IfOk, IfSome};
 ghost use Rattle.crossbeam_utils.specs.Register.{TurnsAt};
 ghost use Rattle.left_right.specs.Sides.{view};
@@ -43,8 +43,7 @@ pub fn reader_of(writer: &mut LogWriter) -> Result<LogReader, AllocError>
     Ok(reader)
 }
 
-/// Readers take this page from now on: it takes the place of the side that no reader has any more. It takes
-/// no memory.
+/// Shows this page to readers from now on, in the place of the side that none of them reads. It allocates nothing.
 fn show_opening<R: Wait>(rt: &R, writer: &mut LogWriter, page: Shown)
     requires { TurnsAt Keeps writer.old.desk.place.id (view writer.old.desk.place) writer.old.desk.shown.value page Opens }
     ensures shown { (writer.new.desk.shown.value ≡ page) × (writer.new.desk.spare.value ≡ writer.old.desk.shown.value) }
@@ -84,8 +83,8 @@ pub fn writer_of<R: Wait>(
     Ok(writer)
 }
 
-/// Publishes the report on the log, of which this is the beginning that was seen. The side that no reader has
-/// any more takes in what it lacks. It takes no memory.
+/// Publishes the report on the log, of which this is the prefix that was seen. The side that no reader reads takes in
+/// what it lacks. It allocates nothing.
 pub fn publish<R: Wait>(rt: &R, writer: &mut LogWriter, log: &[LogEntry], seen: &Beginning)
     requires kernel { view writer.old.desk.place ≡ view_of writer.old.desk.spare.value.frames seen.now.book }
     requires seen { entries_in seen.now.log ≡ log.now }

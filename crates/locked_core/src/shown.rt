@@ -1,4 +1,4 @@
-//! What is published: a report, beside the beginning of the history that it reports on.
+//! What is published: a report, with the prefix of the history that it reports on.
 ghost use Rattle.std.specs.Prelude.{◌≡◌, ◌≤◌, [], length};
 ghost use Rattle.memory_report.specs.Histories.{Legal, state_after};
 ghost use Rattle.memory_report.specs.Reports.{report_of};
@@ -11,7 +11,7 @@ use memory_report::{LogEntry, Report};
 use std::alloc::AllocError;
 use std::marker::Model;
 
-/// A report on a beginning of a history. Contracts see the beginning, and which kernel's it is.
+/// A report on a prefix of a history. Contracts see the prefix, and which kernel's it is.
 #[derive(Drop)]
 pub struct Shown {
     frames: u32,

@@ -1,6 +1,7 @@
--- The film of a script, and the answer to a command line that requests it. page_text rows the page of a film with
--- these rows FilmsScript frames answer .. what a film with that answer read and wrote AnswersAll words answer .. what
--- any command line with that answer read and wrote
+-- The film of a script, and the answer to a command line that requests it.
+--     page_text rows      the page of a film with these rows
+--     FilmsScript frames answer ..      what a film with that answer read and wrote
+--     AnswersAll words answer ..      what any command line with that answer read and wrote
 use Rattle.std.specs.Prelude.{◌≡◌, ◌⊎◌, ℕ, Bool, true, false, List, [], ◌++◌, Option, Some, unwrap_or, codes}
 use Rattle.std.specs.List.{list_any}
 use Rattle.std.specs.Str.{bytes_eq}

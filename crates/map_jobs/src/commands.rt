@@ -77,8 +77,8 @@ fn film<S: AsStr, I: Read + Drop, O: Write>(
     }
 }
 
-/// Does what the words ask for, of which the first is the program's name: with `--film` the script that `input`
-/// has is filmed, and else the image in a file is drawn.
+/// Does what the arguments request, of which the first is the program's name. With `--film` it films the script in
+/// `input`; otherwise it draws the image in a file.
 ///
 /// Done where a film was written or the image is sound, NotSound where it isn't. Of a film the faults are those
 /// of `film_script`, of a drawing those of `draw`.

@@ -1,4 +1,4 @@
-//! An image drawn from the bytes that spell it, as text or as a picture.
+//! An image drawn from its bytes, as text or as a picture.
 
 ghost use Rattle.std.specs.Prelude.{◌≡◌, IfOk, IfErr, OnOk, OnErr};
 ghost use Rattle.image_check.specs.Told.{verdict_on};
@@ -36,7 +36,7 @@ fn write_form<W: Write>(
     }
 }
 
-/// Reads an image, draws it with the verdict of the check, and says whether it is sound.
+/// Reads an image, draws it with the verdict of the check, and returns whether it is sound.
 ///
 /// NotImage, BadVersion, BadLength and BadField where the bytes are no image, by the first reason against
 /// them; NoMemory where there is none for the image or its check: nothing is written then. WriteFailed

@@ -1,4 +1,4 @@
-//! The page of a film, but for the film's data: one file with its styles and its script, that asks for no other.
+//! The page of a film, without the film's data: one file with its styles and its script, which loads no other.
 
 /// What stands before the data.
 pub(crate) const HEAD: &str = r##"<!doctype html>
@@ -113,7 +113,7 @@ Flags of a page: r a user's, w may write now, m may be made writable, a accessed
 <script type="text/plain" id="film">
 "##;
 
-/// What stands behind it.
+/// The part after it.
 pub(crate) const TAIL: &str = r##"</script>
 <script>
 "use strict";

@@ -13,7 +13,7 @@ use std::alloc::{AllocError, Global};
 use std::convert::AsStr;
 use tool_answers::{file_argument, file_in, frames_in, frames_option};
 
-/// What the command line asks for.
+/// What the command line requests.
 #[derive(Clone, Copy, Debug, PartialEq, Eq)]
 pub struct Request<'a> {
     /// What the image is drawn as.
@@ -65,8 +65,8 @@ fn form_in(matches: &ArgMatches<'_>) -> Form
     }
 }
 
-/// What the words ask for, of which the first is the program's name. What they do not spell is refused by
-/// `clap`, with its own text; a call for help is refused so too.
+/// Returns what the arguments request, of which the first is the program's name. `clap` refuses all others, with its
+/// own text; so it does a call for help.
 pub fn request_of<'a, S: AsStr>(alloc: Global, words: &'a [S]) -> Result<Request<'a>, Error>
     // Ok comes only if `clap` finds no fault in the arguments. An error is OutOfMemory, or of a kind that `clap` finds.
     ensures fails { FailsBy (fault_of map_app (map S.text words.now)) result }
@@ -86,7 +86,7 @@ fn is_film(word: &str) -> bool
     word == "--film"
 }
 
-/// Whether the words ask for a film: `--film` is one of them.
+/// Returns whether the arguments request a film: `--film` is one of them.
 pub fn asks_film<S: AsStr>(words: &[S]) -> bool
     ensures { result ≡ asks_film (map S.text words.now) }
 {
@@ -119,9 +119,8 @@ fn film_command<'a>(alloc: Global) -> Result<Command<'a>, AllocError>
         .arg(frames_option(alloc))
 }
 
-/// The number of frames of the film that the words ask for, of which the first is the program's name; 16 where
-/// they give none. What they do not spell is refused by `clap`, with its own text; a call for help is refused so
-/// too.
+/// Returns the number of frames of the film that the arguments request, of which the first is the program's name; 16 if
+/// they give none. `clap` refuses all other arguments, with its own text; so it does a call for help.
 pub fn frames_of<S: AsStr>(alloc: Global, words: &[S]) -> Result<u32, Error>
     // Ok comes only if `clap` finds no fault in the arguments. An error is OutOfMemory, or of a kind that `clap` finds.
     ensures fails { FailsBy (fault_of film_app (map S.text words.now)) result }

@@ -164,9 +164,9 @@ fn is_known(version: u32) -> bool
 
 /// Returns the first reason why bytes are no image, apart from a lack of memory: None exactly if they encode one.
 ///
-/// In this order: NotImage, where they don't begin with the four bytes of an image; BadLength, where they
-/// are fewer than 12; BadVersion; BadField at 8, where the number of frames isn't 16 to 4,096; BadLength,
-/// where they aren't as many as that number says; and BadField at the first field that breaks its rule.
+/// The reasons come in this order. NotImage: they don't begin with the four bytes of an image. BadLength: they are
+/// fewer than 12. BadVersion. BadField at 8: the number of frames isn't 16 to 4,096. BadLength: they aren't as many as
+/// that number says. BadField at the first field that breaks its rule.
 #[tactic(auto, unfolding(crate::specs::Refusals::fault_of))]
 pub fn fault_in(bytes: &[u8]) -> Option<ImageFault>
     ensures { result ≡ fault_of bytes.now }

@@ -1,5 +1,5 @@
-//! Images of a machine: what they hold, when they are sound, which state they stand for, and how they are
-//! spelled in bytes.
+//! Images of a machine: what they hold, when they are sound, which state they represent, and how they are encoded in
+//! bytes.
 #![tactic(auto)]
 
 mod faults;

@@ -12,10 +12,10 @@ use kernel_calls::Core;
 use page_words::{Frame, MAX_FRAMES, Pid};
 use std::alloc::Global;
 
-/// The version of the words of today's kernels.
+/// The version of the words of current kernels.
 const VERSION: u32 = 2;
 
-/// What a core tells of a process.
+/// Returns what a core shows of a process.
 fn process_of(core: &Core, pid: Pid) -> Option<Process>
     ensures told { result ≡ process_told core.now pid }
     ensures wide { IsToldWide core.now pid }
@@ -39,7 +39,7 @@ fn pid_of(number: u8) -> Pid
     Pid::new(number).unwrap()
 }
 
-/// What a core tells of all 64 processes.
+/// Returns what a core shows of all 64 processes.
 fn processes_of(core: &Core) -> [Option<Process>; 64]
     ensures length { length result ≡ 64 }
     ensures told { (p : ℕ) → p < 64 → slice_get result p ≡ Some (process_told core.now p) }
@@ -105,7 +105,7 @@ fn image_of(alloc: Global, core: &Core) -> Option<Image>
 }
 
 impl Image {
-    /// The image of a core, with the words of version 2. It is sound, and stands for the core's state.
+    /// Makes the image of a core, with the words of version 2. It is sound, and represents the core's state.
     ///
     /// NoMemory where there is no memory for it, and of a wide core that has more frames than an image, which are
     /// 4,096.

@@ -110,7 +110,7 @@ fn body_in(bytes: &[u8], frames: u32) -> &[u8]
     &bytes[1548 + 16 * frames as usize..]
 }
 
-/// The image that bytes spell.
+/// The image in bytes.
 fn image_in(alloc: Global, bytes: &[u8]) -> Option<Image>
     requires most { word_at bytes.now 8 ≤ 4096 }
     requires long { length bytes.now ≡ 1548 + 4112 * word_at bytes.now 8 }

@@ -61,10 +61,10 @@ fn directories_of(processes: &[Option<Process>; 64]) -> [Option<Frame>; 64]
 }
 
 impl Image {
-    /// The core that a sound image with the words of version 2 stands for. No offer is pending. The image's bytes and
-    /// roles become the core's.
+    /// Makes the core that a sound image with the words of version 2 represents. No offer is pending. The image's bytes
+    /// and roles become the core's.
     ///
-    /// NoMemory where there is no memory for what a core keeps beside them.
+    /// NoMemory if there is no memory for what a core keeps in addition to them.
     pub fn into_core(self, alloc: Global) -> Result<Core, NoMemory>
         requires version { self.version ≡ 2 }
         requires sound { IsSound self }

@@ -127,7 +127,7 @@ fn write_front<W: Write>(image: &Image, writer: &mut W) -> Result<(), WriteFaile
     )
 }
 
-/// Writes an image: the bytes that spell it, which `read_image` reads back.
+/// Writes the bytes of an image, which `read_image` reads back.
 ///
 /// WriteFailed where a write fails; what was written is then a front of them.
 pub fn write_image<W: Write>(image: &Image, writer: &mut W) -> Result<(), WriteFailed>

@@ -10,21 +10,20 @@ pub fn runs_are_legal()
     ensures begins { BeginsLegal }
 {}
 
-/// In every legal history, what a new process is told behind the entry that made it, up to its first Exit,
-/// is what it would be told as process 1 of a machine where it is alone with its quota and the pages that
-/// it got from a fork, as long as it asks for no offer, no accept and no child, refused ones too. It is what
-/// the machine tells it where the later events of all others are left out. So in the history of a kernel
-/// neither other processes nor the order in which their threads' calls come have an effect on it. It computes
-/// nothing.
+/// States that in every legal history a new process gets the replies that it would get alone, after the entry that made
+/// it and up to its first Exit. Alone it is process 1 of a machine, with its quota and the pages that it got from a
+/// fork. It must make no Offer, Accept, Spawn or Fork, refused ones included. These are also the machine's replies if
+/// the later events of all others are left out. So in the history of a kernel neither other processes nor the order in
+/// which their threads' calls come have an effect on it. It computes nothing.
 pub fn histories_are_isolated()
     ensures alone { HistoriesAreIsolated }
     ensures others { OthersMakeNoDifference }
 {}
 
-/// From each place of a legal history on, the members of any set get the replies that they would get in any run from a
-/// state that looks the same to them, in which they make the same calls, find the same, and others use no channel to
-/// them. A set that shares and offers nothing outside and keeps to itself stays so, and keeps through the calls of
-/// others what it had. As a family it gets the same replies, whatever others do. It computes nothing.
+/// States what holds from each place of a legal history on. The members of any set get the replies that they would get
+/// in any run from a state that looks the same to them. In that run they make the same calls, find the same, and others
+/// use no channel to them. A set that shares and offers nothing outside stays so, and keeps through the calls of others
+/// what it had. As a family it gets the same replies, whatever others do. It computes nothing.
 pub fn histories_are_guarded()
     ensures { HistoriesAreGuarded }
 {}

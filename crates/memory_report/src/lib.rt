@@ -1,9 +1,9 @@
 //! Log entries, histories and reports.
 //!
-//! An entry tells one event with its reply. A list of entries is a legal history where its replies are
-//! those of the machine's run over its events, from its opening (specs/Histories.antt). A report says of
-//! each live process who its parent is, and what it may use, uses and gives (specs/Reports.antt); it can
-//! be read off a core, or be kept up to date by absorbing one entry after another.
+//! An entry is one event with its reply. A list of entries is a legal history if its replies are those of the machine's
+//! run over its events, from its opening (specs/Histories.antt). A report has for each live process its parent, and
+//! what it may use, uses and gives (specs/Reports.antt). It can be read off a core, or be kept up to date by absorbing
+//! entries in sequence.
 #![tactic(auto)]
 
 mod entries;

@@ -1,9 +1,9 @@
 //! One process's page map: a directory and its tables in memory, as a finite map from pages to entries.
 //!
-//! The words are those of the Intel SDM, volume 3, chapter on paging, 32-bit paging; bit 9 of a table
-//! word, which a processor ignores, is this kernel's own. Each call asks that the directory and its
-//! tables lie in memory, are distinct frames, and hold words that the kernel writes. Pages and slots are
-//! those of the user range. No call changes a frame that is neither the directory nor one of its tables.
+//! The words are those of the Intel SDM, volume 3, chapter on paging, 32-bit paging; bit 9 of a table word, which a
+//! processor ignores, is this kernel's own. Each call requires that the directory and its tables lie in memory, are
+//! distinct frames, and hold words that the kernel writes. Pages and slots are those of the user range. No call changes
+//! a frame that is neither the directory nor one of its tables.
 #![tactic(auto)]
 
 ghost use Rattle.std.specs.Prelude.{◌≡◌, ◌≢◌, ℕ, ◌+◌, ◌*◌, ◌<◌, ◌≤◌, ◌^◌, true, false, is_some, Some, None, IfSome, IfNone, length};
@@ -228,8 +228,8 @@ fn store_entry(memory: &mut Memory, directory: Frame, page: Page, entry: PageEnt
 
 /// Sets a page's entry. The slot of the page must have a table.
 ///
-/// The map stays a map where the entry is one that the kernel writes: a lazy one names frame 0 and is not
-/// dirty, any other names another frame; `write` is set only with `may`, and `dirty` only with `accessed`.
+/// The map stays a map if the entry is one that the kernel writes. A lazy one names frame 0 and is not dirty, and any
+/// other names another frame. `write` is set only with `may`, and `dirty` only with `accessed`.
 pub fn set_entry(memory: &mut Memory, directory: Frame, page: Page, entry: PageEntry)
     requires user { IsUserPage page }
     requires frame { entry.frame < 2 ^ 20 }
@@ -318,9 +318,9 @@ fn remove_found_entry(
     }
 }
 
-/// Clears the entry of a mapped page in its slot's table, where that many pages are mapped, this one among them, as
-/// `clear_entry` does: where it was the last one, it unlinks the table and returns it; else it returns None. The
-/// caller found the table and counted, so that it reads no word at all.
+/// Clears the entry of a mapped page in its slot's table, as `clear_entry` does. That many pages are mapped in the
+/// table, this one included. If it was the last one, the call unlinks the table and returns it; otherwise it returns
+/// None. The caller found the table and counted, so that it reads no word at all.
 pub fn clear_found_entry(
     memory: &mut Memory,
     directory: Frame,

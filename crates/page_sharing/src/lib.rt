@@ -1,7 +1,7 @@
 //! Offers: which pages processes have offered to others, and with which right.
 //!
-//! A contract sees them as a finite map from the offer (offerer, page and target) to the right that
-//! goes with it. A process has at most 32 offers pending, which stand in a list of its own.
+//! A contract sees them as a finite map from the offer (offerer, page and target) to the right that goes with it. A
+//! process has at most 32 offers pending, in a list of its own.
 #![tactic(auto)]
 
 ghost use Rattle.std.specs.Prelude.{◌≡◌, ℕ, ◌+◌, ◌<◌, ◌≤◌, ◌==◌, ◌&&◌, ◌↔◌, not, false, [], ◌∷◌, ◌++◌, IsErrOf, IfErr, IfOk, IsOk, OnOk, OnErr, Some, filter, find, position, remove, slice_get, length, nat_le};
@@ -21,7 +21,7 @@ pub const MOST_PENDING: usize = 32;
 /// How many processes there can be.
 const MOST_PROCESSES: usize = 64;
 
-/// What stands in the way of an offer.
+/// Why an offer is refused.
 #[derive(Clone, Copy, Debug, PartialEq, Eq)]
 pub enum OfferFault {
     /// That offer is pending already.

@@ -331,7 +331,7 @@ impl TableWord {
     }
 }
 
-/// The words that the kernel writes are told apart by their fields. It computes nothing.
+/// States that fields distinguish the words that the kernel writes. It computes nothing.
 pub fn kernel_words_by_fields()
     ensures directories { DirWordsByFields }
     ensures tables { TableWordsByFields }

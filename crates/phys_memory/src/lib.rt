@@ -41,8 +41,8 @@ impl Model for Memory {
 }
 
 impl Memory {
-    /// A memory of that many frames, all zero. The size is judged first: BadSize where it is not 16
-    /// to 4,096, and else NoMemory where the allocator refuses the bytes.
+    /// A memory of that many frames, all zero. The size is checked first: BadSize if it is not 16 to 4,096, otherwise
+    /// NoMemory if the allocator refuses the bytes.
     pub fn new(alloc: Global, frames: u32) -> Result<Memory, MemoryFault>
         ensures zero { IfOk result (λ memory. memory ≡ blank_bytes frames) }
         ensures length { IfOk result (λ memory. length memory ≡ 4096 * frames) }
@@ -69,7 +69,7 @@ impl Memory {
         }
     }
 
-    /// A memory that holds these bytes, in 16 to 1,048,576 frames. It takes no memory of its own.
+    /// A memory that holds these bytes, in 16 to 1,048,576 frames. It allocates nothing of its own.
     pub fn of_bytes(bytes: Vec<u8>, frames: u32) -> Memory
         requires size { length bytes.items ≡ 4096 * frames }
         requires least { 16 ≤ frames }
@@ -95,8 +95,7 @@ impl Memory {
         self.bytes.as_slice()
     }
 
-    /// The address of the first byte, at which the bytes lie as long as the memory is there. No clause says anything
-    /// of it.
+    /// The address of the first byte, at which the bytes lie while the memory exists. No clause says anything of it.
     pub fn begins(&self) -> *const u8 {
         self.bytes.as_ptr()
     }

@@ -30,9 +30,9 @@ impl Processes {
         charge_at(self, pid, address, size)
     }
 
-    /// An access through mapped pages, one or two by where its bytes lie, that the process may access so: the value
-    /// read, and accessed is set; or the low bytes of the value are written, accessed and dirty are set, and the
-    /// result is 0.
+    /// Makes an access through mapped pages, one or two by where its bytes lie, that the process may access so. A read
+    /// sets accessed, and returns the value. A write writes the low bytes of the value, sets accessed and dirty, and
+    /// returns 0.
     pub fn access(
         &mut self,
         pid: Pid,

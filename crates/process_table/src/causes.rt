@@ -13,7 +13,7 @@ pub enum Cause {
     Mapped = 5,
     /// The process has no room left in its quota.
     Quota = 6,
-    /// The process may not have the right that it asks for.
+    /// The process may not have the right that the call requests.
     Rights = 7,
     /// The offer is to the offerer itself.
     SelfOffer = 8,

@@ -4,7 +4,7 @@ ghost use Rattle.process_table.specs.ApartLaws.{RefusalsAlike, ValuesAlike, Call
 ghost use Rattle.process_table.specs.Image.{StandsForOne};
 ghost use Rattle.process_table.specs.Laws.{OpeningIsWellFormed, MapKeeps, UnmapKeeps, ProtectKeeps, OfferKeeps, WithdrawKeeps, AcceptKeeps, SpawnKeeps, ForkKeeps, ExitKeeps, LoadKeeps, StoreKeeps, RootStays, TotalIsWithin};
 
-/// An image stands for at most one pair of spaces and book. It computes nothing.
+/// States that an image represents at most one pair of spaces and book. It computes nothing.
 pub fn images_stand_for_one()
     ensures { StandsForOne }
 {}
@@ -28,9 +28,9 @@ pub fn calls_keep_states_well_formed()
     ensures total { TotalIsWithin }
 {}
 
-/// A process apart is live, is not the root, has no child, offers no page and shares none. What is told
-/// of one, and what its calls do to it, depends on its own pages and quota alone; the calls of others leave
-/// it as it was; and a new child begins as one alone. It computes nothing.
+/// States what holds of a process apart: one that is live, is not the root, has no child, offers no page and shares
+/// none. Its replies, and what its calls do to it, depend only on its own pages and quota. The calls of others leave it
+/// as it was. A new child begins as one alone. It computes nothing.
 pub fn processes_apart_stand_alone()
     ensures refusals { RefusalsAlike }
     ensures values { ValuesAlike }

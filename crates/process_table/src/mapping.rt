@@ -186,9 +186,8 @@ impl Processes {
         Ok(())
     }
 
-    /// What a process would be charged for once a page's right is set, or the first cause against it:
-    /// NoProcess, BadPage, NotMapped, Rights (the right to write is asked, and the process may not have
-    /// it).
+    /// Returns the charge of a process once a page's right is set, or the first cause against it: NoProcess, BadPage,
+    /// NotMapped, Rights. Rights comes if the call requests the right to write, and the process may not have it.
     pub fn can_protect(&self, pid: Pid, page: Page, write: bool) -> Result<u32, Cause>
         ensures { result ≡ protect_answer self.now.state pid page write }
     {
@@ -223,9 +222,9 @@ impl Processes {
         }
     }
 
-    /// What a live process would be charged for once a page's right is set, or the first cause against it: BadPage,
-    /// NotMapped, Rights (the right to write is asked, and the process may not have it). The container is the
-    /// process's, and the place the page's.
+    /// Returns the charge of a live process once a page's right is set, or the first cause against it: BadPage,
+    /// NotMapped, Rights. Rights comes if the call requests the right to write, and the process may not have it. The
+    /// container is the process's, and the place the page's.
     #[inline(always)]
     pub fn protect_test(
         &self,

@@ -1,4 +1,4 @@
-//! What stands at a page, looked up by process and page, and what it tells of the state.
+//! The place of a page, looked up by process and page, and what it says about the state.
 
 ghost use Rattle.std.specs.Prelude.{◌≡◌, ◌≤◌, IfSome, is_some, true};
 ghost use Rattle.std.specs.Option.{option_and_then};
@@ -23,7 +23,7 @@ pub struct Places {
 }
 
 impl Processes {
-    /// What stands at a page of a process, by one look; None outside the user range.
+    /// Returns the place of a page of a process, with one lookup; None outside the user range.
     #[inline(always)]
     pub fn place(&self, pid: Pid, page: Page) -> Option<Place>
         ensures { result ≡ place_at self.now pid page }
@@ -57,7 +57,7 @@ impl Processes {
         }
     }
 
-    /// What the place of a page of the user range tells of the state. It computes nothing.
+    /// States what the place of a page of the user range says about the state. It computes nothing.
     pub fn tells(&self, pid: Pid, page: Page, place: &Place)
         requires user { IsUserPage page }
         requires place { place.now ≡ place_in self.now.directories self.now.bytes pid page }

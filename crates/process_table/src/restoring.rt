@@ -21,10 +21,10 @@ fn have_places(directories: &[Option<Frame>; 64])
 }
 
 impl Processes {
-    /// The processes that directories, accounts, bytes and roles stand for: a sound image of 16 to 1,048,576 frames. No
+    /// The processes that directories, accounts, bytes and roles represent: a sound image of 16 to 1,048,576 frames. No
     /// offer is pending.
     ///
-    /// NoMemory where there is none for what is kept beside the bytes and the roles.
+    /// NoMemory if there is none for what is kept in addition to the bytes and the roles.
     pub fn of_image(
         alloc: Global,
         directories: [Option<Frame>; 64],

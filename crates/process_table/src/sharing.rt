@@ -35,9 +35,9 @@ fn pending_check(offers: &Offers, pid: Pid, page: Page, target: Pid) -> Option<C
 }
 
 impl Processes {
-    /// What a process would be charged for once it has offered a page, or the first cause against it:
-    /// NoProcess, BadPage, NotMapped, SelfOffer, NoTarget, Rights (the right to write is offered, and
-    /// the process may not have it), OfferPending, TooManyOffers.
+    /// Returns the charge of a process once it has offered a page, or the first cause against it: NoProcess, BadPage,
+    /// NotMapped, SelfOffer, NoTarget, Rights, OfferPending, TooManyOffers. Rights comes if the offer has the right to
+    /// write, and the process may not have it.
     pub fn can_offer(&self, pid: Pid, page: Page, target: Pid, write: bool) -> Result<u32, Cause>
         ensures { result ≡ offer_answer self.now.state pid page target write }
     {
@@ -80,9 +80,9 @@ impl Processes {
         }
     }
 
-    /// What a live process would be charged for once it has offered a page, or the first cause against it: BadPage,
-    /// NotMapped, SelfOffer, NoTarget, Rights (the right to write is offered, and the process may not have it),
-    /// OfferPending, TooManyOffers. The container is the process's, and the place the page's.
+    /// Returns the charge of a live process once it has offered a page, or the first cause against it: BadPage,
+    /// NotMapped, SelfOffer, NoTarget, Rights, OfferPending, TooManyOffers. Rights comes if the offer has the right to
+    /// write, and the process may not have it. The container is the process's, and the place the page's.
     pub fn offer_test(
         &self,
         container: &Container,

@@ -26,9 +26,9 @@ impl Processes {
         self.spaces.finds(pid, address, size, access)
     }
 
-    /// An access as a processor makes it, where the walks find a frame for each page that it touches: the words that
-    /// lead there are marked, and the value is read or its low bytes are written where they lead. It is what `access`
-    /// makes of it.
+    /// Makes an access as a processor does, if the walks find a frame for each page that it touches. It sets accessed
+    /// (and dirty) in the words that lead there, and reads the value, or writes its low bytes, where they lead.
+    /// `access` makes the same.
     pub fn access_by_walk(
         &mut self,
         pid: Pid,
@@ -60,8 +60,8 @@ impl Processes {
         }
     }
 
-    /// Sets or clears accessed in the directory word that leads to a page of a live process, where it is present.
-    /// Nothing else can be told.
+    /// Sets or clears accessed in the directory word that leads to a page of a live process, if the word is present.
+    /// Nothing else shows it.
     pub fn set_walked(&mut self, pid: Pid, page: Page, walked: bool)
         requires live { is_live self.old.state pid ≡ true }
         requires user { IsUserPage page }
@@ -87,9 +87,8 @@ impl Processes {
         self.spaces.clean_at(pid, page, &place);
     }
 
-    /// A store as a processor makes it by translations that it kept, where accessed and dirty of each page that it
-    /// touches are set already: its bytes are written where the walks lead, and nothing else. It is what `access`
-    /// makes of it.
+    /// Makes a store as a processor does by translations that it cached, if accessed and dirty of each page that it
+    /// touches are already set. It writes the bytes at the end of the walks, and nothing else. `access` makes the same.
     pub fn store_kept(&mut self, pid: Pid, address: Vaddr, size: Size, value: u32)
         requires finds { finds (memory_of self.old) pid address size Access.Write ≡ true }
         requires marked { EachTouched address size (λ page. is_marked self.old.state.spaces (at_page pid page) ≡ true) }

@@ -1,4 +1,4 @@
-//! Containers by what is told of each live process.
+//! Containers made of what an image has of each live process.
 
 ghost use Rattle.std.specs.Prelude.{◌≡◌, ℕ, ◌<◌, ◌≤◌, Some, slice_get, length};
 ghost use Rattle.quota_tree.specs.Book.{number_of_children};
@@ -7,7 +7,7 @@ ghost use Rattle.quota_tree.specs.Accounts.{Agree, book_in, containers_in, conta
 use crate::{Container, Quotas};
 use page_words::Pid;
 
-/// What is told of a live process, apart from how many children it has.
+/// What an image has of a live process, without the number of its children.
 #[derive(Clone, Copy, Debug, PartialEq, Eq)]
 pub struct Account {
     /// The process that gave the quota; for process 0, itself.
@@ -48,7 +48,7 @@ fn children_of(accounts: &[Option<Account>; 64], parent: Pid) -> u32
     children
 }
 
-/// The container of a process of which an account tells.
+/// The container of a process that has an account.
 fn container_of(accounts: &[Option<Account>; 64], pid: Pid) -> Option<Container>
     ensures { result ≡ container_in accounts.now pid }
 {
@@ -70,7 +70,7 @@ fn pid_of(number: u8) -> Pid
     Pid::new(number).unwrap()
 }
 
-/// The containers of all processes of which accounts tell.
+/// The containers of all processes that have accounts.
 fn containers_of(accounts: &[Option<Account>; 64]) -> [Option<Container>; 64]
     ensures length { length result ≡ 64 }
     ensures each { (p : ℕ) → p < 64 → slice_get result p ≡ Some (container_in accounts.now p) }

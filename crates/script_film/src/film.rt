@@ -57,7 +57,7 @@ fn take_lines(alloc: Global, recording: &mut Recording, script: &[u8]) -> Result
     Ok(End::Whole)
 }
 
-/// The rows of a film, put together.
+/// The rows of a film, joined.
 fn rows_of(alloc: Global, frames: u32, rows: &[u8], end: End) -> Result<Vec<u8>, ScriptFault>
     ensures rows { IfOk result (λ text. text.items ≡ frames_row frames ++ (rows.now ++ end_row end)) }
     ensures fault { IfErr result (λ fault. fault ≡ ScriptFault.NoMemory) }

@@ -1,5 +1,5 @@
-//! The film of a script: what each of its lines asks for, the reply, and what it changes in memory, as rows of
-//! text. What the rows are of a script is said by definitions (specs/Rows.antt, Changes.antt, Film.antt).
+//! The film of a script: each line's event, the reply, and what it changes in memory, as rows of text. Definitions give
+//! the rows of a script (specs/Rows.antt, Changes.antt, Film.antt).
 #![tactic(auto)]
 
 mod changes;

@@ -1,4 +1,4 @@
-//! A film while it is made: the core after the lines so far, its image, and the rows that tell them.
+//! A film while it is made: the core after the lines so far, its image, and the rows of these lines.
 
 ghost use Rattle.std.specs.Prelude.{◌≡◌, ℕ, ◌≤◌, ◌++◌, [], List, IfOk, IfErr, OnOk};
 ghost use Rattle.kernel_calls.specs.Machine.{answer, next};
@@ -27,7 +27,7 @@ pub(crate) struct Recording {
     pub image: Image,
     /// How many events the lines so far asked for.
     pub events: u32,
-    /// The rows that tell them.
+    /// Their rows.
     pub rows: Vec<u8>,
 }
 
@@ -53,7 +53,7 @@ fn image_of(alloc: Global, core: &Core) -> Result<Image, ScriptFault>
     }
 }
 
-/// Carries out an event, and tells its line, the reply and what it changes.
+/// Carries out an event, and writes the rows of its line, the reply and what it changes.
 #[tactic(auto, unfolding(crate::specs::Film::event_rows))]
 fn tell_event(
     alloc: Global,
@@ -96,7 +96,7 @@ impl Recording {
         })
     }
 
-    /// Tells the event of a line, where the film has room for it.
+    /// Takes the event of a line, if the film has room for it.
     fn take_event(
         &mut self,
         alloc: Global,

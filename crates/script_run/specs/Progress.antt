@@ -3,7 +3,7 @@
 --     Begins, Breaks      how the lines of any script that begins with these bytes begin;  that one of them is malformed
 --     Stops      why the session stopped at a line
 --     Finished, StopsAtLast      the last line, without a line feed, was carried out too;  why it was not
--- Ran, RanInto the result of a run, with replies that wait to be written
+--     Ran, RanInto      the result of a run, with replies that wait to be written
 --     EndsReading      what a run that ended by a failed read did
 --     EndsBy      what a run that ended by a fault did
 use Rattle.std.specs.Prelude.{◌≡◌, ℕ, ◌+◌, ◌≤◌, Bool, true, false, List, [], ◌∷◌, ◌++◌, length, Option, Some, None, IfSome}

@@ -1,9 +1,9 @@
 //! The language of scripts: bytes of a script in, bytes of replies out.
 //!
-//! A script is lines, each of which says nothing or asks for one event of the machine. `run_script` reads them
-//! in blocks, carries the events out on a freshly booted core, and writes a line for each reply. What a script
-//! means is said by definitions of its own (specs/Tokens.antt, Numbers.antt, Lines.antt, Replies.antt,
-//! Script.antt), and what a run that ended early read and wrote by specs/Progress.antt.
+//! A script is lines, each of which says nothing or has one event of the machine. `run_script` reads them in blocks,
+//! carries the events out on a freshly booted core, and writes a line for each reply. Definitions of its own say what a
+//! script means (specs/Tokens.antt, Numbers.antt, Lines.antt, Replies.antt, Script.antt). What a run that ended early
+//! read and wrote is in specs/Progress.antt.
 #![tactic(auto)]
 
 mod faults;

@@ -30,8 +30,8 @@ ghost use Rattle.script_run.specs.Numbers.{hexadecimal_number};
 ghost use Rattle.script_run.specs.Operands.{first_by, one_by, two_by, three_by, named_by, caller_by, event_by};
 ghost use Rattle.kernel_calls.specs.declared.calls.Call.TheVariants as call;
 
-/// Whether a token is this word. The words of up to five letters have functions of their own, which look at
-/// the bytes without a loop.
+/// Returns whether a token is this word. The words of up to five letters have functions of their own, which read the
+/// bytes without a loop.
 #[inline(always)]
 fn is_word(token: &[u8], word: &str) -> bool
     ensures { result ≡ bytes_eq token.now word.now }
@@ -372,8 +372,8 @@ fn any_call_of(line: &[u8]) -> Option<Call>
     }
 }
 
-/// Returns the call that the first token names, with the others as its operands. A line in its usual form is read at
-/// once.
+/// Returns the call that the first token names, with the others as its operands. A line in its usual form is read in
+/// one pass.
 #[inline(always)]
 fn call_of(line: &[u8]) -> Option<Call>
     ensures { result ≡ named_by (tokens_of line.now) }
@@ -413,7 +413,7 @@ fn caller_of(line: &[u8]) -> Option<(u64, u64, &[u8])>
     }
 }
 
-/// The event that a line spells: its CPU, its process, the name of the call and the operands.
+/// Returns the event in a line: its CPU, its process, the name of the call and the operands.
 #[inline(always)]
 #[tactic(auto, unfolding(crate::specs::Operands::event_by))]
 fn event_of(line: &[u8]) -> Option<Event>
@@ -426,7 +426,7 @@ fn event_of(line: &[u8]) -> Option<Event>
     Some(Event { cpu, pid, call })
 }
 
-/// What a line says that spells no event, and is no comment.
+/// Returns what a line says that has no event, and is no comment.
 #[inline(never)]
 fn without_event(bytes: &[u8]) -> Line
     ensures { result ≡ (if is_blank (tokens_of bytes.now) then line.Skipped else line.Malformed) }
@@ -438,8 +438,7 @@ fn without_event(bytes: &[u8]) -> Line
     }
 }
 
-/// What a line says, whose line feed is left out. One of more than 100 bytes is malformed, whatever
-/// stands in it.
+/// Returns what a line says, without its line feed. One of more than 100 bytes is malformed, whatever it has.
 #[inline(always)]
 #[tactic(auto, unfolding(crate::specs::Lines::line_of), using(crate::proofs::OperandLemmas::event_read, crate::proofs::OperandLemmas::some_token))]
 pub fn line_of(bytes: &[u8]) -> Line

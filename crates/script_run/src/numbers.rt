@@ -55,7 +55,7 @@ fn look_up(table: &[u8; 256], byte: u8) -> u8
     table[byte as usize]
 }
 
-/// What a byte is worth as a digit: a table, so that no digit asks for a branch.
+/// Returns the value of a byte as a digit, from a table, so that no digit needs a branch.
 pub fn digit_of(byte: u8) -> u8
     ensures value { result ≡ digit_value byte }
     ensures bound { result ≤ 36 }
@@ -63,8 +63,8 @@ pub fn digit_of(byte: u8) -> u8
     look_up(&DIGITS, byte)
 }
 
-/// The number that one to `most` digits of this radix write, leading zeros among them; None for any
-/// other token. It reads all bytes before it judges them, so that no digit asks for a branch.
+/// Returns the number in one to `most` digits of this radix, leading zeros included; None for any other token. It reads
+/// all bytes before it checks them, so that no digit needs a branch.
 #[tactic(auto, using(crate::proofs::NumberLemmas::number_steps))]
 fn number(token: &[u8], radix: u32, most: usize) -> Option<u64>
     requires radix { (2 ≤ radix) × (radix ≤ 16) }
@@ -109,8 +109,8 @@ pub fn ends_at(line: &[u8], place: usize) -> bool
     place == line.len() || line[place] == b' '
 }
 
-/// What the bytes up to the first space are worth as hexadecimal digits, and how many they are; None
-/// where they are more than eight. Each byte is looked at once.
+/// Returns the value of the bytes up to the first space as hexadecimal digits, and how many they are; None if they are
+/// more than eight. It reads each byte once.
 #[inline(always)]
 fn short_token(line: &[u8]) -> Option<(u64, usize)>
     ensures short { IfSome result (λ found. found.1 ≤ 8) }
@@ -176,8 +176,8 @@ pub fn hexadecimal_of(line: &[u8], digits: usize) -> Option<(u32, &[u8])>
     Some((value as u32, &line[digits..]))
 }
 
-/// The number that the first token writes in one to ten decimal digits, and the bytes after it. One or two
-/// digits that a space follows are read at once.
+/// Returns the number in the first token, of one to ten decimal digits, and the bytes after it. One or two digits that
+/// a space follows take one pass.
 #[inline(always)]
 fn decimal(line: &[u8]) -> Option<(u64, &[u8])>
     ensures { option_map (λ found. (found.0, tokens_of found.1.now)) result ≡ first_by decimal_number (tokens_of line.now) }

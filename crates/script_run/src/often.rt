@@ -236,8 +236,7 @@ fn accept_of(line: &[u8]) -> Option<Call>
     })
 }
 
-/// The call that the bytes ask for, where they are as scripts mostly write it; None where they are to be
-/// read token by token.
+/// Returns the call in the bytes, if they are as scripts mostly write it; None if they are to be read token by token.
 #[inline(always)]
 #[tactic(auto, unfolding(crate::specs::Lines::call_of, crate::specs::Lines::sharing_call_of), using(crate::proofs::OperandLemmas::often))]
 pub fn often_call_of(line: &[u8]) -> Option<Call>

@@ -28,7 +28,7 @@ impl Model for Output {
 }
 
 impl Output {
-    /// Nothing waits. It takes the memory of a block, and no call takes more.
+    /// An output with nothing that waits. It allocates one block, and no call allocates more.
     pub fn new(alloc: Global) -> Result<Output, AllocError>
         ensures { IfOk result (λ output. output ≡ []) }
     {

@@ -21,11 +21,10 @@ const BLOCK: usize = 65_536;
 /// reply, and hands back the machine. Reads and writes go in blocks, and all memory is taken before
 /// the first read. The replies to what was read are written before the next read, which may wait.
 ///
-/// `BadSize` comes where there are not 16 to 4,096 frames, and `NoMemory` where memory runs out, both
-/// before anything is read or written. After that, what is met first decides: `Malformed` with the
-/// line's number, `TooLong` where a byte follows the first 16,777,216, `ReadFailed` where a read
-/// answers an error, `WriteFailed` where a write does or takes no byte. The replies to the events
-/// before stand written, or after `WriteFailed` a front of them.
+/// `BadSize` comes if there are not 16 to 4,096 frames, and `NoMemory` if memory runs out, both before anything is read
+/// or written. After that, the first that occurs decides. `Malformed` has the line's number, and `TooLong` comes if a
+/// byte follows the first 16,777,216. `ReadFailed` comes if a read answers an error, `WriteFailed` if a write does or
+/// takes no byte. The replies to the events before are written, or after `WriteFailed` a prefix of them.
 pub fn run_script<R: Read, W: Write>(
     alloc: Global,
     reader: &mut R,

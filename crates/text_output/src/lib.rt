@@ -1,5 +1,4 @@
-//! Text for a writer: words and decimal numbers put behind one another in a line, and bytes written whole
-//! or told as cut short.
+//! Text for a writer: words and decimal numbers appended to a line, and bytes written whole or reported as cut short.
 //!
 //! What a writer has of a text after a write that failed is said once, by `AppendsFront`
 //! (specs/Output.antt), for all crates that write.

@@ -1,4 +1,4 @@
-//! A line of text, put together from words and numbers.
+//! A line of text, built from words and numbers.
 
 ghost use Rattle.std.specs.Prelude.{◌≡◌, ◌+◌, ◌≤◌, ◌^◌, ◌++◌, length, decimal};
 ghost use Rattle.arrayvec.specs.ArrayVec.{array_vec_len};

@@ -10,8 +10,8 @@ use std::io::Write;
 #[derive(Clone, Copy, Debug, PartialEq, Eq)]
 pub struct WriteFailed;
 
-/// Writes all of the bytes, in as many writes as it takes. A write that answers an error, of any
-/// kind, is not tried again.
+/// Writes all of the bytes, in as many writes as it takes. It doesn't repeat a write that answers an error, of any
+/// kind.
 ///
 /// WriteFailed where a write fails; what was written is then a front of the bytes, and never all of them.
 pub fn write_whole<W: Write>(writer: &mut W, bytes: &[u8]) -> Result<(), WriteFailed>

@@ -1,4 +1,4 @@
-//! The guests of a round, one after the other in place of at once: on a core, and on a kernel as a round runs them.
+//! The guests of a round, one after the other instead of concurrently: on a core, and on a kernel as a round runs them.
 
 ghost use Rattle.std.specs.Prelude.{◌≡◌};
 

@@ -24,7 +24,7 @@ use std::thread::Threads;
 /// How often a flag is looked at before a test gives up.
 const LOOKS: u64 = 1_000_000_000;
 
-/// Looks at a number until it is so high: whether it was, before the looks were spent.
+/// Polls a number until it is so high, and returns whether it was before the polls were spent.
 fn is_reached(number: &AtomicU64, height: u64) -> bool {
     for _ in 0..LOOKS {
         if number.load(Ordering::SeqCst) >= height {
@@ -34,7 +34,7 @@ fn is_reached(number: &AtomicU64, height: u64) -> bool {
     false
 }
 
-/// What a gate and the helpers beside it tell each other.
+/// What a gate and the helpers signal to each other.
 #[derive(Drop)]
 struct Flags {
     /// 1 where calls are to be held.
@@ -86,7 +86,7 @@ fn stored<N: Name, R: Wait + Abort>(
     cpu
 }
 
-/// Waits for the held call, and judges processes until no number is left: whether the call was held, and how
+/// Waits for the held call, and checks processes until no number is left. Returns whether the call was held, and how
 /// many numbers were checked.
 fn judge(audit: &Audit, helper: Helper, flags: &Flags) -> (Helper, bool, u64)
     requires { IsOf audit.now helper }
@@ -98,7 +98,7 @@ fn judge(audit: &Audit, helper: Helper, flags: &Flags) -> (Helper, bool, u64)
     (helper, held, checked)
 }
 
-/// Two helpers judge in two threads.
+/// Two helpers check in two threads.
 fn judge_both<R: Threads + Sync>(
     rt: &R,
     audit: &Audit,
@@ -122,7 +122,7 @@ fn judge_both<R: Threads + Sync>(
     )
 }
 
-/// Two helpers judge in two threads, while a CPU's call is held until they have ended.
+/// Two helpers check in two threads, while a CPU's call is held until they have ended.
 fn judge_beside<N: Name + Send + Sync, R: Threads + Wait + Abort + Sync>(
     rt: &R,
     kernel: &Kernel<N, HeldGate>,
@@ -152,7 +152,7 @@ fn check_judged<R: Abort>(rt: &R, held: (bool, bool), checked: (u64, u64), flags
     same(rt, &found, &((true, true), 64, 1));
 }
 
-/// The helpers of an audit, one after the other, after they judged in two threads beside a held call.
+/// The helpers of an audit, one after the other, after they checked in two threads during a held call.
 fn judged<N: Name + Send + Sync, R: Threads + Wait + Abort + Sync>(
     rt: &R,
     kernel: &Kernel<N, HeldGate>,

@@ -149,7 +149,7 @@ fn entries_by_cpu(history: &History) -> [u64; 8] {
     counts
 }
 
-/// A history has so many entries of each CPU, and the processes use 12 frames behind it.
+/// Checks that a history has so many entries of each CPU, and that the processes use 12 frames after it.
 fn check_history<R: Abort>(rt: &R, history: &History) {
     same(
         rt,
@@ -159,7 +159,7 @@ fn check_history<R: Abort>(rt: &R, history: &History) {
     same(rt, &report_of(history.core()).total(), &12);
 }
 
-/// Four guests count at once, and the word has all that they counted.
+/// Four guests count concurrently, and the word has all that they counted.
 fn four_count<N: Name + Send + Sync, R: Threads + Wait + Abort + Sync>(
     rt: &R,
     blank: Blank<OpenGate>,

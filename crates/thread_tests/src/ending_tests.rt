@@ -1,4 +1,4 @@
-//! What the calls of a CPU tell of the translations that they ended.
+//! What the calls of a CPU report of the translations that they ended.
 
 ghost use Rattle.std.specs.Prelude.{◌≡◌};
 
@@ -12,7 +12,7 @@ use std::sync::Wait;
 use std::sync::atomic::{AtomicU64, Ordering};
 use std::test::Fail;
 
-/// What was told of a call, as a number: 0 for nothing, else a kind, a process and its pages.
+/// The report of a call as a number: 0 for nothing, otherwise a kind, a process and its pages.
 fn number_of(ended: &Ended) -> u64 {
     match ended {
         Ended::Nothing => 0,
@@ -24,7 +24,7 @@ fn number_of(ended: &Ended) -> u64 {
     }
 }
 
-/// Keeps what was told last, and how often something was.
+/// Keeps the last report, and how many there were.
 #[derive(Drop)]
 struct Listener {
     last: AtomicU64,
@@ -38,7 +38,7 @@ impl Invalidate for Listener {
     }
 }
 
-/// A call of process 0 tells the listener and its caller the same.
+/// Checks that a call of process 0 reports the same to the listener and to its caller.
 fn check_ends<N: Name, R: Wait + Abort>(
     rt: &R,
     kernel: &Kernel<N, OpenGate>,
@@ -52,7 +52,7 @@ fn check_ends<N: Name, R: Wait + Abort>(
     assert_eq!(rt; listener.last.load(Ordering::SeqCst), number_of(ended));
 }
 
-/// A page that is mapped is filled by a store, and unmapped: the store and the unmap end its translation.
+/// A store fills a mapped page, and an Unmap unmaps it: both make its translation stale.
 fn told<N: Name, R: Wait + Abort>(rt: &R, blank: Blank<OpenGate>, listener: &Listener)
     requires { (blank.frames ≡ N.frames) × (blank.book ≡ N.book) }
 {

@@ -1,4 +1,4 @@
-//! A process that copies itself by calls of two CPUs, with a monitor beside them.
+//! A process that copies itself by calls of two CPUs, with a monitor that reads.
 
 ghost use Rattle.std.specs.Prelude.{◌≡◌};
 
@@ -13,7 +13,7 @@ use std::marker::Brand;
 use std::process::Abort;
 use std::sync::Wait;
 
-/// The parent asks for a copy with that quota, which is answered so.
+/// The parent requests a copy with that quota, and gets this reply.
 fn fork<N: Name, R: Wait + Abort>(
     rt: &R,
     kernel: &Kernel<N, OpenGate>,

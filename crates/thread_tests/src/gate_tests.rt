@@ -24,12 +24,12 @@ const LOOKS: u64 = 1_000_000_000;
 /// How often the call of a second CPU is looked for while the first CPU's is held.
 const SHORT_LOOKS: u64 = 20_000_000;
 
-/// Looks at a flag until it is set: whether it was, before the looks were spent.
+/// Polls a flag until it is set, and returns whether it was before the polls were spent.
 fn is_set(flag: &AtomicU64) -> bool {
     is_set_within(flag, LOOKS)
 }
 
-/// Looks at a flag so often, or until it is set: whether it was.
+/// Polls a flag so often, or until it is set, and returns whether it was.
 fn is_set_within(flag: &AtomicU64, looks: u64) -> bool {
     for _ in 0..looks {
         if flag.load(Ordering::SeqCst) == 1 {
@@ -39,7 +39,7 @@ fn is_set_within(flag: &AtomicU64, looks: u64) -> bool {
     false
 }
 
-/// What a gate and the test beside it tell each other, each 0 until it is so.
+/// What a gate and the test signal to each other, each 0 until it is so.
 #[derive(Drop)]
 struct Flags {
     /// The next call is to be held.
@@ -50,7 +50,7 @@ struct Flags {
     started: AtomicU64,
     /// Its call is back.
     back: AtomicU64,
-    /// That call may go on.
+    /// That call may continue.
     released: AtomicU64,
     /// It went on because it might, and not because the looks were spent.
     let_go: AtomicU64,
@@ -69,7 +69,7 @@ impl Flags {
         }
     }
 
-    /// Holds a call, where one is to be held, until it may go on.
+    /// Holds a call, if one is to be held, until it may continue.
     fn hold(&self) {
         if self.armed.swap(0, Ordering::SeqCst) == 1 {
             self.reached.store(1, Ordering::SeqCst);
@@ -80,7 +80,7 @@ impl Flags {
     }
 }
 
-/// Holds one call at a point, once it is armed, until it is told to let it go on.
+/// Holds one call at a point, once it is armed, until it is released.
 #[derive(Drop)]
 struct HeldGate {
     at: Point,
@@ -95,7 +95,7 @@ impl Gate for HeldGate {
     }
 }
 
-/// Holds one call as it invalidates what it ended, once it is armed, until it is told to let it go on.
+/// Holds one call as it invalidates what it ended, once it is armed, until it is released.
 #[derive(Drop)]
 struct HeldProcessors {
     flags: Arc<Flags, Global>,
@@ -118,8 +118,8 @@ fn call<N: Name, R: Wait>(
     (cpu, answered)
 }
 
-/// Waits for the held call, reports, and only then lets the call go on: whether the call was held, and the
-/// front of the report.
+/// Waits for the held call, reports, and only then releases the call. Returns whether the call was held, and the front
+/// of the report.
 fn report_beside<N: Name>(
     mut monitor: Monitor<N>,
     flags: &Flags,
@@ -234,7 +234,7 @@ fn call_second<N: Name, R: Wait>(
     (cpu, held, answered)
 }
 
-/// Looks for the second CPU's call, and only then lets the first one's go on: whether the second was called, and
+/// Polls for the second CPU's call, and only then releases the first one's. Returns whether the second was called, and
 /// whether it was back by then.
 fn look_for_the_second(flags: &Flags) -> (bool, bool) {
     let started = is_set(&flags.started);
@@ -317,7 +317,7 @@ fn a_second_cpu_waits_while_a_call_is_published(rt: HostRuntime) -> Result<(), F
     waits_at(&rt, Point::Published)
 }
 
-/// Makes one call that tells what it ended: whether it was answered.
+/// Makes one call that reports what it ended, and returns whether it was answered.
 fn call_ending<N: Name, R: Wait>(
     rt: &R,
     kernel: &Kernel<N, HeldGate>,

@@ -84,7 +84,7 @@ fn came_to(guest: &Guest, end: End, looked_at: [Reg; 2]) -> Outcome {
     }
 }
 
-/// Runs a program on a core of 16 frames for so many turns, and looks at two registers.
+/// Runs a program on a core of 16 frames for so many turns, and reads two registers.
 fn ran<R: AllocGlobal + Abort>(
     rt: &R,
     program: &[Instruction],
@@ -201,7 +201,7 @@ fn stops_at_a_refusal(rt: HostRuntime) {
     check_run(&rt, &program, 1, [r[1], r[2]], want);
 }
 
-/// Runs a program on a port that answers once, for so many turns, and looks at two registers.
+/// Runs a program on a port that answers once, for so many turns, and reads two registers.
 fn ran_once<R: Abort>(rt: &R, program: &[Instruction], turns: u32, looked_at: [Reg; 2]) -> Outcome {
     let mut port = AnswersOnce {
         has_answered: false,

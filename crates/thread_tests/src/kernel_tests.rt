@@ -1,4 +1,4 @@
-//! Kernels whose CPUs call in turn and in threads, with monitors beside them.
+//! Kernels whose CPUs call in turn and in threads, with monitors that read.
 
 ghost use Rattle.std.specs.Prelude.{◌≡◌};
 
@@ -316,7 +316,7 @@ fn check_in_turn<N: Name, R: Wait + Abort>(
     same(rt, &wrong, &0);
 }
 
-/// A kernel with a thousand calls of one CPU, each of which the monitor reports at once.
+/// A kernel with a thousand calls of one CPU, each of which the monitor reports immediately.
 fn in_turn<N: Name, R: Wait + Abort>(rt: &R, blank: Blank<OpenGate>)
     requires { (blank.frames ≡ N.frames) × (blank.book ≡ N.book) }
 {
@@ -354,7 +354,7 @@ fn worked_beside<N: Name + Send + Sync, R: Threads + Wait + Abort + Sync>(
     called.0
 }
 
-/// A kernel of one CPU with a monitor beside its calls.
+/// A kernel of one CPU with a monitor that reads during its calls.
 fn beside<N: Name + Send + Sync, R: Threads + Wait + Abort + Sync>(rt: &R, blank: Blank<OpenGate>)
     requires { (blank.frames ≡ N.frames) × (blank.book ≡ N.book) }
 {

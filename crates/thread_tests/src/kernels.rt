@@ -117,7 +117,7 @@ pub(crate) fn run_on(
     run(guest, program, turns, core)
 }
 
-/// Tells a monitor what a CPU has seen.
+/// Gives a monitor what a CPU has seen.
 pub(crate) fn tell<N: Name>(cpu: &Cpu<N>, monitor: &mut Monitor<N>) {
     monitor.learn(cpu.tell());
 }

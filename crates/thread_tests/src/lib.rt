@@ -1,5 +1,5 @@
-//! Tests of the crates of guests, kernels and races, by their public calls. They stand here and not beside
-//! what they test, so that each of those crates is proved once.
+//! Tests of the crates of guests, kernels and races, by their public calls. They have a crate of their own, so that
+//! each of those crates is proved once.
 #![tactic(auto)]
 
 #[cfg(test)]

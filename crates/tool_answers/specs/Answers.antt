@@ -1,6 +1,6 @@
--- The answer to a command line, its exit status, and its message on standard error. status_of answer 0 done; 1 out of
--- memory, a device's fault or a failed race; 2 a refused command line, size, script or image; 3 an image that isn't
--- sound Tells program answer held holds what standard error holds afterwards, for the program of that name
+-- The answer to a command line, its exit status, and its message on standard error.
+--     status_of answer      0 done; 1 out of memory, a device's fault or a failed race; 2 a refused command line, size, script or image; 3 an image that isn't sound
+--     Tells program answer held holds      what standard error holds afterwards, for the program of that name
 use Rattle.std.specs.Prelude.{◌≡◌, ◌⊎◌, ℕ, List, [], ◌∷◌, ◌++◌, Option, codes}
 use Rattle.std.specs.Io.KnownBytes.{Appends, Keeps}
 use Rattle.clap.specs.Words.{kind_of}

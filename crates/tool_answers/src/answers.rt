@@ -46,8 +46,8 @@ fn status_of_tool(fault: ToolFault) -> u8
     }
 }
 
-/// Returns the exit status: 0 if the job was done; 1 if memory ran out, a device failed or a race failed; 2 for a
-/// refused command line, size, script or image; 3 for an image that is not sound.
+/// Returns the exit status. It is 0 if the job was done, and 1 if memory ran out, a device failed or a race failed. It
+/// is 2 for a refused command line, size, script or image, and 3 for an image that is not sound.
 pub fn status_of(answer: &Answer) -> u8
     ensures { result ≡ status_of answer.now }
 {
@@ -60,7 +60,7 @@ pub fn status_of(answer: &Answer) -> u8
     }
 }
 
-/// Tells a fault of a program's job, in a line behind the program's name.
+/// Writes a fault of a program's job, in a line after the program's name.
 #[tactic(auto, unfolding(crate::specs::Answers::told_line))]
 fn tell_fault<E: Write>(program: &str, fault: ToolFault, errors: &mut E) -> io::Result<()>
     ensures { OnOk result (Appends (E.contents errors.old) (E.contents errors.new) (told_line program.now (tool_text fault))) }
@@ -68,7 +68,7 @@ fn tell_fault<E: Write>(program: &str, fault: ToolFault, errors: &mut E) -> io::
     write!(errors, "{program}: {fault}\n")
 }
 
-/// Tells why the words of a command line were not read, in such a line.
+/// Writes why the arguments of a command line were not read, in such a line.
 #[tactic(auto, unfolding(crate::specs::Answers::told_line))]
 fn tell_words<E: Write>(program: &str, fault: WordsFault, errors: &mut E) -> io::Result<()>
     ensures { OnOk result (Appends (E.contents errors.old) (E.contents errors.new) (told_line program.now (words_text fault))) }
@@ -76,9 +76,9 @@ fn tell_words<E: Write>(program: &str, fault: WordsFault, errors: &mut E) -> io:
     write!(errors, "{program}: {fault}\n")
 }
 
-/// Tells on standard error what ended a command line of a program early: a line with the program's name and
-/// the text of its fault, or what `clap` says of words that it refuses. Of a job that was done it tells
-/// nothing, whether an image is sound or not.
+/// Writes to standard error what ended a command line of a program early: a line with the program's name and the text
+/// of its fault, or the message of `clap` about arguments that it refuses. Of a job that was done it writes nothing,
+/// whether an image is sound or not.
 ///
 /// An error is that of a write.
 pub fn tell<E: Write>(program: &str, answer: &Answer, errors: &mut E) -> io::Result<()>

@@ -28,7 +28,7 @@ pub enum ToolFault {
     NotImage,
     /// An image is of a version other than 1 and 2.
     BadVersion,
-    /// An image has another length than its number of frames asks for.
+    /// The length of an image isn't that of its number of frames.
     BadLength,
     /// A field of an image breaks its rule.
     BadField {

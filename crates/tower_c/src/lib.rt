@@ -209,10 +209,9 @@ fn step_ending(core: &mut Core, event: &TowerEvent) -> (TowerReply, TowerEnded)
     (told, ended_from(ended))
 }
 
-/// Carries out one event, as `tower_step` does, and tells which cached translations it ended: whoever keeps what the
-/// walks gave invalidates these on all processors before anything else is done. False where the handle has no core.
-/// Numbers that are no event, a refusal and a fault end none. What was ended is the kernel's to know, and not the
-/// process's.
+/// Carries out one event, as `tower_step` does, and reports which cached translations it ended. The caller invalidates
+/// these on all processors before anything else is done. False if the handle has no core. Numbers that are no event, a
+/// refusal and a fault end none. What was ended is for the kernel, and not for the process.
 #[unsafe(no_mangle)]
 pub extern "C" fn tower_step_ending(
     alloc: Global,

@@ -41,7 +41,7 @@ fn first_frame(verdict: &Verdict, frames: u32) -> Option<(u32, FrameClause)>
     None
 }
 
-/// Tells the first clause that fails of an image, by the verdict on it.
+/// Writes the first clause that fails of an image, by the verdict on it.
 fn tell(image: &Image, verdict: &Verdict, told: &mut TowerVerdict) -> u32
     requires { verdict.now ≡ verdict_on image.now }
     ensures statuses { (result ≢ 1) × (result ≢ 2) × (result ≤ 4) }
@@ -96,7 +96,7 @@ pub fn check_core(alloc: Global, core: &Core, told: &mut TowerVerdict) -> u32
     }
 }
 
-/// Checks the image that bytes spell.
+/// Checks the image in bytes.
 pub fn check_bytes(alloc: Global, bytes: &[u8], told: &mut TowerVerdict) -> u32
     ensures statuses { (result ≢ 1) × (result ≤ 5) }
     ensures sound { result ≡ 0 → SpellsOne bytes.now IsSound }

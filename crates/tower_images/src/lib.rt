@@ -1,5 +1,5 @@
-//! The image of the core that a handle of C's holds, and the check of an image, for C: an archive of its own beside
-//! that of the core.
+//! The image of the core in a handle of C's, and the check of an image, for C: an archive of its own, to link with that
+//! of the core.
 //!
 //! Each function allocates with `rattle_alloc`, and frees all of it before it ends. Only what a restored core needs stays
 //! allocated.
@@ -82,11 +82,11 @@ pub extern "C" fn tower_check(alloc: Global, tower: &mut Tower, verdict: &mut To
     }
 }
 
-/// Checks the image that bytes spell: 0 where it is sound. 3 where a process fails a clause: the first that does, and the
-/// number of the first clause that it fails, 1 to 7 for P1 to P7. 4 where no process fails one, but a frame does: the
-/// first, and the number of its clause, 1 to 5 for F1 to F5. 5 where the bytes spell no image, with the first reason
-/// against them: 1 not an image, 2 wrong length, 3 unknown version, 4 a field that breaks its rule, at that place. 2
-/// where there is no memory for the check. At 0 and 2 nothing is written.
+/// Checks the image in bytes. 0: it is sound. 2: there is no memory for the check. 3: a process fails a clause. The
+/// verdict has the first that does, and the number of the first clause that it fails, 1 to 7 for P1 to P7. 4: no
+/// process fails one, but a frame does. The verdict has the first, and the number of its clause, 1 to 5 for F1 to F5.
+/// 5: the bytes are no image, with the first reason against them. It is 1 not an image, 2 wrong length, 3 unknown
+/// version, 4 a field that breaks its rule, at that place. At 0 and 2 nothing is written.
 #[unsafe(no_mangle)]
 pub extern "C" fn tower_check_bytes(alloc: Global, bytes: &[u8], verdict: &mut TowerVerdict) -> u32
     ensures statuses { (result ≤ 5) × (result ≢ 1) }
@@ -100,9 +100,9 @@ pub extern "C" fn tower_check_bytes(alloc: Global, bytes: &[u8], verdict: &mut T
     check_bytes(alloc, bytes, verdict)
 }
 
-/// Restores a core from the image that bytes spell, without any offer: 0. Else the handle stays as it was: 1 where it has a
-/// core already; 2 where there is no memory for the image, its check or the core; 3, 4 and 5 as for
-/// `tower_check_bytes`; 6 where the image is of version 1.
+/// Restores a core from the image in bytes, without any offer, and returns 0. Otherwise the handle stays as it was. 1:
+/// it has a core already. 2: there is no memory for the image, its check or the core. 3, 4 and 5: as for
+/// `tower_check_bytes`. 6: the image is of version 1.
 #[unsafe(no_mangle)]
 pub extern "C" fn tower_restore(
     alloc: Global,

@@ -1,4 +1,4 @@
-//! A core of the image that bytes spell.
+//! A core of the image in bytes.
 
 ghost use Rattle.std.specs.Prelude.{◌≡◌, ◌≢◌, ◌≤◌, ◌⊎◌, IfOk, IfErr};
 ghost use Rattle.memory_image.specs.Sound.{IsSound};
@@ -12,7 +12,7 @@ use kernel_calls::Core;
 use memory_image::{ImageFault, read_image};
 use std::alloc::Global;
 
-/// Tells the first clause that fails of an image.
+/// Writes the first clause that fails of an image.
 fn tell_failed(failed: Failed, told: &mut TowerVerdict) -> u32
     ensures { (result ≡ 3) ⊎ (result ≡ 4) }
 {
@@ -34,7 +34,7 @@ fn tell_failed(failed: Failed, told: &mut TowerVerdict) -> u32
     }
 }
 
-/// A core of the image that bytes spell, or why there is none.
+/// Makes a core of the image in bytes, or returns why there is none.
 pub fn restore_bytes(alloc: Global, bytes: &[u8], told: &mut TowerVerdict) -> Result<Box<Core>, u32>
     ensures restored { IfOk result (λ core. SpellsOne bytes.now (StandsForCore core.value)) }
     ensures statuses { IfErr result (λ status. (status ≢ 0) × (status ≢ 1) × (status ≤ 6)) }

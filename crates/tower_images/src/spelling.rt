@@ -18,7 +18,7 @@ pub fn image_length(frames: u32) -> usize
     1548 + 4112 * frames as usize
 }
 
-/// The bytes that spell an image; None where there is no memory for them.
+/// The bytes of an image; None if there is no memory for them.
 fn bytes_of(alloc: Global, image: &Image) -> Option<Vec<u8>>
     ensures spelled { IfSome result (λ bytes. Spells bytes.items image.now) }
     ensures length { IfSome result (λ bytes. length bytes.items ≡ 1548 + 4112 * frames image.now) }
@@ -30,7 +30,7 @@ fn bytes_of(alloc: Global, image: &Image) -> Option<Vec<u8>>
     Some(bytes)
 }
 
-/// The bytes that spell the image of a core; None where there is no memory for them.
+/// The bytes of a core's image; None if there is no memory for them.
 fn core_bytes(alloc: Global, core: &Core) -> Option<Vec<u8>>
     ensures spelled { IfSome result (λ bytes. SpellsCore core.now bytes.items) }
     ensures length { IfSome result (λ bytes. length bytes.items ≡ image_length core.now) }
@@ -48,7 +48,7 @@ fn copy_to_front(from: &[u8], to: &mut [u8])
     to[..from.len()].copy_from_slice(from);
 }
 
-/// Writes the bytes that spell the image of a core at the front of others, where they have room for them.
+/// Writes the bytes of a core's image to the front of others, if these have room for them.
 pub fn write_core(alloc: Global, core: &Core, bytes: &mut [u8]) -> u32
     ensures statuses { (result ≤ 3) × (result ≢ 1) }
     ensures image { result ≡ 0 → SpellsCore core.now (take (image_length core.now) bytes.new) }

@@ -12,7 +12,7 @@ pub const TOO_SHORT: u32 = 3;
 pub const PROCESS_FAILS: u32 = 3;
 /// A frame fails a clause.
 pub const FRAME_FAILS: u32 = 4;
-/// The bytes spell no image.
+/// The bytes are no image.
 pub const NOT_IMAGE: u32 = 5;
 /// The tables of the image have the words of version 1.
 pub const OLD_WORDS: u32 = 6;

@@ -1,5 +1,6 @@
--- The answer to a command line, and what was read and written for each answer. DoesJob asked answer .. what a job with
--- that answer read and wrote AnswersWords words answer .. what a command line with that answer read and wrote
+-- The answer to a command line, and what was read and written for each answer.
+--     DoesJob asked answer ..      what a job with that answer read and wrote
+--     AnswersWords words answer ..      what a command line with that answer read and wrote
 use Rattle.std.specs.Prelude.{◌≡◌, ◌⊎◌, ℕ, List, true, false, Option, Some, None, IfSome}
 use Rattle.std.specs.Io.KnownBytes.{Appends, Keeps}
 use Rattle.clap.specs.Words.{HasKind, fault_of as clap_faults, subcommand_of}

@@ -1,7 +1,7 @@
 -- Races: what is written of all rounds.
 --     Raced      that so many rounds were played
 --     race_text rounds rows      the text of so many rounds, with the report of the last one
--- WritesAnswers the text of the answer to a referee's last question to a monitor
+--     WritesAnswers      the text of the answer to a referee's last question to a monitor
 --     EndsRace      what a race that ended by a fault wrote
 use Rattle.std.specs.Prelude.{◌≡◌, ℕ, ◌+◌, List, [], ◌∷◌, ◌++◌, length, All, Option, codes, decimal}
 use Rattle.std.specs.Io.KnownBytes.{Appends, Keeps}

@@ -147,7 +147,7 @@ fn answer_job<R: AllocGlobal + Files + Threads + Wait + Sync, I: Read, O: Write>
     }
 }
 
-/// Does what the words ask for, of which the first is the program's name. A race may wait.
+/// Does what the arguments request, of which the first is the program's name. A race may wait.
 pub fn answer<R: AllocGlobal + Files + Threads + Wait + Sync, S: AsStr, I: Read, O: Write>(
     rt: &R,
     words: &[S],

@@ -31,9 +31,8 @@ fn script_image<R: Read>(alloc: Global, reader: &mut R, frames: u32) -> Result<I
 /// Runs a script on a freshly booted machine of so many frames, and writes the image of the state that it
 /// ends in, in place of replies.
 ///
-/// The faults are those of `run_script`, by which nothing is written; but NoMemory comes also behind the
-/// script, where there is no memory for the image, and WriteFailed where the image can't be written: what
-/// was written is then a front of it.
+/// The faults are those of `run_script`, with which nothing is written. NoMemory comes also after the script, if there
+/// is no memory for the image. WriteFailed comes if the image can't be written: a prefix of it was written then.
 pub fn write_script_image<R: Read, W: Write>(
     alloc: Global,
     reader: &mut R,
@@ -50,11 +49,10 @@ pub fn write_script_image<R: Read, W: Write>(
     Ok(())
 }
 
-/// Makes a core of the image that bytes spell; None where that is not sound.
+/// Makes a core of the image in bytes; None if that is not sound.
 ///
-/// NotImage, BadVersion, BadLength and BadField where the bytes are no image, by the first reason against
-/// them; BadVersion too where the image is of version 1; NoMemory where there is none for the image, its check or the
-/// core.
+/// NotImage, BadVersion, BadLength and BadField if the bytes are no image, by the first reason against them. BadVersion
+/// also if the image is of version 1. NoMemory if there is none for the image, its check or the core.
 pub fn restore_bytes(alloc: Global, bytes: &[u8]) -> Result<Option<Core>, ToolFault>
     ensures restored { IfOk result (Restores bytes.now) }
 {
@@ -70,7 +68,7 @@ pub fn restore_bytes(alloc: Global, bytes: &[u8]) -> Result<Option<Core>, ToolFa
     }
 }
 
-/// Reads an image, writes the verdict on it, and says whether it is sound.
+/// Reads an image, writes the verdict on it, and returns whether it is sound.
 ///
 /// NotImage, BadVersion, BadLength and BadField where the bytes are no image, by the first reason against
 /// them; NoMemory where there is none for the image or its check: nothing is written then. WriteFailed

@@ -15,7 +15,7 @@ use tool_answers::{file_argument, file_in, frames_in, frames_option, number_in};
 /// How many rounds a race has where the command line does not say.
 const ROUNDS: u32 = 100;
 
-/// What the command line asks for.
+/// What the command line requests.
 #[derive(Clone, Copy, Debug, PartialEq, Eq)]
 pub enum Job<'a> {
     /// To run a script on a machine of so many frames.
@@ -142,7 +142,7 @@ fn race_in<'a>(matches: &ArgMatches<'a>) -> Option<Job<'a>>
     Some(Job::Race { frames, rounds })
 }
 
-/// The job of the subcommand of that name, by what was found behind it.
+/// The job of the subcommand of that name, by the arguments after it.
 fn job_named<'a>(name: &str, matches: &ArgMatches<'a>) -> Option<Job<'a>>
     ensures job { option_map as_asked result ≡ job_named name.now (rows_of (found_of matches.now)) }
     ensures rounds { IfSome result HasRounds }
@@ -169,8 +169,8 @@ fn job_named<'a>(name: &str, matches: &ArgMatches<'a>) -> Option<Job<'a>>
     }
 }
 
-/// The job that the words ask for, of which the first is the program's name. What they do not spell
-/// is refused by `clap`, with its own text; a call for help is refused so too.
+/// Returns the job that the arguments request, of which the first is the program's name. `clap` refuses all others,
+/// with its own text; so it does a call for help.
 pub fn job_of<'a, S: AsStr>(alloc: Global, words: &'a [S]) -> Result<Job<'a>, Error>
     // Ok comes only if `clap` finds no fault in the arguments. An error is OutOfMemory, or of a kind that `clap` finds.
     ensures fails { FailsBy (fault_of tower_app (map S.text words.now)) result }

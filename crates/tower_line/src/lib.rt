@@ -1,5 +1,5 @@
-//! The command line of `tower`: which of four jobs its words ask for; and its two jobs on images, the image of the
-//! state that a script ends in, and the check of one.
+//! The command line of `tower`: the job that its arguments request, and its jobs on images. These are the image of the
+//! state that a script ends in, the check of an image, and a core made of one.
 #![tactic(auto)]
 
 mod images;

@@ -12,7 +12,7 @@ pub(crate) struct Ended {
     pub(crate) errors: Vec<u8>,
 }
 
-/// What a program tells of an answer on standard error.
+/// The message of a program on standard error about an answer.
 fn told<R: AllocGlobal + Abort>(rt: &R, program: &str, answer: &Answer) -> Vec<u8> {
     let mut errors = Vec::new(rt.alloc());
     tell(program, answer, &mut errors)

@@ -3,7 +3,7 @@
 use std::process::Abort;
 use tower_line::write_script_image;
 
-/// Where the quota of process 0 stands in an image.
+/// The place of process 0's quota in an image.
 const QUOTA: usize = 20;
 
 /// The bytes of the image of 16 frames after no event.

@@ -1,5 +1,5 @@
-//! Tests of the programs' whole commands: their statuses, what they write and what they tell on standard error, and
-//! races of few rounds.
+//! Tests of the programs' whole commands: their statuses, what they write, their messages on standard error, and races
+//! of few rounds.
 #![tactic(auto)]
 
 #[cfg(test)]

@@ -1,4 +1,4 @@
-//! The exit statuses of the program that draws maps, what it writes, and what it tells on standard error.
+//! The exit statuses of the program that draws maps, what it writes, and its messages on standard error.
 
 use crate::command_lines::{Ended, check_answer, check_nothing_done, end_of};
 use crate::comparing::{same, same_bytes};
@@ -154,7 +154,7 @@ fn films_are_written_of_scripts(rt: HostRuntime) {
     check_film(&rt, &few, MAP, 2, "", BAD_SIZE);
 }
 
-/// Words with `--film` that ask for something else too are refused.
+/// Checks that arguments with `--film` that request something else too are refused.
 fn check_no_film<R: AllocGlobal + Files + Abort>(rt: &R, words: &[&str]) {
     check_nothing_done(rt, &answered(rt, words, MAP), 2, words);
 }
