@@ -5,6 +5,7 @@ is refused beside others is refused alone too, and one check of the crate tells 
 function, as of a constant, is never put beside another.
 """
 import re
+from typing import NamedTuple
 
 FUNCTION = re.compile(r"\s*(?:pub(?:\([a-z]+\))? )?(?:const )?(?:unsafe )?(?:extern \"C\" )?fn (\w+)")
 TOLD = re.compile(r"(?:note: )?(?:\./)?((?:src|proofs)/\S+?):(\d+):\d+: (.*)")
@@ -13,17 +14,57 @@ UNPROVED = "it is not proved that"
 NAMES_ALONE = re.compile(r"has no field|is not in scope|has no `|was not admitted")
 
 
+class Pair(NamedTuple):
+    """A pair of an edit: the file, the old text, the new one, and the function in which the old one is; "" for any."""
+    file: str
+    old: str
+    new: str
+    inside: str
+
+
 def pairs_of(text):
-    """The file, the old text and the new one of each pair of an edit."""
-    file, old, found = "", "", []
+    """The pairs of an edit. A line `in: fn NAME` holds for the pairs after it in the same file."""
+    file, old, inside, found = "", "", "", []
     for line in text.split("\n"):
         if line.startswith("file: "):
-            file = line[6:].strip()
+            file, inside = line[6:].strip(), ""
+        elif line.startswith("in: fn "):
+            inside = line[7:].strip()
         elif line.startswith("old: "):
             old = line[5:]
         elif line.startswith("new:"):
-            found.append((file, old, line[4:].removeprefix(" ")))
+            found.append(Pair(file, old, line[4:].removeprefix(" "), inside))
     return found
+
+
+def place_of(text, pair):
+    """The place at which a pair's old text is in a text: once in all of it, or once in its function. -1 otherwise."""
+    places = [found.start() for found in re.finditer(re.escape(pair.old), text)]
+    if pair.inside:
+        lines = text.split("\n")
+        functions = {at: function_at(lines, text.count("\n", 0, at)) for at in places}
+        places = [at for at in places if functions[at] and functions[at][0] == pair.inside]
+    return places[0] if len(places) == 1 else -1
+
+
+def marked(folder, edit):
+    """The texts of an edit's files in which each old text that is unique in its function only has a mark at the end of
+    its line, and the edit that names the marks. None if an old text isn't where it should be."""
+    texts, lines = {}, []
+    for pair in pairs_of(edit):
+        text = texts.get(pair.file) or (folder / pair.file).read_text(encoding="utf-8")
+        at = place_of(text, pair)
+        if at < 0:
+            return None
+        old, new = pair.old, pair.new
+        if pair.inside:
+            end = text.find("\n", at)
+            rest, mark = text[at + len(old):end].removesuffix(f" // in {pair.inside}"), f" // in {pair.inside}"
+            text = text[:at] + old + rest + mark + text[end:]
+            old, new = old + rest + mark, new + rest
+        texts[pair.file] = text
+        lines += [f"file: {pair.file}", f"old: {old}", f"new: {new}"]
+    return texts, "\n".join(lines) + "\n"
 
 
 def function_at(lines, place):
@@ -42,24 +83,26 @@ def function_at(lines, place):
 def functions_of(folder, text):
     """The functions that an edit turns, as the file and what `function_at` gives; None where one lies outside of any."""
     found = set()
-    for file, old, _ in pairs_of(text):
-        whole = (folder / file).read_text(encoding="utf-8")
-        place = whole[:whole.find(old) + len(old) - len(old.lstrip())].count("\n") if old in whole else -1
+    for pair in pairs_of(text):
+        whole = (folder / pair.file).read_text(encoding="utf-8")
+        at = place_of(whole, pair) if pair.inside else whole.find(pair.old)
+        place = whole[:at + len(pair.old) - len(pair.old.lstrip())].count("\n") if at >= 0 else -1
         function = function_at(whole.split("\n"), place) if place >= 0 else None
         if function is None:
             return None
-        found.add((file, function))
+        found.add((pair.file, function))
     return found
 
 
 def put_in(folder, texts, edit):
-    """The texts with an edit's pairs put in; None where an old text doesn't stand once."""
+    """The texts with an edit's pairs put in; None if an old text isn't there once."""
     texts = dict(texts)
-    for file, old, new in pairs_of(edit):
-        text = texts[file] if file in texts else (folder / file).read_text(encoding="utf-8")
-        if text.count(old) != 1:
+    for pair in pairs_of(edit):
+        text = texts[pair.file] if pair.file in texts else (folder / pair.file).read_text(encoding="utf-8")
+        at = place_of(text, pair)
+        if at < 0:
             return None
-        texts[file] = text.replace(old, new)
+        texts[pair.file] = text[:at] + pair.new + text[at + len(pair.old):]
     return texts
 
 

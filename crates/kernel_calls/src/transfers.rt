@@ -117,7 +117,7 @@ impl Core {
     {
         let reply = self.reply_to(&load_byte(pid, address));
         if !completes(&reply) {
-            return Some(reply); // of a load
+            return Some(reply);
         }
         self.load_mapped(pid, address, out);
         None
@@ -136,10 +136,10 @@ impl Core {
         while done < out.len() {
             let count = count_in_page(at, out.len() - done);
             if let Some(reply) = self.load_in_page(pid, at, &mut out[done..done + count]) {
-                return stopped_at(done, reply); // loads
+                return stopped_at(done, reply);
             }
             done += count;
-            at = Vaddr(at.0 + count as u32); // loads
+            at = Vaddr(at.0 + count as u32);
         }
         all_of(done)
     }
@@ -194,7 +194,7 @@ impl Core {
     {
         let reply = self.reply_to(&store_byte(pid, address, part[0]));
         if !completes(&reply) {
-            return Some(reply); // of a store
+            return Some(reply);
         }
         if part.len() > 1 {
             self.stands();
@@ -216,10 +216,10 @@ impl Core {
         while done < bytes.len() {
             let count = count_in_page(at, bytes.len() - done);
             if let Some(reply) = self.store_in_page(pid, at, &bytes[done..done + count]) {
-                return stopped_at(done, reply); // stores
+                return stopped_at(done, reply);
             }
             done += count;
-            at = Vaddr(at.0 + count as u32); // stores
+            at = Vaddr(at.0 + count as u32);
         }
         all_of(done)
     }

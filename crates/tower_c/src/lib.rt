@@ -135,7 +135,7 @@ pub extern "C" fn tower_step(
     match take(alloc, tower) {
         Some(mut core) => {
             *reply = step(&mut core, event);
-            put(tower, core); // after a step
+            put(tower, core);
             true
         }
         None => false,
@@ -236,7 +236,7 @@ pub extern "C" fn tower_step_ending(
             let told = step_ending(&mut core, event);
             *reply = told.0;
             *ended = told.1;
-            put(tower, core); // and what it ended is told
+            put(tower, core);
             true
         }
         None => false,

@@ -77,7 +77,7 @@ pub extern "C" fn tower_read(
             let told = read(&mut core, pid, address, bytes);
             *moved = told.0;
             *stop = told.1;
-            put(tower, core); // after a read
+            put(tower, core);
             true
         }
         None => false,
@@ -135,7 +135,7 @@ pub extern "C" fn tower_write(
             let told = write(&mut core, pid, address, bytes);
             *moved = told.0;
             *stop = told.1;
-            put(tower, core); // after a write
+            put(tower, core);
             true
         }
         None => false,

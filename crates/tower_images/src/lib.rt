@@ -53,7 +53,7 @@ pub extern "C" fn tower_image(
         Some(core) => {
             let status = write_core(alloc, &core, bytes);
             *size = image_length(core.frames());
-            put(tower, core); // after an image
+            put(tower, core);
             status
         }
         None => NO_CORE,
@@ -75,7 +75,7 @@ pub extern "C" fn tower_check(alloc: Global, tower: &mut Tower, verdict: &mut To
     match take(alloc, tower) {
         Some(core) => {
             let status = check_core(alloc, &core, verdict);
-            put(tower, core); // after a check
+            put(tower, core);
             status
         }
         None => NO_CORE,
