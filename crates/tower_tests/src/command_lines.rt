@@ -47,6 +47,13 @@ pub(crate) fn check_answer<R: AllocGlobal + Abort>(
     same_bytes(rt, &told(rt, program, answer), errors.as_bytes());
 }
 
+/// A command line came to this status, and these texts.
+pub(crate) fn check_ended(rt: &impl Abort, ended: &Ended, status: u8, output: &str, errors: &str) {
+    same(rt, &ended.status, &status);
+    same_bytes(rt, &ended.output, output.as_bytes());
+    same_bytes(rt, &ended.errors, errors.as_bytes());
+}
+
 /// Words came to this status, with nothing on standard output and something on standard error.
 pub(crate) fn check_nothing_done(rt: &impl Abort, ended: &Ended, status: u8, words: &[&str]) {
     let found = (

@@ -1,7 +1,6 @@
 //! The four exit statuses, what goes to standard output, and what is told on standard error.
 
-use crate::command_lines::{Ended, check_answer, check_nothing_done, end_of};
-use crate::comparing::{same, same_bytes};
+use crate::command_lines::{Ended, check_answer, check_ended, check_nothing_done, end_of};
 use crate::images::{opening, opening_with_quota};
 use base_tests::streams::FullWriter;
 use std::fs;
@@ -30,13 +29,6 @@ fn run<R: AllocGlobal + Files + Threads + Wait + Abort + Sync>(
     let mut output = Vec::new(rt.alloc());
     let answer = answer(rt, words, &mut script.as_bytes(), &mut output);
     end_of(rt, "tower", &answer, output)
-}
-
-/// A command line came to this status, and these texts.
-fn check_ended(rt: &impl Abort, ended: &Ended, status: u8, output: &str, errors: &str) {
-    same(rt, &ended.status, &status);
-    same_bytes(rt, &ended.output, output.as_bytes());
-    same_bytes(rt, &ended.errors, errors.as_bytes());
 }
 
 /// Words and a script come to this status, and these texts.
