@@ -1,4 +1,4 @@
-//! Scripts on the machine of an image, by the command line.
+//! Scripts that resume on the machine of an image, by the command line.
 
 use crate::command_lines::{Ended, check_ended, check_nothing_done, end_of};
 use crate::images::{image_after, opening, opening_of_version, opening_with_quota};
@@ -15,7 +15,7 @@ const REST: &str = "0 0 load 40000000 4\n0 0 map 40000 rw\n0 1 accept 0 40000 40
 
 const REPLIES: &str = "value 00000007\nrefused Mapped\nrefused NoOffer\nquota 15 3 5\n";
 
-/// What comes of `resume` with a file's name and a script.
+/// The outcome of `resume` with a file's name and a script.
 fn resume<R: AllocGlobal + Files + Threads + Wait + Abort + Sync>(
     rt: &R,
     name: &str,
@@ -27,7 +27,7 @@ fn resume<R: AllocGlobal + Files + Threads + Wait + Abort + Sync>(
     end_of(rt, "tower", &answer, output)
 }
 
-/// A script on the machine of a file of these bytes comes to this status, and these texts.
+/// A script that resumes on a file of these bytes ends with this status, and these texts.
 fn check_resume<R: AllocGlobal + Files + Threads + Wait + Abort + Sync>(
     rt: &R,
     bytes: &[u8],
@@ -43,7 +43,7 @@ fn check_resume<R: AllocGlobal + Files + Threads + Wait + Abort + Sync>(
     check_ended(rt, &ended, status, output, errors);
 }
 
-/// No script is run on the machine of a file of these bytes, which comes to this status and line.
+/// No script resumes on a file of these bytes: the status and the line say why.
 fn check_not_resumed<R: AllocGlobal + Files + Threads + Wait + Abort + Sync>(
     rt: &R,
     bytes: &[u8],
@@ -53,9 +53,9 @@ fn check_not_resumed<R: AllocGlobal + Files + Threads + Wait + Abort + Sync>(
     check_resume(rt, bytes, REST, status, "", errors);
 }
 
-/// All is there but the offer.
+/// The machine has all but the offer.
 #[test]
-fn a_script_is_run_from_an_image_on(rt: HostRuntime) {
+fn a_script_resumes_on_an_image(rt: HostRuntime) {
     let malformed = "0 0 load 40000000 4\n0 0 map\n";
     let line = "tower: line 2 is malformed\n";
     let image = image_after(&rt, FRONT);
@@ -65,7 +65,7 @@ fn a_script_is_run_from_an_image_on(rt: HostRuntime) {
 }
 
 #[test]
-fn no_script_is_run_from_another_file_on(rt: HostRuntime) {
+fn no_script_resumes_on_another_file(rt: HostRuntime) {
     let version = "tower: unknown image version\n";
     let missing = resume(&rt, "no.such.image", REST);
     check_not_resumed(&rt, &opening_with_quota(&rt, 16), 3, "");
@@ -76,7 +76,7 @@ fn no_script_is_run_from_another_file_on(rt: HostRuntime) {
 }
 
 #[test]
-fn resume_wants_the_name_of_a_file(rt: HostRuntime) {
+fn resume_requires_the_name_of_a_file(rt: HostRuntime) {
     let words = ["tower", "resume"];
     let mut output = Vec::new(rt.alloc());
     let answer = answer(&rt, &words, &mut REST.as_bytes(), &mut output);
