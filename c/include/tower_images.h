@@ -1,8 +1,8 @@
 /* Images of the kernel's core, for C: what libtower_images.a has, beside libtower_c.a. docs/IMAGES.md has an image's
  * bytes and the clauses of its check, docs/C-LIBRARY.md what is proved of each function.
  *
- * What tower.h asks of handles, calls, pointers and slices holds here too. These functions take memory from
- * rattle_alloc, and give all of it back before they end.
+ * What tower.h requires of handles, calls, pointers and slices holds here too. These functions allocate with
+ * rattle_alloc, and free all of it before they return, except what a restored core needs until tower_free.
  */
 #ifndef TOWER_IMAGES_H
 #define TOWER_IMAGES_H

@@ -7,8 +7,9 @@
  *    the last frame the block keeps the core's book: TOWER_BOOK_BYTES of the number of frames.
  *  - From tower_boot_over until tower_free the block is the core's. After tower_free it is the caller's again, with
  *    whatever bytes it has then, and may be handed over anew.
- *  - tower_boot_over, and tower_free of a core over a block, come one at a time, whatever their handles are: a kernel
- *    holds one lock over all of them. Other calls need no such lock.
+ *  - Calls that allocate or free come one at a time, whatever their handles are: a kernel holds one lock over
+ *    tower_boot_over, each other boot, tower_free, and the calls of tower_images.h; and over tower_holds and
+ *    tower_set_other_heap. The blocks are one list for the whole program. Other calls need no such lock.
  */
 #ifndef TOWER_REGION_H
 #define TOWER_REGION_H
@@ -30,8 +31,8 @@ extern "C" {
  * TOWER_MIN_FRAMES. */
 uint32_t tower_frames_within(size_t size);
 
-/* Beside the answers of tower_boot_wide: the block isn't whole pages at a multiple of 4,096, is too small for so many
- * frames, or shares a byte with the block of a core that is booted. */
+/* In addition to the answers of tower_boot_wide: the block is NULL, isn't whole pages at a multiple of 4,096, ends at or
+ * past 2 to the 64, is too small for so many frames, or shares a byte with the block of a core that is booted. */
 #define TOWER_BAD_BLOCK 4
 
 /* Boots a core of so many frames over a block. All but TOWER_BOOTED leave the block the caller's; its bytes may have

@@ -1,6 +1,6 @@
 //! Roles of frames.
 use alloc_table::{FrameTable, Role, weights_add_up};
-use page_words::{MachineFault, Pid};
+use page_words::{Frame, MachineFault, Pid};
 use std::process::Abort;
 use std::test::Fail;
 
@@ -57,6 +57,19 @@ fn frees_a_table(rt: HostRuntime) -> Result<(), Fail> {
     let mut table = FrameTable::new(rt.alloc(), 16)?;
     check_taken(&rt, &mut table, Pid::new(1).expect(&rt, "1 is below 64"));
     weights_add_up();
+    Ok(())
+}
+
+#[test]
+fn has_the_roles_that_it_is_given(rt: HostRuntime) -> Result<(), Fail> {
+    let mut roles = vec![in rt.alloc(); Role::Free; 16]?;
+    roles[0] = Role::Reserved;
+    roles[3] = PAGE;
+    let mut table = FrameTable::of_roles(rt.alloc(), roles)?;
+    assert_eq!(rt; (table.role(Frame(3)), table.free_count()), (PAGE, 14));
+    assert!(rt; table.role(Frame(3)) == PAGE);
+    assert!(rt; table.release(Frame(3)));
+    assert_eq!(rt; table.free_count(), 15);
     Ok(())
 }
 

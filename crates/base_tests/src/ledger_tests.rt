@@ -35,6 +35,17 @@ fn takes_again_what_was_put_back(rt: HostRuntime) -> Result<(), Fail> {
 }
 
 #[test]
+fn a_full_ledger_has_only_what_is_put_back(rt: HostRuntime) -> Result<(), Fail> {
+    let mut ledger = Ledger::full(rt.alloc(), 16)?;
+    assert_eq!(rt; (ledger.free_count(), ledger.take()), (0, None));
+    assert!(rt; !ledger.is_free(Frame(3)));
+    ledger.put_back(Frame(3));
+    assert_eq!(rt; ledger.free_count(), 1);
+    assert_eq!(rt; (ledger.take(), ledger.take()), (Some(Frame(3)), None));
+    Ok(())
+}
+
+#[test]
 fn takes_more_frames_where_it_is_wide(rt: HostRuntime) {
     let sizes = [15, 4097, 1048576, 1048577].map(|frames| Ledger::wide(rt.alloc(), frames).map(
         |ledger| ledger.free_count(),

@@ -23,6 +23,19 @@ fn writes_and_copies(rt: HostRuntime) -> Result<(), Fail> {
     Ok(())
 }
 
+#[test]
+fn holds_the_bytes_that_it_is_given(rt: HostRuntime) -> Result<(), Fail> {
+    let mut bytes = vec![in rt.alloc(); 0u8; 65536]?;
+    bytes[0x4000] = 0xab;
+    let memory = Memory::of_bytes(bytes, 16);
+    assert_eq!(rt; memory.frames(), 16);
+    assert_eq!(rt;
+        [memory.read_byte(0x3fff), memory.read_byte(0x4000)],
+        [0x00, 0xab]
+    );
+    Ok(())
+}
+
 /// How many frames a memory has, where all its bytes are there and 0.
 fn blank(alloc: Global, frames: u32) -> Result<u32, MemoryFault> {
     let memory = Memory::new(alloc, frames)?;

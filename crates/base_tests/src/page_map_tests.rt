@@ -3,7 +3,10 @@ ghost use Rattle.std.specs.Prelude.{◌≡◌, IfOk, length};
 ghost use Rattle.phys_memory.specs.Bytes.{frame_bytes};
 ghost use Rattle.page_map.specs.Entries.{IsPageMap, IsFreshTable};
 
-use page_map::{PageEntry, clear_entry, entry, has_table, link_table, next_page, pages, set_entry};
+use page_map::{
+    PageEntry, clear_entry, entry, has_table, link_table, next_page, pages, set_entry,
+    words_present,
+};
 use page_words::{Frame, Page};
 use phys_memory::{Memory, MemoryFault};
 use std::alloc::Global;
@@ -51,5 +54,18 @@ fn maps_and_clears_a_page(rt: HostRuntime) -> Result<(), Fail> {
     assert!(rt; has_table(&memory, directory, 256));
     assert_eq!(rt; clear_entry(&mut memory, directory, page), Some(Frame(2)));
     assert_eq!(rt; pages(&memory, directory), 0);
+    Ok(())
+}
+
+/// A real page's word and a lazy one's are present, and a word without P isn't.
+#[test]
+fn counts_the_present_words_of_a_table(rt: HostRuntime) -> Result<(), Fail> {
+    let mut memory = Memory::new(rt.alloc(), 16)?;
+    assert_eq!(rt; words_present(&memory, Frame(2)), 0);
+    memory.write_word(0x2000, 0x3a67);
+    memory.write_word(0x2004, 0x3a66);
+    memory.write_word(0x2ffc, 0x0605);
+    memory.write_word(0x3000, 0x3a67);
+    assert_eq!(rt; words_present(&memory, Frame(2)), 2);
     Ok(())
 }

@@ -31,14 +31,14 @@ fn live(rt: &impl Abort, core: &Core) -> [bool; 6] {
     [0, 1, 2, 3, 4, 5].map(|number| core.container(process(rt, number)).is_some())
 }
 
-/// A family can't be ended, for this cause.
+/// A family is not ended, for this cause.
 fn refuses_to_end(rt: &impl Abort, core: &mut Core, number: u8, cause: Cause) {
     let pid = process(rt, number);
     let mut exited = [pid; 64];
     same(rt, &core.end_family(pid, &mut exited), &Err(cause));
 }
 
-/// Process 1 with its child 2 and that one's child 3 is ended, and process 4 isn't.
+/// Process 2 is a child of process 1, and process 3 of process 2. Process 4 is not of the family.
 #[test]
 fn ends_a_family_from_its_leaves_up(rt: HostRuntime) -> Result<(), Fail> {
     let mut core = Core::boot(rt.alloc(), 32)?;
@@ -77,7 +77,7 @@ fn ends_a_family_from_its_leaves_up(rt: HostRuntime) -> Result<(), Fail> {
     Ok(())
 }
 
-/// The root's page goes to a process too, at one of its pages.
+/// A process accepts the root's page, as one of its own pages.
 fn share(rt: &impl Abort, core: &mut Core, number: u8, page: Page) {
     let (target, write) = (process(rt, number), true);
     let offer = Call::Offer {
@@ -114,7 +114,7 @@ fn shared<R: AllocGlobal + Abort>(rt: &R) -> Core {
     core
 }
 
-/// The next page from there on at which a process has the page of a slot too.
+/// The lowest page, from there on, at which a process shares the page of a slot.
 fn beside(rt: &impl Abort, core: &Core, slot: (u8, u32), holder: u8, from: u32, page: Option<u32>) {
     let (pid, own) = (process(rt, slot.0), Page(slot.1));
     assert!(rt; page_words::in_user_range(own));
@@ -140,7 +140,7 @@ fn holder(rt: &impl Abort, number: u8, page: u32) -> Holder {
     Holder { pid, page }
 }
 
-/// The root's page is its own: its bytes and flags as they were, and process 1 and 2 have it no more.
+/// Only the root has its page, with bytes and flags as before.
 fn check_alone(rt: &impl Abort, core: &mut Core) {
     let info = Reply::Info {
         write: true,
@@ -188,7 +188,7 @@ fn takes_a_page_back_from_all_others(rt: HostRuntime) {
     check_alone(&rt, &mut core);
 }
 
-/// The root's page is taken back from one slot, where there is one; so many were.
+/// The root takes its page back from so many slots, with a list of one: this slot, or what the list had.
 fn takes_one(rt: &impl Abort, core: &mut Core, count: usize, slot: Holder) {
     let mut lost = [holder(rt, 0, 0)];
     same(
@@ -209,7 +209,7 @@ fn takes_a_page_back_slot_by_slot(rt: HostRuntime) {
     check_alone(&rt, &mut core);
 }
 
-/// A page can't be taken back, for this cause.
+/// A page is not taken back, for this cause.
 fn refuses_to_take(rt: &impl Abort, core: &mut Core, number: u8, page: u32, cause: Cause) {
     let mut lost = [];
     same(

@@ -1,4 +1,4 @@
-//! What a kernel does with a page of a process: it clears marks, copies bytes out, and puts bytes in.
+//! What a kernel does with a page of a process: it clears marks, copies bytes out, and installs bytes.
 
 use crate::common::same;
 use kernel_calls::{Call, Cause, Core, Event, Page, Pid, Reply, Size, Vaddr};
@@ -33,7 +33,7 @@ fn map(rt: &impl Abort, core: &mut Core, page: Page, write: bool) {
     check(rt, core, 0, Call::Map { page, write }, Reply::Done);
 }
 
-/// The root's page goes to process 1 too, at HIGH, with the right to write or without it.
+/// Process 1 accepts the root's page LOW as its page HIGH, with that right.
 fn share(rt: &impl Abort, core: &mut Core, write: bool) {
     let (giver, target) = (process(rt, 0), process(rt, 1));
     let offer = Call::Offer {
@@ -64,7 +64,7 @@ fn info(rt: &impl Abort, core: &mut Core, number: u8, page: Page, flags: [bool; 
     check(rt, core, number, Call::Info { page }, info);
 }
 
-/// The root's next page from LOW on is LOW, and clears its marks: it was dirty or not.
+/// The root's first page is LOW. Its marks are cleared; it was dirty or not.
 fn clean(rt: &impl Abort, core: &mut Core, dirty: bool) {
     let root = process(rt, 0);
     let page = core.next_page(root, LOW).expect(rt, "a mapped page");
@@ -78,7 +78,7 @@ fn next_dirty(rt: &impl Abort, core: &Core, from: Page, page: Option<Page>) {
 }
 
 #[test]
-fn clears_marks_and_tells_whether_a_page_was_dirty(rt: HostRuntime) -> Result<(), Fail> {
+fn clears_marks_and_returns_whether_a_page_was_dirty(rt: HostRuntime) -> Result<(), Fail> {
     let mut core = Core::boot(rt.alloc(), 16)?;
     let (addr, size) = (ADDRESS, Size::Four);
     store(&rt, &mut core, Reply::Done);
@@ -101,7 +101,7 @@ fn clears_marks_and_tells_whether_a_page_was_dirty(rt: HostRuntime) -> Result<()
     Ok(())
 }
 
-/// So many bytes of a process from an address on are copied, and those behind them stay 9.
+/// So many bytes of a process are copied from an address on; the rest stay 9.
 fn peek(rt: &impl Abort, core: &Core, number: u8, at: Vaddr, count: usize, bytes: [u8; 6]) {
     let mut out = [9; 6];
     same(rt, &core.peek(process(rt, number), at, &mut out), &count);
@@ -127,7 +127,7 @@ fn copies_bytes_up_to_a_hole_and_marks_nothing(rt: HostRuntime) -> Result<(), Fa
     Ok(())
 }
 
-/// The bytes 1 to 4 go to an address of a process, or the event that would let them answers this.
+/// The bytes 1 to 4 are installed at an address of a process, or refused with this reply.
 fn install(
     rt: &impl Abort,
     core: &mut Core,
@@ -142,7 +142,7 @@ fn install(
 }
 
 #[test]
-fn puts_bytes_into_a_page_and_leaves_its_right(rt: HostRuntime) -> Result<(), Fail> {
+fn installs_bytes_and_leaves_the_right(rt: HostRuntime) -> Result<(), Fail> {
     let mut core = Core::boot(rt.alloc(), 16)?;
     let (addr, size) = (ADDRESS, Size::Four);
     map(&rt, &mut core, LOW, false);
@@ -172,7 +172,7 @@ fn puts_bytes_into_a_page_and_leaves_its_right(rt: HostRuntime) -> Result<(), Fa
 
 /// Process 1 may never write to its page, and page 3ffff lies below the user range.
 #[test]
-fn puts_no_bytes_where_no_right_comes(rt: HostRuntime) -> Result<(), Fail> {
+fn installs_no_bytes_without_a_right(rt: HostRuntime) -> Result<(), Fail> {
     let mut core = Core::boot(rt.alloc(), 16)?;
     let (rights, page) = (
         Reply::Refused(Cause::Rights),

@@ -27,8 +27,7 @@ fn store(pid: Pid, value: u32) -> Event {
     event(pid, Call::Store { addr, size, value })
 }
 
-/// Turns of each kind, of which three are not taken. The walk finds no page, the store finds a lazy page, and the mark
-/// changes a word that no event shows.
+/// Turns of each kind. Two are not taken: the first walk finds no page, and the first store finds a lazy one.
 fn turns(pid: Pid) -> [Turn; 9] {
     let page = PAGE;
     let map = event(pid, Call::Map { page, write: true });
@@ -49,7 +48,7 @@ fn turns(pid: Pid) -> [Turn; 9] {
     ]
 }
 
-/// The reply or value of each of them.
+/// What each of them returns; a mark returns nothing.
 const TOLD: [Option<Reply>; 9] = [
     None,
     Some(Reply::Done),
@@ -62,14 +61,14 @@ const TOLD: [Option<Reply>; 9] = [
     Some(Reply::Value(9)),
 ];
 
-/// What each of them ends: the first store that is carried out gives the lazy page its frame.
+/// What each of them ends. The first store that is carried out gives the lazy page its frame.
 fn ended(pid: Pid) -> [Ended; 9] {
     let mut ended = [Ended::Nothing; 9];
     ended[4] = Ended::Page { pid, page: PAGE };
     ended
 }
 
-/// The events of those that are taken, as the core itself answers them.
+/// The core's own replies to the events of the turns that are taken.
 fn replies<R: AllocGlobal + Abort>(rt: &R) -> [Reply; 6] {
     let pid = root(rt);
     let mut core = Core::boot(rt.alloc(), 16).ok().expect(rt, "a core");
@@ -92,7 +91,7 @@ fn replies<R: AllocGlobal + Abort>(rt: &R) -> [Reply; 6] {
 }
 
 #[test]
-fn turns_tell_what_events_are_answered(rt: HostRuntime) -> Result<(), Fail> {
+fn turns_have_the_replies_of_their_events(rt: HostRuntime) -> Result<(), Fail> {
     let mut core = Core::boot(rt.alloc(), 16)?;
     let pid = root(&rt);
     let mut told = [None; 9];
@@ -109,13 +108,13 @@ fn turns_tell_what_events_are_answered(rt: HostRuntime) -> Result<(), Fail> {
     Ok(())
 }
 
-/// Checks the reply or value of a turn, and what it ends.
+/// A turn returns this, and ends this.
 fn check(rt: &impl Abort, core: &mut Core, turn: Turn, told: Option<Reply>, ended: Ended) {
     same(rt, &core.turn(&turn), &(told, ended));
 }
 
 #[test]
-fn a_turn_is_taken_where_it_can_be(rt: HostRuntime) -> Result<(), Fail> {
+fn a_turn_is_taken_if_it_can_be(rt: HostRuntime) -> Result<(), Fail> {
     let mut core = Core::boot(rt.alloc(), 16)?;
     let (pid, page, nothing) = (root(&rt), PAGE, Ended::Nothing);
     let nobody = Pid::new(9).expect(&rt, "9 is below 64");

@@ -1,4 +1,4 @@
-//! Cores of images: they continue as the old core does, and an image that fails a clause gives no core.
+//! Cores restored from images: they continue as the old core does, and an image that fails a clause is refused.
 
 use crate::common::{call, image_in, image_of, other_bytes, process, shared_both_ways, spelled};
 use crate::comparing::{same, same_bytes};
@@ -26,7 +26,7 @@ fn reply(rt: &impl Abort, core: &mut Core, number: u8, call: Call) -> Reply {
     core.step(&Event { cpu: 0, pid, call })
 }
 
-/// The replies to calls of two processes that share a page, and then don't.
+/// The replies to calls of two processes that first share a page.
 fn replies(rt: &impl Abort, core: &mut Core) -> [Reply; 6] {
     let (addr, size) = (Vaddr(0x4000_0000), Size::Four);
     [
@@ -67,7 +67,7 @@ fn check_alike<R: AllocGlobal + Abort>(rt: &R, core: &Core, other: &Core) {
 }
 
 #[test]
-fn a_restored_core_goes_on_as_the_old_one(rt: HostRuntime) {
+fn a_restored_core_continues_as_the_old_one(rt: HostRuntime) {
     let mut core = shared_both_ways(&rt);
     let mut other = restored(&rt, image_of(&rt, &core));
     check_alike(&rt, &core, &other);
@@ -76,7 +76,7 @@ fn a_restored_core_goes_on_as_the_old_one(rt: HostRuntime) {
     check_alike(&rt, &core, &other);
 }
 
-/// Process 1 accepts process 0's offer, or doesn't.
+/// Process 1 requests the page that process 0 offered, with this reply.
 fn check_accept(rt: &impl Abort, core: &mut Core, expected: Reply) {
     let giver = process(rt, 0);
     let accept = Call::Accept {
@@ -102,7 +102,7 @@ fn a_restored_core_has_no_offer(rt: HostRuntime) {
     check_accept(&rt, &mut other, Reply::Refused(Cause::NoOffer));
 }
 
-/// No core comes of the other kernel's image of a version, with these words put to it, for this reason.
+/// The other kernel's image of a version, with these words put to it, is refused for this reason.
 fn check_refused<R: AllocGlobal + Abort>(
     rt: &R,
     version: u32,
@@ -114,9 +114,9 @@ fn check_refused<R: AllocGlobal + Abort>(
     same(rt, &made.err(), &Some(fault));
 }
 
-/// The first process that fails a clause, or the first frame.
+/// The reason is the first process that fails a clause; if none does, the first frame.
 #[test]
-fn no_core_comes_of_an_image_that_is_not_sound(rt: HostRuntime) {
+fn an_image_that_is_not_sound_is_refused(rt: HostRuntime) {
     let quota = Failed::Process {
         pid: process(&rt, 0),
         clause: ProcessClause::Parent,
@@ -137,7 +137,7 @@ fn no_core_comes_of_an_image_that_is_not_sound(rt: HostRuntime) {
 }
 
 #[test]
-fn a_script_goes_on_from_another_kernels_image(rt: HostRuntime) {
+fn a_script_resumes_on_another_kernels_image(rt: HostRuntime) {
     let bytes = other_bytes(&rt, 2, PAGE_WORDS[2], &[]);
     let core = restored(&rt, image_in(&rt, bytes.as_slice()));
     let mut script: &[u8] = b"0 1 load 50000000 4\n0 0 info 40000\n0 1 quota\n0 0 spawn 8\n";

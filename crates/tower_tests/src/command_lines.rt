@@ -1,10 +1,10 @@
-//! The outcome of a command line.
+//! What came of a command line.
 
 use crate::comparing::{same, same_bytes};
 use std::process::Abort;
 use tool_answers::{Answer, status_of, tell};
 
-/// The outcome of a command line: its status, and the bytes of standard output and standard error.
+/// What came of a command line: its status, and the bytes of standard output and standard error.
 #[derive(Drop)]
 pub(crate) struct Ended {
     pub(crate) status: u8,
@@ -12,7 +12,7 @@ pub(crate) struct Ended {
     pub(crate) errors: Vec<u8>,
 }
 
-/// The message of a program on standard error about an answer.
+/// What a program tells of an answer on standard error.
 fn told<R: AllocGlobal + Abort>(rt: &R, program: &str, answer: &Answer) -> Vec<u8> {
     let mut errors = Vec::new(rt.alloc());
     tell(program, answer, &mut errors)
@@ -21,7 +21,7 @@ fn told<R: AllocGlobal + Abort>(rt: &R, program: &str, answer: &Answer) -> Vec<u
     errors
 }
 
-/// Returns the outcome of a program's answer, with the output written before it.
+/// What a program's answer comes to, with what was written before.
 pub(crate) fn end_of<R: AllocGlobal + Abort>(
     rt: &R,
     program: &str,
@@ -47,7 +47,14 @@ pub(crate) fn check_answer<R: AllocGlobal + Abort>(
     same_bytes(rt, &told(rt, program, answer), errors.as_bytes());
 }
 
-/// Checks a status, an empty standard output, and a message on standard error.
+/// A command line came to this status, and these texts.
+pub(crate) fn check_ended(rt: &impl Abort, ended: &Ended, status: u8, output: &str, errors: &str) {
+    same(rt, &ended.status, &status);
+    same_bytes(rt, &ended.output, output.as_bytes());
+    same_bytes(rt, &ended.errors, errors.as_bytes());
+}
+
+/// Words came to this status, with nothing on standard output and something on standard error.
 pub(crate) fn check_nothing_done(rt: &impl Abort, ended: &Ended, status: u8, words: &[&str]) {
     let found = (
         words,

@@ -3,26 +3,42 @@
 use std::process::Abort;
 use tower_line::write_script_image;
 
-/// The place of process 0's quota in an image.
-const QUOTA: usize = 20;
+/// Where the version stands in an image, and the quota of process 0.
+const VERSION: u8 = 4;
 
-/// The bytes of the image of 16 frames after no event.
-pub(crate) fn opening<R: AllocGlobal + Abort>(rt: &R) -> Vec<u8> {
+const QUOTA: u8 = 20;
+
+/// The bytes of the image of 16 frames after a script.
+pub(crate) fn image_after<R: AllocGlobal + Abort>(rt: &R, script: &str) -> Vec<u8> {
     let mut bytes = Vec::new(rt.alloc());
-    let mut script: &[u8] = b"";
-    write_script_image(rt.alloc(), &mut script, &mut bytes, 16)
+    write_script_image(rt.alloc(), &mut script.as_bytes(), &mut bytes, 16)
         .ok()
         .expect(rt, "an image after a script");
     bytes
 }
 
-/// The bytes of the image of 16 frames after no event, with this quota for process 0.
-pub(crate) fn opening_with_quota<R: AllocGlobal + Abort>(rt: &R, quota: u32) -> Vec<u8> {
+/// The bytes of the image of 16 frames after no event.
+pub(crate) fn opening<R: AllocGlobal + Abort>(rt: &R) -> Vec<u8> {
+    image_after(rt, "")
+}
+
+/// The same with a word put to a place.
+fn opening_with<R: AllocGlobal + Abort>(rt: &R, place: u8, word: u32) -> Vec<u8> {
     let mut bytes = opening(rt);
-    for (i, byte) in quota.to_le_bytes().iter().enumerate() {
-        if let Some(old) = bytes.get_mut(QUOTA + i) {
+    for (i, byte) in word.to_le_bytes().iter().enumerate() {
+        if let Some(old) = bytes.get_mut(place as usize + i) {
             *old = *byte;
         }
     }
     bytes
+}
+
+/// The same, of which process 0 has this quota.
+pub(crate) fn opening_with_quota<R: AllocGlobal + Abort>(rt: &R, quota: u32) -> Vec<u8> {
+    opening_with(rt, QUOTA, quota)
+}
+
+/// The same in another version.
+pub(crate) fn opening_of_version<R: AllocGlobal + Abort>(rt: &R, version: u32) -> Vec<u8> {
+    opening_with(rt, VERSION, version)
 }

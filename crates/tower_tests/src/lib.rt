@@ -13,4 +13,6 @@ mod map_status_tests;
 #[cfg(test)]
 mod race_tests;
 #[cfg(test)]
+mod resume_tests;
+#[cfg(test)]
 mod status_tests;

@@ -1,7 +1,6 @@
-//! The four exit statuses, with what is written to standard output and standard error.
+//! The four exit statuses, what goes to standard output, and what is told on standard error.
 
-use crate::command_lines::{Ended, check_answer, check_nothing_done, end_of};
-use crate::comparing::{same, same_bytes};
+use crate::command_lines::{Ended, check_answer, check_ended, check_nothing_done, end_of};
 use crate::images::{opening, opening_with_quota};
 use base_tests::streams::FullWriter;
 use std::fs;
@@ -21,7 +20,7 @@ const ONE_ROUND: &str =
 
 const BAD_SIZE: &str = "tower: frames must be 16 to 4096\n";
 
-/// Runs a command line, with a script on standard input.
+/// What comes of words and a script on standard input.
 fn run<R: AllocGlobal + Files + Threads + Wait + Abort + Sync>(
     rt: &R,
     words: &[&str],
@@ -32,14 +31,7 @@ fn run<R: AllocGlobal + Files + Threads + Wait + Abort + Sync>(
     end_of(rt, "tower", &answer, output)
 }
 
-/// Checks a status and the two output texts.
-fn check_ended(rt: &impl Abort, ended: &Ended, status: u8, output: &str, errors: &str) {
-    same(rt, &ended.status, &status);
-    same_bytes(rt, &ended.output, output.as_bytes());
-    same_bytes(rt, &ended.errors, errors.as_bytes());
-}
-
-/// Checks the outcome of a command line with a script: status and both texts.
+/// Words and a script come to this status, and these texts.
 fn check_run<R: AllocGlobal + Files + Threads + Wait + Abort + Sync>(
     rt: &R,
     words: &[&str],
@@ -79,7 +71,7 @@ fn refused_words_end_with_status_2(rt: HostRuntime) {
     check_refused(&rt, &["tower", "help"]);
 }
 
-/// Checks a file of these bytes with `tower check`.
+/// What comes of checking a file of these bytes.
 fn run_on_file<R: AllocGlobal + Files + Threads + Wait + Abort + Sync>(
     rt: &R,
     bytes: &[u8],
@@ -91,7 +83,7 @@ fn run_on_file<R: AllocGlobal + Files + Threads + Wait + Abort + Sync>(
     ended
 }
 
-/// Checks the outcome of `tower check` on a file of these bytes: status and both texts.
+/// A file of these bytes comes to this status, and these texts.
 fn check_file<R: AllocGlobal + Files + Threads + Wait + Abort + Sync>(
     rt: &R,
     bytes: &[u8],

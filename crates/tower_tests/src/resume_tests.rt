@@ -1,0 +1,84 @@
+//! Scripts that resume on the machine of an image, by the command line.
+
+use crate::command_lines::{Ended, check_ended, check_nothing_done, end_of};
+use crate::images::{image_after, opening, opening_of_version, opening_with_quota};
+use std::fs;
+use std::fs::Files;
+use std::process::Abort;
+use std::sync::Wait;
+use std::thread::Threads;
+use tower_jobs::answer;
+
+const FRONT: &str = "0 0 store 40000000 4 7\n0 0 spawn 5\n0 0 offer 40000 1 rw\n";
+
+const REST: &str = "0 0 load 40000000 4\n0 0 map 40000 rw\n0 1 accept 0 40000 40000\n0 0 quota\n";
+
+const REPLIES: &str = "value 00000007\nrefused Mapped\nrefused NoOffer\nquota 15 3 5\n";
+
+/// The outcome of `resume` with a file's name and a script.
+fn resume<R: AllocGlobal + Files + Threads + Wait + Abort + Sync>(
+    rt: &R,
+    name: &str,
+    script: &str,
+) -> Ended {
+    let mut output = Vec::new(rt.alloc());
+    let words = ["tower", "resume", name];
+    let answer = answer(rt, &words, &mut script.as_bytes(), &mut output);
+    end_of(rt, "tower", &answer, output)
+}
+
+/// A script that resumes on a file of these bytes ends with this status, and these texts.
+fn check_resume<R: AllocGlobal + Files + Threads + Wait + Abort + Sync>(
+    rt: &R,
+    bytes: &[u8],
+    script: &str,
+    status: u8,
+    output: &str,
+    errors: &str,
+) {
+    let name = "resumed.by.a.test.image";
+    fs::write(rt, name, bytes).ok().expect(rt, "a file");
+    let ended = resume(rt, name, script);
+    fs::remove_file(rt, name).ok().expect(rt, "no file");
+    check_ended(rt, &ended, status, output, errors);
+}
+
+/// No script resumes on a file of these bytes: the status and the line say why.
+fn check_not_resumed<R: AllocGlobal + Files + Threads + Wait + Abort + Sync>(
+    rt: &R,
+    bytes: &[u8],
+    status: u8,
+    errors: &str,
+) {
+    check_resume(rt, bytes, REST, status, "", errors);
+}
+
+/// The machine has all but the offer.
+#[test]
+fn a_script_resumes_on_an_image(rt: HostRuntime) {
+    let malformed = "0 0 load 40000000 4\n0 0 map\n";
+    let line = "tower: line 2 is malformed\n";
+    let image = image_after(&rt, FRONT);
+    check_resume(&rt, &image, REST, 0, REPLIES, "");
+    check_resume(&rt, &image, malformed, 2, "value 00000007\n", line);
+    check_resume(&rt, &opening(&rt), "0 0 quota\n", 0, "quota 15 1 0\n", "");
+}
+
+#[test]
+fn no_script_resumes_on_another_file(rt: HostRuntime) {
+    let version = "tower: unknown image version\n";
+    let missing = resume(&rt, "no.such.image", REST);
+    check_not_resumed(&rt, &opening_with_quota(&rt, 16), 3, "");
+    check_not_resumed(&rt, &opening_of_version(&rt, 1), 2, version);
+    check_not_resumed(&rt, &opening_of_version(&rt, 3), 2, version);
+    check_not_resumed(&rt, b"mC2", 2, "tower: not an image\n");
+    check_ended(&rt, &missing, 1, "", "tower: read failed\n");
+}
+
+#[test]
+fn resume_requires_the_name_of_a_file(rt: HostRuntime) {
+    let words = ["tower", "resume"];
+    let mut output = Vec::new(rt.alloc());
+    let answer = answer(&rt, &words, &mut REST.as_bytes(), &mut output);
+    check_nothing_done(&rt, &end_of(&rt, "tower", &answer, output), 2, &words);
+}
