@@ -1,6 +1,6 @@
-# The archives of crates/tower_c and crates/tower_images, $(LIB) and $(IMAGES), built anew where anything that they
-# stand on has changed. Each is proved first: an archive is built of a proved crate alone. TOWER is the repository's
-# folder. The sources' folders are among the sources: a folder changes where a file comes or goes.
+# The archives of crates/tower_c and crates/tower_images, $(LIB) and $(IMAGES), rebuilt if anything that they depend
+# on has changed. Each is proved first: an archive is built only from a proved crate. TOWER is the repository's
+# folder. The sources' folders are among the sources: a folder changes when a file is added or removed.
 LIB = $(TOWER)/crates/tower_c/out/libtower_c.a
 IMAGES = $(TOWER)/crates/tower_images/out/libtower_images.a
 sources_of = $(shell find $(foreach crate,$(shell $(TOWER)/c/below $(1)),$(wildcard $(addprefix $(TOWER)/crates/$(crate)/,src specs proofs))))

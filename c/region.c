@@ -1,13 +1,13 @@
-/* The libraries' functions for memory, over blocks that the caller hands over. tower_region.h says what it owes. */
+/* The libraries' functions for memory, over blocks of the caller's. tower_region.h says what the caller owes. */
 #include "tower_region.h"
 
-/* A block in use. This stands at the block's very end. */
+/* A block in use. This struct lies at the block's very end. */
 struct region {
     struct region *next;
     uint8_t *begins, *ends;
-    size_t frame_bytes;   /* the one question that the frames answer */
-    uint8_t *free;        /* the book's bytes from here on are nobody's */
-    size_t blocks;        /* how many are out */
+    size_t frame_bytes;   /* the one size whose first request gets the frames */
+    uint8_t *free;        /* the book's bytes from here on are free */
+    size_t blocks;        /* how many are in use */
     bool frames_out;
 };
 
@@ -61,7 +61,7 @@ void rattle_dealloc(void *block) {
         }
     }
     if (!other.dealloc) {
-        __builtin_trap(); /* a block that nobody gave */
+        __builtin_trap(); /* a block that was never returned */
     }
     other.dealloc(block);
 }
@@ -81,7 +81,7 @@ void tower_set_other_heap(const struct tower_other_heap *heap) {
 }
 
 uint32_t tower_frames_within(size_t size) {
-    size_t fewer = 0, more = TOWER_WIDE_FRAMES + 1; /* there is room for fewer, and not for more */
+    size_t fewer = 0, more = TOWER_WIDE_FRAMES + 1; /* `fewer` frames fit, and `more` don't */
     while (more - fewer > 1) {
         size_t frames = fewer + (more - fewer) / 2;
         if (TOWER_BLOCK_BYTES(frames) <= size) {
@@ -126,7 +126,7 @@ uint32_t tower_boot_over(uint32_t frames, struct tower *tower, void *block, size
     uint32_t status = tower_boot_wide(frames, tower);
     booting = NULL;
     if (status != TOWER_BOOTED) {
-        all = region->next; /* it is the first, and all that it gave is back */
+        all = region->next; /* it is the first, and all that came from it is freed */
     }
     return status;
 }

@@ -1,19 +1,19 @@
 /* The kernel's core, for C. docs/C-LIBRARY.md says what is proved of each function, and what C owes:
  *
  *  - The handle is a `struct tower` in storage of the caller's own. Fill it with zeros (or with
- *    TOWER_NONE) once, and from then on give it to these functions alone: write none of its fields, and
- *    make no copy of it, since two copies would own one core.
+ *    TOWER_NONE) once, and then pass it only to these functions. Write none of its fields, and make no
+ *    copy of it, since two copies would own one core.
  *  - One call at a time for each handle. It may come from any thread or CPU, under a lock of the
- *    caller's own; another handle needs no lock beside it.
- *  - Each pointer is to memory that is valid, aligned and, where it is not const, writable, and that no
- *    other argument of the same call shares. A slice is a pointer and its length; the pointer is valid,
- *    and not null, where the length is 0 too. Each `bool` is 0 or 1.
+ *    caller's own. Calls with different handles need no common lock.
+ *  - Each pointer is to memory that is valid, aligned and, unless it is const, writable. No other argument
+ *    of the same call shares that memory. A slice is a pointer and its length; the pointer is valid, and
+ *    not null, even if the length is 0. Each `bool` is 0 or 1.
  *  - memset and memmove do what the C library's do, and rattle_alloc and rattle_dealloc what
  *    tower_heap.h says. No call is made from a signal handler.
  *
- * A query takes a const handle: it leaves the core as it was. It is a call all the same, so it comes one
- * at a time with the others, and the handle itself isn't a const object: the call takes the core out of it
- * and puts it back.
+ * A query takes a const handle: it leaves the core as it was. It is still a call, and comes one at a time
+ * with the others. The handle itself isn't a const object: the call takes the core out of it and puts it
+ * back.
  */
 #ifndef TOWER_H
 #define TOWER_H
@@ -26,8 +26,8 @@
 extern "C" {
 #endif
 
-/* 10,000 for each major version, 100 for each minor one, 1 for each patch: the header's, and by
- * tower_version() the library's. */
+/* The header's version: 10,000 for each major version, 100 for each minor one, 1 for each patch.
+ * tower_version() returns the library's. */
 #define TOWER_VERSION 200
 
 /* Limits. A page is an address without its last 12 bits; the user range has the pages from
@@ -51,7 +51,7 @@ struct tower {
 #define TOWER_NONE {false, NULL}
 #endif
 
-/* What tower_boot answers. All but the first leave the handle as it was. */
+/* The statuses of tower_boot. All but the first leave the handle as it was. */
 enum tower_status {
     TOWER_BOOTED = 0,
     TOWER_BAD_SIZE = 1,     /* the number of frames is not 16 to 4,096; of a wide boot, not 16 to 1,048,576 */
@@ -59,7 +59,7 @@ enum tower_status {
     TOWER_HAS_CORE = 3,     /* the handle has a core already */
 };
 
-/* The name of a status; "" for a number of none. */
+/* The name of a status; "" for a number that is no status. */
 static inline const char *tower_status_name(uint32_t status) {
     switch (status) {
     case TOWER_BOOTED: return "Booted";
@@ -108,7 +108,7 @@ static inline const char *tower_call_name(uint32_t call) {
 }
 
 /* One event. A page is an address without its last 12 bits, a process 0 to 63. What a call does not take
- * is not read. Any other number of a call, process, size or right is no event. */
+ * is not read. With any other number of a call, process, size or right it is no event. */
 struct tower_event {
     uint8_t cpu;
     uint8_t pid;
@@ -119,7 +119,7 @@ struct tower_event {
     uint32_t third;
 };
 
-/* The kinds of replies, and what each tells:   first      second   third  */
+/* The kinds of replies, and what each has:     first      second   third  */
 enum tower_kind {
     TOWER_DONE = 0,
     TOWER_VALUE = 1,                         /* value                      */
@@ -188,7 +188,7 @@ static inline const char *tower_cause_name(uint32_t cause) {
     }
 }
 
-/* One reply. What its kind does not tell is 0. */
+/* One reply. A field that its kind does not use is 0. */
 struct tower_reply {
     uint32_t kind;
     uint32_t first;
@@ -200,7 +200,7 @@ struct tower_reply {
     bool dirty;
 };
 
-/* What a frame serves. */
+/* The role of a frame. */
 enum tower_service {
     TOWER_FRAME_RESERVED = 0,
     TOWER_FRAME_FREE = 1,
@@ -225,14 +225,14 @@ struct tower_container {
     uint32_t children;
 };
 
-/* How the processor's walk of a process's tables ends. What its kind does not tell is 0. */
+/* How the processor's walk of a process's tables ends. A field that its kind does not use is 0. */
 enum tower_end {
     TOWER_WALK_FRAME = 0,    /* at a frame */
     TOWER_WALK_FAULT = 1,    /* as a page fault with that error code */
     TOWER_WALK_OUTSIDE = 2,  /* at a word that names no frame of memory; a booted core has none */
 };
 
-/* The name of a walk's end; "" for a number of none. */
+/* The name of a walk's end; "" for a number that is no end. */
 static inline const char *tower_end_name(uint32_t end) {
     switch (end) {
     case TOWER_WALK_FRAME: return "Frame";
@@ -248,7 +248,7 @@ struct tower_walk {
     uint32_t code;
 };
 
-/* Which cached translations an event ends. What its kind does not tell is 0. */
+/* Which cached translations an event ends. A field that its kind does not use is 0. */
 enum tower_ending {
     TOWER_ENDS_NOTHING = 0,
     TOWER_ENDS_PAGE = 1,     /* that of page first of process pid */
@@ -266,64 +266,69 @@ struct tower_ended {
 /* The library's version. */
 uint32_t tower_version(void);
 
-/* A status. Only this function asks for memory, and only tower_free and a boot that fails give it back. */
+/* Boots a core of 16 to TOWER_MAX_FRAMES frames, and returns a status. Of the functions here only this one and
+ * tower_boot_wide allocate, and only tower_free and a boot that fails free. */
 uint32_t tower_boot(uint32_t frames, struct tower *tower);
 
-/* The same, of 16 to TOWER_WIDE_FRAMES frames. */
+/* Boots a core as tower_boot does, but of 16 to TOWER_WIDE_FRAMES frames. */
 uint32_t tower_boot_wide(uint32_t frames, struct tower *tower);
 
-/* Carries out one event. False where the handle has no core: nothing is written then. */
+/* Carries out one event. False if the handle has no core; then nothing is written. */
 bool tower_step(struct tower *tower, const struct tower_event *event, struct tower_reply *reply);
 
-/* Carries out events in order. False where the handle has no core or the lengths differ: nothing is
- * written then. */
+/* Carries out events in order. False if the handle has no core or the lengths differ; then nothing is
+ * written. */
 bool tower_run(struct tower *tower, const struct tower_event *events, size_t event_count,
                struct tower_reply *replies, size_t reply_count);
 
-/* Carries out events in order up to the first that is refused, faults or is no event, and writes the reply to each in
- * its place, to that one too; the other places stay as they were. `carried` is how many were carried out, and so the
- * place of that one; where all were, it is their number. False as for tower_run: nothing is written then. */
+/* Carries out events in order up to the first that is refused, faults or is no event. Writes the reply to each in its
+ * place, and to that one too; the other places are unchanged. `carried` becomes the number of events carried out, which
+ * is the place of that one. If all were carried out, it is their number. False as for tower_run; then nothing is
+ * written. */
 bool tower_run_until(struct tower *tower, const struct tower_event *events, size_t event_count,
                      struct tower_reply *replies, size_t reply_count, size_t *carried);
 
-/* A process's memory in and out, as copyin and copyout are: what a load, or a store, of one byte each comes to, in
- * order, up to the first that is refused or faults. `moved` is how many bytes went, and `stop` what stopped it:
- * TOWER_DONE where all went, TOWER_NO_EVENT where pid is no process's number. A read leaves the other bytes as they
- * were; it maps a page that is not mapped, as a load does, and gives none a frame. A write gives lazy
- * pages frames: whoever keeps translations invalidates those of the process's pages from the first byte's to that of the
- * address behind the last, before any access or event that comes next. False where the handle has no core: nothing is
- * written then. */
+/* Copy a process's memory out and in, as copyin and copyout do, with the effect of one-byte loads, or stores, in order,
+ * up to the first that is refused or faults. `moved` becomes the number of bytes copied, and `stop` what stopped the
+ * copy: TOWER_DONE if all were copied, TOWER_NO_EVENT if pid is no process's number.
+ *
+ * A read leaves the other bytes as they were. It maps a page that is not mapped, as a load does, and gives no page a
+ * frame. A write gives lazy pages frames. A kernel whose processors cache translations then invalidates those of the
+ * process's pages from the first byte's page to the page of the address after the last byte, before the next access or
+ * event.
+ *
+ * False if the handle has no core; then nothing is written. */
 bool tower_read(struct tower *tower, uint32_t pid, uint32_t address, uint8_t *bytes, size_t byte_count, size_t *moved,
                 struct tower_reply *stop);
 bool tower_write(struct tower *tower, uint32_t pid, uint32_t address, const uint8_t *bytes, size_t byte_count,
                  size_t *moved, struct tower_reply *stop);
 
-/* Which cached translations an event will end: a processor that keeps what its walks gave invalidates these once
- * the event is carried out, and no others. It changes nothing of the core. False where the handle has no core or
- * the numbers are no event: nothing is written then. */
+/* Which cached translations an event will end. A processor that caches what its walks gave invalidates these once the
+ * event is carried out, and no others. It changes nothing of the core. False if the handle has no core or the numbers
+ * are no event; then nothing is written. */
 bool tower_ends(const struct tower *tower, const struct tower_event *event, struct tower_ended *ended);
 
-/* Carries out one event, as tower_step does, and tells what tower_ends would have told before it: whoever keeps
- * what walks gave invalidates these, on all processors, before any access or event that comes next. Nothing, where
- * the event was refused, faulted or was no event. False where the handle has no core: nothing is written then. What
- * was ended is the kernel's, and not to be passed on to a process. */
+/* Carries out one event, as tower_step does, and reports the cached translations that tower_ends would have reported
+ * before it. A kernel whose processors cache what their walks gave invalidates these, on all processors, before the
+ * next access or event. An event that was refused, faulted or was no event ends nothing. False if the handle has no
+ * core; then nothing is written. What was ended is for the kernel; do not pass it on to a process. */
 bool tower_step_ending(struct tower *tower, const struct tower_event *event, struct tower_reply *reply,
                        struct tower_ended *ended);
 
-/* How many frames the core has, and 0 where the handle has none. */
+/* How many frames the core has; 0 if the handle has no core. */
 uint32_t tower_frames(const struct tower *tower);
 
-/* These change nothing of the core, and write where they answer true alone: that is exactly where there
- * is a core and a live process of that number, or such a frame. A walk is that of a load, or of a store
- * where `write` is true, at the first byte of the access; it sets no flag. A copy wants byte_count to be
- * TOWER_FRAME_BYTES, and else answers false. */
+/* These change nothing of the core, and write only if they return true. They return true exactly if there
+ * is a core, and a live process of that number or such a frame. A walk is that of a load, or of a store
+ * if `write` is true, at the first byte of the access; it sets no flag. A copy also returns false if
+ * byte_count is not TOWER_FRAME_BYTES. */
 bool tower_directory(const struct tower *tower, uint32_t pid, uint32_t *frame);
 bool tower_container(const struct tower *tower, uint32_t pid, struct tower_container *container);
 bool tower_role(const struct tower *tower, uint32_t frame, struct tower_role *role);
 bool tower_walk(const struct tower *tower, uint32_t pid, uint32_t address, bool write, struct tower_walk *found);
 bool tower_copy_frame(const struct tower *tower, uint32_t frame, uint8_t *bytes, size_t byte_count);
 
-/* What stands at a mapped page. */
+/* The state of a mapped page. */
 struct tower_page {
     uint32_t holders;  /* slots that share it, this one among them */
     bool write;
@@ -333,15 +338,15 @@ struct tower_page {
     bool lazy;         /* it has no frame of its own yet */
 };
 
-/* The least page from `from` on that a process has mapped, and what stands there. It changes nothing of the core. False
- * where there is no core, pid is no process's number, or the process has no page from there on: nothing is written
- * then. To go over all pages, begin with 0, and go on behind the page that was told. */
+/* Finds the lowest page from `from` on that a process has mapped, and its state. It changes nothing of the core. False
+ * if there is no core, pid is no process's number, or the process has no page from there on; then nothing is written.
+ * To iterate over all pages, begin with 0, and continue with the page after the one returned. */
 bool tower_next_page(const struct tower *tower, uint32_t pid, uint32_t from, uint32_t *page, struct tower_page *found);
 
 /* Where the core's memory lies, from the boot until tower_free: frame f is the 4,096 bytes from place
- * 4,096 f on. It begins where rattle_alloc put the block. Between two calls a processor that walks the
- * core's directories may write there, as docs/C-LIBRARY.md says, and nobody else. False where the handle
- * has no core: nothing is written then. */
+ * 4,096 f on. It begins where rattle_alloc put the block. Between two calls only a processor that walks the
+ * core's directories may write there, as docs/C-LIBRARY.md says. False if the handle has no core; then
+ * nothing is written. */
 struct tower_memory {
     void *begins;
     size_t length;
