@@ -4,11 +4,11 @@
 
 enum { MOST_KEPT = 4096 };
 
-/* What one processor keeps: a translation, by the page's number, or a directory's word, by its place there. */
+/* What one processor caches: a translation, by the page's number, or a directory's word, by its place there. */
 struct kept {
     uint32_t identifier, number;
-    uint32_t leads_to; /* a translation to a frame; else the word itself */
-    bool write, dirty; /* of a translation: whether it lets writes through, and dirty is set */
+    uint32_t leads_to; /* a translation's frame; otherwise the word itself */
+    bool write, dirty; /* of a translation: whether it allows writes, and whether dirty is set */
     uint32_t *table_word;
 };
 
@@ -17,7 +17,7 @@ struct list {
     uint32_t count;
 };
 
-/* One processor: all that it keeps, and how often it did so. */
+/* One processor: all that it caches, and how often it found a page in each way. */
 static struct cache {
     struct list translations, directory_words;
     uint32_t found_kept, found_walked, walked_again;
@@ -56,7 +56,7 @@ static void forget(struct list *in, uint32_t identifier, uint32_t number) {
     }
 }
 
-/* As INVLPGA does: the page's translation, and the words that lead to it. */
+/* Forgets, as INVLPGA does, the page's translation and the words that lead to it. */
 void cache_forget_page_of(uint32_t cpu, uint32_t identifier, uint32_t page) {
     forget(&caches[cpu].translations, identifier, page);
     if (wrong != WRONG_TABLE) {
@@ -85,7 +85,7 @@ static uint32_t *word_at(uint32_t frame, uint32_t index) {
     return (uint32_t *)(memory + (size_t)frame * FRAME) + index;
 }
 
-/* The directory's word for an address, as it is kept or, where it is present, from now on is. */
+/* Returns the directory's word for an address: the cached word, or else memory's, which is cached if it is present. */
 static uint32_t directory_word(const struct access *it, uint32_t address) {
     struct list *words = &caches[it->cpu].directory_words;
     struct kept *one = find(words, it->identifier, address >> 22);
@@ -100,13 +100,13 @@ static uint32_t directory_word(const struct access *it, uint32_t address) {
     return *word;
 }
 
-/* What two words that lead to a page give of it. */
+/* Returns the translation of a page that two words lead to. */
 static struct kept translation_of(const struct access *it, uint32_t page, uint32_t first, uint32_t *table_word) {
     uint32_t last = *table_word;
     return (struct kept){it->identifier, page, last >> 12, first & last & WRITE, last & DIRTY, table_word};
 }
 
-/* A walk, marks and all. What it finds is kept. */
+/* Walks, and sets accessed and dirty. What the walk finds is cached. */
 static struct walk walk_and_keep(const struct access *it, uint32_t address, struct kept **kept) {
     struct cache *cache = &caches[it->cpu];
     uint32_t word = directory_word(it, address);
@@ -119,8 +119,9 @@ static struct walk walk_and_keep(const struct access *it, uint32_t address, stru
     return walk;
 }
 
-/* The frame of an address: by what is kept, or else by a walk. A refusal by what is kept says nothing, since the right
- * may have been given since: the walk is made again. A store through what is kept without dirty marks it first. */
+/* Translates an address: from the cache, otherwise with a walk. A refusal from the cache decides nothing, since the
+ * right may have been granted later: the walk is made again. A store through a cached translation without dirty sets
+ * dirty first. */
 static struct walk translate(const struct access *it, uint32_t address) {
     struct cache *cache = &caches[it->cpu];
     struct kept *kept = find(&cache->translations, it->identifier, address >> 12);
@@ -147,7 +148,7 @@ static struct walk translate(const struct access *it, uint32_t address) {
     return (struct walk){.kind = WALK_FOUND, .frame = kept->leads_to};
 }
 
-/* The bytes of an access, one after the other, where its pages' frames are. */
+/* Copies the bytes of an access, one by one, in the frames of its pages. */
 static void move_bytes(struct access *it, uint32_t first, uint32_t second) {
     uint32_t loaded = 0;
     for (uint32_t i = 0; i < it->size; i++) {
@@ -179,7 +180,7 @@ struct walk cache_access(struct access *it) {
     return first;
 }
 
-/* In place of what was kept of it. */
+/* Caches one in place of what was cached of it. */
 static void keep_anew(struct list *in, const struct access *it, struct kept one) {
     struct kept *old = find(in, it->identifier, one.number);
     if (old) {
@@ -193,7 +194,7 @@ static bool are_none(const uint32_t *eight) {
     return (pairs[0] | pairs[1] | pairs[2] | pairs[3]) == 0;
 }
 
-/* The first word from an index on that may be one: most of a directory's and of a table's are none. */
+/* Returns the first index from `index` on whose word may be present: most words of a directory and of a table are 0. */
 static uint32_t next_in(uint32_t frame, uint32_t index) {
     while (index < FRAME / 4 && index % 8 == 0 && are_none(word_at(frame, index))) {
         index += 8;

@@ -7,22 +7,22 @@
 #include "walk.h"
 #include "wrong.h"
 
-/* Processes that make calls: the root and those behind process 1, which has what the root's quota has over ROOM and a
- * frame, so that the trial is the same on any number of frames. */
+/* Processes that make calls: the root and those after process 1, below LIVE. Process 1 has what the root's quota has
+ * over ROOM and a frame, so that the trial is the same with any number of frames. */
 enum { PROCESSES = 64, LIVE = 7, ROOM = 62 };
 
 /* How many processors in software make the accesses. */
 enum { IN_SOFTWARE = 2 };
 
-/* A core, and what the processors over it keep: none of them is over the last. */
+/* A core, and the book of what the processors over it cache; no processor is over the third core. */
 struct machine {
     struct tower *core;
     uint8_t *memory;
     struct translations *kept;
 };
 
-/* The processor makes accesses over the tables of the first core, processors in software, which forget nothing untold,
- * over those of the second. The third is told of each as an event. */
+/* The processor makes accesses over the tables of the first core. Processors in software, which forget only on orders,
+ * make them over those of the second. The third gets each as an event. */
 static struct tower second = TOWER_NONE, third = TOWER_NONE;
 static struct translations by_processor = {svm_forget_page, svm_forget_all, .most = 0};
 static struct translations in_software = {cache_forget_page, cache_forget_all, .most = CACHE_IDENTIFIERS};
@@ -32,7 +32,8 @@ static struct machine mirror = {.core = &third};
 static uint32_t calls, alone, mended, faulted, refused, split, early;
 static bool has_stub[PROCESSES];
 
-/* An event. What it ended is invalidated, by what a wrong version takes it for on the processors in software. */
+/* Makes an event on one core, and invalidates what it ended. On the processors in software that is what a wrong version
+ * takes it for. */
 static struct tower_reply on(struct machine *it, uint32_t pid, struct tower_event event) {
     struct tower_reply reply = {0};
     struct tower_ended ended = {0};
@@ -51,7 +52,8 @@ static struct tower_reply on_each(uint32_t pid, struct tower_event event) {
     return reply;
 }
 
-/* A processor stopped at a byte of an access: that is where the walk ends. The core is asked for the byte. */
+/* Handles a fault of a processor at a byte of an access, where the walk ends, too. The core gets an event for the
+ * byte. */
 static struct tower_reply mend(struct machine *it, uint32_t pid, uint32_t at, uint32_t code) {
     uint32_t directory = 0;
     bool writes = code & 2;
@@ -69,7 +71,7 @@ static bool is_end(struct tower_reply reply) {
     return reply.kind == TOWER_FAULT || reply.kind == TOWER_REFUSED;
 }
 
-/* An access by the processor, mended by its core. */
+/* Makes an access on the processor; its core handles the faults. */
 static struct tower_reply on_processor(uint32_t pid, uint32_t entry, uint32_t address, uint32_t value) {
     uint32_t directory = 0, faults = 0;
     need(tower_directory(walked.core, pid, &directory), "a process has a directory");
@@ -90,7 +92,7 @@ static struct tower_reply on_processor(uint32_t pid, uint32_t entry, uint32_t ad
                            : (struct tower_reply){.kind = TOWER_VALUE, .first = svm_eax(probe())};
 }
 
-/* A load or a store by a processor in software, mended by its core. */
+/* Makes a load or a store on a processor in software; its core handles the faults. */
 static struct tower_reply on_cache(uint32_t pid, uint32_t cpu, struct tower_event event) {
     struct access it = {.cpu = cpu, .is_store = event.call == TOWER_STORE, .size = event.flag, .value = event.second};
     need(tower_directory(cached.core, pid, &it.directory), "a process has a directory");
@@ -115,7 +117,7 @@ static struct tower_reply told(uint32_t pid, uint32_t cpu, struct tower_event ev
     return on(&mirror, pid, event);
 }
 
-/* An access as events, or by a processor in software: one, or for an addition a load and a store of the sum. */
+/* Makes an access as events, or on a processor in software: one, or for an addition a load and a store of the sum. */
 static struct tower_reply in_parts(struct tower_reply (*make)(uint32_t pid, uint32_t cpu, struct tower_event event),
                                    uint32_t pid, uint32_t cpu, uint32_t entry, uint32_t address, uint32_t value) {
     uint8_t size = entry == LOAD1 || entry == STORE1 ? 1 : 4;
@@ -131,7 +133,7 @@ static struct tower_reply in_parts(struct tower_reply (*make)(uint32_t pid, uint
     return make(pid, cpu, entry >= STORE4 ? store : load);
 }
 
-/* A page that a load, or a store, of this process completes in, whatever its quota. */
+/* Returns whether a load, or a store, of this process completes in a page, whatever its quota. */
 static bool is_open(uint32_t pid, uint32_t address, bool is_store) {
     struct tower_reply info = on_each(pid, (struct tower_event){.call = TOWER_INFO, .first = address >> 12});
     return info.kind == TOWER_FLAGS && (!is_store || info.write);
@@ -140,7 +142,7 @@ static bool is_open(uint32_t pid, uint32_t address, bool is_store) {
 static void access_by_all(uint32_t pid, uint32_t entry, uint32_t address, uint32_t value) {
     struct tower_event fetch = {.call = TOWER_LOAD, .flag = 1, .first = STUB_AT};
     uint32_t cpu = random(IN_SOFTWARE);
-    /* The processor fetches the instruction, too. */
+    /* The processor also fetches the instruction. */
     struct tower_reply fetched = on(&mirror, pid, fetch);
     need(fetched.kind == TOWER_VALUE, "a process has the code");
     need(same_replies(on_cache(pid, cpu, fetch), fetched), "a load by what is kept gives what the event does");
@@ -151,13 +153,14 @@ static void access_by_all(uint32_t pid, uint32_t entry, uint32_t address, uint32
          "an access by what is kept comes to what the event does");
 }
 
-/* A place in a page: one of so many times at its end, else half of the time among the first, where others access too. */
+/* Returns a place in a page: once in `times` at its end, otherwise half of the time among the first 16, where other
+ * accesses also are. */
 static uint32_t random_offset(uint32_t times) {
     return random(times) == 0 ? 4093 + random(3) : random(2) ? random(16) : random(4096);
 }
 
-/* An access at any place of a page. One that lies in two pages and does not come through is left out: what the
- * core was asked of its first page has come to pass then, and the event changes nothing. */
+/* Makes an access at any place of a page. One that lies in two pages and does not complete is left out. By then the
+ * processor's core has carried out its event for the first page, but the access as one event changes nothing. */
 static void access(uint32_t pid, uint32_t page) {
     static const uint32_t entries[] = {LOAD4, LOAD1, STORE4, STORE1, ADD4};
     uint32_t entry = entries[random(5)], value = random(0xffffffff);
@@ -175,7 +178,7 @@ static void access(uint32_t pid, uint32_t page) {
     access_by_all(pid, entry, address, value);
 }
 
-/* The words of a frame agree, but for accessed in a directory, which a processor sets as it walks. */
+/* Checks that the words of a frame agree, except accessed in a directory, which a processor sets as it walks. */
 static void compare_words(uint32_t frame, bool is_directory) {
     uint32_t *mine = (uint32_t *)(walked.memory + (size_t)frame * FRAME);
     uint32_t *kept = (uint32_t *)(cached.memory + (size_t)frame * FRAME);
@@ -193,7 +196,7 @@ static void compare_words(uint32_t frame, bool is_directory) {
     }
 }
 
-/* Whether a frame is the same in all three memories. */
+/* Returns whether a frame is the same in all three memories. */
 static bool same_frames(uint32_t frame) {
     const uint64_t *mine = (const uint64_t *)(walked.memory + (size_t)frame * FRAME);
     const uint64_t *kept = (const uint64_t *)(cached.memory + (size_t)frame * FRAME);
@@ -214,7 +217,7 @@ static void compare_containers(void) {
     }
 }
 
-/* Directories and tables, or all frames, roles and containers. */
+/* Compares roles, and the words of directories and tables. With `all`, compares all frames' words, and containers. */
 static void compare(bool all) {
     for (uint32_t frame = 0; frame < FRAMES; frame++) {
         struct tower_role role, kept, its;
@@ -242,7 +245,7 @@ static uint32_t random_page(void) {
     return pages[random(random(4) ? 4 : random(8) ? 8 : 12)];
 }
 
-/* A child with the page of code: one that was spawned accepts it, a copy has one of its own. */
+/* Makes a child with the page of code: one that was spawned accepts it, a copy has its own. */
 static void make_child(uint32_t pid) {
     bool copies = random(2);
     struct tower_event event = {.call = copies ? TOWER_FORK : TOWER_SPAWN,
@@ -262,7 +265,7 @@ static void make_child(uint32_t pid) {
     }
 }
 
-/* A page anew, loaded and not stored to: processors may keep frame 0 for it. */
+/* Unmaps a page and loads from it, without a store: processors may then cache frame 0 for it. */
 static void load_anew(uint32_t pid, uint32_t page) {
     if (has_stub[pid] && page != STUB_PAGE) {
         on_each(pid, (struct tower_event){.call = TOWER_UNMAP, .first = page});
@@ -270,7 +273,7 @@ static void load_anew(uint32_t pid, uint32_t page) {
     }
 }
 
-/* An access that the kernel makes for a process, as a loader does: an event of each core, half of them in two pages. */
+/* Makes an access as the kernel for a process, as a loader does: an event of each core, half of them in two pages. */
 static void kernels_access(uint32_t pid) {
     uint32_t page = random_page(), offset = random_offset(2);
     if (random(2)) {
@@ -281,7 +284,7 @@ static void kernels_access(uint32_t pid) {
                                       .first = page << 12 | offset, .second = random(0xffffffff)});
 }
 
-/* The last offer, which is accepted more often than others; its page may have been loaded alone. */
+/* The last offer, which is accepted more often than others; its page may have been only loaded. */
 static struct {
     uint32_t giver, page, target;
 } offered;

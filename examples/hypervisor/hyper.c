@@ -1,5 +1,5 @@
-/* A small hypervisor over the proved core: guests run on the processors' own paging, over the directories and
- * tables that the core wrote, and every other thing that they do is an event of it, under one lock. */
+/* A small hypervisor over the proved core. Guests run on the processors' own paging, over the directories and tables
+ * that the core wrote. Everything else that they do is an event of the core, under one lock. */
 #include <stdatomic.h>
 
 #include "cache.h"
@@ -20,7 +20,7 @@ static uint8_t *memory;
 static struct kernel kernel;
 static struct queue queue;
 
-/* This processor forgets, and with it what stands for all that it may keep. */
+/* Forget, on this processor, and in the cache that represents all that the processor may cache. */
 static void forget_page(uint32_t identifier, uint32_t page) {
     svm_forget_page(identifier, page);
     cache_forget_page_of(this_processor(), identifier, page);
@@ -35,26 +35,26 @@ struct stop {
     uint32_t address, code, eip;
 };
 
-/* Its processor's, or that of whoever holds the lock while it runs nowhere. */
+/* A guest. It belongs to its processor; while it runs nowhere, to the processor that holds the lock. */
 static struct guest {
     bool runs;
     uint32_t slices; /* since its last call */
     uint32_t exits;
-    uint32_t sleeps_until; /* so much is told; 0: it has turns */
-    struct stop last; /* its last page fault, where it made no call since */
+    uint32_t sleeps_until; /* this number is announced; 0: it has turns */
+    struct stop last; /* its last page fault, if it made no call after it */
     struct guest_cpu cpu;
 } guests[RUNNING_MAX];
 
 static _Atomic uint32_t running; /* how many guests run, or wait for a turn */
 static uint32_t page_faults, stopped, slices_allowed = SLICES;
-static uint32_t told; /* the greatest number that a guest told */
+static uint32_t told; /* the highest number that a guest announced */
 
 extern const struct {
     const uint8_t *begin, *end;
 } programs[PROGRAMS];
 
-/* That each identifier of this processor is a live process's, and whatever it may keep under it is what the walks
- * give. */
+/* Checks that each identifier of this processor is a live process's, and that all it may cache under the identifier is
+ * what the walks give. */
 static void all_kept_is_given(void) {
     for (uint32_t pid = 0; pid < TOWER_PROCESSES; pid++) {
         uint32_t directory = 0, identifier = kernel.books[this_processor()].identifiers[pid];
@@ -65,7 +65,7 @@ static void all_kept_is_given(void) {
     }
 }
 
-/* An event. What it ended is invalidated before anything else is done. */
+/* Makes an event. What it ended is invalidated before anything else is done. */
 static struct tower_reply step(uint32_t pid, struct tower_event event) {
     struct tower_reply reply = make_event(&kernel, pid, event);
     all_kept_is_given();
@@ -77,7 +77,7 @@ static const char *const causes[] = {
     "OfferPending", "TooManyOffers", "NoOffer", "TableFull", "BadQuota", "HasChildren", "RootExit", "TooSmall",
 };
 
-/* That the guests' memory is the core's, frame for frame. */
+/* Checks that the guests' memory is the core's, frame by frame. */
 static void same_memory(void) {
     static uint8_t bytes[FRAME];
     for (uint32_t frame = 0; frame < FRAMES; frame++) {
@@ -90,7 +90,7 @@ static void same_memory(void) {
 
 /* ---- Programs */
 
-/* The program's bytes as stores of the process's own, its pages read only from then on. */
+/* Stores the program's bytes with stores of the process's own. Its pages are then made read-only. */
 static bool store_program(uint32_t program, uint32_t pid) {
     uint32_t bytes = (uint32_t)(programs[program].end - programs[program].begin);
     for (uint32_t at = 0; at < bytes; at++) {
@@ -120,20 +120,20 @@ static bool load(uint32_t program, uint32_t pid) {
     return true;
 }
 
-/* A guest's own child is to run a program. The core does not ask whose it is: a loader's stores are events of the
+/* Loads a program into a guest's own child. The core does not check the parent: a loader's stores are events of the
  * process that it loads. */
 static bool load_child(uint32_t parent, uint32_t program, uint32_t pid) {
     struct tower_container container;
     return pid != parent && tower_container(&tower, pid, &container) && container.parent == parent && load(program, pid);
 }
 
-/* The guest runs no more. */
+/* Ends a guest: it no longer runs. */
 static void end(struct guest *guest) {
     guest->runs = false;
     running--;
 }
 
-/* Its process exits, too, if the core lets it. */
+/* Ends a guest; its process exits, too, if the core lets it. */
 static void stop(uint32_t pid) {
     struct tower_reply reply = step(pid, (struct tower_event){.call = TOWER_EXIT});
     end(&guests[pid]);
@@ -145,9 +145,9 @@ static void stop(uint32_t pid) {
 
 /* ---- Page faults */
 
-/* Whether a store of a zero byte is the core's to make there: the walk finds no page, a page of zeros that has no
- * frame yet, or one that may not be written, which the core refuses. To any other page the words let a store through
- * by now, and a byte of it would be lost: only the processor's translation was old. */
+/* Returns whether the core has to make a store of a zero byte there. It has to if the walk finds no page, a page of
+ * zeros that has no frame yet, or one that may not be written, which the core refuses. In any other page the words
+ * allow a store by now, and the zero would overwrite a byte of it: only the processor's translation was old. */
 static bool is_cores_store(uint32_t pid, uint32_t address) {
     uint32_t directory = 0;
     need(tower_directory(&tower, pid, &directory), "a guest has a directory");
@@ -158,8 +158,9 @@ static bool is_same_stop(struct stop a, struct stop b) {
     return a.address == b.address && a.code == b.code && a.eip == b.eip;
 }
 
-/* The processor stopped an access. The core is asked for one byte of it, a load or the store of a zero. Where it
- * answers, the guest goes on and its processor makes the access; where it faults or refuses, the guest ends. */
+/* Handles a page fault: the processor stopped an access. The core gets an event for one byte of the access, a load or
+ * the store of a zero. If the core completes it, the guest continues, and its processor makes the access. If the core
+ * faults or refuses, the guest ends. */
 static void page_fault(uint32_t pid, struct guest *guest) {
     struct stop at = {svm_fault_address(&guest->cpu), svm_fault_code(&guest->cpu), svm_eip(&guest->cpu)};
     bool is_store = at.code & 2;
@@ -186,7 +187,7 @@ static void page_fault(uint32_t pid, struct guest *guest) {
 
 /* ---- Calls */
 
-/* A line of a guest's text, a byte at a time by loads of its process. */
+/* Prints a line of a guest's text, read byte by byte with loads of its process. */
 static struct tower_reply write(uint32_t pid, uint32_t address, uint32_t bytes) {
     say("[%u] ", pid);
     for (uint32_t at = 0; at < bytes && at < 100; at++) {
@@ -202,7 +203,7 @@ static struct tower_reply write(uint32_t pid, uint32_t address, uint32_t bytes) 
     return (struct tower_reply){.kind = TOWER_DONE};
 }
 
-/* A guest that sleeps has no turn until somebody tells so much. */
+/* Makes a guest sleep: it has no turn until a guest announces that number or a higher one. */
 static bool sleep_until(struct guest *guest, uint32_t number) {
     guest->sleeps_until = number > told ? number : 0;
     return guest->sleeps_until != 0;
@@ -219,7 +220,7 @@ static void tell_sleepers(uint32_t number) {
     }
 }
 
-/* The reply to a call. `over` is set where the guest's turn is. */
+/* Returns the reply to a call. Sets `over` if the guest's turn is over. */
 static struct tower_reply answer(uint32_t pid, struct guest *guest, const struct tower_event *event, bool *over) {
     struct tower_reply done = {.kind = TOWER_DONE};
     switch (event->call) {
@@ -258,7 +259,7 @@ static struct tower_reply answer(uint32_t pid, struct guest *guest, const struct
     }
 }
 
-/* A guest's call. True where its turn is over. */
+/* Makes a guest's call. Returns whether its turn is over. */
 static bool call(uint32_t pid, struct guest *guest) {
     bool over = false;
     struct tower_event event = {
@@ -285,7 +286,7 @@ static bool call(uint32_t pid, struct guest *guest) {
 
 /* ---- Turns */
 
-/* A slice of time ended. The guest goes on in its next turn, unless it had too many without a call. */
+/* Ends a slice of time. The guest continues in its next turn, unless it had too many slices without a call. */
 static void slice_ended(uint32_t pid, struct guest *guest) {
     guest->last = (struct stop){0};
     if (++guest->slices > slices_allowed) {
@@ -294,7 +295,7 @@ static void slice_ended(uint32_t pid, struct guest *guest) {
     }
 }
 
-/* What a guest left the processor for, with the lock. True where its turn is over. */
+/* Handles a guest's exit, with the lock. Returns whether its turn is over. */
 static bool left_for(uint64_t exit, uint32_t pid, struct guest *guest) {
     switch (exit) {
     case EXIT_PAGE_FAULT:
@@ -315,8 +316,9 @@ static bool left_for(uint64_t exit, uint32_t pid, struct guest *guest) {
     }
 }
 
-/* The guest runs until an exit that is its own, or its slice's end: another processor may stop this one meanwhile. What
- * may be kept of its process is what the walks give; then it is what was kept, and each page that was accessed. */
+/* Runs the guest until an exit of its own, or its slice's end. Another processor may stop this one meanwhile. Before
+ * each run, all that may be cached of the guest's process is what the walks give. After it, that is what was cached,
+ * and each page that was accessed. */
 static uint64_t run(struct guest *guest, uint32_t identifier, uint32_t directory) {
     uint64_t exit;
     do {
@@ -330,8 +332,8 @@ static uint64_t run(struct guest *guest, uint32_t identifier, uint32_t directory
     return exit;
 }
 
-/* One turn of a guest: until it yields or ends, a slice of time, or too many exits. Where it would have the next turn
- * here, too, it waits for others most likely: the processor rests. */
+/* Gives a guest one turn: until it yields or ends, a slice of time, or too many exits. If it would also have the next
+ * turn here, it most likely waits for others, and the processor rests. */
 static void turn(uint32_t pid, uint32_t identifier) {
     struct guest *guest = &guests[pid];
     uint32_t exits = 0, directory = svm_directory(&guest->cpu);
@@ -355,7 +357,8 @@ static void turn(uint32_t pid, uint32_t identifier) {
     }
 }
 
-/* The next guest for this processor, and its identifier here; NOBODY where others run all that are left. */
+/* Returns the next guest for this processor, and its identifier here; NOBODY if other processors run or get all that
+ * are left, and NONE_LEFT if none is left. */
 static uint32_t next_guest(uint32_t *identifier) {
     uint32_t pid = NOBODY;
     take_lock();
@@ -375,7 +378,7 @@ static bool is_guest_waiting(const void *of) {
     return running == 0 || *(volatile uint32_t *)&queue.count != 0;
 }
 
-/* Guests have turns on this processor until none is left. */
+/* Gives guests turns on this processor until none is left. */
 static void serve(void) {
     take_lock();
     arrive();
@@ -392,7 +395,7 @@ static void serve(void) {
     }
 }
 
-/* All guests, from the first program on, on all processors. */
+/* Runs all guests, from the first program on, on all processors. */
 static void run_guests(uint32_t program) {
     boot(&tower);
     memory = memory_of(&tower);
@@ -427,9 +430,9 @@ static void try_alone(void) {
     write_image(&tower);
 }
 
-/* What the schedule has a part in begins with a word of its own. */
+/* Lines that depend on the schedule begin with a word of their own. */
 static void try_several(void) {
-    slices_allowed = 20 * SLICES; /* the host's clock goes on where a processor's thread doesn't */
+    slices_allowed = 20 * SLICES; /* the host's clock runs even while a processor's thread doesn't */
     start_processors(svm_start);
     say("schedule: %u processors\nguests that run at once, over the core's page tables\n", processors());
     run_guests(PROGRAM_CROWD);
@@ -445,7 +448,7 @@ static void try_several(void) {
     write_image(&tower);
 }
 
-/* The word behind another, or null. */
+/* The rest of `word` after `first`, or null. */
 static const char *behind(const char *first, const char *word) {
     while (*first && *first == *word) {
         first++;
@@ -454,8 +457,8 @@ static const char *behind(const char *first, const char *word) {
     return *first ? 0 : word;
 }
 
-/* With no word all that one processor does, with `several` what all do. With a word of wrong.c the trial of events
- * alone in that version, and with `storm` before it the storm. */
+/* Without a word, runs all that one processor does; with `several`, what all do. With a word of wrong.c, runs only the
+ * trial of events in that version, and with `storm` before the word only the storm. */
 void begin(const char *word) {
     const char *version = behind("storm ", word);
     begin_first_processor();

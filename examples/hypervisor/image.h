@@ -4,7 +4,7 @@
 
 #include "tower.h"
 
-/* Writes it into the debug port's file, by the library's queries alone. */
+/* Writes the image into the debug port's file, with only the library's queries. */
 void write_image(struct tower *tower);
 
 #endif

@@ -2,7 +2,7 @@
 #include "raw.h"
 #include "trial.h"
 
-/* ECX names a place in a page that the guest may write. */
+/* Instructions that a guest may not execute. ECX is the address of a place in a page that the guest may write. */
 static const struct {
     uint8_t count, bytes[7];
 } kernels_own[] = {
@@ -63,7 +63,7 @@ static const struct {
 
 enum { COUNT = sizeof kernels_own / sizeof *kernels_own, ROOM = 16, EXIT_BREAKPOINT = 0x43, JUMP = 0xeb, BACK = 0xfe };
 
-/* The instruction at the beginning of the code, with a jump to itself behind it, in both memories. */
+/* Puts an instruction at the start of the code, followed by a jump to itself, in both memories. */
 static void put_instruction(uint32_t i) {
     for (uint32_t at = 0; at < ROOM; at++) {
         uint8_t behind = at == kernels_own[i].count ? JUMP : BACK;
@@ -74,7 +74,7 @@ static void put_instruction(uint32_t i) {
 
 void try_instructions(void) {
     begin_raw();
-    let_slice_pass(); /* an interrupt is pending, as it may be behind any guest */
+    let_slice_pass(); /* an interrupt is pending, as it may be after any guest */
     for (uint32_t i = 0; i < COUNT; i++) {
         put_instruction(i);
         open_probe(RAW_DIRECTORY, 0, STUB_AT + FRAME + 8, 0);

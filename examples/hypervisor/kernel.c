@@ -27,7 +27,7 @@ void leave_kernel(struct kernel *it) {
     mine->forget_all();
 }
 
-/* The other processor that keeps what an event will end. */
+/* Returns the other processor that may cache what an event will end, or NO_PROCESSOR. */
 static uint32_t keeper_of_ended(struct kernel *it, const struct tower_event *event) {
     struct tower_ended ended;
     if (event->call != TOWER_ACCEPT || !tower_ends(it->core, event, &ended) || ended.kind == TOWER_ENDS_NOTHING) {
@@ -38,7 +38,7 @@ static uint32_t keeper_of_ended(struct kernel *it, const struct tower_event *eve
     return is_kept && home != this_processor() ? home : NO_PROCESSOR;
 }
 
-/* What another processor is to do before it goes on. */
+/* Returns what another processor is to do before it continues. */
 static struct order order_for(struct kernel *it, struct tower_ended ended) {
     struct translations *book = &it->books[it->homes[ended.pid]];
     need(ended.kind == TOWER_ENDS_PAGE, "one page is what an event ends of another processor's");
@@ -46,7 +46,8 @@ static struct order order_for(struct kernel *it, struct tower_ended ended) {
     return (struct order){book->forget_page, book->identifiers[ended.pid], ended.first};
 }
 
-/* On the processor that may keep it: this one, or one that stands still and then goes on. */
+/* Invalidates what an event ended, on the processor that may cache it: this one, or one that stands still and then
+ * continues. */
 static void invalidate_at_home(struct kernel *it, struct tower_ended ended, uint32_t stopped) {
     uint32_t home = ended.kind == TOWER_ENDS_NOTHING ? NO_PROCESSOR : it->homes[ended.pid];
     bool is_elsewhere = home != NO_PROCESSOR && home != this_processor() && it->books[home].identifiers[ended.pid];
@@ -59,8 +60,8 @@ static void invalidate_at_home(struct kernel *it, struct tower_ended ended, uint
     }
 }
 
-/* A wrong version's: pages that were ended are invalidated with the next event of the processor that keeps them, and
- * whoever stood still goes on. */
+/* A wrong version of it: pages that were ended are invalidated with the next event of the processor that caches them. A
+ * processor that stood still continues. */
 static void invalidate_late(struct kernel *it, struct tower_ended ended, uint32_t stopped) {
     enum { MOST_LATE = 16 };
     static struct {

@@ -70,7 +70,7 @@ void say(const char *text, ...) {
     va_end(list);
 }
 
-/* QEMU ends with twice the number and one: 33 where all is well. */
+/* QEMU's status is twice the number plus one: 33 if all is well. */
 _Noreturn void leave(uint8_t status) {
     out8(0xf4, status ? status : 16);
     for (;;) {
@@ -95,20 +95,20 @@ void need(bool holds, const char *what) {
     }
 }
 
-/* The four symbols that the library asks for. */
+/* The four symbols that the library imports. */
 
 struct tried {
     bool ok;
     void *block;
 };
 
-/* Of three cores' memory and tables. A core asks for 16 bytes a frame beside the frame, and for its own words, some
- * pages. */
+/* Space for the memory and tables of three cores. A core requests 16 bytes a frame in addition to the frame, and a few
+ * pages for its own words. */
 static _Alignas(FRAME) uint8_t pool[3 * (FRAMES * (FRAME + 16) + 16 * FRAME)];
 static size_t used, blocks;
 
-/* Blocks lie one behind another, and those of a page or more begin at a page, so that a core's memory does.
- * Once all are back it starts anew. */
+/* Blocks lie in sequence. Those of a page or more begin at a page, so that a core's memory does. Once all are freed,
+ * the pool is empty again. */
 struct tried rattle_alloc(size_t size, size_t align) {
     size_t unit = size >= FRAME ? FRAME : align;
     size_t at = (used + unit - 1) & ~(unit - 1);

@@ -1,22 +1,22 @@
-/* The bare machine: serial text, ports, the way out, and what the library asks for. */
+/* The bare machine: serial text, ports, the way out, and the functions that the library imports. */
 #ifndef MACHINE_H
 #define MACHINE_H
 
 #include "tower.h"
 
-/* The bytes of a frame. FRAMES, how many a core has, is the Makefile's. */
+/* The bytes of a frame. FRAMES, how many a core has, is set by the Makefile. */
 enum { FRAME = 4096 };
 
-/* Text on the first serial port: %u decimal, %x hexadecimal of 8 digits, %c a byte, %s text. Where several processors
- * work, who has their lock says something. */
+/* Writes text to the first serial port: %u decimal, %x hexadecimal of 8 digits, %c a byte, %s text. If several
+ * processors work, only the owner of their lock calls this. */
 void say(const char *text, ...);
-/* One byte into the file of QEMU's debug port. */
+/* Writes one byte into the file of QEMU's debug port. */
 void put_raw(uint8_t byte);
-/* Ends QEMU: 0 where all is well. */
+/* Ends QEMU. The status is 0 if all is well. */
 _Noreturn void leave(uint8_t status);
-/* Ends the run with that text. Of several processors that fail the first one does. */
+/* Ends the run with that text. If several processors fail, the first one does. */
 _Noreturn void fail(const char *what);
-/* Ends the run with that text, where it does not hold. */
+/* Ends the run with that text if `holds` is false. */
 void need(bool holds, const char *what);
 
 void out8(uint16_t port, uint8_t value);
@@ -25,10 +25,10 @@ uint8_t in8(uint16_t port);
 uint64_t read_msr(uint32_t msr);
 void write_msr(uint32_t msr, uint64_t value);
 
-/* Boots a core, or ends the run and tells why there is none. */
+/* Boots a core, or ends the run with the reason why there is none. */
 void boot(struct tower *tower);
 
-/* Where a core's memory lies, by tower_memory: it begins at a page, since rattle_alloc aligns large blocks so. */
+/* Where a core's memory lies, from tower_memory. It begins at a page, since rattle_alloc aligns large blocks to one. */
 uint8_t *memory_of(struct tower *tower);
 
 void *memset(void *to, int byte, size_t count);

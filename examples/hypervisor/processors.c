@@ -9,15 +9,15 @@ enum { ASSERT = 0x4000, TO_OTHERS = 0xc0000, INIT = 0x500, STARTUP = 0x600, MASK
 /* Of the timer, which counts a billion in a second before it divides: 10 ms, and 0.1 ms. */
 enum { SLICE_COUNT = 625000, REST_COUNT = 6250 };
 enum { VECTOR_TIMER = 0x40, VECTOR_STOP = 0x41, VECTOR_SPURIOUS = 0xff, EXCEPTIONS = 32, VECTORS = 256 };
-/* Where the others begin, below 1 MiB; the number of its page is the vector of SIPI. */
+/* Where the other processors begin, below 1 MiB; the number of its page is the vector of SIPI. */
 enum { TRAMPOLINE_AT = 0x8000, MSR_GS_BASE = 0xc0000101 };
 
-/* Ticks of a wait, some ten seconds; and of the looks before it rests, some tenth of a millisecond. A look has no
+/* Ticks of a wait, about ten seconds; and of polling before a rest, about a tenth of a millisecond. A poll has no
  * PAUSE: QEMU leaves its loop at each. */
 #define WAIT_BOUND 30000000000u
 #define LOOKS_BOUND 200000u
 
-/* What a processor has of its own; GS leads to it. start.S has the places of the first three. */
+/* A processor's own data; GS points to it. start.S has the places of the first three fields. */
 static struct processor {
     struct processor *self;
     uint32_t number;
@@ -80,7 +80,7 @@ static void rest_for(uint32_t count) {
     __asm__ volatile("sti; hlt; cli" : : : "memory");
 }
 
-/* Whoever is about to change what is waited for changes it first, and then looks who rests. */
+/* Wakes a processor that rests. The caller first changes what the processor waits for, and then calls this. */
 static void wake(const struct processor *it) {
     if (atomic_load(&it->rests)) {
         interrupt(it);
@@ -116,7 +116,7 @@ void wait_until(bool (*holds)(const void *of), const void *of, const char *what)
     }
 }
 
-/* ---- Interrupts. None is taken but where take_interrupts says so, or a processor rests. */
+/* ---- Interrupts. None is taken except in take_interrupts, and while a processor rests. */
 
 static struct gate {
     uint16_t low, selector, kind, middle;
@@ -139,7 +139,7 @@ static void set_gates(void) {
     set_gate(VECTOR_SPURIOUS, on_spurious);
 }
 
-/* A fault of the program's own; start.S has the number and what the processor pushed. */
+/* Ends the run at an exception of the program's own; start.S passes the number and what the processor pushed. */
 _Noreturn void exception(uint64_t number, const uint64_t *pushed) {
     say("exception %u of processor %u: %x %x\n", (uint32_t)number, this_processor(), (uint32_t)pushed[0],
         (uint32_t)pushed[1]);
@@ -150,7 +150,7 @@ void take_interrupts(void) {
     __asm__ volatile("sti; nop; nop; cli" : : : "memory");
 }
 
-/* An interrupt of a countdown before is taken once the new one counts, so that none is left. */
+/* An interrupt of an earlier countdown is taken once the new one counts, so that none is left. */
 void start_slice(void) {
     *apic(APIC_FIRST) = SLICE_COUNT;
     take_interrupts();
@@ -187,7 +187,7 @@ static void begin_processor(uint32_t number) {
     *apic(APIC_TIMER) = VECTOR_TIMER;
 }
 
-/* The first interrupt controllers are not used: all of their lines are masked. */
+/* The legacy interrupt controllers are not used: all of their lines are masked. */
 void begin_first_processor(void) {
     out8(0x21, 0xff);
     out8(0xa1, 0xff);
@@ -195,7 +195,7 @@ void begin_first_processor(void) {
     begin_processor(0);
 }
 
-/* Another processor's: start.S gives it its number. */
+/* Runs another processor; start.S gives it its number. */
 _Noreturn void begin_other(uint32_t number) {
     begin_processor(number);
     first_job();
@@ -210,7 +210,7 @@ _Noreturn void begin_other(uint32_t number) {
     }
 }
 
-/* How many processors the machine has, of which QEMU tells. */
+/* Returns how many processors the machine has, as QEMU reports it. */
 static uint32_t processors_there(void) {
     enum { SELECTOR = 0x510, DATA = 0x511, PROCESSORS = 5 };
     out16(SELECTOR, PROCESSORS);

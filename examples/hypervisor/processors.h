@@ -1,5 +1,5 @@
-/* The machine's processors: how they start, what each has of its own, the lock that events come under, and how one of
- * them stops another. Each wait has a bound, at which the run fails with the text that says what did not come. */
+/* The machine's processors: how they start, what each has of its own, the lock of events, and how one processor stops
+ * another. Each wait has a bound. At the bound the run fails with a text that says what did not come. */
 #ifndef PROCESSORS_H
 #define PROCESSORS_H
 
@@ -7,57 +7,58 @@
 
 enum { MOST_PROCESSORS = 8, NO_PROCESSOR = 255 };
 
-/* This processor begins: 0 is the one that began the program. Nothing else comes before it. */
+/* Sets this processor up as number 0, the one that began the program. Call it before anything else. */
 void begin_first_processor(void);
 /* Starts all others, by INIT and SIPI. Each does `first`, and then waits for work. */
 void start_processors(void (*first)(void));
 uint32_t processors(void);
 uint32_t this_processor(void);
-/* Each processor does it, this one among them. All are back when it is. */
+/* Runs `work` on each processor, this one among them. Returns when all have finished. */
 void on_all(void (*work)(void));
 
 /* The timer interrupts 10 ms from now, and not before. The interrupt ends a guest's run. */
 void start_slice(void);
-/* Whether it did. */
+/* Returns whether the slice is over. */
 bool is_slice_over(void);
 /* Takes the interrupts that are pending. */
 void take_interrupts(void);
-/* Until the timer's interrupt is pending. */
+/* Waits until the timer's interrupt is pending. */
 void let_slice_pass(void);
 
-/* The lock of events: who asks first has it first. A processor that waits for it may be stopped. */
+/* The lock of events, in the order of requests. A processor that waits for it may be stopped. */
 void take_lock(void);
 void let_go(void);
 
-/* Of those that work together, with the lock. Others are not stopped. */
+/* Joins and leaves the processors that work together, with the lock. stop_others stops no others. */
 void arrive(void);
 void depart(void);
 
-/* What a processor that was stopped does before it goes on: forgets a page's translation, or nothing. */
+/* What a stopped processor does before it continues: forgets a page's translation, or nothing. */
 struct order {
     void (*forget)(uint32_t identifier, uint32_t page);
     uint32_t identifier, page;
 };
 
-/* Stops another by an interrupt, with the lock: it runs no guest from when this is back. It did `before_stop` first. */
+/* Stops another processor with an interrupt, with the lock. When this returns, that processor runs no guest, and has
+ * called `before_stop`. */
 void stop_processor(uint32_t number);
-/* It goes on, and has carried out the order when this is back. */
+/* Lets a stopped processor continue. When this returns, that processor has carried out the order. */
 void go_on(uint32_t number, struct order order);
-/* All others that work, and then with nothing to do. */
+/* Stops all others that work; and lets them continue, with no order. */
 void stop_others(void);
 void others_go_on(void);
-/* Waits here, where another has stopped this processor. */
+/* Waits here if another processor has stopped this one. */
 void answer_stop(void);
 extern void (*before_stop)(void);
-/* How many interrupts were sent to stop one. */
+/* How many interrupts were sent to stop a processor. */
 uint32_t stops(void);
 
-/* Until something holds: it looks for a while, and then rests between looks, so that a processor in QEMU leaves the
- * host's to others. It answers stops meanwhile. */
+/* Waits until something holds. It polls for a while, and then rests between polls, so that a processor in QEMU leaves
+ * the host's to others. It answers stops meanwhile. */
 void wait_until(bool (*holds)(const void *of), const void *of, const char *what);
-/* Whoever rests looks again: behind whatever it may wait for. */
+/* Makes each processor that rests poll again. Call it after a change that one may wait for. */
 void wake_others(void);
-/* A tenth of a millisecond, or until an interrupt. */
+/* Rests for a tenth of a millisecond, or until an interrupt. */
 void rest(void);
 
 #endif

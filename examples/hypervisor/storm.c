@@ -1,12 +1,12 @@
-/* A storm: eight processes make calls and accesses on all processors at once, over one core. All of it is noted, and
- * told to a second core when it is over.
+/* A storm: eight processes make calls and accesses on all processors concurrently, over one core. All of them are
+ * noted, and a second core gets the notes after the storm.
  *
- * Events are noted in the order of the lock. An access is no event: it is noted with its process's next event, or where
- * its processor is stopped. So others' events and accesses stand between that came later, or earlier. That makes no
- * difference where an access touches pages of its process alone: no event of another changes these, nor the words that
- * lead there (docs/THEOREMS.md: processes_keep_their_integrity, and what an event ends). In a page that others share it
- * touches bytes of its process's own; and where it is to touch any byte, or a fork copies pages, the others are
- * stopped, so that its place among theirs is the noted one. */
+ * Events are noted in the order of the lock. An access is no event: it is noted with its process's next event, or when
+ * its processor is stopped. The notes may therefore have others' events and accesses on the wrong side of it. That
+ * makes no difference if an access touches only pages of its own process: no event of another changes these, nor the
+ * words that lead there (docs/THEOREMS.md: processes_keep_their_integrity, and what an event ends). In a page that
+ * others share, an access touches bytes of its process's own. If it is to touch any byte, or a fork copies pages, the
+ * others are stopped. Its place among theirs is then the noted one. */
 #include "cache.h"
 #include "compare.h"
 #include "kernel.h"
@@ -30,7 +30,7 @@ static uint8_t *memory;
 static struct kernel kernel;
 static bool is_by_processor;
 
-/* With the lock. Those that are stopped note what they have all at once. */
+/* With the lock. Stopped processors note their accesses concurrently. */
 static struct note notes[MOST_NOTES];
 static _Atomic uint32_t noted;
 static struct queue queue;
@@ -45,10 +45,10 @@ static struct {
     uint32_t target, page;
 } lent[LIVE];
 
-/* What a processor has of its own: the process that it runs, and the accesses that are not noted yet. */
+/* A processor's own data: the process that it runs, and its accesses that are not noted yet. */
 static struct runner {
     uint32_t pid, identifier, directory, unnoted;
-    bool has_fetched; /* in this turn: its code's page is marked then */
+    bool has_fetched; /* in this turn: accessed is set then in the word of its code's page */
     bool is_alone;    /* it has the lock, and all others stand still */
     struct note access[MOST_UNNOTED];
 } runners[MOST_PROCESSORS];
@@ -63,7 +63,7 @@ static void note(const struct note *it) {
     notes[at] = *it;
 }
 
-/* Those of this processor: with the lock, or while another stops this one. */
+/* Notes this processor's accesses: with the lock, or while another stops this processor. */
 static void note_accesses(void) {
     struct runner *it = mine();
     for (uint32_t i = 0; i < it->unnoted; i++) {
@@ -105,7 +105,7 @@ static struct tower_reply call(struct tower_event event) {
 
 /* ---- Accesses */
 
-/* An access that came to its end. */
+/* Adds an access that completed to those not noted yet. */
 static void made(struct tower_event event, uint32_t value) {
     struct runner *it = mine();
     bool is_store = event.call == TOWER_STORE;
@@ -115,8 +115,8 @@ static void made(struct tower_event event, uint32_t value) {
     it->access[it->unnoted++] = (struct note){event, reply, true};
 }
 
-/* A processor stopped at a byte: the core is asked for it, unless the words lead there by now, since another accepted
- * the page meanwhile. True where the access is to be made again. */
+/* Handles a fault of a processor at a byte: the core gets an event for the byte, unless the words lead there by now,
+ * since another accepted the page meanwhile. Returns whether the access is to be made again. */
 static bool mend(uint32_t at, uint32_t code) {
     bool writes = code & 2;
     begin_event();
@@ -153,7 +153,7 @@ static void make_in_software(struct tower_event event) {
     }
 }
 
-/* By the processor. An interrupt may come before its instruction or behind it. */
+/* Makes an access on the processor. An interrupt may come before or after the instruction. */
 static void make_by_processor(struct tower_event event) {
     static const uint32_t entries[2][2] = {{LOAD1, LOAD4}, {STORE1, STORE4}};
     bool is_store = event.call == TOWER_STORE, is_made = false;
@@ -184,7 +184,7 @@ static void make(struct tower_event event) {
     (is_by_processor ? make_by_processor : make_in_software)(event);
 }
 
-/* The instruction is fetched too, which marks its page the first time. */
+/* Notes the fetch of the instruction, or makes it in software. The first fetch sets accessed for its page. */
 static void fetch(void) {
     struct tower_event event = {.call = TOWER_LOAD, .flag = 1, .first = STUB_AT};
     if (is_by_processor) {
@@ -195,7 +195,7 @@ static void fetch(void) {
     mine()->has_fetched = true;
 }
 
-/* Of a process's part of a page: mostly of its first two words, so that others look where something was stored. */
+/* Makes an access to a process's part of a page: mostly to its first two words, so that others load what was stored. */
 static void access_part(uint32_t page, uint32_t pid, bool is_store) {
     uint32_t offset = pid * PART + random(random(8) ? 2 : PART / 4) * 4;
     struct tower_event event = {.call = is_store ? TOWER_STORE : TOWER_LOAD, .flag = random(2) ? 4 : 1,
@@ -203,7 +203,7 @@ static void access_part(uint32_t page, uint32_t pid, bool is_store) {
     make(event);
 }
 
-/* While others stand still. */
+/* From here to end_alone the others stand still. */
 static void begin_alone(void) {
     if (!mine()->has_fetched) {
         fetch();
@@ -221,7 +221,7 @@ static void end_alone(void) {
     let_go();
 }
 
-/* Of any process's part. */
+/* Makes an access to a process's part of a page, while the others stand still. */
 static void access_alone(uint32_t page, uint32_t pid, bool is_store) {
     begin_alone();
     access_part(page, pid, is_store);
@@ -239,7 +239,7 @@ static void access(uint32_t page, bool is_store) {
     }
 }
 
-/* One behind another, with no event in between where none is mended. */
+/* Makes accesses in sequence, with no event in between if none faults. */
 static void access_often(uint32_t page, bool is_store) {
     for (uint32_t times = 1 + random(6); times > 0; times--) {
         access(page, is_store);
@@ -248,7 +248,7 @@ static void access_often(uint32_t page, bool is_store) {
 
 /* ---- Processes */
 
-/* The code, as the child's own stores: it runs nowhere yet. False where its quota does not allow them. */
+/* Stores the code with the process's own stores; it runs nowhere yet. False if its quota does not allow them. */
 static bool store_code(uint32_t pid) {
     for (uint32_t i = 0; i < (uint32_t)(stub_end - stub); i++) {
         struct tower_event store = {.call = TOWER_STORE, .flag = 1, .first = STUB_AT + i, .second = stub[i]};
@@ -259,7 +259,7 @@ static bool store_code(uint32_t pid) {
     return event_of(pid, (struct tower_event){.call = TOWER_PROTECT, .first = STUB_PAGE}).kind == TOWER_DONE;
 }
 
-/* A child, with the page of code: a copy has its parent's. */
+/* Makes a child with the page of code; a copy has its parent's. */
 static void make_child(void) {
     bool copies = random(4) != 0;
     begin_event();
@@ -299,7 +299,7 @@ static uint32_t random_page(void) {
     return pages[random(random(4) ? 3 : random(8) ? MAPPED_PAGES : PAGES)];
 }
 
-/* A page anew, loaded and not stored to: what is kept of it leads to frame 0. */
+/* Unmaps a page and loads from it, without a store: what is cached of it then leads to frame 0. */
 static void load_anew(uint32_t page) {
     call((struct tower_event){.call = TOWER_UNMAP, .first = page});
     access(page, false);
@@ -320,18 +320,18 @@ static void offer(uint32_t page) {
     end_event();
     lent[mine()->pid].target = target;
     lent[mine()->pid].page = page;
-    /* The giver goes on with its page, as an accept may come from another processor. */
+    /* The giver still uses its page, as an accept may come from another processor. */
     for (uint32_t i = random(8); i > 0; i--) {
         access(page, false);
     }
 }
 
-/* What others stored in the page that it offered last. */
+/* Loads what others stored in the page that this process offered last. */
 static void look_back(void) {
     access_alone(lent[mine()->pid].page, lent[mine()->pid].target, false);
 }
 
-/* All that others may have stored in a page that this process has. */
+/* Loads all that others may have stored in a page that this process has. */
 static void look_over(uint32_t page) {
     for (uint32_t at = 0; at < FRAME; at += at % PART ? PART - 4 : 4) {
         if (walk_of(memory, FRAMES, mine()->directory, page << 12, false).kind == WALK_FOUND) {
@@ -340,7 +340,7 @@ static void look_over(uint32_t page) {
     }
 }
 
-/* What a copy begins with. */
+/* Loads all that a copy begins with. */
 static void look_over_all(void) {
     begin_alone();
     for (uint32_t i = 0; i < MAPPED_PAGES; i++) {
@@ -350,7 +350,7 @@ static void look_over_all(void) {
     is_copy[mine()->pid] = false;
 }
 
-/* A store that the kernel makes for the process, as a loader does: what its processor keeps may lead to frame 0. */
+/* Makes a store as the kernel for the process, as a loader does: what its processor caches may lead to frame 0. */
 static void store_by_kernel(uint32_t page) {
     if (random(2)) {
         load_anew(page);
@@ -401,7 +401,7 @@ static void act(void) {
 
 /* ---- Turns */
 
-/* With the lock. In a wrong version the process stays in the queue. */
+/* Takes the next process, with the lock. In a wrong version the process stays in the queue. */
 static void take_process(struct runner *it) {
     if (!take_first(&queue, &it->pid)) {
         return;
@@ -419,7 +419,7 @@ static void take_process(struct runner *it) {
     it->has_fetched = false;
 }
 
-/* False where all turns were had. */
+/* Begins a turn. Returns false if all turns are over. */
 static bool begin_turn(void) {
     mine()->pid = NOBODY;
     take_lock();
@@ -449,7 +449,7 @@ static bool is_process_waiting(const void *of) {
     return *(volatile uint32_t *)&turns_left == 0 || *(volatile uint32_t *)&queue.count != 0;
 }
 
-/* Turns on this processor, until all were had. */
+/* Gives processes turns on this processor until all turns are over. */
 static void blow(void) {
     take_lock();
     arrive();
@@ -471,7 +471,7 @@ static void blow(void) {
 
 /* ---- The second core */
 
-/* Answers how many of all are accesses. */
+/* Passes all notes to the second core, and compares its replies. Returns how many notes are accesses. */
 static uint32_t tell_second(void) {
     uint32_t accesses = 0;
     for (const struct note *it = notes; it < notes + noted; it++) {

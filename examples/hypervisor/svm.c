@@ -42,7 +42,7 @@ enum { MSR_EFER = 0xc0000080, MSR_VM_CR = 0xc0010114, MSR_HOST_SAVE = 0xc0010117
 
 void enter_guest(void *vmcb, void *more, void *host);
 
-/* What each processor has of its own. */
+/* Each processor's own data. */
 static struct own {
     uint8_t host_save[FRAME], host_vmcb[FRAME];
     uint64_t runs;
@@ -132,7 +132,7 @@ void svm_open(struct guest_cpu *cpu, uint32_t directory, uint32_t eip, uint32_t 
     set32(cpu, INTERCEPT_CR, 0xffffffff);
     set32(cpu, INTERCEPT_DR, 0xffffffff);
     set32(cpu, INTERCEPT_EXCEPTIONS, 0xffffffff);
-    /* All but: a virtual interrupt 4, a selective write of CR0 5, PUSHF 16, POPF 17, PAUSE 23. */
+    /* All except: a virtual interrupt 4, a selective write of CR0 5, PUSHF 16, POPF 17, PAUSE 23. */
     set32(cpu, INTERCEPT_FIRST, ~(1u << 4 | 1u << 5 | 1u << 16 | 1u << 17 | 1u << 23));
     set32(cpu, INTERCEPT_SECOND, 0x3fff);
     set64(cpu, IO_MAP, (uint64_t)all_ones);
@@ -147,7 +147,7 @@ void svm_open(struct guest_cpu *cpu, uint32_t directory, uint32_t eip, uint32_t 
     segment(cpu, SAVE_TR, 0x18, TASK);
     set32(cpu, SAVE_TR + 4, 0);
     set8(cpu, SAVE_CPL, 3);
-    set64(cpu, SAVE_EFER, EFER_SVME);  /* as VMRUN asks; no long mode */
+    set64(cpu, SAVE_EFER, EFER_SVME);  /* as VMRUN requires; no long mode */
     set64(cpu, SAVE_CR0, 0x8001003d);  /* PG, WP, NE, ET, TS, EM, PE: no FPU, no SSE */
     set64(cpu, SAVE_CR3, (uint64_t)directory * FRAME);
     set64(cpu, SAVE_CR4, 0);           /* no PSE, no PAE */

@@ -1,7 +1,7 @@
 #include "translations.h"
 #include "machine.h"
 
-/* None is left. What is kept under those that were given up goes with all else. */
+/* No identifier is left: forgets all, also what is cached under released identifiers. */
 static void begin_anew(struct translations *it) {
     memset(it->identifiers, 0, sizeof it->identifiers);
     it->last = 0;
@@ -25,7 +25,8 @@ bool give_up(struct translations *it, uint32_t pid) {
     return had_one;
 }
 
-/* A process that has no identifier ran on no processor since all was flushed: nothing of it is kept. */
+/* A process without an identifier has run on no processor of the book since the last flush of all: nothing of it is
+ * cached. */
 static void invalidate_page(struct translations *it, uint32_t pid, uint32_t page) {
     if (it->identifiers[pid]) {
         it->forget_page(it->identifiers[pid], page);

@@ -1,23 +1,23 @@
-/* Trials of the processors against the definitions. Their numbers come of generators with fixed seeds. */
+/* Trials of the processors against the definitions. Their numbers are from generators with fixed seeds. */
 #ifndef TRIAL_H
 #define TRIAL_H
 
 #include "tower.h"
 
-/* Instructions that are not a guest's to make: each ends in an exit, and changes no byte of memory. */
+/* Tests instructions that a guest may not execute: each ends in an exit, and changes no byte of memory. */
 void try_instructions(void);
 
-/* Random page words, of which most no core writes: the processor's walk against that of docs/MACHINE.md. */
+/* Compares the processor's walk with that of docs/MACHINE.md, over random page words. No core writes most of these. */
 void try_walks(uint32_t rounds);
 
-/* Random events on two cores: one carries out each access itself, the processor makes it over
- * the other's tables. Replies agree, and all bytes of memory but accessed in words of directories. The second
- * core is left in the handle. */
+/* Makes random events on three cores. The processor makes each access over the first core's tables, processors in
+ * software over the second's, and the third carries it out as an event. Replies have to agree, and all bytes of memory
+ * except accessed in words of directories. The first core stays in the handle. */
 void try_events(uint32_t rounds, struct tower *tower);
 
-/* A storm of calls and accesses of eight processes, which all processors run at once: the accesses are the processors'
- * own, or those of processors in software, one on each. A second core is told all of them afterwards, in the lock's
- * order; the first is left in the handle. */
+/* Makes a storm of calls and accesses of eight processes, which all processors run concurrently. The accesses are the
+ * processors' own, or those of processors in software, one on each. A second core gets all of them afterwards, in the
+ * lock's order. The first stays in the handle. */
 void try_storm(uint32_t turns, bool by_processor, struct tower *tower);
 
 #endif

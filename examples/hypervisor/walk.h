@@ -14,10 +14,10 @@ struct walk {
     uint32_t frame;  /* that it finds */
     uint32_t beyond; /* where it leaves memory: the address in the guest's memory */
     uint32_t *directory_word; /* of a walk from a directory */
-    uint32_t *table_word;     /* null where the walk ends before it */
+    uint32_t *table_word;     /* null if the walk ends before it */
 };
 
-/* From a directory's word. */
+/* Walk from a directory's word, and from a directory. */
 struct walk walk_by(uint8_t *memory, uint32_t frames, uint32_t word, uint32_t address, bool write);
 struct walk walk_of(uint8_t *memory, uint32_t frames, uint32_t directory, uint32_t address, bool write);
 

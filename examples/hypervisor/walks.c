@@ -47,7 +47,7 @@ static void put_words(uint8_t *memory, const struct attempt *it) {
     }
 }
 
-/* What an access whose walk finds a frame leaves in the model. Answers what a load gives. */
+/* Changes the model as an access does whose walk finds a frame. Returns the value of a load. */
 static uint32_t complete(const struct attempt *it, struct walk *walk) {
     uint32_t loaded = 0;
     uint8_t *place = model + (size_t)walk->frame * FRAME + (it->address & 4095);
@@ -62,7 +62,8 @@ static uint32_t complete(const struct attempt *it, struct walk *walk) {
     return loaded;
 }
 
-/* A word of the model that the processor may have marked as it went, though the access came to nothing. */
+/* Returns whether the processor marked a word of the model in its walk, though the access did not complete. The model
+ * then has the same word. */
 static bool was_marked(uint32_t *word, uint32_t marks) {
     uint32_t *set = (uint32_t *)(raw + ((uint8_t *)word - model));
     bool marked = *set != *word;

@@ -3,7 +3,7 @@
 
 enum wrong wrong = RIGHT;
 
-/* Which trial is to find a version: that of events, which one processor makes, or the storm, or each of them. */
+/* Which trial has to find a version: that of events, which one processor makes, the storm, or both. */
 enum trials { EVENTS, STORM, BOTH };
 
 /* In the order of `enum wrong`. ./wrong reads words and trials here. */

@@ -1,5 +1,5 @@
-/* Wrong versions of the trials of events and of the storm, each of which forgets, marks or stops too little. The trials
- * have to find each of them. A word of the kernel's command line chooses one (./wrong tries all). */
+/* Wrong versions of the trials of events and of the storm. Each forgets, marks or stops too little, and the trials have
+ * to find each of them. A word of the kernel's command line chooses one (./wrong runs all). */
 #ifndef WRONG_H
 #define WRONG_H
 
@@ -24,10 +24,10 @@ enum wrong {
 };
 extern enum wrong wrong;
 
-/* Chooses the version of a word, `right` among them. Ends the run at a word of none. */
+/* Chooses the version that a word names, `right` among them. Ends the run if the word names none. */
 void choose_wrong(const char *word);
 
-/* What the version that was chosen takes an event to have ended. */
+/* What the chosen version takes an event to have ended. */
 struct tower_ended taken_for(const struct tower_event *event, struct tower_ended ended);
 
 #endif

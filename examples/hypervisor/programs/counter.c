@@ -1,6 +1,6 @@
 #include "crowd.h"
 
-/* In turns: each adds one where its turn is, and tells whoever sleeps until then. */
+/* Counts in turns: each counter adds one at its turn, and announces the count to those that sleep until then. */
 static void count_in_turns(volatile uint32_t *count, uint32_t mine) {
     uint32_t looks = LOOKS_LEAST;
     for (uint32_t turn = mine; turn < TURNS; turn += COUNTERS) {
@@ -10,7 +10,7 @@ static void count_in_turns(volatile uint32_t *count, uint32_t mine) {
     }
 }
 
-/* All at once: each its own byte, which nobody else changes. */
+/* Counts concurrently: each counter has its own byte, which no other changes. */
 static void count_alone(volatile uint32_t *count, uint32_t mine) {
     volatile uint8_t *byte = (volatile uint8_t *)&count[BYTES] + mine;
     for (uint32_t time = 0; time < TIMES; time++) {

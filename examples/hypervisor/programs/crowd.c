@@ -1,7 +1,7 @@
 #include "crowd.h"
 
-/* Lends a page that it read and never stored to, and reads it again once the other changed it: so what the processor
- * keeps of it has to go in between, while this program looks for the change. */
+/* Lends a page that it read and never stored to, and reads it again once the other changed it. In between, while this
+ * program polls for the change, the processor has to drop what it caches of the page. */
 static uint32_t lend(uint32_t loan, uint32_t borrower, uint32_t *looks) {
     volatile uint32_t *told = words(TOLD_PAGE), *lent = words(LENT_PAGE);
     uint32_t old = *lent;
