@@ -1,5 +1,5 @@
-/* A kernel that audits itself: the image of its core in a buffer, and the check of it, of the core's own and of images
- * that were damaged. It ends with status 1 at the first answer that is not the expected one. */
+/* A kernel that audits itself. It writes the image of its core to a buffer, and checks that image, the core's own, and
+ * damaged images. It ends with status 1 at the first answer that is not the expected one. */
 #include <stdio.h>
 #include <stdlib.h>
 #include <string.h>
@@ -53,7 +53,7 @@ static void writes(void) {
     expect(tower_check_bytes(image, length, &verdict) == TOWER_SOUND && verdict.number == 7, "and so is its image");
 }
 
-/* The status and the verdict on the image with another byte at a place, which is put back. */
+/* Returns whether the image with another byte at a place has this status and verdict. The byte is put back. */
 static bool tells(size_t place, uint8_t byte, uint32_t status, uint32_t number, uint32_t clause) {
     struct tower_verdict verdict = {0};
     uint8_t old = image[place];
@@ -77,7 +77,7 @@ static void damages(void) {
            "a byte too few: another length");
 }
 
-/* What the check of the core is for: something else writes where only the library may. */
+/* The purpose of checking a core: something else writes where only the library may. */
 static void is_overwritten(void) {
     struct tower_memory memory = {0};
     struct tower_verdict verdict = {0};

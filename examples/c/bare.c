@@ -1,6 +1,6 @@
-/* The core with no C library: this file has the four symbols that the library asks for, over a pool of
- * its own, and a start of its own for Linux on x86-64. It ends with status 0 where all went as expected,
- * and else with the number of what did not. */
+/* The core with no C library: this file has the four symbols that the library imports, over a pool of
+ * its own, and a start of its own for Linux on x86-64. It ends with status 0 if all goes as expected,
+ * otherwise with the number of the first step that does not. */
 #include "tower.h"
 #include "tower_heap.h"
 
@@ -10,7 +10,7 @@ static _Alignas(16) uint8_t pool[1 << 20];
 static size_t used, blocks;
 static uint8_t nothing;
 
-/* The pool's blocks lie one behind another; once all are back it starts anew. */
+/* The pool's blocks lie in sequence. Once all are freed, the pool is empty again. */
 struct rattle_tried rattle_alloc(size_t size, size_t align) {
     size_t at = (used + align - 1) & ~(align - 1);
     if (at > sizeof pool || size > sizeof pool - at) {

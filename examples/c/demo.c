@@ -1,5 +1,6 @@
-/* Boots a core, maps, stores, loads and shares, and reads memory where the page tables lead: the walk is the
- * library's, and the word comes from a frame that was copied out. It ends with status 1 at the first answer that is not the expected one. */
+/* Boots a core, maps, stores, loads and shares, and reads memory where the page tables lead. The walk is the library's,
+ * and the word is from a frame that was copied out. It ends with status 1 at the first answer that is not the expected
+ * one. */
 #include <stdio.h>
 #include <stdlib.h>
 #include <string.h>
@@ -48,7 +49,7 @@ static bool loads(struct tower_event event, uint32_t value) {
     return reply.kind == TOWER_VALUE && reply.first == value;
 }
 
-/* The word at an address of a process, by the walk of its tables. */
+/* Returns the word at an address of a process, found by the walk of its tables. */
 static uint32_t walked(uint32_t pid, uint32_t address) {
     static uint8_t bytes[TOWER_FRAME_BYTES];
     struct tower_walk found = {0};
@@ -108,7 +109,7 @@ static void shares(void) {
     expect(walk_faults(pid, ADDRESS, false, 4), "and which lead to no other page");
 }
 
-/* A page that was loaded and never stored to has no frame yet. Its accept gives it one: what ends is the giver's
+/* A page that was loaded and never stored to has no frame yet. Its accept gives it one. That ends the giver's
  * translation, and none of the caller's. */
 static void tells_what_ends(void) {
     enum { LAZY = PAGE + 1 };
@@ -177,7 +178,7 @@ static void runs_until(void) {
            "and tells which");
 }
 
-/* Copies over two pages, out and in again, and stops where the user range ends. */
+/* Copies over two pages, in and out again, and stops where the user range ends. */
 static void copies(void) {
     static uint8_t wrote[6000], read[6000];
     struct tower_reply stop = {0};

@@ -1,5 +1,5 @@
-/* Cores over blocks that the caller hands over, and what comes of handing over the wrong ones (c/region.c). It ends
- * with status 0 where all went as expected, and else names the line of what did not. */
+/* Cores over blocks of the caller's, and the statuses of wrong blocks (c/region.c). It ends with status 0 if all goes
+ * as expected, and otherwise prints the line of what does not. */
 #include <stdio.h>
 #include <stdlib.h>
 #include <string.h>
@@ -48,7 +48,7 @@ static bool works(struct tower *tower, uint32_t value) {
 int main(void) {
     struct tower one = TOWER_NONE, two = TOWER_NONE, three = TOWER_NONE;
 
-    /* how much fits */
+    /* how many frames fit */
     EXPECT(tower_frames_within(0) == 0 && tower_frames_within(TOWER_BLOCK_BYTES(16) - 1) == 0);
     EXPECT(tower_frames_within(TOWER_BLOCK_BYTES(16)) == 16);
     for (uint32_t frames = 16; frames < 3000; frames += 7) {
@@ -58,7 +58,7 @@ int main(void) {
     }
     EXPECT(tower_frames_within(SIZE_MAX / 4096 * 4096) == TOWER_WIDE_FRAMES);
 
-    /* blocks that are none: the handle stays empty, and not a byte changes */
+    /* what is no block: the handle stays empty, and not a byte changes */
     memset(around, 0x5a, sizeof around);
     EXPECT(tower_boot_over(FRAMES, &one, NULL, sizeof first) == TOWER_BAD_BLOCK);
     EXPECT(tower_boot_over(FRAMES, &one, around + 1, sizeof first) == TOWER_BAD_BLOCK);
@@ -94,12 +94,12 @@ int main(void) {
     EXPECT(tower_boot_over(FRAMES, &two, around + 8192, sizeof first) == TOWER_BAD_BLOCK);
     EXPECT(!two.live);
 
-    /* two cores at a time, one of them wide */
+    /* two cores together, one of them wide */
     EXPECT(tower_boot_over(WIDE, &two, second, sizeof second) == TOWER_BOOTED);
     EXPECT(tower_frames(&two) == WIDE && works(&two, 78));
     EXPECT(answers(&two, (struct tower_event){.call = TOWER_QUOTA}, TOWER_USAGE, WIDE - 1));
 
-    /* without functions of their own the other questions are refused */
+    /* other requests are refused until they have functions of their own */
     EXPECT(tower_boot(FRAMES, &three) == TOWER_NO_MEMORY && !three.live);
     struct tower_other_heap heap = {other_alloc, other_realloc, other_dealloc};
     tower_set_other_heap(&heap);
@@ -109,7 +109,7 @@ int main(void) {
     EXPECT(others == 0);
     tower_set_other_heap(NULL);
 
-    /* given back: the block is the caller's, in any order, and may be handed over anew */
+    /* freed in any order: the block is the caller's, and may be used for another core */
     EXPECT(answers(&one, (struct tower_event){.call = TOWER_LOAD, .flag = 4, .first = ADDRESS}, TOWER_VALUE, 77));
     tower_free(&one);
     EXPECT(!tower_holds(around + 4096) && tower_holds(second));

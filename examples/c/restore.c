@@ -1,6 +1,6 @@
-/* A core from another core's image: the same calls on both then have the same replies, and leave the same image. No core
- * comes of an image that was damaged or is of version 1, or in a handle that has one. It ends with status 1 at the first
- * answer that is not the expected one. */
+/* A core from another core's image: the same calls on both then have the same replies, and leave the same image. A
+ * damaged image gives no core, nor does one of version 1, nor a handle that has a core. It ends with status 1 at the
+ * first answer that is not the expected one. */
 #include <stdio.h>
 #include <stdlib.h>
 #include <string.h>
@@ -51,7 +51,7 @@ static void restores(void) {
     expect(tower_restore(image, LENGTH, &second, &verdict) == TOWER_RESTORE_HAS_CORE, "a handle with a core gets no other");
 }
 
-/* What process 0 and process 1 do then, with the last number of each event's reply to be expected. */
+/* The calls that both cores then get, with the kind and the first number of the reply that each has to have. */
 static const struct {
     struct tower_event event;
     uint32_t kind, value;
@@ -82,7 +82,7 @@ static void go_on_alike(void) {
     expect(memcmp(image, first_image, LENGTH) != 0, "and not the old one");
 }
 
-/* An offer that is pending isn't in the image. */
+/* A pending offer isn't in the image. */
 static void loses_an_offer(void) {
     struct tower_event offer = {.call = TOWER_OFFER, .first = PAGE, .second = 1};
     struct tower_event accept = {.pid = 1, .call = TOWER_ACCEPT, .first = PAGE, .second = 0, .third = PAGE};
@@ -95,7 +95,8 @@ static void loses_an_offer(void) {
     tower_free(&second);
 }
 
-/* No core comes of the image with another byte at a place, with this status and verdict. The byte is put back. */
+/* Returns whether the image with another byte at a place gives no core, but this status and verdict. The byte is put
+ * back. */
 static bool refuses(size_t place, uint8_t byte, uint32_t status, uint32_t number, uint32_t clause) {
     struct tower_verdict verdict = {7, 7};
     uint8_t old = image[place];

@@ -1,7 +1,7 @@
-/* run_script FRAMES < SCRIPT: each line of a script to tower_step, and each reply as a line.
+/* run_script FRAMES < SCRIPT: passes each line of a script to tower_step, and prints each reply as a line.
  *
- * docs/MACHINE.md has the lines of scripts and replies. Status 2 at the first line that is no event; this
- * runner is for scripts that are whole, and does not look for all that the program refuses. */
+ * docs/MACHINE.md has the lines of scripts and replies. It ends with status 2 at the first line that is no
+ * event. This runner is for well-formed scripts, and does not detect all that the program refuses. */
 #include <stdio.h>
 #include <stdlib.h>
 #include <string.h>
@@ -11,7 +11,7 @@
 static const char *const calls[] = {"load",   "store", "map",  "unmap", "protect", "info", "offer", "withdraw",
                                     "accept", "spawn", "exit", "quota", "fork"};
 
-/* What is left of a line. */
+/* The rest of a line, and whether all its words so far were read. */
 struct tokens {
     char *rest;
     bool ok;
@@ -127,7 +127,7 @@ static void print_reply(const struct tower_reply *reply) {
     }
 }
 
-/* Whether the line was carried out, or is one to skip. */
+/* Carries out a line. Returns whether it was carried out, or is one to skip. */
 static bool carried_out(struct tower *tower, char *text) {
     struct tower_event event = {0};
     struct tower_reply reply = {0};

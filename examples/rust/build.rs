@@ -1,8 +1,8 @@
 //! Links the archive of `crates/tower_c`, and with the feature `images` that of `crates/tower_images`.
 //!
-//! They are those of the folder which `TOWER_LIB` names; else those beside this crate, in a release; else those of the
-//! repository, which `make -C c` proves and builds where one is missing or older than its sources. That takes minutes
-//! and the kit's `rt`, so a warning says so before it begins.
+//! If `TOWER_LIB` names a folder, they are that folder's. Otherwise, in a release, they are those in `lib/` next to
+//! this crate. Otherwise they are the repository's, which `make -C c` proves and builds if one is missing or older than
+//! its sources. That takes minutes and needs the kit's `rt`; a warning says so before it begins.
 use std::path::{Path, PathBuf};
 use std::process::Command;
 use std::{env, fs};
@@ -20,7 +20,7 @@ fn archive(name: &str) -> String {
     format!("lib{name}.a")
 }
 
-/// What to do where there is no archive.
+/// What to do if there is no archive.
 fn advice(name: &str) -> String {
     format!(
         "TOWER_LIB=FOLDER names the folder of a built {}",
@@ -28,7 +28,7 @@ fn advice(name: &str) -> String {
     )
 }
 
-/// Each folder whose files a crate's archive is made of, and the list of crates.
+/// Each folder whose files a crate's archive is built from, and the list of crates.
 fn sources(root: &Path, name: &str) -> Vec<PathBuf> {
     let below = Command::new(root.join("c/below")).arg(name).output();
     let names = String::from_utf8(below.expect("c/below runs").stdout).expect("names of crates");
@@ -41,7 +41,7 @@ fn sources(root: &Path, name: &str) -> Vec<PathBuf> {
         .collect()
 }
 
-/// Whether `make -C c` of a crate's archive, with these words, ends with status 0.
+/// Whether `make -C c` of a crate's archive, with these arguments, ends with status 0.
 fn makes(root: &Path, name: &str, words: &[&str]) -> bool {
     let ended = Command::new("make")
         .arg("-s")
@@ -53,8 +53,8 @@ fn makes(root: &Path, name: &str, words: &[&str]) -> bool {
     ended.is_ok_and(|status| status.success())
 }
 
-/// The folder of a crate's archive in the repository, proved and built first where it is missing or older than its
-/// sources.
+/// The folder of a crate's archive in the repository. The archive is first proved and built if it is missing or older
+/// than its sources.
 fn built(root: &Path, name: &str) -> PathBuf {
     for source in sources(root, name) {
         println!("cargo::rerun-if-changed={}", source.display());

@@ -6,7 +6,7 @@ use tower::{Call, Core, Event, Pid, Reply, Size, Vaddr};
 
 const ADDRESS: u32 = 0x4000_0000;
 
-/// The word of a CPU.
+/// Returns the address of a CPU's word.
 fn place(cpu: u8) -> Vaddr {
     Vaddr(ADDRESS + 4 * u32::from(cpu))
 }

@@ -1,11 +1,11 @@
-//! Each call as a method, which gives what it tells or why it was not carried out.
+//! Each call as a method, which returns the call's result or why it was not carried out.
 //!
 //! The event's CPU is 0: it has no effect.
 
 use crate::core::Core;
 use crate::words::{Call, Event, Page, Pid, Refusal, Reply, Size, Vaddr};
 
-/// What stands at a page of a process.
+/// The state of a page of a process.
 #[derive(Clone, Copy, Debug, PartialEq, Eq, Hash)]
 #[allow(clippy::struct_excessive_bools)] // (four flags of a page, as a reply has them)
 pub struct Info {
@@ -32,7 +32,7 @@ pub struct Usage {
     pub given: u32,
 }
 
-/// What a call can't be told, by the library's contracts.
+/// Panics at a reply that the library's contracts exclude for a call.
 fn untold(told: Reply) -> ! {
     unreachable!("a call was told {told:?}")
 }
@@ -77,7 +77,7 @@ impl Core {
         self.done(pid, Call::Store { addr, size, value })
     }
 
-    /// Maps a page of zeros, with the right to write as asked.
+    /// Maps a page of zeros, with the right to write if `write`.
     ///
     /// # Errors
     ///
@@ -86,7 +86,7 @@ impl Core {
         self.done(pid, Call::Map { page, write })
     }
 
-    /// Takes a page out of the process's space.
+    /// Removes a page from the process's space.
     ///
     /// # Errors
     ///
@@ -104,7 +104,7 @@ impl Core {
         self.done(pid, Call::Protect { page, write })
     }
 
-    /// A page's flags, and how many slots share it.
+    /// Returns a page's flags, and how many slots share it.
     ///
     /// # Errors
     ///
@@ -144,7 +144,7 @@ impl Core {
         )
     }
 
-    /// Takes an offer back.
+    /// Withdraws an offer.
     ///
     /// # Errors
     ///
@@ -202,7 +202,7 @@ impl Core {
         self.done(pid, Call::Exit)
     }
 
-    /// A process's quota, and how much of it is used and given.
+    /// Returns a process's quota, and how much of it is used and given.
     ///
     /// # Errors
     ///

@@ -13,14 +13,14 @@ use ::core::ptr::{NonNull, null_mut};
 /// Why no core is booted.
 #[derive(Clone, Copy, Debug, PartialEq, Eq, Hash)]
 pub enum BootFault {
-    /// The library is of another version than the header that this crate was written to.
+    /// The library's version is not that of the header for which this crate was written.
     OtherVersion {
-        /// The library's, as [`version`] gives it.
+        /// The library's version, as [`version`] returns it.
         library: u32,
     },
     /// The number of frames is not 16 to 4,096.
     BadSize,
-    /// There is no memory.
+    /// Memory ran out.
     NoMemory,
 }
 
@@ -38,7 +38,7 @@ impl fmt::Display for BootFault {
 
 impl Error for BootFault {}
 
-/// There are not as many places for replies as events.
+/// The number of places for replies is not that of events.
 #[derive(Clone, Copy, Debug, PartialEq, Eq, Hash)]
 pub struct UnequalLengths;
 
@@ -56,11 +56,11 @@ pub fn version() -> u32 {
     raw::tower_version()
 }
 
-/// How many events cross at once.
+/// How many events cross in one call, at most.
 const CHUNK: usize = 32;
 
-/// A booted core. A query takes it shared and is a call of the library all the same, which takes the core
-/// out of its handle and puts it back; so a `Core` is not `Sync`.
+/// A booted core. A query borrows it shared, but is still a call of the library, which takes the core out of its handle
+/// and puts it back. A `Core` is therefore not `Sync`.
 pub struct Core {
     handle: UnsafeCell<raw::Tower>,
 }
@@ -69,13 +69,12 @@ pub struct Core {
 unsafe impl Send for Core {}
 
 impl Core {
-    /// A machine of so many frames, 16 to 4,096, as it boots: process 0 alone, with all frames but one as its
-    /// quota.
+    /// Boots a machine of that many frames, 16 to 4,096. It has only process 0, whose quota is all frames but one.
     ///
     /// # Errors
     ///
-    /// `OtherVersion` where the library that was linked is not of [`VERSION`]; else `BadSize` where the number of
-    /// frames is not 16 to 4,096; else `NoMemory` where there is none for them.
+    /// `OtherVersion` if the linked library's version is not [`VERSION`]. Otherwise `BadSize` if the number of frames
+    /// is not 16 to 4,096. Otherwise `NoMemory` if memory ran out.
     pub fn boot(frames: u32) -> Result<Core, BootFault> {
         if version() != VERSION {
             return Err(BootFault::OtherVersion { library: version() });
@@ -84,7 +83,7 @@ impl Core {
             live: false,
             core: null_mut(),
         };
-        // SAFETY: the handle is all zeros, and nobody else has it.
+        // SAFETY: the handle is all zeros, and nothing else has it.
         match unsafe { raw::tower_boot(frames, &raw mut handle) } {
             0 => Ok(Core {
                 handle: UnsafeCell::new(handle),
@@ -112,8 +111,9 @@ impl Core {
         (&reply).into()
     }
 
-    /// Which cached translations an event will end. Whoever keeps what walks gave invalidates these once it is
-    /// carried out; where other events may come in between, `step_ending` tells them with the event.
+    /// Returns which cached translations an event will end. A kernel whose processors cache what walks gave invalidates
+    /// these once the event is carried out. If other events may come in between, `step_ending` reports them with the
+    /// event.
     #[must_use]
     pub fn ends(&self, event: &Event) -> Ended {
         let mut ended = raw::Ended::default();
@@ -122,8 +122,9 @@ impl Core {
         ended.into()
     }
 
-    /// Carries out one event, and tells which cached translations it ended: whoever keeps what walks gave invalidates
-    /// these, on all processors, before any access or event that comes next. The reply alone is for the process.
+    /// Carries out one event, and returns its reply and which cached translations it ended. A kernel whose processors
+    /// cache what walks gave invalidates these, on all processors, before the next access or event. Only the reply is
+    /// for the process.
     #[must_use = "what was ended is to be invalidated"]
     pub fn step_ending(&mut self, event: &Event) -> (Reply, Ended) {
         let mut reply = raw::Reply::default();
@@ -144,7 +145,7 @@ impl Core {
     ///
     /// # Errors
     ///
-    /// Where there are not as many places for replies as events; then nothing is done.
+    /// If the number of places for replies is not that of events; then nothing is done.
     pub fn run(&mut self, events: &[Event], replies: &mut [Reply]) -> Result<(), UnequalLengths> {
         if events.len() != replies.len() {
             return Err(UnequalLengths);
@@ -155,13 +156,13 @@ impl Core {
         Ok(())
     }
 
-    /// Carries out events in order up to the first that is refused or faults, and writes the reply to each in its
-    /// place, to that one too; the other places stay as they were. How many were carried out, which is the place of that
-    /// one.
+    /// Carries out events in order up to the first that is refused or faults. Writes the reply to each in its place,
+    /// and to that one too; the other places are unchanged. Returns how many were carried out, which is the place of
+    /// that one.
     ///
     /// # Errors
     ///
-    /// Where there are not as many places for replies as events; then nothing is done.
+    /// If the number of places for replies is not that of events; then nothing is done.
     pub fn run_until(
         &mut self,
         events: &[Event],
@@ -181,7 +182,7 @@ impl Core {
         Ok(carried)
     }
 
-    /// At most `CHUNK` events, with as many places for replies.
+    /// Runs at most `CHUNK` events as `run_until` does, with as many places for replies.
     fn run_chunk_until(&mut self, events: &[Event], replies: &mut [Reply]) -> usize {
         let mut asked = [raw::Event::default(); CHUNK];
         let mut told = [raw::Reply::default(); CHUNK];
@@ -206,7 +207,7 @@ impl Core {
         carried
     }
 
-    /// At most `CHUNK` events, with as many places for replies.
+    /// Runs at most `CHUNK` events as `run` does, with as many places for replies.
     fn run_chunk(&mut self, events: &[Event], replies: &mut [Reply]) {
         let mut asked = [raw::Event::default(); CHUNK];
         let mut told = [raw::Reply::default(); CHUNK];
@@ -229,14 +230,14 @@ impl Core {
         }
     }
 
-    /// How many frames the machine has.
+    /// Returns how many frames the machine has.
     #[must_use]
     pub fn frames(&self) -> u32 {
         // SAFETY: the handle was booted; as a `Core` is not `Sync`, no other call has it.
         unsafe { raw::tower_frames(self.handle.get()) }
     }
 
-    /// The frame of a process's directory; None where the process is not live.
+    /// Returns the frame of a process's directory; None if the process is not live.
     #[must_use]
     pub fn directory(&self, pid: Pid) -> Option<Frame> {
         let mut frame = 0;
@@ -246,7 +247,7 @@ impl Core {
         is_there.then_some(Frame(frame))
     }
 
-    /// What a process may use, uses and gives; None where it is not live.
+    /// Returns what a process may use, uses and gives; None if it is not live.
     #[must_use]
     pub fn container(&self, pid: Pid) -> Option<Container> {
         let mut container = raw::Container::default();
@@ -257,7 +258,7 @@ impl Core {
         is_there.then(|| container.into())
     }
 
-    /// What a frame serves; None where memory has no such frame.
+    /// Returns the role of a frame; None if memory has no such frame.
     #[must_use]
     pub fn role(&self, frame: Frame) -> Option<Role> {
         let mut role = raw::Role::default();
@@ -266,8 +267,8 @@ impl Core {
         is_there.then(|| role.into())
     }
 
-    /// How the processor's walk of a process's tables ends, for an access to a byte; None where the process
-    /// is not live.
+    /// Returns how the processor's walk of a process's tables ends, for an access to a byte; None if the process is not
+    /// live.
     #[must_use]
     pub fn walk(&self, pid: Pid, addr: Vaddr, access: Access) -> Option<Result<Frame, WalkEnd>> {
         let mut found = raw::Walk::default();
@@ -285,7 +286,7 @@ impl Core {
         is_there.then(|| found.into())
     }
 
-    /// Copies a frame's bytes out; false where memory has no such frame, and then nothing is written.
+    /// Copies a frame's bytes out. Returns false if memory has no such frame; then nothing is written.
     #[must_use = "there may be no such frame"]
     pub fn copy_frame(&self, frame: Frame, bytes: &mut [u8; FRAME_BYTES]) -> bool {
         // SAFETY: as for `directory`, and the length is the array's.
@@ -294,9 +295,9 @@ impl Core {
         }
     }
 
-    /// Where the machine's memory lies, until the core is dropped: frame f is the 4,096 bytes from place 4,096 f on. It
-    /// is for a processor that walks the core's directories, which may write there between two calls as
-    /// docs/C-LIBRARY.md says, and for nobody else.
+    /// Returns where the machine's memory lies, until the core is dropped. Frame f is the 4,096 bytes from place 4,096
+    /// f on. It is only for a processor that walks the core's directories, which may write there between two calls as
+    /// docs/C-LIBRARY.md says.
     ///
     /// # Panics
     ///
@@ -330,7 +331,7 @@ impl Drop for Core {
 }
 
 impl Vaddr {
-    /// The page of an address.
+    /// Returns the page of an address.
     #[must_use]
     pub const fn page(self) -> Page {
         Page(self.0 >> 12)

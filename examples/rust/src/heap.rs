@@ -1,6 +1,6 @@
 //! The libraries' functions for memory, over the program's global allocator.
 //!
-//! `rattle_dealloc` is told no size, so each block has its size in the 16 bytes before it.
+//! `rattle_dealloc` gets no size. Each block therefore has its size in the 16 bytes before it.
 
 #![allow(clippy::cast_ptr_alignment)] // (a block lies at a multiple of 16, and its size at its beginning)
 
@@ -10,7 +10,7 @@ use ::core::alloc::Layout;
 use ::core::ptr::NonNull;
 use alloc::alloc::{alloc, dealloc};
 
-/// Room for a size that keeps the block aligned to 16, the most that is asked for.
+/// The bytes for a block's size, which keep the block aligned to 16, the highest alignment requested.
 const HEAD: usize = 16;
 
 #[repr(C)]
@@ -46,7 +46,7 @@ extern "C" fn rattle_alloc(size: usize, _align: usize) -> Tried {
     }
 }
 
-/// A larger block with the first bytes of the old one, which is given back. `libtower_images.a` asks for it.
+/// Returns a larger block with the first bytes of the old one, and frees the old one. `libtower_images.a` imports it.
 #[cfg(feature = "images")]
 #[unsafe(no_mangle)]
 unsafe extern "C" fn rattle_realloc(
@@ -57,7 +57,7 @@ unsafe extern "C" fn rattle_realloc(
 ) -> Tried {
     let tried = rattle_alloc(size, align);
     if tried.ok {
-        // SAFETY: the old block has so many bytes, the new one at least as many, and they lie apart.
+        // SAFETY: the old block has `kept` bytes, the new one at least as many, and they lie apart.
         unsafe {
             block.copy_to_nonoverlapping(tried.block, kept);
             rattle_dealloc(block);
@@ -68,7 +68,7 @@ unsafe extern "C" fn rattle_realloc(
 
 #[unsafe(no_mangle)]
 unsafe extern "C" fn rattle_dealloc(block: *mut u8) {
-    // SAFETY: the library gives back what `rattle_alloc` gave it, and its size stands before it.
+    // SAFETY: the library frees what `rattle_alloc` returned, and the block's size lies before it.
     unsafe {
         let head = block.sub(HEAD);
         if let Some(layout) = layout_of(head.cast::<usize>().read()) {

@@ -1,4 +1,4 @@
-//! The image of a core, and the check of images: what the archive of `crates/tower_images` has.
+//! The image of a core, and the check of images, from the archive of `crates/tower_images`.
 
 extern crate alloc;
 
@@ -9,7 +9,7 @@ use ::core::error::Error;
 use ::core::fmt;
 use alloc::vec::Vec;
 
-/// There is no memory for an image or its check.
+/// Memory ran out for an image or its check.
 #[derive(Clone, Copy, Debug, PartialEq, Eq, Hash)]
 pub struct NoMemory;
 
@@ -21,7 +21,7 @@ impl fmt::Display for NoMemory {
 
 impl Error for NoMemory {}
 
-/// What a check finds of an image. docs/IMAGES.md has its clauses.
+/// The result of checking an image. docs/IMAGES.md has the clauses.
 #[derive(Clone, Copy, Debug, PartialEq, Eq, Hash)]
 pub enum Verdict {
     /// No clause fails.
@@ -54,7 +54,7 @@ impl fmt::Display for Verdict {
     }
 }
 
-/// Why bytes are not judged.
+/// Why bytes are not checked.
 #[derive(Clone, Copy, Debug, PartialEq, Eq, Hash)]
 pub enum ImageFault {
     /// They do not begin with the four bytes of an image.
@@ -68,7 +68,7 @@ pub enum ImageFault {
         /// The place of its first byte.
         offset: u32,
     },
-    /// There is no memory for the check.
+    /// Memory ran out for the check.
     NoMemory,
 }
 
@@ -92,7 +92,7 @@ impl From<NoMemory> for ImageFault {
     }
 }
 
-/// What a check answered; None where the bytes are no image.
+/// Returns the result of a check; None if the bytes are no image.
 fn verdict_of(status: u32, raw: raw::Verdict) -> Result<Option<Verdict>, NoMemory> {
     match status {
         0 => Ok(Some(Verdict::Sound)),
@@ -110,7 +110,7 @@ fn verdict_of(status: u32, raw: raw::Verdict) -> Result<Option<Verdict>, NoMemor
     }
 }
 
-/// Why bytes are no image.
+/// Returns why bytes are no image.
 fn fault_of(raw: raw::Verdict) -> ImageFault {
     match raw.clause {
         1 => ImageFault::NotImage,
@@ -121,11 +121,11 @@ fn fault_of(raw: raw::Verdict) -> ImageFault {
     }
 }
 
-/// Checks the image that bytes spell, whoever wrote it.
+/// Checks the image that bytes encode, whatever wrote them.
 ///
 /// # Errors
 ///
-/// Where the bytes spell no image, the first reason against them; `NoMemory` where there is none for the check.
+/// If the bytes encode no image, the first reason against them; `NoMemory` if memory ran out for the check.
 pub fn check_image(bytes: &[u8]) -> Result<Verdict, ImageFault> {
     let mut raw = raw::Verdict::default();
     // SAFETY: the pointer and the length are the slice's, whose pointer is never null; both lie apart.
@@ -134,7 +134,7 @@ pub fn check_image(bytes: &[u8]) -> Result<Verdict, ImageFault> {
 }
 
 impl Core {
-    /// How many bytes the core's image has.
+    /// Returns how many bytes the core's image has.
     fn image_length(&self) -> usize {
         let mut length = 0;
         let none: &mut [u8] = &mut [];
@@ -143,11 +143,11 @@ impl Core {
         length
     }
 
-    /// The bytes of the core's image, which docs/IMAGES.md has.
+    /// Returns the bytes of the core's image, whose format is in docs/IMAGES.md.
     ///
     /// # Errors
     ///
-    /// Where there is no memory for it.
+    /// If memory ran out for it.
     pub fn image(&self) -> Result<Vec<u8>, NoMemory> {
         let mut length = self.image_length();
         let mut bytes = Vec::new();
@@ -169,11 +169,11 @@ impl Core {
         }
     }
 
-    /// Checks the core's own image. Anything but `Sound` says that something else has written in the core's memory.
+    /// Checks the core's own image. Any verdict but `Sound` says that something else has written in the core's memory.
     ///
     /// # Errors
     ///
-    /// Where there is no memory for it.
+    /// If memory ran out for it.
     ///
     /// # Panics
     ///

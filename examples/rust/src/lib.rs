@@ -1,9 +1,9 @@
 //! The proved core of the repository as safe Rust types, without the standard library.
 //!
 //! [`Core`] has all calls and queries of the library that `crates/tower_c` builds. What they do is proved up
-//! to that library's exports (docs/C-LIBRARY.md); this crate turns types into its numbers and back, is not
-//! proved, and is tested by `cargo test`. The feature `images` adds those of `crates/tower_images`. Its `unsafe` blocks are
-//! those of `src/core.rs`, `src/memory.rs`, `src/images.rs` and `src/heap.rs`.
+//! to that library's exports (docs/C-LIBRARY.md). This crate turns types into the library's numbers and back. It is not
+//! proved; `cargo test` tests it. The feature `images` adds the image and the checks of `crates/tower_images`. The
+//! crate's `unsafe` blocks are those of `src/core.rs`, `src/memory.rs`, `src/images.rs` and `src/heap.rs`.
 //!
 //! ```
 //! use tower::{Call, Core, Event, Page, Pid, Reply, Size, Vaddr};

@@ -1,4 +1,4 @@
-//! A process's memory in and out, and its pages one after the other.
+//! Copies of a process's memory, in and out, and iteration over its pages.
 
 use crate::core::Core;
 use crate::raw;
@@ -10,9 +10,9 @@ use ::core::iter::FusedIterator;
 /// A transfer that stopped before its end.
 #[derive(Clone, Copy, Debug, PartialEq, Eq, Hash)]
 pub struct Stopped {
-    /// How many bytes went before it.
+    /// How many bytes were copied before it.
     pub count: usize,
-    /// What the access of the byte behind them was told.
+    /// Why the access to the next byte was not carried out.
     pub refusal: Refusal,
 }
 
@@ -24,7 +24,7 @@ impl fmt::Display for Stopped {
 
 impl Error for Stopped {}
 
-/// How a transfer ended.
+/// Returns how a transfer ended.
 fn ended(count: usize, stop: &raw::Reply) -> Result<(), Stopped> {
     match Reply::from(stop).into_result() {
         Ok(_) => Ok(()),
@@ -34,7 +34,7 @@ fn ended(count: usize, stop: &raw::Reply) -> Result<(), Stopped> {
 
 /// A mapped page of a process.
 #[derive(Clone, Copy, Debug, PartialEq, Eq, Hash)]
-#[allow(clippy::struct_excessive_bools)] // (flags of a page, as the library tells them)
+#[allow(clippy::struct_excessive_bools)] // (flags of a page, as the library reports them)
 pub struct Mapped {
     /// The page.
     pub page: Page,
@@ -52,7 +52,7 @@ pub struct Mapped {
     pub holders: u32,
 }
 
-/// The pages of a process in ascending order, as [`Core::pages`] gives them.
+/// The pages of a process in ascending order, as [`Core::pages`] returns them.
 #[derive(Clone, Debug)]
 pub struct Pages<'a> {
     core: &'a Core,
@@ -73,16 +73,16 @@ impl Iterator for Pages<'_> {
 impl FusedIterator for Pages<'_> {}
 
 impl Core {
-    /// Reads a process's memory from an address on, as copyin does: what the loads of one byte each come to, in order.
-    /// A page that is not mapped is mapped first, as a load does it; none gets a frame.
+    /// Reads a process's memory from an address on, as copyin does, with the effect of one-byte loads in order. A page
+    /// that is not mapped is mapped first, as a load does it; no page gets a frame.
     ///
     /// # Errors
     ///
-    /// Where the load of a byte is refused or faults: how many bytes went before it, and why. The rest of `bytes` stays
-    /// as it was.
+    /// If the load of a byte is refused or faults: how many bytes were read before it, and why. The rest of `bytes` is
+    /// unchanged.
     pub fn read_bytes(&mut self, pid: Pid, addr: Vaddr, bytes: &mut [u8]) -> Result<(), Stopped> {
         let (mut moved, mut stop) = (0, raw::Reply::default());
-        // SAFETY: the handle was booted and is borrowed alone; the pointer and the length are the slice's, and a
+        // SAFETY: the handle was booted and is borrowed exclusively; the pointer and the length are the slice's, and a
         // slice's pointer is never null; all lie apart.
         unsafe {
             raw::tower_read(
@@ -98,13 +98,13 @@ impl Core {
         ended(moved, &stop)
     }
 
-    /// Writes a process's memory from an address on, as copyout does: what the stores of one byte each come to, in
-    /// order. It gives lazy pages frames: whoever keeps translations invalidates those of the process's pages from the
-    /// first byte's to that of the address behind the last.
+    /// Writes a process's memory from an address on, as copyout does, with the effect of one-byte stores in order. It
+    /// gives lazy pages frames. A kernel whose processors cache translations then invalidates those of the process's
+    /// pages from the first byte's page to the page of the address after the last byte.
     ///
     /// # Errors
     ///
-    /// Where the store of a byte is refused or faults: how many bytes went before it, and why.
+    /// If the store of a byte is refused or faults: how many bytes were written before it, and why.
     pub fn write_bytes(&mut self, pid: Pid, addr: Vaddr, bytes: &[u8]) -> Result<(), Stopped> {
         let (mut moved, mut stop) = (0, raw::Reply::default());
         // SAFETY: as for `read_bytes`.
@@ -122,7 +122,7 @@ impl Core {
         ended(moved, &stop)
     }
 
-    /// The least page from there on that a process has mapped; None where it has none.
+    /// Returns the lowest page from `from` on that a process has mapped; None if there is none.
     #[must_use]
     pub fn next_page(&self, pid: Pid, from: Page) -> Option<Mapped> {
         let (mut page, mut found) = (0, raw::Page::default());
@@ -147,7 +147,7 @@ impl Core {
         })
     }
 
-    /// The pages that a process has mapped, in ascending order; none where it is not live.
+    /// Returns the pages that a process has mapped, in ascending order; no pages if it is not live.
     #[must_use]
     pub fn pages(&self, pid: Pid) -> Pages<'_> {
         Pages {

@@ -96,7 +96,7 @@ pub struct Memory {
     pub length: usize,
 }
 
-// The sizes that c/layout holds the header to.
+// The sizes that c/layout requires of the header.
 const _: () = {
     assert!(size_of::<Tower>() == 16 && size_of::<Event>() == 16 && size_of::<Reply>() == 20);
     assert!(size_of::<Role>() == 16 && size_of::<Container>() == 20 && size_of::<Walk>() == 12);

@@ -1,4 +1,4 @@
-//! Events, replies and what queries tell, and their numbers.
+//! Events, replies and results of queries, and their numbers.
 
 use crate::raw;
 use ::core::error::Error;
@@ -27,13 +27,13 @@ impl Pid {
     /// Process 0, which a machine boots with.
     pub const ROOT: Pid = Pid(0);
 
-    /// The process of that number; None from 64 on.
+    /// Returns the process of that number; None from 64 on.
     #[must_use]
     pub const fn new(number: u8) -> Option<Pid> {
         if number < 64 { Some(Pid(number)) } else { None }
     }
 
-    /// Its number.
+    /// Returns the process's number.
     #[must_use]
     pub const fn number(self) -> u8 {
         self.0
@@ -77,7 +77,7 @@ pub enum Call {
         /// Whether the process may write to it.
         write: bool,
     },
-    /// Takes a page out of the process's space.
+    /// Removes a page from the process's space.
     Unmap {
         /// The page.
         page: Page,
@@ -89,7 +89,7 @@ pub enum Call {
         /// The right to write from now on.
         write: bool,
     },
-    /// Asks for a page's flags and how many slots share it.
+    /// Requests a page's flags and how many slots share it.
     Info {
         /// The page.
         page: Page,
@@ -98,23 +98,23 @@ pub enum Call {
     Offer {
         /// The page.
         page: Page,
-        /// Who may accept it.
+        /// The process that may accept it.
         target: Pid,
         /// The right to write that goes with it.
         write: bool,
     },
-    /// Takes an offer back.
+    /// Withdraws an offer.
     Withdraw {
         /// The page that was offered.
         page: Page,
-        /// To whom.
+        /// The process to which it was offered.
         target: Pid,
     },
     /// Maps a page that another process offers, with the offer's right.
     Accept {
-        /// Who offers it.
+        /// The process that offers it.
         giver: Pid,
-        /// Where the giver has it.
+        /// The giver's page.
         giver_page: Page,
         /// Where it is to be mapped.
         page: Page,
@@ -131,7 +131,7 @@ pub enum Call {
     },
     /// Ends the process, whose quota returns to its parent.
     Exit,
-    /// Asks for the process's quota, and how much of it is used and given.
+    /// Requests the process's quota, and how much of it is used and given.
     Quota,
 }
 
@@ -142,21 +142,21 @@ pub struct Event {
     pub cpu: u8,
     /// The process.
     pub pid: Pid,
-    /// What it asks.
+    /// The call that it makes.
     pub call: Call,
 }
 
-/// What a call is told.
+/// The reply to a call.
 #[derive(Clone, Copy, Debug, PartialEq, Eq, Hash)]
 #[must_use = "a call may have been refused"]
 pub enum Reply {
     /// It is done.
     Done,
-    /// What was loaded, zero-extended.
+    /// The value that was loaded, zero-extended.
     Value(u32),
     /// The new child.
     Child(Pid),
-    /// What stands at a page.
+    /// The state of a page.
     Info {
         /// The process may write to it now.
         write: bool,
@@ -217,11 +217,11 @@ impl fmt::Display for Refusal {
 impl Error for Refusal {}
 
 impl Reply {
-    /// The reply of an event that was carried out, or why it was not.
+    /// Returns the reply of an event that was carried out, or why it was not.
     ///
     /// # Errors
     ///
-    /// The fault or the refusal, where the reply is one.
+    /// The fault or the refusal, if the reply is one.
     pub fn into_result(self) -> Result<Reply, Refusal> {
         match self {
             Reply::Fault { addr, code } => Err(Refusal::Fault { addr, code }),
@@ -288,7 +288,7 @@ impl Cause {
         Cause::TooSmall,
     ];
 
-    /// The cause of a number, as docs/MACHINE.md counts them.
+    /// Returns the cause of that number, as docs/MACHINE.md numbers them; None if there is none.
     #[must_use]
     pub fn numbered(number: u32) -> Option<Cause> {
         Cause::ALL.into_iter().find(|cause| *cause as u32 == number)
@@ -303,10 +303,10 @@ impl fmt::Display for Cause {
 
 impl Error for Cause {}
 
-/// What a frame serves.
+/// The role of a frame.
 #[derive(Clone, Copy, Debug, PartialEq, Eq, Hash)]
 pub enum Role {
-    /// Frame 0, which is nobody's.
+    /// Frame 0, which no process has.
     Reserved,
     /// Nothing.
     Free,
@@ -332,7 +332,7 @@ pub enum Role {
 /// What a process may use, uses and gives to children, in frames.
 #[derive(Clone, Copy, Debug, PartialEq, Eq, Hash)]
 pub struct Container {
-    /// Who gave the quota; process 0 is its own.
+    /// The process that gave the quota; process 0 is its own parent.
     pub parent: Pid,
     /// What the process may use and give.
     pub quota: u32,
@@ -344,7 +344,7 @@ pub struct Container {
     pub children: u32,
 }
 
-/// What a walk asks for.
+/// The access that a walk is for.
 #[derive(Clone, Copy, Debug, PartialEq, Eq, Hash)]
 pub enum Access {
     /// To read.
@@ -353,7 +353,7 @@ pub enum Access {
     Write,
 }
 
-/// How a walk ends that finds no frame.
+/// How a walk without a frame ends.
 #[derive(Clone, Copy, Debug, PartialEq, Eq, Hash)]
 pub enum WalkEnd {
     /// A page fault.
@@ -361,7 +361,7 @@ pub enum WalkEnd {
         /// The processor's error code.
         code: u8,
     },
-    /// A word of the way names no frame of memory.
+    /// A word on the way names no frame of memory.
     Outside,
 }
 
@@ -392,9 +392,9 @@ pub enum Ended {
     Pages {
         /// Whose they are.
         pid: Pid,
-        /// The one.
+        /// One of the pages.
         first: Page,
-        /// The other.
+        /// The other page.
         second: Page,
     },
     /// All of a process, which is gone.
@@ -404,7 +404,7 @@ pub enum Ended {
     },
 }
 
-/// What the library tells, where its contracts leave no other number.
+/// Returns the value of a number of the library's, whose contracts leave no other number.
 pub(crate) fn told<T>(number: Option<T>) -> T {
     number.expect("the library's numbers are those of its headers")
 }

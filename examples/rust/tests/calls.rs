@@ -1,4 +1,4 @@
-//! Each call and query, and what crosses between types and numbers.
+//! Tests of each call and query, and of the conversion between types and numbers.
 
 use tower::{
     Access, BootFault, Call, Cause, Container, Core, Ended, Event, FRAME_BYTES, Frame, Info, Page,
@@ -13,7 +13,7 @@ fn step(core: &mut Core, pid: Pid, call: Call) -> Reply {
     core.step(&Event { cpu: 0, pid, call })
 }
 
-/// A core whose process 0 stored a word and gave its page, read-only, to a child.
+/// Returns a core whose process 0 stored a word and gave its page, read-only, to a child, and that child.
 fn shared() -> (Core, Pid) {
     let mut core = Core::boot(64).unwrap();
     let store = Call::Store {
@@ -224,7 +224,7 @@ fn crosses_threads() {
     );
 }
 
-/// Carries out an event, which ends what was told before it.
+/// Carries out an event, which must end what `ends` returned before it. Returns the reply, and what was ended.
 fn ending(core: &mut Core, pid: Pid, call: Call) -> (Reply, Ended) {
     let event = Event { cpu: 0, pid, call };
     let told = core.ends(&event);
@@ -259,7 +259,7 @@ fn tells_what_an_event_ends() {
         page: lazy,
         write: true,
     };
-    // (the page that the child accepts has no frame yet: it is the giver's translation that ends)
+    // (the page that the child accepts has no frame yet: the giver's translation ends)
     let calls = [
         (Pid::ROOT, map, Ended::Nothing),
         (Pid::ROOT, offer, Ended::Nothing),

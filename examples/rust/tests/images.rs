@@ -1,4 +1,4 @@
-//! The image of a core, and the check of it and of what was changed.
+//! Tests of the image of a core, and of the check of that image and of changed ones.
 #![cfg(feature = "images")]
 
 use tower::{Core, Frame, ImageFault, Pid, Size, Vaddr, Verdict, check_image};
@@ -6,7 +6,7 @@ use tower::{Core, Frame, ImageFault, Pid, Size, Vaddr, Verdict, check_image};
 const LENGTH: usize = 67_340;
 const SECOND_ROLE: usize = 1548 + 16 * 3 + 12;
 
-/// A core of 16 frames whose process 0 stored a word, and its image.
+/// Returns a core of 16 frames whose process 0 stored a word, and its image.
 fn stored() -> (Core, Vec<u8>) {
     let mut core = Core::boot(16).unwrap();
     core.store(Pid::ROOT, Vaddr(0x4000_0000), Size::Four, 0xdead_beef)
@@ -15,7 +15,7 @@ fn stored() -> (Core, Vec<u8>) {
     (core, image)
 }
 
-/// What a check says of an image with another byte at a place.
+/// Returns the result of checking an image with another byte at a place.
 fn changed(image: &[u8], place: usize, byte: u8) -> Result<Verdict, ImageFault> {
     let mut bytes = image.to_vec();
     bytes[place] = byte;

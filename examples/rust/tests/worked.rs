@@ -14,7 +14,7 @@ mod processes;
 #[path = "../../../crates/worked_scripts/src/sharing.rt"]
 mod sharing;
 
-/// A script and what it must get.
+/// A script and the replies that it must get.
 struct Worked {
     name: &'static str,
     frames: u32,

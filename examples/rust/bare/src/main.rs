@@ -1,5 +1,5 @@
-//! The core with no standard library and no C library: the four functions that the library asks for, over a
-//! pool of this file's own, and a start of its own for Linux on x86-64. It ends with status 0 where all went
+//! The core with no standard library and no C library: the four functions that the library imports, over a
+//! pool of this file's own, and a start of its own for Linux on x86-64. It ends with status 0 if all goes
 //! as expected.
 #![no_std]
 #![no_main]
@@ -12,7 +12,7 @@ use tower::{Access, BootFault, Call, Core, Event, Page, Pid, Reply, Size, Vaddr,
 
 const POOL: usize = 1 << 20;
 
-/// Sixteen bytes each, which is the most that a block's alignment asks for.
+/// The pool. Its elements have 16 bytes, the highest alignment of a block.
 static mut MEMORY: [u128; POOL / 16] = [0; POOL / 16];
 static USED: AtomicUsize = AtomicUsize::new(0);
 static BLOCKS: AtomicUsize = AtomicUsize::new(0);
@@ -23,7 +23,7 @@ struct Tried {
     block: *mut u8,
 }
 
-/// The pool's blocks lie one behind another; once all are back it starts anew.
+/// Returns a block of the pool. Blocks lie in sequence; once all are freed, the pool is empty again.
 #[unsafe(no_mangle)]
 extern "C" fn rattle_alloc(size: usize, align: usize) -> Tried {
     let at = USED.load(Ordering::Relaxed).next_multiple_of(align);
@@ -31,7 +31,7 @@ extern "C" fn rattle_alloc(size: usize, align: usize) -> Tried {
         Some(end) if end <= POOL => {
             USED.store(end, Ordering::Relaxed);
             BLOCKS.fetch_add(1, Ordering::Relaxed);
-            // SAFETY: `at` lies within the pool, of which each byte is handed out once.
+            // SAFETY: `at` lies within the pool, of which each byte is in one block.
             Tried {
                 ok: true,
                 block: unsafe { addr_of_mut!(MEMORY).cast::<u8>().add(at) },
@@ -53,17 +53,17 @@ extern "C" fn rattle_dealloc(_block: *mut u8) {
 
 #[unsafe(no_mangle)]
 unsafe extern "C" fn memset(to: *mut u8, byte: i32, count: usize) -> *mut u8 {
-    // SAFETY: whoever calls memset gives `count` bytes.
+    // SAFETY: the caller of memset passes `count` bytes.
     unsafe {
         asm!("rep stosb", inout("rdi") to => _, inout("rcx") count => _, in("al") byte as u8, options(nostack));
     }
     to
 }
 
-/// Backwards where the bytes would else be written before they are read.
+/// Copies bytes, backwards if they would otherwise be overwritten before they are read.
 #[unsafe(no_mangle)]
 unsafe extern "C" fn memmove(to: *mut u8, from: *const u8, count: usize) -> *mut u8 {
-    // SAFETY: whoever calls memmove gives `count` bytes on each side.
+    // SAFETY: the caller of memmove passes `count` bytes on each side.
     unsafe {
         if (to as usize).wrapping_sub(from as usize) >= count {
             asm!("rep movsb", inout("rdi") to => _, inout("rsi") from => _, inout("rcx") count => _, options(nostack));
@@ -77,14 +77,14 @@ unsafe extern "C" fn memmove(to: *mut u8, from: *const u8, count: usize) -> *mut
     to
 }
 
-/// What the compiler asks for beside the library.
+/// Copies bytes. The compiler's code needs it, in addition to the library's imports.
 #[unsafe(no_mangle)]
 unsafe extern "C" fn memcpy(to: *mut u8, from: *const u8, count: usize) -> *mut u8 {
     // SAFETY: as for memmove.
     unsafe { memmove(to, from, count) }
 }
 
-/// What the prebuilt `core` names for unwinding; a panic ends this program, so nothing calls it.
+/// A symbol that the prebuilt `core` names for unwinding. A panic ends this program, so nothing calls it.
 #[unsafe(no_mangle)]
 extern "C" fn rust_eh_personality() {}
 
