@@ -137,8 +137,8 @@ fn plan_in_page(
     by_looks(access, &look, &None, container).plan
 }
 
-/// Carries out an access in one page, which completes by this step of the page, whose place this is: the value read, or 0
-/// after a write.
+/// Carries out an access in one page, which completes by this step of the page, whose place this is: the value read, or
+/// 0 after a write.
 fn settle_in_page(
     processes: &mut Processes,
     how: PageStep,
@@ -250,8 +250,8 @@ fn stop_outside(processes: &Processes, pid: Pid, byte: Vaddr, access: Access) ->
 
 /// An access, by its plan: the value read, or 0 after a write.
 ///
-/// The first that applies: Refused(NoProcess) for a process that isn't live, and else what stops its plan: a page fault, or
-/// Refused(Quota). Then nothing changes.
+/// The first that applies: Refused(NoProcess) for a process that isn't live, and else what stops its plan: a page
+/// fault, or Refused(Quota). Then nothing changes.
 #[inline(always)]
 pub fn access(
     processes: &mut Processes,

@@ -33,7 +33,8 @@ pub record IsFreeList (places : List ℕ) (head : ℕ) (frames : List ℕ) : Typ
   pub once : AllPairs (λ a b. a ≢ b) frames
   pub each : set.from_list frames ≡ (seen_as places).free
 
--- the places of 16 to 1,048,576 frames, of which frame 0 isn't free: the free ones are in a list from the head, and are this many
+-- the places of 16 to 1,048,576 frames, of which frame 0 isn't free: the free ones are in a list from the head, and are
+-- this many
 pub record IsLedger (places : List ℕ) (head count : ℕ) : Type 0 where
   pub fewest : 16 ≤ length places
   pub most : length places ≤ 1048576

@@ -21,7 +21,7 @@ pub fn runs_are_determined()
     ensures { RunsAreDetermined }
 {}
 
-/// States that a guest of a process that shares nothing ends as it would alone. Its exchanges begin those of a new
+/// States that a guest of a process that involves nobody ends as it would alone. Its exchanges begin those of a new
 /// process in a run of the machine, from a well-formed state, and make no Offer, Accept, Spawn or Fork. Then the guest
 /// ends, with its registers and its counter, as it does over a core in which it is process 1, alone with the quota and
 /// the pages that the process was given. The replies of a kernel's history are those of such a run, so it holds of

@@ -40,7 +40,8 @@ runs_by image p = flat_map (runs_at image p) (range_with_len 256 704)
 abbrev pub ListsEachRun : Type 0
 ListsEachRun = (image : Image) (p : ℕ) → IsImage image → IsSound image → pages_text image (limit image) p ≡ flat_map (run_line image) (runs_by image p)
 
--- and the pages of these runs, one after the other, are the mapped pages of the process in ascending order, each once, with the flags of its cell
+-- and the pages of these runs, one after the other, are the mapped pages of the process in ascending order, each once,
+-- with the flags of its cell
 abbrev pub ListsEachSlot : Type 0
 ListsEachSlot = (image : Image) (s : State) (p : ℕ) → StandsFor image s
     → map (listed image.version) (flat_map pages_in (runs_by image p)) ≡ flat_map (λ page. listed_cell page (finite.get s.spaces (at_page p page))) user_pages

@@ -47,7 +47,7 @@ calls_of run = map (λ x. x.0.call) run
 abbrev pub replies_of : List Exchange → List Reply
 replies_of run = map (λ x. x.1) run
 
--- a process that shares nothing
+-- exchanges of a process that involves nobody else
 abbrev pub InvolvesNobody : List Exchange → Type 0
 InvolvesNobody run = All (λ c. involves_others c ≡ false) (calls_of run)
 

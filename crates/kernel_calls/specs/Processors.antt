@@ -106,7 +106,8 @@ pub record IsLoaded (kept : List Kept) (v : View) (e : Event) (r : Reply) : Type
   pub through : LetCall kept e.pid frames e.call
   pub found : r ≡ reply_kept frames v.bytes e.call
 
--- a processor stores by what it keeps, into the frames there (`Core::store_kept`, which requires the first two of `left`)
+-- a processor stores by what it keeps, into the frames there (`Core::store_kept`, which requires the first two of
+-- `left`)
 pub record IsStored (kept : List Kept) (v : View) (e : Event) (r : Reply) (w : View) : Type 0 where
   pub store : IsStore e.call
   pub frames : ℕ → ℕ
@@ -161,8 +162,8 @@ pub record AreTheEvents (v : View) (events : List Event) (told : List Reply) (x 
   pub core : IsCore x
   pub kept : AllAreRead x last
 
--- so it is at the end of all steps from a core, where the walks read all that is kept: at each moment, since each is the
--- end of the steps until then
+-- so it is at the end of all steps from a core, where the walks read all that is kept: at each moment, since each is
+-- the end of the steps until then
 abbrev pub ProcessorsMakeEvents : Type 0
 ProcessorsMakeEvents = (v x : View) (keeps last : Processors) (events : List Event) (replies : List Reply) → IsCore v
     → AllAreRead v keeps → Steps v keeps events replies x last → AreTheEvents v events replies x last

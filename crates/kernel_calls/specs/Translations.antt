@@ -217,8 +217,8 @@ pub data Keeping : View → List Kept → View → List Kept → Type 0 where
   event : {v w x : View} {kept last : List Kept} {ended : Ended} → Ends ended v w → Keeping w (left_by ended kept) x last → Keeping v kept x last
   walk : {v x : View} {kept last : List Kept} {k : Kept} → IsRead v k → Keeping v (k ∷ kept) x last → Keeping v kept x last
 
--- then all that is kept is what the walks of the last moment read, as it was at the first: so at each moment, since each
--- is the last of what came until then
+-- then all that is kept is what the walks of the last moment read, as it was at the first: so at each moment, since
+-- each is the last of what came until then
 abbrev pub KeptAreGiven : Type 0
 KeptAreGiven = (v x : View) (kept last : List Kept) → Keeping v kept x last → AreRead v kept → AreRead x last
 

@@ -25,8 +25,8 @@ abbrev pub IsWalk : View → Event → Option Reply → View → Type 0
 IsWalk v e (Some r) w = (keeps : Processors) → Step v keeps (e ∷ []) (r ∷ []) w keeps
 IsWalk v e None w = (finds_event v e ≡ false) × (w ≡ v)
 
--- a store that a processor makes by translations that it keeps: it is the event, whichever these are, and a step of each
--- processor whose translations let it through
+-- a store that a processor makes by translations that it keeps: it is the event, whichever these are, and a step of
+-- each processor whose translations let it through
 pub record IsMade (v : View) (e : Event) (r : Reply) (w : View) : Type 0 where
   pub reply : r ≡ answer v.state e
   pub state : w.state ≡ next v.state e

@@ -360,8 +360,8 @@ impl Core {
     /// Carries out events in order, and writes each reply in its place. If no event completes, nothing changes, not
     /// even a byte of memory. A process that the run made, and that involves no other, gets the replies that it would
     /// get alone. Members of any set get the replies that they would get in any other run in which they make the same
-    /// calls, find the same, and others use no channel to them. A set that shares nothing stays confined. Such a family
-    /// gets the same replies, whatever others do.
+    /// calls, find the same, and others use no channel to them. A set that keeps within itself stays confined. Such a
+    /// family gets the same replies, whatever others do.
     pub fn run(&mut self, events: &[Event], replies: &mut [Reply])
         requires { length events.now ≡ length replies.old }
         ensures replies { replies.new ≡ answers self.old.state events.now }

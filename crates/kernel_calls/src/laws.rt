@@ -78,8 +78,8 @@ pub fn accesses_beside_an_event()
 /// slot that is mapped before and after an event keeps what it may have, and its accessed and dirty. It keeps the right
 /// to write, unless its process protects it. It keeps each byte, unless the event stores through a writable slot of its
 /// own that shares the page. A live process keeps its place in the book and its mapped pages with their flags through
-/// each event of another. It keeps what it has given, unless a child exits. So no event of another takes back a page that it
-/// accepted. It computes nothing.
+/// each event of another. It keeps what it has given, unless a child exits. So no event of another takes back a page
+/// that it accepted. It computes nothing.
 pub fn processes_keep_their_integrity()
     ensures well_formed { StatesStayWellFormed }
     ensures refused { RefusalsChangeNothing }
@@ -146,10 +146,10 @@ pub fn confined_processes_stay_confined()
     ensures unreached { FamiliesHearTheirOwn }
 {}
 
-/// States the effect of each call that completes. An access leaves its slots accessed; a Store leaves them dirty, with the
-/// bytes of its value. A page that was not mapped has zeros, in a group of its own. A Protect sets the right, an Offer is
-/// pending, and an Accept joins the group. Nothing is left of what an Unmap, a Withdraw or an Exit gives up. No other slot
-/// is mapped or unmapped, and no other flag changes. It computes nothing.
+/// States the effect of each call that completes. An access leaves its slots accessed; a Store leaves them dirty, with
+/// the bytes of its value. A page that was not mapped has zeros, in a group of its own. A Protect sets the right, an
+/// Offer is pending, and an Accept joins the group. Nothing is left of what an Unmap, a Withdraw or an Exit gives up.
+/// No other slot is mapped or unmapped, and no other flag changes. It computes nothing.
 pub fn done_means_done()
     ensures effects { DoneMeansDone }
     ensures come { SlotsCome }
@@ -164,16 +164,16 @@ pub fn completes_by_kind()
     ensures { CompletesByKind }
 {}
 
-/// States that a new child is a family by itself. A family that makes the same calls and finds the same in two runs, from
-/// states in which it has the same, has the same at their ends. It computes nothing.
+/// States that a new child is a family by itself. A family that makes the same calls and finds the same in two runs,
+/// from states in which it has the same, has the same at their ends. It computes nothing.
 pub fn newborns_are_families()
     ensures newborns { NewbornsAreFamilies }
     ensures ends { FamiliesEndTheSame }
 {}
 
 /// States that other processes cannot refuse a call. A call that would complete still completes after their events. The
-/// exceptions are Offer, Withdraw, Accept, Spawn and Fork: the clause lists the events that make each of them impossible,
-/// and the one refusal that it gets then. It computes nothing.
+/// exceptions are Offer, Withdraw, Accept, Spawn and Fork: the clause lists the events that make each of them
+/// impossible, and the one refusal that it gets then. It computes nothing.
 pub fn others_never_refuse()
     ensures events { OthersNeverRefuse }
     ensures runs { RunsNeverRefuse }

@@ -83,8 +83,8 @@ pub record IsSnapshot (frames : ℕ) (cpu : Maker) (image : Image) (history : Li
   pub own : calls_of cpu.number history ≡ calls_of cpu.number cpu.seen
   pub stands : StandsFor image (state_after frames history)
 
--- Where an image was taken for a CPU: it shows the core that the last of these moments left, of the kernel's one history, which begins with the moments that the
--- CPU has seen.
+-- Where an image was taken for a CPU: it shows the core that the last of these moments left, of the kernel's one
+-- history, which begins with the moments that the CPU has seen.
 pub record IsShown (opening : View) (cpu : Maker) (image : Image) (moments : List Moment) : Type 0 where
   pub begins : Begins moments cpu.moments
   pub follows : Follows opening moments

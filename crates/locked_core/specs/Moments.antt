@@ -42,7 +42,8 @@ ended_along core (m ∷ rest) = ended_by core (event_of m.entry) ∷ ended_along
 abbrev pub FollowsFrom : Type 0
 FollowsFrom = (opening : View) (before later : List Moment) → Follows opening (before ++ later) → Follows (core_after opening before) later
 
--- and their events were carried out one after another, each with what it ended: the premise of what is kept through runs
+-- and their events were carried out one after another, each with what it ended: the premise of what is kept through
+-- runs
 abbrev pub EndsAlong : Type 0
 EndsAlong = (opening : View) (log : List Moment) → Follows opening log
     → EndAlong (events_of (entries_in log)) (ended_along opening log) opening (core_after opening log)

@@ -22,6 +22,7 @@ pub record LagsBehind (part whole : Page) : Type 0 where
   pub book : part.book ≡ whole.book
   pub begins : StartsWith whole.log part.log
 
--- Of whatever legal history this is the log: from the report on the first so many entries it leads to the report on all.
+-- Of whatever legal history this is the log: from the report on the first so many entries it leads to the report on
+-- all.
 abbrev pub CatchesUp : List (Option Row) → ℕ → List LogEntry → List (Option Row) → Type 0
 CatchesUp before count log after = (frames : ℕ) → Legal frames log → before ≡ report_of (state_after frames (take count log)) → after ≡ report_of (state_after frames log)

@@ -1,4 +1,5 @@
-//! The history of one kernel, of which its parts know beginnings. It exists in proofs alone: what is stored is its length.
+//! The history of one kernel, of which its parts know beginnings. It exists in proofs alone: what is stored is its
+//! length.
 ghost use Rattle.std.specs.Prelude.{◌≡◌, ◌<◌, [], length, MatchBool};
 ghost use Rattle.memory_report.specs.Histories.{Legal, StartsWith};
 ghost use Rattle.locked_core.specs.Moments.{Begins, entries_in};

@@ -60,8 +60,8 @@ impl<N: Name> Head<N> {
         self.word.load::<Look, Nothing>(&mut seen, &mut offer)
     }
 
-    /// Adds the entry of a completed call and the core that it left. If the history were longer than the log, this would
-    /// wait forever. The caller read its length under the same lock, so it is not.
+    /// Adds the entry of a completed call and the core that it left. If the history were longer than the log, this
+    /// would wait forever. The caller read its length under the same lock, so it is not.
     pub fn add<R: Wait>(&mut self, rt: &R, log: &CallLog, entry: &LogEntry, core: &Core)
         requires all { entries_in self.old ≡ log.now.entries }
         requires room { length log.now.entries < log.now.capacity }

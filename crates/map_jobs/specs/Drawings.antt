@@ -96,8 +96,8 @@ DrawsFile form (Failed fault) remained held holds = (((fault ≡ tool.NoMemory) 
 DrawsFile form NotText remained held holds = ⊥
 DrawsFile form (Refused error) remained held holds = ⊥
 
--- `clap` takes the words, and the file that they name was drawn, of whose bytes nothing is said; or it refuses them, or there was no memory for them, and nothing was
--- written
+-- `clap` takes the words, and the file that they name was drawn, of whose bytes nothing is said; or it refuses them, or
+-- there was no memory for them, and nothing was written
 abbrev pub AnswersWords : List (List ℕ) → Answer → Option (List ℕ) → Option (List ℕ) → Type 0
 AnswersWords words answer held holds =
     ((clap_faults map_app words ≡ []) × DrawsFile (request_asked words).0 answer None held holds)

@@ -91,7 +91,8 @@ FilmsScript frames answer remained held holds =
     ((script : List ℕ) × IsRead remained script × WritesSome frames script answer held holds)
     ⊎ ((fault : ToolFault) × (answer ≡ Failed fault) × FailsScript frames fault remained held holds)
 
--- `clap` takes the words, and the script is filmed; or it refuses them, or there was no memory for them, and nothing was written
+-- `clap` takes the words, and the script is filmed; or it refuses them, or there was no memory for them, and nothing
+-- was written
 abbrev pub AnswersFilm : List (List ℕ) → Answer → Option (List ℕ) → Option (List ℕ) → Option (List ℕ) → Type 0
 AnswersFilm words answer remained held holds =
     ((clap_faults film_app words ≡ []) × FilmsScript (frames_asked words) answer remained held holds)

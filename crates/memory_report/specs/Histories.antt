@@ -32,12 +32,12 @@ abbrev pub exchanges_of : List LogEntry → List Exchange
 exchanges_of log = map (λ e. (event_of e, e.reply)) log
 
 -- each process that these entries make gets, after the entry that made it and up to its first Exit, the replies that it
--- would get alone, while it shares nothing
+-- would get alone, while it makes no Offer, Accept, Spawn or Fork
 abbrev pub AreIsolated : ℕ → List LogEntry → Type 0
 AreIsolated frames log = IsIsolated (open_with frames) (events_of log) (replies_of log)
 
--- From each place of these entries on, the members of every set get their own replies. Every set that shares nothing
--- stays confined, and every such family gets the same replies, whatever others do.
+-- From each place of these entries on, the members of every set get their own replies. Every confined set that keeps
+-- within itself stays confined, and every such family gets the same replies, whatever others do.
 pub record AreGuarded (frames : ℕ) (log : List LogEntry) : Type 0 where
   pub heard : (before later : List LogEntry) → log ≡ before ++ later
       → HearTheirOwn (state_after frames before) (events_of later) (replies_of later)
@@ -54,7 +54,8 @@ entries_of cpu log = filter (λ e. e.cpu == cpu) log
 abbrev pub calls_of : ℕ → List LogEntry → ℕ
 calls_of cpu log = length (entries_of cpu log)
 
--- after these entries, an entry says how many of them are of its CPU, and what its process is charged for once its event is done
+-- after these entries, an entry says how many of them are of its CPU, and what its process is charged for once its
+-- event is done
 pub record IsTold (frames : ℕ) (before : List LogEntry) (e : LogEntry) : Type 0 where
   pub nth : e.nth ≡ calls_of e.cpu before
   pub used_after : e.used_after ≡ charge_after (state_after frames before) (event_of e)

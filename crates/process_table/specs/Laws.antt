@@ -1,4 +1,5 @@
--- Laws on the calls: each that is not refused keeps states well formed, and such states cost no more than the root's quota.
+-- Laws on the calls: each that is not refused keeps states well formed, and such states cost no more than the root's
+-- quota.
 use Rattle.std.proofs.Common.{◌≡◌, ◌≤◌, ℕ, Bool, true, false, None}
 use Rattle.page_words.specs.Addresses.{IsUserPage, EachTouched}
 use Rattle.page_words.specs.declared.addresses.Size.{Size}

@@ -9,7 +9,8 @@ use Rattle.quota_tree.specs.Book.{Member, given, quota_of}
 use Rattle.page_sharing.specs.Offers.{OfferKey, pending}
 use Rattle.process_table.specs.State.{State, is_live}
 
--- a cell at its slot: 4,096 bytes, flags that agree, and a group in which each slot has the same bytes and the same group
+-- a cell at its slot: 4,096 bytes, flags that agree, and a group in which each slot has the same bytes and the same
+-- group
 pub record IsCellAt (spaces : Spaces) (slot : Slot) (cell : Cell) : Type 0 where
   pub user : IsUserPage slot.page
   pub long : length cell.bytes ≡ 4096

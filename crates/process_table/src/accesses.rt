@@ -137,8 +137,8 @@ impl Processes {
         self.fill_at(pid, page, &place);
     }
 
-    /// Gives a mapped page a frame of its own, as `fill` does. The place is the page's, and the result the place that it
-    /// is at then.
+    /// Gives a mapped page a frame of its own, as `fill` does. The place is the page's, and the result the place that
+    /// it is at then.
     #[inline(always)]
     pub fn fill_at(&mut self, pid: Pid, page: Page, place: &Place) -> Place
         requires mapped { is_mapped self.old.state (at_page pid page) ≡ true }

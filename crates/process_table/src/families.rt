@@ -95,8 +95,8 @@ impl Processes {
         self.spaces.fresh(child);
     }
 
-    /// Makes a child of a process, where nothing is against it, as `spawn` does: its number; else the first cause against
-    /// it, as `can_spawn` gives it, and nothing changes.
+    /// Makes a child of a process, where nothing is against it, as `spawn` does: its number; else the first cause
+    /// against it, as `can_spawn` gives it, and nothing changes.
     #[inline(never)]
     pub fn try_spawn(&mut self, pid: Pid, quota: u32) -> Result<Pid, Cause>
         ensures result { result ≡ spawn_answer self.old.state pid quota }
@@ -164,8 +164,8 @@ impl Processes {
         self.spaces.copy_space(pid, copy);
     }
 
-    /// Makes a child of a process, where nothing is against it, as `fork` does: its number; else the first cause against
-    /// it, as `can_fork` gives it, and nothing changes.
+    /// Makes a child of a process, where nothing is against it, as `fork` does: its number; else the first cause
+    /// against it, as `can_fork` gives it, and nothing changes.
     #[inline(never)]
     pub fn try_fork(&mut self, pid: Pid, quota: u32) -> Result<Pid, Cause>
         ensures result { result ≡ fork_answer self.old.state pid quota }
@@ -193,8 +193,8 @@ impl Processes {
         }
     }
 
-    /// That a live process that exits is charged nothing then, or the first cause against it: RootExit, HasChildren. The
-    /// container is the process's.
+    /// That a live process that exits is charged nothing then, or the first cause against it: RootExit, HasChildren.
+    /// The container is the process's.
     pub fn exit_test(&self, container: &Container, pid: Pid) -> Result<u32, Cause>
         requires container { container_of self.now.state pid ≡ Some container.now }
         requires live { is_live self.now.state pid ≡ true }
@@ -221,8 +221,8 @@ impl Processes {
         self.offers.drop_process(pid);
     }
 
-    /// Takes away a process, where nothing is against it, as `exit` does; else the first cause against it, as `can_exit`
-    /// gives it, and nothing changes.
+    /// Takes away a process, where nothing is against it, as `exit` does; else the first cause against it, as
+    /// `can_exit` gives it, and nothing changes.
     #[inline(never)]
     pub fn try_exit(&mut self, pid: Pid) -> Result<(), Cause>
         ensures result { result ≡ done_unless (first_cause self.old.state pid (exit_refusal self.old.state pid)) }

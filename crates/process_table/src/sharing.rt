@@ -183,8 +183,8 @@ impl Processes {
         self.offers.take(pid, page, target).unwrap();
     }
 
-    /// Takes back an offer, where nothing is against it; else the first cause against it, as `can_withdraw` gives it, and
-    /// nothing changes. The offer is looked up once.
+    /// Takes back an offer, where nothing is against it; else the first cause against it, as `can_withdraw` gives it,
+    /// and nothing changes. The offer is looked up once.
     #[inline(never)]
     pub fn try_withdraw(&mut self, pid: Pid, page: Page, target: Pid) -> Result<(), Cause>
         ensures result { result ≡ done_unless (first_cause self.old.state pid (withdraw_refusal self.old.state pid page target)) }

@@ -171,8 +171,8 @@ fn first_number(containers: &[Option<Container>; 64]) -> Option<Pid>
     Pid::new(place as u8)
 }
 
-/// Gives a part of a parent's room to a new child, which has the least number that isn't live, and uses that many frames
-/// of it. The container is the parent's.
+/// Gives a part of a parent's room to a new child, which has the least number that isn't live, and uses that many
+/// frames of it. The container is the parent's.
 fn add_child(
     containers: &mut [Option<Container>; 64],
     parent: Pid,

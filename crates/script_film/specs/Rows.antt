@@ -30,7 +30,8 @@ line_row bytes = codes "line " ++ flat_map escaped bytes ++ 10 ∷ []
 unfoldable pub reply_row : Reply → List ℕ
 reply_row reply = codes "reply " ++ reply_line reply
 
--- what a frame serves: R reserved, F free, D directory of a process, T table of a process and its slot, P page with that many holders
+-- what a frame serves: R reserved, F free, D directory of a process, T table of a process and its slot, P page with
+-- that many holders
 abbrev pub role_text : Role → List ℕ
 role_text Reserved = codes "R"
 role_text Free = codes "F"

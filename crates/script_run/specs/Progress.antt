@@ -115,7 +115,8 @@ Ran begun remained session held holds = IfSome remained (λ input. (fault_of inp
 abbrev pub EndsWhole : State → Option (List ℕ) → Session → Option (List ℕ) → Option (List ℕ) → Type 0
 EndsWhole begun remained session held holds = IfSome remained (λ input. (fault_of input ≡ None) × (session.core.state ≡ end_of begun (events_of input)) × Appends held holds (replies_text begun (events_of input)))
 
--- the replies to the complete lines of what was read: what the reader had left and has left, and what the writer held and holds
+-- the replies to the complete lines of what was read: what the reader had left and has left, and what the writer held
+-- and holds
 pub record ReadSome (begun : State) (remained remains : Option (List ℕ)) (waits : List ℕ) (held holds : Option (List ℕ)) : Type 0 where
   pub read : List ℕ
   pub within : length read ≤ limit

@@ -1,8 +1,8 @@
 //! The image of the core in a handle of C's, and the check of an image, for C: an archive of its own, to link with that
 //! of the core.
 //!
-//! Each function allocates with `rattle_alloc`, and frees all of it before it ends. Only what a restored core needs stays
-//! allocated.
+//! Each function allocates with `rattle_alloc`, and frees all of it before it ends. Only what a restored core needs
+//! stays allocated.
 #![tactic(auto)]
 
 ghost use Rattle.std.specs.Prelude.{◌≡◌, ◌≢◌, ◌↔◌, ◌≤◌, ◌<◌, ◌⊎◌, IfSome, length, take, drop, true, false};
