@@ -8,7 +8,7 @@ import pathlib
 import sys
 from dataclasses import dataclass
 
-# What counted runs are told: a frame is zeroed and copied by vectors, as valgrind counts each byte of `rep stosb`.
+# The environment of counted runs: a frame is zeroed and copied by vectors, as valgrind counts each byte of `rep stosb`.
 BY_VECTORS = {"GLIBC_TUNABLES": "glibc.cpu.x86_rep_stosb_threshold=2147483647:glibc.cpu.x86_rep_movsb_threshold=2147483647"}
 LIMIT = 16_777_216
 FIRST_PAGE = 0x40000
@@ -26,14 +26,14 @@ def store(process, page, value):
 
 
 def accesses():
-    """Loads and stores in turn, at words that wander over twelve pages."""
+    """Loads and stores in turn, at words spread over twelve pages."""
     for i in itertools.count():
         address = FIRST_PAGE * 4096 + (i * 7 % 12) * 4096 + i * 52 % 4096
         yield call(0, f"load {address:08x} 4") if i % 2 else call(0, f"store {address:08x} 4 {i:x}")
 
 
 def maps():
-    """Pages of three regions come and go, eight of them mapped at a time."""
+    """Pages of three regions are mapped and unmapped, eight of them mapped at a time."""
     def page(i):
         return FIRST_PAGE + i % 3 * REGION + i * 7 % 500
 
@@ -44,7 +44,7 @@ def maps():
 
 
 def families():
-    """Process 0 has eight children, shares a page with each, which stores into it, and they exit."""
+    """Process 0 makes eight children and shares a page with each. Each stores into its page and exits."""
     page, own = FIRST_PAGE, FIRST_PAGE + 5 * REGION
     yield "".join(call(0, f"map {page + child:x} rw") for child in range(1, 9))
     for i in itertools.count():
@@ -62,7 +62,7 @@ LONG = {"accesses": (accesses, 16), "maps": (maps, 16), "families": (families, 6
 
 
 def write_long(lines, path):
-    """As many of these lines as fit into a script; how many, and of how many bytes."""
+    """Writes as many of these lines as fit into a script. Returns how many lines, and how many bytes."""
     count = size = 0
     with open(path, "w", encoding="ascii") as file:
         for line in lines:
@@ -75,12 +75,12 @@ def write_long(lines, path):
 
 @dataclass
 class Round:
-    """Lines that prepare a machine, and lines that leave it as they found it, to be run over and over."""
+    """Lines that prepare a machine, and lines to repeat, which leave it as they found it."""
 
     frames: int
     first: str
     again: str
-    # how many parts a round's cost is told for, as a rule its events
+    # how many parts a round's cost is divided by, as a rule its events
     parts: int
 
 
@@ -90,7 +90,7 @@ def pair(frames, first, page):
 
 
 def most_pages(frames):
-    """As many pages as leave one frame, beside frame 0, the directory and each region's table."""
+    """The number of pages that leaves one frame, not counting frame 0, the directory and each region's table."""
     return max(n for n in range(frames) if 1 + 1 + -(-(n + 1) // REGION) + n + 1 <= frames)
 
 
@@ -108,13 +108,13 @@ def stored(frames):
 
 
 def in_region(others):
-    """The first page of a region comes and goes; the others are its last ones."""
+    """The first page of a region is mapped and unmapped; the others are its last ones."""
     last = FIRST_PAGE + REGION - 1
     return pair(MOST_FRAMES, "".join(call(0, f"map {last - i:x} rw") for i in range(others)), FIRST_PAGE)
 
 
 def life(pages):
-    """A process that stores to so many new pages and exits; told for each page."""
+    """A process that stores to that many new pages and exits; the cost is for each page."""
     stores = "".join(store(1, FIRST_PAGE + i, i) for i in range(pages))
     return Round(MOST_FRAMES, "", call(0, "spawn 4094") + stores + call(1, "exit"), pages)
 
@@ -124,7 +124,7 @@ def family(children, quota=40):
 
 
 def offers(count):
-    """So many offers to process 0, 32 of each process from 1 on."""
+    """That many offers to process 0, 32 of each process from 1 on."""
     lines = ""
     for i in range(count):
         process, page = 1 + i // MOST_OFFERS, FIRST_PAGE + i % MOST_OFFERS
@@ -138,7 +138,7 @@ def offered(others):
 
 
 def offered_more(own):
-    """The last of a process's offers comes and goes beside so many others of its own."""
+    """The last of a process's offers is made and withdrawn, with that many others of its own pending."""
     pages = range(FIRST_PAGE + 1, FIRST_PAGE + 1 + own)
     lines = "".join(call(0, f"map {page:x} rw") + call(0, f"offer {page:x} 1 rw") for page in pages)
     alone = offered(0)
@@ -160,7 +160,7 @@ def loads(processes):
 
 
 def held(holders):
-    """What is told of a page of process 0 that so many processes hold."""
+    """An info call on a page of process 0 that that many processes hold."""
     first = family(holders - 1) + store(0, FIRST_PAGE, 1)
     for child in range(1, holders):
         first += call(0, f"offer {FIRST_PAGE:x} {child} rw") + call(child, f"accept 0 {FIRST_PAGE:x} {FIRST_PAGE:x}")
@@ -168,24 +168,24 @@ def held(holders):
 
 
 def protected(others):
-    """The right to write to a page is taken away and given back."""
+    """The right to write to a page is removed and restored."""
     first = "".join(call(0, f"map {FIRST_PAGE + i:x} rw") for i in range(1 + others))
     return Round(MOST_FRAMES, first, call(0, f"protect {FIRST_PAGE:x} ro") + call(0, f"protect {FIRST_PAGE:x} rw"), 2)
 
 
 def accepted(holders):
-    """A process that has a page beside it joins the holders of a page of process 0, and leaves them."""
+    """A process that also has the next page joins the holders of a page of process 0, and leaves them."""
     first = held(holders).first + family(1) + call(holders, f"map {FIRST_PAGE + 1:x} rw")
     joins = call(0, f"offer {FIRST_PAGE:x} {holders} rw") + call(holders, f"accept 0 {FIRST_PAGE:x} {FIRST_PAGE:x}")
     return Round(MOST_FRAMES, first, joins + call(holders, f"unmap {FIRST_PAGE:x}"), 3)
 
 
 def charges(processes):
-    """Each process but 0 asks for its quota in turn."""
+    """Each process but 0 requests its quota in turn."""
     return Round(MOST_FRAMES, family(processes), "".join(call(1 + i, "quota") for i in range(processes)), processes)
 
 
-# What is done over and over, what grows, and at which sizes it is measured.
+# What is repeated, what grows, and at which sizes it is measured.
 GROWTH = (
     ("map, unmap", "frames, all but one in use", mapped, (16, 256, 1024, 4096)),
     ("store to a new page, unmap", "frames, all but one in use", stored, (16, 256, 1024, 4096)),

@@ -1,5 +1,5 @@
-/* The same through the library: the nanoseconds of a million loads, and of a million maps with unmaps, the
- * best of fifteen runs; and those of one copy of a page's 4,096 bytes, in each of five ways. */
+/* Measures calls through the library: the nanoseconds of a million loads, and of a million maps with unmaps, the best
+ * of fifteen runs. Also measures one copy of a page's 4,096 bytes, in each of five ways. */
 #include <stdio.h>
 #include <string.h>
 #include <time.h>
@@ -43,7 +43,7 @@ enum { BYTES = 4096, COPIES = 20000 };
 static const uint32_t FROM = 0x40000000;
 static uint8_t copy[BYTES];
 
-/* A page by loads of four bytes. */
+/* Copies a page with loads of four bytes. */
 static void by_events(void) {
     struct tower_event load = {.call = TOWER_LOAD, .flag = 4};
     struct tower_reply reply;
@@ -54,7 +54,7 @@ static void by_events(void) {
     }
 }
 
-/* The same loads, in one run. */
+/* Copies a page with the same loads, in one run. */
 static void by_run(void) {
     static struct tower_event events[BYTES / 4];
     static struct tower_reply replies[BYTES / 4];
@@ -79,7 +79,7 @@ static void by_write(void) {
     tower_write(&tower, 0, FROM, copy, BYTES, &moved, &stop);
 }
 
-/* By a walk of the tables, and the memory that it leads to. */
+/* Copies a page with a walk of the tables, from the memory to which the walk leads. */
 static void by_walk(void) {
     struct tower_memory memory;
     struct tower_walk found;
@@ -88,7 +88,7 @@ static void by_walk(void) {
     memcpy(copy, (const uint8_t *)memory.begins + (size_t)BYTES * found.frame, BYTES);
 }
 
-/* A page's time: so many times, as each way takes. */
+/* Returns the nanoseconds of COPIES copies, measured on `times` of them. */
 static unsigned long long copies(void (*way)(void), int times) {
     unsigned long long start = now();
     for (int i = 0; i < times; i++) {

@@ -1,12 +1,13 @@
-/* bench/calls/floor.c: what two monitors that look without a pause cost any caller, whatever is published and how.
+/* bench/calls/floor.c: what two monitors that poll without a pause cost any caller, whatever is published and how.
  *
- * One thread makes calls: it takes a lock, changes a few words, writes an entry behind the others, sets a count, and
- * lets the lock go. Two threads only read that count, each in a line of cache of its own, with so many pauses of the
- * processor between two looks. A monitor that must see each call that is back has to read at least that much.
+ * One thread makes calls: it takes a lock, changes a few words, appends an entry, sets a count, and releases the lock.
+ * Lock, count, words and entries are in cache lines of their own. Two threads only read the count, with a number of the
+ * processor's pauses between two polls. A monitor that must see each call that has returned has to read at least that
+ * much.
  *
  *     cc -O2 -pthread bench/calls/floor.c -o floor && ./floor
  *
- * The best of fifteen runs of 400,000 calls each. The gate does not run it.
+ * It prints the best of fifteen runs of 400,000 calls each. The gate does not run it.
  */
 #include <pthread.h>
 #include <stdalign.h>
@@ -63,7 +64,7 @@ static void call(uint64_t number)
     atomic_exchange(&held, 0);
 }
 
-/* The time of all calls; the looks of all monitors are counted. */
+/* Returns the time of all calls. Counts the polls of all monitors. */
 static uint64_t timed(int monitors, int pauses)
 {
     pthread_t threads[MONITORS];

@@ -1,9 +1,9 @@
-//! bench/calls/plain.rs: the call through the lock in plain Rust, to be beside: std's Mutex round a core that walks two
-//! words and stores, a log of all calls, and a left-right writer that publishes a report on them.
+//! bench/calls/plain.rs: the call through the lock in plain Rust, for comparison. It has std's Mutex round a core that
+//! walks two words and stores, a log of all calls, and a left-right writer that publishes a report on them.
 //!
 //!     rustc -O --edition 2021 bench/calls/plain.rs -o plain && ./plain
 //!
-//! It makes the calls of program/main.rt.in, and prints the same lines: of each measurement the best of RUNS, in
+//! It makes the calls of program/main.rt.in, and prints the same lines: the best of RUNS of each measurement, in
 //! nanoseconds for 40,000 calls. Nothing of it is proved.
 #![allow(dead_code)]
 use std::cell::UnsafeCell;
@@ -70,7 +70,7 @@ fn first_rows() -> Rows {
     rows
 }
 
-/// One memory, the directory of each process, and what each is charged.
+/// A memory, the directory of each process, and what each is charged.
 struct Core {
     memory: Vec<u32>,
     directories: [Option<u32>; 64],
@@ -78,7 +78,7 @@ struct Core {
 }
 
 impl Core {
-    /// A core whose process 0 has one page that it may write.
+    /// Returns a core whose process 0 has one page that it may write.
     fn boot() -> Core {
         let mut memory = vec![0; FRAMES * WORDS];
         memory[WORDS + (PAGE >> 22) as usize] = 2 << 12 | PRESENT | WRITABLE;
@@ -88,7 +88,7 @@ impl Core {
         Core { memory, directories, rows: first_rows() }
     }
 
-    /// Where the bytes lie, once the page is marked; None where they are not all of one page that may be used so.
+    /// Sets accessed and dirty, and returns where the bytes lie; None if they are not all of one page with that right.
     fn place(&mut self, pid: u8, addr: u32, size: u32, needs: u32) -> Option<usize> {
         if !(0x4000_0000..0xf000_0000).contains(&addr) || addr % 4096 + size > 4096 {
             return None;
@@ -136,7 +136,7 @@ impl Core {
     }
 }
 
-/// What is published: a report on so many entries.
+/// What is published: a report on that many entries.
 #[derive(Clone, Copy)]
 struct Shown {
     rows: Rows,
@@ -157,7 +157,7 @@ impl Shown {
 #[repr(align(128))]
 struct Apart<T>(T);
 
-/// The two copies, which of them readers take, and an epoch for each reader, odd while it reads.
+/// The two copies, which of them readers read, and an epoch for each reader, odd while it reads.
 struct Board {
     side: Apart<AtomicUsize>,
     epochs: [Apart<AtomicU64>; 2],
@@ -186,7 +186,7 @@ impl Board {
     }
 }
 
-/// What is under the lock.
+/// The data under the lock.
 struct Locked<'a> {
     core: Core,
     log: Vec<Entry>,
@@ -230,7 +230,7 @@ fn event(cpu: u8) -> Event {
     Event { cpu, pid: 0, call: Call::Store { addr: PAGE, size: 4, value: 7 } }
 }
 
-/// The calls of one CPU.
+/// Makes the calls of one CPU.
 fn work(lock: &Mutex<Locked>, cpu: u8, calls: usize) {
     let mut seen = 0;
     for made in 0..calls {
@@ -240,7 +240,8 @@ fn work(lock: &Mutex<Locked>, cpu: u8, calls: usize) {
     }
 }
 
-/// All calls by so many CPUs beside so many monitors: the nanoseconds, and how many reports were taken.
+/// Makes all calls by that many CPUs, while that many monitors report. Returns the nanoseconds, and how many reports
+/// were taken.
 fn measured(cpus: usize, monitors: usize) -> (u64, u64) {
     let board = Board::new();
     let locked = Locked { core: Core::boot(), log: Vec::new(), counts: [0; 8], board: &board, last: vec![0; monitors] };

@@ -1,6 +1,6 @@
-/* What a core of many frames costs: its boot, and a call. wide FRAMES [zeros] [huge]
+/* wide FRAMES [zeros] [huge]: measures a core of many frames: its boot, and its calls.
  * With `zeros` the block is fresh from mmap, and a memset of a block that holds zeros does nothing. With `huge` the
- * block asks for pages of 2 MiB. */
+ * block requests pages of 2 MiB. */
 #define _GNU_SOURCE
 #include <stdio.h>
 #include <stdlib.h>
@@ -104,7 +104,7 @@ int main(int count, char **words) {
     }
     printf("%u frames%s: boot over fresh pages %.3f ms (the first %.3f), free %.4f ms, resident %.1f MiB\n", frames, lazily ? huge ? ", zeros promised, huge pages" : ", zeros promised" : huge ? ", huge pages" : "",
            boots * 1e3, first * 1e3, frees * 1e3, resident());
-    if (!lazily) { /* over a block that has its pages already */
+    if (!lazily) { /* over a block that already has its pages */
         double again = 1e9;
         for (int run = 0; run < 3; run++) {
             tower_free(&tower);
@@ -129,7 +129,7 @@ int main(int count, char **words) {
             WANT(TOWER_DONE, access_at(1, TOWER_STORE, PAGE));
             WANT(TOWER_DONE, ((struct tower_event){.pid = 1, .call = TOWER_EXIT})));
 
-    /* all frames in use: process 0 and a child have a page wherever the quota lets them */
+    /* all frames in use: process 0 and a child have as many pages as their quotas allow */
     uint32_t half = frames / 2 + 8, mine = 0, child = 0;
     if (half > 4) {
         WANT(TOWER_CHILD, ((struct tower_event){.call = TOWER_SPAWN, .first = half}));
