@@ -1,8 +1,8 @@
-"""A clone of the repository as it stands, for checks that change files or want a fresh folder."""
+"""A clone of the repository with its current files, for checks that change files or want a fresh folder."""
 import shutil
 import subprocess
 
-# Whoever runs the checks need not be whom the folder belongs to.
+# The user who runs the checks need not own the folder.
 GIT = ["git", "-c", "safe.directory=*", "-c", "user.name=checks", "-c", "user.email=checks@localhost"]
 
 
@@ -12,13 +12,13 @@ def git(folder, *words):
 
 
 def own_files(root):
-    """The files that git keeps or would keep, as they stand in the folder."""
+    """The names of the files in the folder that git tracks or would track."""
     names = git(root, "ls-files", "-z", "-c", "-o", "--exclude-standard").split("\0")
     return sorted(name for name in {*names} - {""} if (root / name).is_file())
 
 
 def cloned(root, folder):
-    """A repository in that folder with these files, all committed."""
+    """Makes a repository in `folder` with copies of these files, all committed."""
     clone = folder / "hujplavin"
     for name in own_files(root):
         (clone / name).parent.mkdir(parents=True, exist_ok=True)

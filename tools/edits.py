@@ -1,6 +1,6 @@
-"""The wrong bodies that the prover must refuse: where each stands, and which public functions it turns.
+"""The mutants that the prover must refuse: where each is, and which public functions it mutates.
 
-Those in crates/NAME/must-fail are tried by the gate, those in wrong-bodies/NAME by checks/wrong-bodies. The file
+The gate runs those in crates/NAME/must-fail, and checks/wrong-bodies those in wrong-bodies/NAME. The file
 wrong-bodies/functions.txt has a line for each of both.
 """
 import pathlib
@@ -21,7 +21,7 @@ def edits_in(folder):
 
 
 def edits_of(crate):
-    """The crate's edits of both suites: the file of each by its name."""
+    """The crate's mutants of both suites: the file of each by its name."""
     return {**edits_in(gate_folder(crate)), **edits_in(SECOND / crate)}
 
 
@@ -30,7 +30,7 @@ def crates_with_edits():
 
 
 def functions():
-    """The functions that each edit turns, by CRATE/EDIT, in the order of the file's lines."""
+    """The functions that each mutant mutates, by CRATE/NAME, in the order of the file's lines."""
     index = {}
     for line in INDEX.read_text(encoding="utf-8").splitlines():
         name, _, turned = line.partition(": ")
@@ -39,6 +39,6 @@ def functions():
 
 
 def kept_verdicts():
-    """The last verdict of each wrong body, with the checksum of what it was tried on."""
+    """The last verdict of each mutant, with the checksum of all that the verdict rests on."""
     text = VERDICTS.read_text(encoding="utf-8") if VERDICTS.is_file() else ""
     return {name: {"of": of, "verdict": verdict} for name, verdict, of in re.findall(r"^(\w+/[\w.-]+): (.*) of (\w+)$", text, re.M)}

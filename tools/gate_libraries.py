@@ -1,8 +1,8 @@
 """The libraries that `rt ci` has just proved, for the archives and checks that come after it.
 
-`rt ci` leaves each crate's library in crates/NAME/out/rlib without a stamp, and `rt lib` builds a library with no stamp
-again, with its proofs. One run of `rt ci` from scratch builds all of them over one another, so they fit together. Then
-a stamp on each says what it was built from, as `rt lib` writes it, and a changed source makes the stamp stale as ever.
+`rt ci` leaves each crate's library in crates/NAME/out/rlib without a stamp. `rt lib` builds a library with no stamp
+again, with its proofs. One run of `rt ci` from scratch builds all of them over one another, so that they fit together.
+Then a stamp on each says what it was built from, as `rt lib` writes it. A changed source still makes the stamp stale.
 """
 import importlib.machinery
 import importlib.util
@@ -15,7 +15,7 @@ ROOT = pathlib.Path(__file__).resolve().parent.parent
 
 
 def any_built():
-    """Whether a crate has a library already. After the gate, `rt ci` puts that one back in the place of its own."""
+    """Whether a crate already has a library. After the gate, `rt ci` puts that one back in place of its own."""
     return any((ROOT / "crates").glob("*/out/rlib"))
 
 

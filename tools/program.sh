@@ -1,6 +1,7 @@
-# What ./tower and ./memory_map share. $name is the program's and its crate's name, $root the repository's folder.
+# The functions that ./tower and ./memory_map share. $name is the name of the program and of its crate, $root the
+# repository's folder.
 program=$root/crates/$name/out/$name
-# What the program was made of, as `prove` found it.
+# The sums of what the program was built from, as `prove` noted them.
 made_of=$root/crates/$name/out/$name.sources
 
 say() {
@@ -12,7 +13,7 @@ refuse() {
     exit 2
 }
 
-# The sums of all sources and definitions that the program stands on, and of the program.
+# Prints the sums of all sources and definitions that the program depends on, and of the program.
 sources() {
     crates=$("$root/c/below" "$name")
     folders=$(echo "$crates" | sed 's,.*,crates/&/src crates/&/specs,')
@@ -26,7 +27,7 @@ is_proved() {
     [ -x "$program" ] && [ -e "$made_of" ] && sources | cmp -s - "$made_of"
 }
 
-# Why the sources are run and not the program.
+# Prints why the sources are run and not the program.
 why_unproved() {
     changed=
     if [ -x "$program" ] && [ -e "$made_of" ]; then
@@ -39,14 +40,14 @@ why_unproved() {
     fi
 }
 
-# Notes what the program was made of. Only behind a proof of just these sources.
+# Notes what the program was built from. Call it only after a proof of exactly these sources.
 note_sources() {
     sources >"$made_of.new"
     mv "$made_of.new" "$made_of"
 }
 
-# Proves each crate that the program stands on, the lowest first, with a line for each, and makes the program.
-# rt leaves a stamp beside the program where the sources stayed as they were while it proved them.
+# Proves each crate that the program depends on, the lowest first, with a line for each, and builds the program.
+# If the sources did not change while rt proved them, it leaves a stamp next to the program.
 prove() {
     command -v rt >/dev/null || refuse "nothing can be proved, and no 'rt' is on PATH (README.md says what it is)"
     mkdir -p "$root/crates/$name/out"
@@ -55,7 +56,7 @@ prove() {
     for crate in $("$root/c/below" "$name" | tac); do
         began=$(date +%s)
         if [ "$crate" = "$name" ]; then set -- run -- --help; else set -- lib; fi
-        # A program that is asked for help ends with 2: whether it is proved, its stamp tells.
+        # A program that prints its help ends with 2. Its stamp shows whether it is proved.
         (cd "$root/crates/$crate" && rt "$@" </dev/null) >"$log" 2>&1 || [ "$crate" = "$name" ] ||
             not_proved "$crate"
         echo "$crate: proved ($(($(date +%s) - began)) s)"
@@ -70,7 +71,7 @@ not_proved() {
     refuse "$1 is not proved; all that the prover said is in crates/$name/out/prove.log"
 }
 
-# A folder for what an unproved run is given and gives, which goes with it.
+# Makes a folder for what an unproved run reads and writes. The run's end removes it.
 begin_unproved() {
     command -v rt >/dev/null || refuse "there is no proved program, and no 'rt' is on PATH (README.md says what it is)"
     say "this is an unproved run$(why_unproved); './$name prove' makes the proved program"
@@ -82,8 +83,8 @@ begin_unproved() {
     : >"$work/script"
 }
 
-# Runs the sources with the words given, over the file script of that folder, and ends with the status. As the
-# proved program does, it ends with 1 where what it writes is not taken.
+# Runs the sources with these arguments, on the file script of that folder, and ends with their status. If its
+# output can't be written, it ends with 1, as the proved program does.
 run_unproved() {
     cd "$root/crates/$name"
     rt try --seconds 600 -- "$@" <"$work/script" >"$work/output" 2>"$work/messages" &
@@ -101,13 +102,13 @@ run_unproved() {
 }
 limits="gives at most 1 MiB of output, in 600 seconds; './$name prove' makes the program without these limits"
 
-# Says which file can't be opened, in a line before the program's own, which names none.
+# If a file can't be read, says so in a line before the program's own line, which names no file.
 name_unread() {
     [ -r "$1" ] && [ ! -d "$1" ] || say "the file $1 can't be read"
 }
 
-# Answers a call for help, or words that no command begins with, by the texts of tools/help, as the program
-# does: on standard error, with status 2.
+# Answers a request for help, or arguments that begin with no command, with a text of tools/help. It writes to
+# standard error and ends with status 2, as the program does.
 tell() {
     cat "$root/tools/help/$1" >&2
     exit 2

@@ -1,8 +1,8 @@
-"""Wrong bodies of different functions, tried in one copy of their crate.
+"""Mutants of different functions, run in one copy of their crate.
 
-A function is proved by its own body and the contracts of what it calls, and an edit changes no contract. So a body that
-is refused beside others is refused alone too, and one check of the crate tells of all of them. An edit outside of any
-function, as of a constant, is never put beside another.
+A function is proved from its own body and the contracts of what it calls, and a mutant changes no contract. A body that
+is refused together with others is therefore also refused by itself. One check of the crate gives the verdicts of all of
+them. A mutant that changes text outside of any function, as a constant, never shares a copy.
 """
 import re
 from typing import NamedTuple
@@ -10,12 +10,12 @@ from typing import NamedTuple
 FUNCTION = re.compile(r"\s*(?:pub(?:\([a-z]+\))? )?(?:const )?(?:unsafe )?(?:extern \"C\" )?fn (\w+)")
 TOLD = re.compile(r"(?:note: )?(?:\./)?((?:src|proofs)/\S+?):(\d+):\d+: (.*)")
 UNPROVED = "it is not proved that"
-# What a proof file says of names that the edit took away: the kit counts it only where nothing else is said.
+# What a proof file says of names that the mutant removed: the kit counts it only if it reports nothing else.
 NAMES_ALONE = re.compile(r"has no field|is not in scope|has no `|was not admitted")
 
 
 class Pair(NamedTuple):
-    """A pair of an edit: the file, the old text, the new one, and the function in which the old one is; "" for any."""
+    """A pair of a mutant: the file, the old text, the new one, and the function in which the old one is; "" for any."""
     file: str
     old: str
     new: str
@@ -23,7 +23,7 @@ class Pair(NamedTuple):
 
 
 def pairs_of(text):
-    """The pairs of an edit. A line `in: fn NAME` holds for the pairs after it in the same file."""
+    """The pairs of a mutant. A line `in: fn NAME` holds for the pairs after it in the same file."""
     file, old, inside, found = "", "", "", []
     for line in text.split("\n"):
         if line.startswith("file: "):
@@ -38,7 +38,7 @@ def pairs_of(text):
 
 
 def place_of(text, pair):
-    """The place at which a pair's old text is in a text: once in all of it, or once in its function. -1 otherwise."""
+    """The place of a pair's old text in a text, if it is there once, or once in its function. Otherwise -1."""
     places = [found.start() for found in re.finditer(re.escape(pair.old), text)]
     if pair.inside:
         lines = text.split("\n")
@@ -48,8 +48,8 @@ def place_of(text, pair):
 
 
 def marked(folder, edit):
-    """The texts of an edit's files in which each old text that is unique in its function only has a mark at the end of
-    its line, and the edit that names the marks. None if an old text isn't where it should be."""
+    """The texts of a mutant's files, with a mark after each old text that need only be unique in its function, and the
+    mutant that names the marks. A mark is at the end of the line. None if an old text isn't where it should be."""
     texts, lines = {}, []
     for pair in pairs_of(edit):
         text = texts.get(pair.file) or (folder / pair.file).read_text(encoding="utf-8")
@@ -81,7 +81,8 @@ def function_at(lines, place):
 
 
 def functions_of(folder, text):
-    """The functions that an edit turns, as the file and what `function_at` gives; None where one lies outside of any."""
+    """The functions that a mutant mutates, as the file and the result of `function_at`; None if a pair is outside of
+    any."""
     found = set()
     for pair in pairs_of(text):
         whole = (folder / pair.file).read_text(encoding="utf-8")
@@ -95,7 +96,7 @@ def functions_of(folder, text):
 
 
 def put_in(folder, texts, edit):
-    """The texts with an edit's pairs put in; None if an old text isn't there once."""
+    """The texts with a mutant's pairs applied; None if an old text isn't there once."""
     texts = dict(texts)
     for pair in pairs_of(edit):
         text = texts[pair.file] if pair.file in texts else (folder / pair.file).read_text(encoding="utf-8")
@@ -107,7 +108,8 @@ def put_in(folder, texts, edit):
 
 
 def groups_of(folder, files):
-    """The edits that can be tried together: for each group their functions by name, and the texts of the files."""
+    """The groups of mutants that can run together: for each group their functions by name, and the texts of the files;
+    and the mutants that have to run by themselves."""
     groups, alone = [], []
     for name, file in files.items():
         edit = file.read_text(encoding="utf-8")
@@ -127,7 +129,7 @@ def groups_of(folder, files):
 
 
 def is_of(file, line, functions, texts):
-    """Whether what is told at this line of a file is of one of the functions."""
+    """Whether a message at this line of a file is about one of the functions."""
     if file.startswith("src/"):
         return file in texts and (file, function_at(texts[file].split("\n"), line - 1)) in functions
     parts = file.split("/")[1:-1]
@@ -139,7 +141,7 @@ def is_of(file, line, functions, texts):
 
 
 def told_of(group, output):
-    """For each edit of a group what the check told of its functions, in the order in which it was told."""
+    """For each mutant of a group the check's messages about its functions, in the order of the output."""
     found = {name: [] for name in group["functions"]}
     for line in output.split("\n"):
         told = TOLD.match(line)
@@ -155,8 +157,8 @@ def is_source(line):
 
 
 def refusal_in(lines):
-    """The line that refuses a body: the first goal that is left open or answer that doesn't fit, and of answers one that
-    says more than that a name is gone where there is one. None where the prover was not reached."""
+    """The line that refuses a body: the first goal that is left open, or manual proof that doesn't fit. Of manual
+    proofs a line comes first that says more than that a name is gone. None if the prover was not reached."""
     refusing = [line for line in lines if UNPROVED in line or not is_source(line) and ": error" in line]
     weighty = [line for line in refusing if is_source(line) or not NAMES_ALONE.search(line)]
     return next(iter(weighty or refusing), None)

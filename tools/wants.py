@@ -1,4 +1,4 @@
-"""What a bench wants, and where it isn't there one line that says so, with status 2."""
+"""The needs of a bench or a check. If one isn't met, it ends with one line that says so and with status 2."""
 import pathlib
 import shutil
 import sys
@@ -17,7 +17,7 @@ HINTS = {
 
 
 def wants(bench, *needs):
-    """Ends the bench at the first need that isn't met: a command on PATH, or a path."""
+    """Ends the bench at the first need that isn't met. A need is a command on PATH, or a path."""
     for need in needs:
         is_path = isinstance(need, pathlib.PurePath) or "/" in need
         if not (pathlib.Path(need).exists() if is_path else shutil.which(need)):
