@@ -1,4 +1,4 @@
-"""A headless Chromium, told by pipe what to open, and asked for what stands in the page."""
+"""A headless Chromium, controlled through pipes: what it opens, and what its page contains."""
 import base64
 import json
 import os
@@ -10,7 +10,7 @@ WORDS = ["chromium", "--headless=new", "--no-sandbox", "--disable-gpu", "--remot
 
 
 class Browser:
-    """One tab of a browser of its own, with a profile that goes with it."""
+    """One tab of a browser of its own, with a profile that is removed with it."""
 
     def __init__(self):
         self.profile = tempfile.mkdtemp()
@@ -47,7 +47,7 @@ class Browser:
         return json.loads(message)
 
     def ask(self, method, **params):
-        """The answer to a request; what the browser says before it counts for nothing."""
+        """Sends a request, and returns the answer. The browser's messages before the answer are ignored."""
         self.asked += 1
         request = json.dumps({"id": self.asked, "method": method, "params": params, **self.session}).encode() + b"\0"
         while request:
@@ -66,7 +66,7 @@ class Browser:
             pass
 
     def value(self, expression):
-        """What an expression is in the page."""
+        """The value of an expression in the page."""
         answer = self.ask("Runtime.evaluate", expression=expression, returnByValue=True, awaitPromise=True)
         if "exceptionDetails" in answer:
             raise ValueError(f"{expression}: {answer['exceptionDetails']}")
@@ -80,16 +80,16 @@ class Browser:
         self.ask("Emulation.setEmulatedMedia", features=[{"name": "prefers-color-scheme", "value": "dark" if on else "light"}])
 
     def shot(self):
-        """What the page looks like, as PNG."""
+        """A picture of the page, as PNG."""
         return base64.b64decode(self.ask("Page.captureScreenshot", format="png")["data"])
 
     def names(self, role):
-        """The names that a screen reader finds of what has this role."""
+        """The names that a screen reader finds of elements with this role."""
         nodes = self.ask("Accessibility.getFullAXTree")["nodes"]
         return [node.get("name", {}).get("value", "") for node in nodes if node.get("role", {}).get("value") == role]
 
 
 def to_3_and_4(read, write):
-    """In the browser's process: it reads from 3, and writes to 4."""
+    """Makes these ends 3 and 4 in the browser's process, which reads from 3 and writes to 4."""
     for end, place in ((read, 103), (write, 104), (103, 3), (104, 4)):
         os.dup2(end, place, inheritable=True)

@@ -6,7 +6,7 @@ import time
 from machine import FIRST_PAGE, LAST_PAGE, LINES, PROCESSES, Event
 
 CALLS = list(LINES)
-# How often each call is drawn, by the style of a run; what a style does not name has weight 4.
+# The weight of each call, by the style of a run; a call that a style does not name has weight 4.
 STYLES = {
     "even": {},
     "access": {"load": 40, "store": 40, "exit": 1, "unmap": 2},
@@ -25,7 +25,7 @@ ENDS = [0, 0xFFFFFFFF, 0xFFFFFFFE, 0xFFFFFFFD, 0x3FFFFFFD, 0x3FFFFFFF, 0xEFFFFFF
 
 
 class Events:
-    """Draws events for a state, which the caller carries on."""
+    """Makes random events for a state. The caller carries them out on it."""
 
     def __init__(self, seed, state):
         self.draw = random.Random(seed)
@@ -52,14 +52,14 @@ class Events:
         return self.draw.choice(list(region))
 
     def near(self, page):
-        """Its neighbours, or what a lost or added bit makes of it."""
+        """A neighbour of a page, or the page with one bit changed."""
         which = self.draw.randrange(8)
         if which < 5:
             return max(0, page + (1, -1, 1024, -1024, 2)[which])
         return page ^ (1 << self.draw.randrange(20) if which < 7 else 1 << self.draw.randrange(20, 32))
 
     def page(self, number, mapped):
-        """A page: of the process's own so many times in a hundred, else near one, an edge, or any."""
+        """A page: one of the process's own with probability `mapped` percent, otherwise near one, an edge, or any."""
         own, which = self.mapped(number), self.draw.randrange(20)
         if own is not None and self.chance(mapped):
             return own
@@ -78,7 +78,7 @@ class Events:
         return (self.page(number, 70) % (1 << 20)) << 12 | offset
 
     def quota(self, number, least):
-        """A quota: around the room, what the process costs, or small; or any number."""
+        """A quota: around the room or `least`, or small, or any number."""
         room = self.state.room(number) if number in self.state.live else 5
         if least > 1 and self.chance(20):
             return self.draw.randint(1, least)
@@ -151,7 +151,7 @@ class Events:
         return []
 
     def who(self, call):
-        """The process of a call: of those with offers often, where it is about offers, and seldom the root at an exit."""
+        """The process of a call: for a call about offers often one with offers, and for an exit seldom the root."""
         if self.style == "pend" and call == "offer" and self.chance(70):
             return 0
         number = self.process()
@@ -170,8 +170,8 @@ class Events:
 
 
 def frames(seed, place):
-    """A number of frames for a run at that place of all, 0 to 1: small ones at first, which are full soon and looked at
-    quickly, then all."""
+    """A number of frames for a run at that place of all, 0 to 1. Small ones come first, as they fill soon and are
+    compared quickly; then come all."""
     draw = random.Random(f"frames {seed}")
     few = [16, 16, 17, 20, 24, 32, 32, 48, 64, 80, 128, 160]
     return draw.choice(few if place < 0.6 else few + [66, 200, draw.randint(16, 600), 1024, 4096])
@@ -190,7 +190,7 @@ def line(event):
 
 
 def first_failing(items, fails):
-    """The shortest beginning that fails, where longer ones fail too."""
+    """The shortest prefix that fails, if longer ones fail, too."""
     low, high = 0, len(items)
     while high - low > 1:
         middle = (low + high) // 2
@@ -199,7 +199,7 @@ def first_failing(items, fails):
 
 
 def without_pieces(items, size, fails, ends):
-    """What is left where each piece of that size is left out that isn't needed."""
+    """The items without each piece of that size that isn't needed for the failure."""
     place = 0
     while place < len(items) and time.time() < ends:
         fewer = items[:place] + items[place + size:]
@@ -211,8 +211,8 @@ def without_pieces(items, size, fails, ends):
 
 
 def shrink(items, fails, seconds=30):
-    """Fewer items that still fail: what follows the first failure goes, and then pieces that aren't needed, halves at
-    first and single ones until all are, as long as there is time."""
+    """Fewer items that still fail. It removes what follows the first failure, and then pieces that aren't needed. These
+    are halves at first, and later single items, until all are needed or time is up."""
     ends = time.time() + seconds
     items = first_failing(items, fails)
     size, before = max(1, len(items) // 2), None

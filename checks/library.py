@@ -1,5 +1,5 @@
-"""The C library by ctypes: its structs (c/include/tower.h), a core of it, and its events and replies as machine.py has
-them."""
+"""The C library through ctypes: its structs (c/include/tower.h), a core of it, and its events and replies as machine.py
+has them."""
 import ctypes
 import os
 import subprocess
@@ -22,7 +22,7 @@ CAUSES = {1: "NoProcess", 2: "BadPage", 4: "NotMapped", 5: "Mapped", 6: "Quota",
           9: "NoTarget", 10: "OfferPending", 11: "TooManyOffers", 12: "NoOffer", 13: "TableFull", 14: "BadQuota",
           15: "HasChildren", 16: "RootExit", 17: "TooSmall"}
 KINDS = ["done", "value", "child", "info", "quota", "fault", "refused", "no event"]
-# How many numbers a reply of each kind tells.
+# How many numbers a reply of each kind has.
 TELLS = [0, 1, 1, 1, 3, 2, 1, 0]
 NO_DIRECTORY = 0xFFFFFFFF
 
@@ -32,7 +32,7 @@ class Tower(ctypes.Structure):
 
 
 class Numbers(ctypes.Structure):
-    """An event's."""
+    """The numbers of an event."""
     _fields_ = [(name, ctypes.c_uint8) for name in ("cpu", "pid", "call", "flag")] + \
                [(name, ctypes.c_uint32) for name in ("first", "second", "third")]
 
@@ -48,12 +48,12 @@ class End(ctypes.Structure):
 
 
 class Translations(ctypes.Structure):
-    """Those that an event ends."""
+    """The translations that an event ends."""
     _fields_ = [(name, ctypes.c_uint32) for name in ("kind", "pid", "first", "second")]
 
 
 class Page(ctypes.Structure):
-    """What stands at a page."""
+    """The state of a page."""
     _fields_ = [("holders", ctypes.c_uint32)] + \
                [(name, ctypes.c_bool) for name in ("write", "may", "accessed", "dirty", "lazy")]
 
@@ -75,7 +75,7 @@ def built(archive, folder):
 
 
 def numbers_of(event):
-    """The numbers of an event; its operands stand in the order of a script's line."""
+    """The numbers of an event, whose operands are in the order of a script's line."""
     flag, rest = 0, list(event.operands)
     if event.call in ("load", "store"):
         flag = rest.pop(1)
@@ -87,7 +87,7 @@ def numbers_of(event):
 
 
 def operands_of(call, flag, first, second, third):
-    """The operands that these numbers stand for, or None where they are no event."""
+    """The operands that these numbers represent, or None if they are no event."""
     if call in ("load", "store"):
         return [first, flag, second][:2 + (call == "store")] if flag in (1, 2, 4) else None
     if call in ("offer", "accept", "withdraw") and second >= machine.PROCESSES:
@@ -98,14 +98,14 @@ def operands_of(call, flag, first, second, third):
 
 
 def event_of(cpu, process, number, *numbers):
-    """The event of these numbers, or None. Which CPU it is makes no difference."""
+    """The event of these numbers, or None. The CPU makes no difference."""
     call = next((call for call, of in NUMBERS.items() if of == number), None)
     operands = operands_of(call, *numbers) if call and process < machine.PROCESSES else None
     return None if operands is None else machine.Event(cpu, process, call, operands)
 
 
 def reply_of(answer):
-    """An answer as machine.py has it; what its kind does not tell has to be 0."""
+    """An answer as machine.py has it. Fields that its kind does not use have to be 0."""
     numbers = [answer.first, answer.second, answer.third]
     flags = [answer.write, answer.may, answer.accessed, answer.dirty]
     kind = KINDS[answer.kind] if answer.kind < len(KINDS) else None
@@ -119,7 +119,7 @@ def reply_of(answer):
 
 
 def ended_of(told):
-    """What was ended, as machine.py has it; what its kind does not tell has to be 0."""
+    """What was ended, as machine.py has it. Fields that its kind does not use have to be 0."""
     tells = [(0, 0, 0), (told.pid, told.first, 0), (told.pid, told.first, told.second), (told.pid, 0, 0)]
     if told.kind > 3 or (told.pid, told.first, told.second) != tells[told.kind]:
         return machine.Ended("no ending", told.pid, (told.kind, told.first, told.second))
@@ -133,12 +133,12 @@ def listed(array):
 
 
 def by(count, numbers):
-    """The numbers, so many at a time."""
+    """The numbers in groups of `count`."""
     return zip(*[iter(numbers)] * count)
 
 
 class Core:
-    """A core of the library, as memory.Comparison looks at one."""
+    """A core of the library, with what memory.Comparison reads."""
 
     def __init__(self, library, frames):
         self.library, self.frames, self.handle = library, frames, Tower(False, None)
@@ -185,7 +185,7 @@ class Core:
         return reply_of(answer)
 
     def ends(self, numbers):
-        """What an event will end, or None where they are the numbers of none."""
+        """What an event will end, or None if the numbers are no event."""
         told = Translations(99, 99, 99, 99)
         asked = ctypes.byref(self.handle), ctypes.byref(numbers), ctypes.byref(told)
         return ended_of(told) if self.library.tower_ends(*asked) else None
@@ -203,14 +203,14 @@ class Core:
         return [reply_of(answer) for answer in answers]
 
     def run_until(self, events):
-        """How many of them are carried out before the first that is not, and the replies up to that one."""
+        """Carries out events up to the first that is not carried out. Returns the replies up to that one."""
         count, carried = ctypes.c_size_t(len(events)), ctypes.c_size_t(99)
         asked, answers = (Numbers * len(events))(*map(numbers_of, events)), (Answer * len(events))()
         self.library.tower_run_until(ctypes.byref(self.handle), asked, count, answers, count, ctypes.byref(carried))
         return [reply_of(answer) for answer in answers[:carried.value + 1]]
 
     def transfer(self, name, number, address, data):
-        """How a read into these bytes or a write of them goes: how many went, what stopped it, and the bytes."""
+        """Reads into these bytes, or writes them. Returns how many were copied, what stopped it, and the bytes."""
         held, moved = (ctypes.c_uint8 * len(data))(*data), ctypes.c_size_t(99)
         stop = Answer(99, 99, 99, 99, True, True, True, True)
         asked = ctypes.c_uint32(number), ctypes.c_uint32(address), held, ctypes.c_size_t(len(data))
@@ -220,7 +220,7 @@ class Core:
         return moved.value, reply_of(stop), bytes(held)
 
     def pages(self, number):
-        """Each page that a process has mapped, as the library tells one after the other."""
+        """Each page that a process has mapped, as the library returns one after the other."""
         page, found = ctypes.c_uint32(0), Page()
         asked = ctypes.byref(page), ctypes.byref(found)
         while self.library.tower_next_page(ctypes.byref(self.handle), ctypes.c_uint32(number), page, *asked):
@@ -228,7 +228,7 @@ class Core:
             page.value += 1
 
     def walk(self, number, address, write):
-        """The library's walk of a process, or None where it answers none."""
+        """The library's walk of a process, or None if it returns none."""
         found = End(99, 99, 99)
         asked = ctypes.c_uint32(number), ctypes.c_uint32(address), ctypes.c_bool(write)
         if not self.library.tower_walk(ctypes.byref(self.handle), *asked, ctypes.byref(found)):
@@ -242,8 +242,8 @@ class Core:
         return directory is not None and all(found.kind == "frame" for found in walks)
 
     def processor(self, event):
-        """What a processor does by itself (docs/MACHINE.md, "Accesses by the walk"): the reply, or None where its walk finds
-        no frame for a page of the access."""
+        """Makes an access as a processor by itself (docs/MACHINE.md, "Accesses by the walk"). Returns the reply, or
+        None if the walk finds no frame for a page of the access."""
         address, size, *value = event.operands
         directory, places = self.directory(event.process), range(address, address + size)
         if places[-1] >= 1 << 32 or not self.finds(directory, places, bool(value)):
@@ -257,7 +257,7 @@ class Core:
         return machine.DONE if value else Reply("value", (read,))
 
     def marked(self, directory, place, write):
-        """Sets accessed, and for a write dirty, and answers the frame of the page."""
+        """Sets accessed, and for a write dirty, and returns the frame of the page."""
         first = 1024 * directory + (place >> 22)
         second = (self.words[first] >> 12) * 1024 + (place >> 12 & 1023)
         self.words[first] |= 1 << 5

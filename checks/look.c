@@ -1,4 +1,4 @@
-/* Reads all roles, containers and directories of a core at once, for against_library. */
+/* Reads all roles, containers and directories of a core in one call, for against_library. */
 #include "tower.h"
 
 static void look_at_roles(const struct tower *tower, uint32_t *roles) {
@@ -24,8 +24,8 @@ static void look_at_containers(const struct tower *tower, uint32_t *containers) 
     }
 }
 
-/* Four numbers for each frame; six for each process: live, parent, quota, used, given, children; a directory for
- * each process, UINT32_MAX where there is none. */
+/* Writes four numbers for each frame; six for each process: live, parent, quota, used, given, children; and a
+ * directory for each process, UINT32_MAX if there is none. */
 void look(const struct tower *tower, uint32_t *roles, uint32_t *containers, uint32_t *directories) {
     look_at_roles(tower, roles);
     look_at_containers(tower, containers);

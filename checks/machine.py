@@ -1,6 +1,6 @@
-"""The abstract machine of docs/MACHINE.md in plain Python, to be read beside it, part by part.
+"""The abstract machine of docs/MACHINE.md in plain Python, to be compared with that document, part by part.
 
-It is written from that document alone, and nothing in it is taken from a source or a definition. A state is changed in
+It is written only from that document; nothing in it is taken from a source or a definition. A state is changed in
 place: a call is refused before its first change.
 """
 import re
@@ -20,7 +20,7 @@ class Event(NamedTuple):
 
 
 class Reply(NamedTuple):
-    """A kind, as the first word of its line, and what it tells behind it."""
+    """A kind, as the first word of its line, and the values after it."""
     kind: str
     tells: tuple = ()
 
@@ -32,7 +32,7 @@ DONE = Reply("done")
 
 @dataclass(eq=False)
 class Group:
-    """The slots that share a page, with its bytes. It is real where it has a frame of its own, else lazy."""
+    """The slots that share a page, with its bytes. It is real if it has a frame of its own, otherwise lazy."""
     slots: set
     data: bytearray
     real: bool
@@ -49,7 +49,7 @@ class Cell:
 
 @dataclass
 class Process:
-    """A live process. Its cells stand by region, and in each region by page."""
+    """A live process. Its cells are keyed by region, and in each region by page."""
     parent: int
     quota: int
     regions: dict = field(default_factory=dict)
@@ -64,7 +64,7 @@ class Process:
         return 1 + len(self.regions) + sum(map(len, self.regions.values()))
 
     def cost_of(self, pages):
-        """What these pages, none of which it has, cost on top."""
+        """The additional cost of these pages, none of which the process has."""
         return len(pages) + len({page // 1024 for page in pages} - self.regions.keys())
 
 
@@ -100,12 +100,12 @@ def put_zeros(state, number, page, write):
 
 
 def drop_offers(state, goes):
-    """Takes the offers away that this says of."""
+    """Removes the offers for which `goes` is true."""
     state.offers = {key: right for key, right in state.offers.items() if not goes(*key)}
 
 
 def take(state, number, page):
-    """Takes a cell away, its region with the last one, and its offers."""
+    """Removes a cell, its region with the last cell, and its offers."""
     cells = state.live[number].regions[page // 1024]
     cells.pop(page).group.slots.discard((number, page))
     if not cells:
@@ -120,14 +120,14 @@ class Ends(Exception):
 
 
 def refuse(*lines):
-    """The first line that applies decides."""
+    """Refuses with the cause of the first line that applies, if one does."""
     for applies, cause in lines:
         if applies:
             raise Ends(Reply("refused", (cause,)))
 
 
 def fault(code, places):
-    """A fault at the first of these places, where there is one."""
+    """Faults at the first of these places, if there is one."""
     for place in places:
         raise Ends(Reply("fault", (place, code)))
 
@@ -137,7 +137,7 @@ def bad(page):
 
 
 def map_fresh(state, number, pages):
-    """Maps those of these pages that are not mapped, or is refused as Quota."""
+    """Maps those of these pages that are not mapped, or refuses with Quota."""
     process = state.live[number]
     fresh = {page for page in pages if not process.cell(page)}
     refuse((fresh and process.cost_of(fresh) > state.room(number), "Quota"))
@@ -146,8 +146,8 @@ def map_fresh(state, number, pages):
 
 
 def access(state, number, address, size, outside, read_only=None):
-    """The cells of an access's bytes, once each page is mapped. The codes are those of a fault outside the user range,
-    and of one in a page that is mapped without write."""
+    """The cells of an access's bytes, once each page is mapped. `outside` is the code of a fault outside the user
+    range, and `read_only` that of a fault in a page that is mapped without write."""
     process, places = state.live[number], range(address, address + size)
     cells = [process.cell(place // 4096) for place in places]
     fault(outside, (place for place in places if bad(place // 4096)))
@@ -269,7 +269,7 @@ CALLS = {"load": load, "store": store, "map": map_page, "unmap": unmap, "protect
 
 
 def step(state, event):
-    """Carries out a call, and answers its reply."""
+    """Carries out a call, and returns its reply."""
     try:
         refuse((event.process not in state.live, "NoProcess"))
         return CALLS[event.call](state, event.process, *event.operands) or DONE
@@ -278,7 +278,7 @@ def step(state, event):
 
 
 def way(event, reply):
-    """A call, and how it ended: a cause, a fault's code, or else what it tells."""
+    """A call and how it ended: the kind of its reply, and a refusal's cause or a fault's code."""
     last = {"refused": reply.tells[:1], "fault": reply.tells[1:]}.get(reply.kind, ())
     return " ".join(map(str, (event.call, reply.kind, *last)))
 
@@ -286,7 +286,7 @@ def way(event, reply):
 # Page words, and the walk
 
 def table_word(cell, frame):
-    """The word of a cell. The frame is that of its page, and 0 where it is lazy."""
+    """The word of a cell. It has the frame of a real page; that of a lazy page is 0."""
     flags = 5 | cell.accessed << 5 | cell.may << 9 | cell.write << 11
     return flags | (cell.write << 1 | cell.dirty << 6 | frame << 12 if cell.group.real else 1 << 10)
 
@@ -320,7 +320,7 @@ def walk(word, frames, directory, address, write):
 # Translations
 
 class Ended(NamedTuple):
-    """The translations that an event ended: none, those of some pages of a process, or all of it."""
+    """The translations that an event ended: none, those of some pages of a process, or all of a process."""
     kind: str
     process: int = 0
     pages: tuple = ()
@@ -340,7 +340,7 @@ def lazy(process, pages):
 
 
 def ends_where_done(state, number, call, operands):
-    """What a call ends where it completes, by the state before it."""
+    """What a call ends if it completes, from the state before it."""
     if call == "accept" and operands[0] in state.live:
         return of_pages(operands[0], lazy(state.live[operands[0]], operands[1:2]))
     if call == "store":
@@ -356,7 +356,7 @@ def ends_where_done(state, number, call, operands):
 
 
 def step_ending(state, event):
-    """Carries out a call: its reply, and what it ended."""
+    """Carries out a call. Returns its reply, and what it ended."""
     is_live = event.process in state.live
     ended = ends_where_done(state, event.process, event.call, event.operands) if is_live else NOTHING
     reply = step(state, event)
@@ -374,7 +374,7 @@ SKIPPED = object()
 
 
 def operand(kind, token):
-    """The value of a token, or None where it has not the form."""
+    """The value of a token, or None if it is malformed."""
     if not re.fullmatch(KINDS[kind], token):
         return None
     if kind == "RIGHT":
@@ -384,7 +384,7 @@ def operand(kind, token):
 
 
 def parse(line):
-    """The event of a line, SKIPPED, or None where it is malformed."""
+    """The event of a line, SKIPPED, or None if it is malformed."""
     tokens = [token for token in line.split(b" ") if token]
     if len(line) > LINE_BYTES:
         return None
@@ -407,7 +407,7 @@ def reply_line(reply):
 
 @dataclass
 class Run:
-    """What a script's run writes, its line on standard error and its status, the state that it ends in, and how often
+    """What a script's run writes, its line on standard error and its status, the state in which it ends, and how often
     each call ended in each way."""
     written: bytes
     told: str
@@ -417,7 +417,7 @@ class Run:
 
 
 def carry_out(lines, state, written, ways):
-    """Carries out lines up to the first that is malformed, and answers its number, or None."""
+    """Carries out lines up to the first that is malformed. Returns its number, or None."""
     for count, line in enumerate(lines, 1):
         event = parse(line)
         if event is None:

@@ -1,4 +1,4 @@
-"""What memory, roles and containers say, held against a state of machine.py: docs/MACHINE.md, "Page words" and "Roles and
+"""Compares memory, roles and containers with a state of machine.py: docs/MACHINE.md, "Page words" and "Roles and
 containers". Both drivers use it."""
 import struct
 from dataclasses import dataclass, field
@@ -7,12 +7,12 @@ from typing import NamedTuple
 from machine import State, table_word
 
 ZEROS = bytes(4096)
-# The flags of a directory word but accessed, and what they are.
+# The flags of a directory word except accessed, and their value.
 DIRECTORY_FLAGS, PRESENT_WRITABLE_USER = 0xFDF, 7
 
 
 class Role(NamedTuple):
-    """What a frame serves, as the numbers of an image: 0 reserved, 1 free, 2 directory, 3 table, 4 page."""
+    """The role of a frame, as an image has it: 0 reserved, 1 free, 2 directory, 3 table, 4 page."""
     kind: int
     process: int = 0
     slot: int = 0
@@ -30,7 +30,7 @@ class Container(NamedTuple):
 
 
 class Differs(Exception):
-    """What memory says otherwise than the state."""
+    """A difference of memory from the state."""
 
 
 def must(holds, told):
@@ -40,9 +40,9 @@ def must(holds, told):
 
 @dataclass
 class Comparison:
-    """A state beside what is seen, which has `containers` and `directories` (an entry or None for each number of a
-    process), `roles` (one for each frame), `word(frame, index)` and `page(frame)`; the roles that were found to be
-    right, and the frame of each group."""
+    """A state, and what is seen of a core. That has `containers` and `directories` (an entry or None for each number of
+    a process), `roles` (one for each frame), `word(frame, index)` and `page(frame)`. The comparison's own `roles` are
+    those found to be right so far, and its `frames` the frame of each group."""
     state: State
     seen: object
     roles: dict = field(default_factory=lambda: {0: RESERVED})
@@ -107,7 +107,7 @@ class Comparison:
 
 
 def difference(state, seen):
-    """The first thing that memory, roles and containers say otherwise than the state, or None."""
+    """The first difference of memory, roles and containers from the state, or None."""
     try:
         Comparison(state, seen).compare()
     except Differs as differs:

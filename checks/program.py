@@ -1,4 +1,4 @@
-"""The program beside the machine: a script's replies, its line on standard error and its status, and its image."""
+"""Compares the program with the machine: a script's replies, its line on standard error, its status, and its image."""
 import struct
 import subprocess
 import sys
@@ -17,7 +17,7 @@ RECORDS, HEAD = 12, 1548
 
 
 class Image:
-    """What an image of version 2 says (docs/IMAGES.md, "Layout"), as memory.Comparison wants it."""
+    """The content of an image of version 2 (docs/IMAGES.md, "Layout"), in the form that memory.Comparison reads."""
 
     def __init__(self, image):
         letters, version, self.frames = struct.unpack_from("<4sII", image)
@@ -38,20 +38,20 @@ class Image:
 
 
 def ran(program, words, script=b""):
-    """What came of a command: standard output, and the line on standard error with the status."""
+    """Runs a command. Returns its standard output, and the line on standard error with the status."""
     end = subprocess.run([program, *words], input=script, capture_output=True, timeout=60)
     return end.stdout, (end.stderr.decode("latin-1").rstrip("\n"), end.returncode)
 
 
 def first_other(got, wanted):
-    """The first reply that is otherwise."""
+    """The first reply that differs."""
     got, wanted = got.split(b"\n"), wanted.split(b"\n")
     place = next((n for n, pair in enumerate(zip(got, wanted)) if pair[0] != pair[1]), min(len(got), len(wanted)))
     return f"reply {place + 1} is {got[place:place + 1]}, not {wanted[place:place + 1]}"
 
 
 def replies_differ(program, frames, script, run):
-    """How `tower run` answers a script otherwise than this run of it, or None."""
+    """How the answer of `tower run` to a script differs from this run of it, or None."""
     written, ended = ran(program, ["run", "--frames", str(frames)], script)
     if written != run.written:
         return first_other(written, run.written)
@@ -59,7 +59,7 @@ def replies_differ(program, frames, script, run):
 
 
 def image_differs(program, frames, script, run):
-    """How `tower image` gives another image than the run's last state has, or `tower check` finds fault with it."""
+    """How the image of `tower image` differs from the run's last state, or fails `tower check`; otherwise None."""
     image, ended = ran(program, ["image", "--frames", str(frames)], script)
     if ended != (run.told, run.status) or run.status and image:
         return f"image ends with {ended} and {len(image)} bytes, not with {(run.told, run.status)}"

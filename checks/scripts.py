@@ -1,4 +1,4 @@
-"""Scripts for against_program: lines in strange spellings, scripts around the greatest length, and whole runs on 4,096
+"""Scripts for against_program: lines in unusual encodings, scripts around the highest length, and whole runs on 4,096
 frames."""
 import random
 
@@ -9,7 +9,7 @@ PAGE_FIRST = ("load", "store", "map", "unmap", "protect", "info", "offer", "with
 
 
 def spelt(draw, line):
-    """The same event in another spelling."""
+    """The line's event in another encoding."""
     cpu, number, *words = line.split(" ")
     spellings = ["  ".join([cpu, number, *words]),
                  " " * draw.randint(1, 4) + line + " " * draw.randint(0, 4),
@@ -42,7 +42,7 @@ STRANGE = [
 
 
 def strange(draw, line):
-    """A line that is often malformed; the machine says whether it is."""
+    """A line that is often malformed; the machine decides whether it is."""
     cpu, number, *words = line.split(" ")
     place = draw.randrange(len(line) + 1)
     changed = [line + " " * (101 - len(line)), line + " 0", line.replace(" ", "\t"), line + "\r", line.upper(),
@@ -52,14 +52,14 @@ def strange(draw, line):
 
 
 def written(draw, line):
-    """A line as it stands or in another spelling, now and then behind a skipped one."""
+    """A line as it is or in another encoding, now and then after a skipped one."""
     own = spelt(draw, line) if draw.random() < 0.05 else line
     return [skipped(draw), own] if draw.random() < 0.01 else [own]
 
 
 def drawn(seed, frames, count):
-    """A run's lines: events, some in another spelling, and skipped lines; every second time a strange line near the
-    end, and every second time no line feed behind the last."""
+    """A run's lines: events, some in another encoding, and skipped lines. Half of the runs have an unusual line near
+    the end, and half have no line feed after the last."""
     draw, state = random.Random(f"lines {seed}"), machine.boot(frames)
     source, lines, line = events.Events(seed, state), [], ""
     for _ in range(count):
@@ -73,7 +73,7 @@ def drawn(seed, frames, count):
 
 
 def short_and_strange(seed):
-    """A short script of a few strange, skipped and plain lines."""
+    """A short script of a few unusual, skipped and plain lines."""
     draw = random.Random(f"strange {seed}")
     source = events.Events(seed, machine.boot(16))
     lines = [events.line(source.event()) for _ in range(3)]
@@ -86,7 +86,7 @@ def encoded(lines):
 
 
 def around_the_limit():
-    """Scripts of the greatest length, a byte longer, and longer by a line that is malformed or is cut."""
+    """Scripts of the highest length, a byte longer, and longer by a line that is malformed or is cut."""
     head = b"0 0 store 40000000 4 1\n"
     full = head + b"# 567890123456789\n" * ((machine.SCRIPT_BYTES - len(head)) // 18)
     left = machine.SCRIPT_BYTES - len(full)
@@ -100,8 +100,8 @@ def around_the_limit():
 
 
 def children_fill_their_quotas():
-    """63 children fill their quotas, are refused more, and go. Where the table is full, quotas that are 0 or too small
-    are asked for too: two causes apply at once, which drawn events seldom meet."""
+    """63 children fill their quotas, are refused more, and exit. While the table is full, quotas that are 0 or too
+    small are also requested. Then two causes apply together, which random events seldom reach."""
     children = range(1, 64)
     pages = [0x40000 + 0x400 * (n % 4) * (n % 3 + 1) + n for n in range(60)]
     asks = ["quota", f"load {pages[7]:x}000 4", f"unmap {pages[7]:x}"]
@@ -126,7 +126,8 @@ def a_thousand_pages_are_copied():
 
 
 def pages_are_read_and_then_stored_to():
-    """4,000 pages are read, which takes no frame for them, and then stored to; more are mapped, and half go."""
+    """4,000 pages are read, which takes no frame for them, and then stored to. More are mapped, and half of the first
+    are unmapped."""
     pages = range(0x40000, 0x40000 + 4000)
     return [*(f"0 0 load {page:x}000 4" for page in pages),
             *(f"0 0 store {page:x}abc 4 {page:x}" for page in pages),
