@@ -31,8 +31,8 @@ extern "C" {
  * TOWER_MIN_FRAMES do not fit. */
 uint32_t tower_frames_within(size_t size);
 
-/* A status in addition to those of tower_boot_wide. The block is NULL, isn't whole pages at a multiple of 4,096, ends
- * at or past 2 to the 64, is too small for that many frames, or shares a byte with a booted core's block. */
+/* A status in addition to those of tower_boot_wide. The block is NULL, or isn't whole pages at a multiple of 4,096. Or
+ * it ends at or past 2 to the 64, is too small for that many frames, or shares a byte with a booted core's block. */
 #define TOWER_BAD_BLOCK 4
 
 /* Boots a core of that many frames over a block. With any status but TOWER_BOOTED the block stays the caller's. Its

@@ -85,7 +85,7 @@ static uint32_t *word_at(uint32_t frame, uint32_t index) {
     return (uint32_t *)(memory + (size_t)frame * FRAME) + index;
 }
 
-/* Returns the directory's word for an address: the cached word, or else memory's, which is cached if it is present. */
+/* Returns the directory's word for an address: the cached one, otherwise memory's, which is cached if it is present. */
 static uint32_t directory_word(const struct access *it, uint32_t address) {
     struct list *words = &caches[it->cpu].directory_words;
     struct kept *one = find(words, it->identifier, address >> 22);

@@ -8,7 +8,7 @@
 #include "wrong.h"
 
 /* Processes that make calls: the root and those after process 1, below LIVE. Process 1 has what the root's quota has
- * over ROOM and a frame, so that the trial is the same with any number of frames. */
+ * over ROOM and a frame, so that the number of frames does not change the trial. */
 enum { PROCESSES = 64, LIVE = 7, ROOM = 62 };
 
 /* How many processors in software make the accesses. */

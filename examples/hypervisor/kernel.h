@@ -26,8 +26,8 @@ uint32_t bring_here(struct kernel *it, uint32_t pid);
 /* This processor no longer runs any process, and caches nothing. */
 void leave_kernel(struct kernel *it);
 
-/* Makes an event of a process that runs nowhere, or on this processor, which requests it. An accept may end a
- * translation that another processor caches. That processor then stands still from before the event until it has
+/* Makes an event of a process that runs nowhere, or on this processor, which requests it. An accept may make a
+ * translation stale that another processor caches. That processor then stands still from before the event until it has
  * invalidated the translation. While a fork copies pages, all others stand still. */
 struct tower_reply make_event(struct kernel *it, uint32_t pid, struct tower_event event);
 
