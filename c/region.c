@@ -61,7 +61,7 @@ void rattle_dealloc(void *block) {
         }
     }
     if (!other.dealloc) {
-        __builtin_trap(); /* a block that was never returned */
+        __builtin_trap(); /* a block that no function of memory returned */
     }
     other.dealloc(block);
 }
