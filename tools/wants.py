@@ -1,8 +1,10 @@
 """The needs of a bench or a check. If one isn't met, it ends with one line that says so and with status 2."""
 import pathlib
 import shutil
+import subprocess
 import sys
 
+ROOT = pathlib.Path(__file__).resolve().parent.parent
 HINTS = {
     "rt": "'rt' of the Rattle kit on PATH (README.md)",
     "tower": "the proved program ('./tower prove' makes it)",
@@ -16,11 +18,31 @@ HINTS = {
 }
 
 
+# Whether what this repository built is of its current sources, by its kind: the wrapper's question, and make's.
+CURRENT = {
+    "": "sh -c 'root=$PWD name=$0; . tools/program.sh; is_proved' {name}",
+    ".a": "make -s -q -C c ../{path}",
+}
+
+
+def is_stale(path):
+    """Returns whether a path is a program or an archive of this repository that is older than its sources."""
+    path = pathlib.Path(path).resolve()
+    if not path.is_relative_to(ROOT / "crates") or path.parent.name != "out" or path.suffix not in CURRENT:
+        return False
+    asked = CURRENT[path.suffix].format(name=path.name, path=path.relative_to(ROOT))
+    return subprocess.run(asked, shell=True, cwd=ROOT, capture_output=True).returncode != 0
+
+
 def wants(bench, *needs):
-    """Ends the bench at the first need that isn't met. A need is a command on PATH, or a path."""
+    """Ends the bench at the first need that isn't met. A need is a command on PATH, or a path, and what this repository
+    built has to be of its current sources."""
     for need in needs:
         is_path = isinstance(need, pathlib.PurePath) or "/" in need
+        name = pathlib.Path(need).name
         if not (pathlib.Path(need).exists() if is_path else shutil.which(need)):
-            name = pathlib.Path(need).name
             print(f"{bench}: wants {HINTS.get(name, need)}", file=sys.stderr)
+            sys.exit(2)
+        if is_path and is_stale(need):
+            print(f"{bench}: {name} is older than its sources: wants {HINTS.get(name, need)}", file=sys.stderr)
             sys.exit(2)
