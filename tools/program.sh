@@ -4,8 +4,9 @@ program=$root/crates/$name/out/$name
 # The sums of what the program was built from, as `prove` noted them.
 made_of=$root/crates/$name/out/$name.sources
 
+# Prints a note on standard error, unless TOWER_QUIET is set to something other than 0.
 say() {
-    [ -n "${TOWER_QUIET:-}" ] || echo "$name: $1" >&2
+    case ${TOWER_QUIET:-0} in 0) echo "$name: $1" >&2 ;; esac
 }
 
 refuse() {
@@ -78,16 +79,21 @@ begin_unproved() {
     work=$(mktemp -d)
     child=
     trap 'rm -rf "$work"' EXIT
-    trap '[ -z "$child" ] || kill "$child" 2>/dev/null || true; exit 143' TERM HUP
-    trap '[ -z "$child" ] || kill "$child" 2>/dev/null || true; exit 130' INT
+    trap 'end_child; exit 143' TERM HUP
+    trap 'end_child; exit 130' INT
     : >"$work/script"
+}
+
+# Ends an unproved run with all that it has started, which is in a process group of its own.
+end_child() {
+    [ -z "$child" ] || kill -- "-$child" 2>/dev/null || kill "$child" 2>/dev/null || true
 }
 
 # Runs the sources with these arguments, on the file script of that folder, and ends with their status. If its
 # output can't be written, it ends with 1, as the proved program does.
 run_unproved() {
     cd "$root/crates/$name"
-    rt try --seconds 600 -- "$@" <"$work/script" >"$work/output" 2>"$work/messages" &
+    setsid rt try --seconds 600 -- "$@" <"$work/script" >"$work/output" 2>"$work/messages" &
     child=$!
     status=0
     wait "$child" || status=$?
@@ -102,9 +108,12 @@ run_unproved() {
 }
 limits="gives at most 1 MiB of output, in 600 seconds; './$name prove' makes the program without these limits"
 
-# If a file can't be read, says so in a line before the program's own line, which names no file.
-name_unread() {
-    [ -r "$1" ] && [ ! -d "$1" ] || say "the file $1 can't be read"
+# Ends with status 1 if a file can't be read, with a line that names it. The program's own line names no file.
+refuse_unread() {
+    [ -r "$1" ] && [ ! -d "$1" ] || {
+        echo "$name: the file $1 can't be read" >&2
+        exit 1
+    }
 }
 
 # Answers a request for help, or arguments that begin with no command, with a text of tools/help. It writes to
