@@ -140,6 +140,13 @@ fn holder(rt: &impl Abort, number: u8, page: u32) -> Holder {
     Holder { pid, page }
 }
 
+/// A process doesn't have a page.
+fn check_none(rt: &impl Abort, core: &mut Core, number: u8, page: u32) {
+    let page = Page(page);
+    let none = Reply::Refused(Cause::NotMapped);
+    check(rt, core, number, Call::Info { page }, none);
+}
+
 /// Only the root has its page, with bytes and flags as before.
 fn check_alone(rt: &impl Abort, core: &mut Core) {
     let info = Reply::Info {
@@ -149,29 +156,15 @@ fn check_alone(rt: &impl Abort, core: &mut Core) {
         dirty: true,
         holders: 1,
     };
-    let (addr, size) = (ADDRESS, Size::Four);
-    let none = Reply::Refused(Cause::NotMapped);
+    let load = Call::Load {
+        addr: ADDRESS,
+        size: Size::Four,
+    };
     check(rt, core, 0, Call::Info { page: PAGE }, info);
-    check(rt, core, 0, Call::Load { addr, size }, Reply::Value(7));
-    check(
-        rt,
-        core,
-        1,
-        Call::Info {
-            page: Page(0x50000),
-        },
-        none,
-    );
-    check(
-        rt,
-        core,
-        1,
-        Call::Info {
-            page: Page(0x50001),
-        },
-        none,
-    );
-    check(rt, core, 2, Call::Info { page: PAGE }, none);
+    check(rt, core, 0, load, Reply::Value(7));
+    check_none(rt, core, 1, 0x50000);
+    check_none(rt, core, 1, 0x50001);
+    check_none(rt, core, 2, 0x40000);
 }
 
 #[test]

@@ -108,53 +108,35 @@ fn turns_have_the_replies_of_their_events(rt: HostRuntime) -> Result<(), Fail> {
     Ok(())
 }
 
-/// A turn returns this, and ends this.
-fn check(rt: &impl Abort, core: &mut Core, turn: Turn, told: Option<Reply>, ended: Ended) {
-    same(rt, &core.turn(&turn), &(told, ended));
+/// A turn returns this, and ends no translation.
+fn check(rt: &impl Abort, core: &mut Core, turn: Turn, told: Option<Reply>) {
+    same(rt, &core.turn(&turn), &(told, Ended::Nothing));
 }
 
+/// The page is mapped by a store, and unmapped.
 #[test]
 fn a_turn_is_taken_if_it_can_be(rt: HostRuntime) -> Result<(), Fail> {
     let mut core = Core::boot(rt.alloc(), 16)?;
-    let (pid, page, nothing) = (root(&rt), PAGE, Ended::Nothing);
+    let (pid, page, walked) = (root(&rt), PAGE, true);
     let nobody = Pid::new(9).expect(&rt, "9 is below 64");
-    let unmap = event(pid, Call::Unmap { page });
     let mark = Turn::Mark {
         pid: nobody,
         page,
-        walked: true,
+        walked,
     };
-    check(&rt, &mut core, mark, None, nothing);
-    check(&rt, &mut core, Turn::Walk(store(pid, 7)), None, nothing);
-    check(
-        &rt,
-        &mut core,
-        Turn::Call(store(pid, 7)),
-        Some(Reply::Done),
-        nothing,
-    );
+    let unmap = Turn::Call(event(pid, Call::Unmap { page }));
+    let ended = Ended::Page { pid, page };
+    check(&rt, &mut core, mark, None);
+    check(&rt, &mut core, Turn::Walk(store(pid, 7)), None);
+    check(&rt, &mut core, Turn::Call(store(pid, 7)), Some(Reply::Done));
     check(
         &rt,
         &mut core,
         Turn::Store(store(pid, 8)),
         Some(Reply::Done),
-        nothing,
     );
-    check(
-        &rt,
-        &mut core,
-        Turn::Walk(load(pid)),
-        Some(Reply::Value(8)),
-        nothing,
-    );
-    check(
-        &rt,
-        &mut core,
-        Turn::Call(unmap),
-        Some(Reply::Done),
-        Ended::Page { pid, page },
-    );
-    check(&rt, &mut core, Turn::Walk(load(pid)), None, nothing);
-    check(&rt, &mut core, Turn::Walk(unmap), None, nothing);
+    check(&rt, &mut core, Turn::Walk(load(pid)), Some(Reply::Value(8)));
+    same(&rt, &core.turn(&unmap), &(Some(Reply::Done), ended));
+    check(&rt, &mut core, Turn::Walk(load(pid)), None);
     Ok(())
 }
