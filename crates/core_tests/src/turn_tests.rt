@@ -108,7 +108,7 @@ fn turns_have_the_replies_of_their_events(rt: HostRuntime) -> Result<(), Fail> {
     Ok(())
 }
 
-/// A turn returns this, and ends no translation.
+/// Checks the reply or value of a turn that ends nothing.
 fn check(rt: &impl Abort, core: &mut Core, turn: Turn, told: Option<Reply>) {
     same(rt, &core.turn(&turn), &(told, Ended::Nothing));
 }

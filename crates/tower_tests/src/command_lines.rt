@@ -1,10 +1,10 @@
-//! What came of a command line.
+//! The outcome of a command line.
 
 use crate::comparing::{same, same_bytes};
 use std::process::Abort;
 use tool_answers::{Answer, status_of, tell};
 
-/// What came of a command line: its status, and the bytes of standard output and standard error.
+/// The outcome of a command line: its status, and the bytes of standard output and standard error.
 #[derive(Drop)]
 pub(crate) struct Ended {
     pub(crate) status: u8,
@@ -12,7 +12,7 @@ pub(crate) struct Ended {
     pub(crate) errors: Vec<u8>,
 }
 
-/// What a program tells of an answer on standard error.
+/// The message of a program on standard error about an answer.
 fn told<R: AllocGlobal + Abort>(rt: &R, program: &str, answer: &Answer) -> Vec<u8> {
     let mut errors = Vec::new(rt.alloc());
     tell(program, answer, &mut errors)
@@ -21,7 +21,7 @@ fn told<R: AllocGlobal + Abort>(rt: &R, program: &str, answer: &Answer) -> Vec<u
     errors
 }
 
-/// What a program's answer comes to, with what was written before.
+/// The outcome of a program's answer, with what was written before.
 pub(crate) fn end_of<R: AllocGlobal + Abort>(
     rt: &R,
     program: &str,

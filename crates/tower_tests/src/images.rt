@@ -3,7 +3,7 @@
 use std::process::Abort;
 use tower_line::write_script_image;
 
-/// Where the version stands in an image, and the quota of process 0.
+/// The places of the version and of process 0's quota in an image.
 const VERSION: u8 = 4;
 
 const QUOTA: u8 = 20;
@@ -22,7 +22,7 @@ pub(crate) fn opening<R: AllocGlobal + Abort>(rt: &R) -> Vec<u8> {
     image_after(rt, "")
 }
 
-/// The same with a word put to a place.
+/// The bytes of that image with a word put at a place.
 fn opening_with<R: AllocGlobal + Abort>(rt: &R, place: u8, word: u32) -> Vec<u8> {
     let mut bytes = opening(rt);
     for (i, byte) in word.to_le_bytes().iter().enumerate() {
@@ -33,7 +33,7 @@ fn opening_with<R: AllocGlobal + Abort>(rt: &R, place: u8, word: u32) -> Vec<u8>
     bytes
 }
 
-/// The same, of which process 0 has this quota.
+/// The bytes of that image with this quota for process 0.
 pub(crate) fn opening_with_quota<R: AllocGlobal + Abort>(rt: &R, quota: u32) -> Vec<u8> {
     opening_with(rt, QUOTA, quota)
 }

@@ -1,4 +1,4 @@
-//! The four exit statuses, what goes to standard output, and what is told on standard error.
+//! The four exit statuses, standard output, and the messages on standard error.
 
 use crate::command_lines::{Ended, check_answer, check_ended, check_nothing_done, end_of};
 use crate::images::{opening, opening_with_quota};
@@ -20,7 +20,7 @@ const ONE_ROUND: &str =
 
 const BAD_SIZE: &str = "tower: frames must be 16 to 4096\n";
 
-/// What comes of words and a script on standard input.
+/// The outcome of arguments and a script on standard input.
 fn run<R: AllocGlobal + Files + Threads + Wait + Abort + Sync>(
     rt: &R,
     words: &[&str],
@@ -71,7 +71,7 @@ fn refused_words_end_with_status_2(rt: HostRuntime) {
     check_refused(&rt, &["tower", "help"]);
 }
 
-/// What comes of checking a file of these bytes.
+/// The outcome of a check of a file with these bytes.
 fn run_on_file<R: AllocGlobal + Files + Threads + Wait + Abort + Sync>(
     rt: &R,
     bytes: &[u8],
