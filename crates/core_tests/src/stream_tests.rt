@@ -2,10 +2,10 @@
 
 use crate::common::same;
 use base_tests::streams::{BrokenReader, BrokenWriter, FullWriter, Pieces};
+use script_examples::sharing::SHARE_BOTH_WAYS;
 use script_run::{ScriptFault, run_script};
 use std::alloc::Global;
 use std::process::Abort;
-use worked_scripts::sharing::SHARE_BOTH_WAYS;
 
 fn script() -> &'static [u8] {
     SHARE_BOTH_WAYS.script.as_bytes()

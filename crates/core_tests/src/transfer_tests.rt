@@ -1,8 +1,8 @@
 //! A process's memory in and out, and its pages one after the other.
-ghost use Rattle.core_handle.specs.Handle.{IsTower};
+ghost use Rattle.c_handle.specs.Handle.{IsTower};
 
 use crate::common::same;
-use core_handle::{Tower, put, take};
+use c_handle::{Tower, put, take};
 use kernel_calls::{Core, Pid, Reply, Transfer};
 use page_words::{Page, Vaddr, in_user_range};
 use std::process::Abort;

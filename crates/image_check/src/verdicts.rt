@@ -12,8 +12,8 @@ ghost use Rattle.image_check.specs.Verdict.{process_clause, frame_clause};
 
 use crate::clauses::{FrameClause, ProcessClause};
 use crate::counting::pid_of;
-use crate::judging::judge_process;
-use crate::serving::frame_clause;
+use crate::frame_clauses::frame_clause;
+use crate::process_clauses::judge_process;
 use memory_image::{Image, NoMemory};
 use page_words::{Frame, Pid};
 use std::alloc::Global;

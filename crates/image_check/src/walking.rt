@@ -10,8 +10,8 @@ ghost use Rattle.image_check.specs.Adds.{Adds, HaveRoom, words_naming};
 ghost use Rattle.image_check.specs.Verdict.{links_table, maps_page, table_is_right};
 
 use crate::counting::{count_one, frame_named};
-use crate::judging::{is_user_slot, links_table, maps_page, word_count};
-use crate::naming::count_named;
+use crate::process_clauses::{is_user_slot, links_table, maps_page, word_count};
+use crate::repeated_names::count_named;
 use memory_image::Image;
 use page_words::{DirWord, Frame, Pid};
 

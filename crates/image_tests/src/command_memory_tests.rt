@@ -8,12 +8,12 @@ use crate::command_lines::TwoWords;
 use crate::common::say;
 use crate::comparing::{same, same_bytes};
 use clap::error::ErrorKind;
+use command_answers::{ToolFault, WordsFault, words};
+use script_examples::sharing::SHARE_BOTH_WAYS;
 use script_run::ScriptFault;
 use std::alloc::Global;
 use std::process::Abort;
-use tool_answers::{ToolFault, WordsFault, words};
-use tower_line::{Job, check_bytes, job_of, write_script_image};
-use worked_scripts::sharing::SHARE_BOTH_WAYS;
+use tower_cli::{Job, check_bytes, job_of, write_script_image};
 
 /// The job in the arguments of a race, or why they are refused.
 fn race_asked(alloc: Global) -> Result<Job<'static>, ErrorKind> {

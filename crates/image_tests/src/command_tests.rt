@@ -3,10 +3,10 @@
 use crate::command_lines::TwoWords;
 use crate::comparing::same;
 use clap::error::ErrorKind;
+use command_answers::{WordsFault, answer_of_words, status_of, words};
 use std::alloc::Global;
 use std::process::Abort;
-use tool_answers::{WordsFault, answer_of_words, status_of, words};
-use tower_line::{Job, job_of};
+use tower_cli::{Job, job_of};
 
 /// The job in these arguments, or why they are refused.
 fn asked<'a>(alloc: Global, words: &'a [&'a str]) -> Result<Job<'a>, ErrorKind> {

@@ -7,7 +7,7 @@ use kernel_calls::{Call, Core, Event};
 use memory_image::{Image, ImageFault, read_image, write_image};
 use page_words::{Page, Pid, Size, Vaddr};
 use std::process::Abort;
-use tower_line::write_script_image;
+use tower_cli::write_script_image;
 
 const PAGE: Page = Page(0x40000);
 

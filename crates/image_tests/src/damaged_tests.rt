@@ -4,11 +4,11 @@
 use crate::common::{add, check_fault, image_after, image_in, text_on, verdict_on};
 use crate::comparing::{same, same_bytes};
 use crate::images::{place_of, put, record_of, word};
+use command_answers::ToolFault;
 use image_check::ImageFault;
+use script_examples::sharing::SHARE_BOTH_WAYS;
 use std::process::Abort;
-use tool_answers::ToolFault;
-use tower_line::check_bytes;
-use worked_scripts::sharing::SHARE_BOTH_WAYS;
+use tower_cli::check_bytes;
 
 /// No frame, and no clause.
 const NONE: (u32, u32) = (u32::MAX, 0);

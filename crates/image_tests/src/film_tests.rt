@@ -3,10 +3,10 @@
 
 use crate::comparing::{same, same_bytes};
 use base_tests::streams::{BrokenReader, FullWriter, Pieces};
+use command_answers::{Answer, ToolFault};
 use map_jobs::{film_script, write_film};
 use script_film::{End, Film, ScriptFault, film_of};
 use std::process::Abort;
-use tool_answers::{Answer, ToolFault};
 
 /// A line without an event, a page that is stored to, a load that sets nothing anew, and a neighbouring page.
 const SCRIPT: &str =

@@ -5,11 +5,11 @@ use crate::comparing::{same, same_bytes};
 use crate::damaged_tests::{Damage, damaged, damages, frames_of, image_bytes, lines_of};
 use crate::images::{place_of, put, record_of, word};
 use crate::worked_tests::groups;
+use command_answers::ToolFault;
 use map_jobs::{Form, draw_bytes};
+use script_examples::Worked;
 use std::alloc::Global;
 use std::process::Abort;
-use tool_answers::ToolFault;
-use worked_scripts::Worked;
 
 /// A page that was stored to, lazy ones after it, a child that holds the page too, and a child of that.
 const FAMILY: &str =

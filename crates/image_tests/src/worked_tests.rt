@@ -1,11 +1,11 @@
 //! Images of the states that worked scripts end in.
 
 use crate::comparing::{same, same_bytes};
+use command_answers::ToolFault;
+use script_examples::{Worked, alone, forks, processes, sharing};
 use std::alloc::Global;
 use std::process::Abort;
-use tool_answers::ToolFault;
-use tower_line::{check_bytes, write_script_image};
-use worked_scripts::{Worked, alone, forks, processes, sharing};
+use tower_cli::{check_bytes, write_script_image};
 
 /// The image of the state that a script ends in, written, read again and checked: its verdict's text.
 fn verdict_after(alloc: Global, script: &str, frames: u32) -> Result<Vec<u8>, ToolFault> {

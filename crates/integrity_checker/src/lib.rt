@@ -6,8 +6,8 @@ mod audit;
 mod draw;
 mod faults;
 mod findings;
+mod helper_step;
 mod parts;
-mod stepping;
 
 pub use draw::{About, Drawer, Draws};
 pub use faults::AuditFault;

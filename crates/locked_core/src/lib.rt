@@ -21,8 +21,8 @@ mod moment;
 mod monitor;
 mod port;
 mod publish;
+mod published_report;
 mod rule;
-mod shown;
 
 pub use book::Name;
 pub use closing::History;

@@ -11,8 +11,8 @@ ghost use Rattle.locked_core.specs.Published.{view_of, IsOf, Keeps, Opens, Stays
 ghost use Rattle.memory_report.specs.Histories.{Legal};
 
 use crate::book::Beginning;
+use crate::published_report::Shown;
 use crate::rule::{Later, LogReader, LogWriter, Look, Notes, Opening};
-use crate::shown::Shown;
 use core::mem::replace_with;
 use left_right::writer::Writer;
 use memory_report::LogEntry;

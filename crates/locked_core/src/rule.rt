@@ -1,5 +1,5 @@
 //! The rule of what is published.
-use crate::shown::Shown;
+use crate::published_report::Shown;
 use atomic_table::{Join, Split};
 use crossbeam_utils::rule::{Outcome, Protocol};
 use left_right::reader::Reader;

@@ -12,13 +12,13 @@ use Rattle.memory_image.specs.Reading.{IsRefusal}
 use Rattle.memory_image.specs.Spelling.{Spells}
 use Rattle.memory_image.specs.declared.faults.ImageFault.{ImageFault}
 use Rattle.text_output.specs.Output.{AppendsFront}
-use Rattle.tool_answers.specs.Answers.{Refuses}
-use Rattle.tool_answers.specs.Faults.{tool_of_image}
-use Rattle.tool_answers.specs.Files.{IsRead, file_argument, file_in}
-use Rattle.tool_answers.specs.declared.answers.Answer.{Answer}
-use Rattle.tool_answers.specs.declared.answers.Answer.TheVariants.{Done, NotSound, Failed, NotText, Refused}
-use Rattle.tool_answers.specs.declared.faults.ToolFault.{ToolFault}
-use Rattle.tool_answers.specs.declared.faults.ToolFault.TheVariants as tool
+use Rattle.command_answers.specs.Answers.{Refuses}
+use Rattle.command_answers.specs.Faults.{tool_of_image}
+use Rattle.command_answers.specs.Files.{IsRead, file_argument, file_in}
+use Rattle.command_answers.specs.declared.answers.Answer.{Answer}
+use Rattle.command_answers.specs.declared.answers.Answer.TheVariants.{Done, NotSound, Failed, NotText, Refused}
+use Rattle.command_answers.specs.declared.faults.ToolFault.{ToolFault}
+use Rattle.command_answers.specs.declared.faults.ToolFault.TheVariants as tool
 use Rattle.map_jobs.specs.declared.drawing.Form.{Form}
 use Rattle.map_jobs.specs.declared.drawing.Form.TheVariants as form
 use Rattle.map_jobs.specs.declared.jobs.Request.{Request}

@@ -14,14 +14,14 @@ use Rattle.script_film.specs.declared.ends.End.{End}
 use Rattle.script_film.specs.declared.ends.End.TheVariants.{Whole, Malformed, Cut}
 use Rattle.script_run.specs.declared.faults.ScriptFault.{ScriptFault}
 use Rattle.text_output.specs.Output.{AppendsFront}
-use Rattle.tool_answers.specs.Answers.{Refuses}
-use Rattle.tool_answers.specs.Faults.{tool_of_script}
-use Rattle.tool_answers.specs.Files.{IsRead}
-use Rattle.tool_answers.specs.Options.{frames_option, frames_in}
-use Rattle.tool_answers.specs.declared.answers.Answer.{Answer}
-use Rattle.tool_answers.specs.declared.answers.Answer.TheVariants.{Done, Failed}
-use Rattle.tool_answers.specs.declared.faults.ToolFault.{ToolFault}
-use Rattle.tool_answers.specs.declared.faults.ToolFault.TheVariants as tool
+use Rattle.command_answers.specs.Answers.{Refuses}
+use Rattle.command_answers.specs.Faults.{tool_of_script}
+use Rattle.command_answers.specs.Files.{IsRead}
+use Rattle.command_answers.specs.Options.{frames_option, frames_in}
+use Rattle.command_answers.specs.declared.answers.Answer.{Answer}
+use Rattle.command_answers.specs.declared.answers.Answer.TheVariants.{Done, Failed}
+use Rattle.command_answers.specs.declared.faults.ToolFault.{ToolFault}
+use Rattle.command_answers.specs.declared.faults.ToolFault.TheVariants as tool
 use Rattle.map_jobs.specs.Drawings.{AnswersWords}
 use Rattle.map_jobs.specs.declared.film_page.TheConstants.{HEAD, TAIL}
 

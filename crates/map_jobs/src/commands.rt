@@ -7,12 +7,12 @@ ghost use Rattle.map_jobs.specs.Films.{AnswersAll, AnswersFilm};
 use crate::drawing::{Form, draw_bytes};
 use crate::films::film_script;
 use crate::jobs::{asks_film, frames_of, request_of};
+use command_answers::{Answer, ToolFault, bytes_of, refuse};
 use std::alloc::Global;
 use std::convert::AsStr;
 use std::fs;
 use std::fs::Files;
 use std::io::{Read, Write};
-use tool_answers::{Answer, ToolFault, bytes_of, refuse};
 
 /// Draws the image that a file has.
 fn draw_file<F: Read + Drop, O: Write>(alloc: Global, form: Form, file: F, output: &mut O) -> Answer

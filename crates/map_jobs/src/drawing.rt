@@ -4,11 +4,11 @@ ghost use Rattle.std.specs.Prelude.{◌≡◌, IfOk, IfErr, OnOk, OnErr};
 ghost use Rattle.image_check.specs.Told.{verdict_on};
 ghost use Rattle.map_jobs.specs.Drawings.{Draws, EndsDrawing, Shows, ShowsFront};
 
+use command_answers::ToolFault;
 use image_check::{Image, Verdict, WriteFailed, check, read_image};
 use image_map::{write_map, write_picture};
 use std::alloc::Global;
 use std::io::Write;
-use tool_answers::ToolFault;
 
 /// What an image is drawn as.
 #[derive(Clone, Copy, Debug, PartialEq, Eq)]

@@ -4,11 +4,11 @@ ghost use Rattle.std.specs.Prelude.{◌≡◌, ◌++◌, IfOk, IfErr};
 ghost use Rattle.map_jobs.specs.Films.{EndsFilm, FilmsScript, WritesFilm, answer_of_end, page_text};
 
 use crate::film_page::{HEAD, TAIL};
+use command_answers::{Answer, ToolFault, bytes_of};
 use script_film::{End, film_of};
 use std::alloc::{AllocError, Global};
 use std::io::{Read, Write};
 use text_output::write_whole;
-use tool_answers::{Answer, ToolFault, bytes_of};
 
 /// Bytes between two others.
 fn between(alloc: Global, front: &[u8], bytes: &[u8], back: &[u8]) -> Result<Vec<u8>, AllocError>

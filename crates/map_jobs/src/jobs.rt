@@ -9,9 +9,9 @@ ghost use Rattle.map_jobs.specs.Films.{film_flag, film_app, is_film, asks_film, 
 
 use crate::drawing::Form;
 use clap::{Arg, ArgAction, ArgMatches, Command, Error};
+use command_answers::{file_argument, file_in, frames_in, frames_option};
 use std::alloc::{AllocError, Global};
 use std::convert::AsStr;
-use tool_answers::{file_argument, file_in, frames_in, frames_option};
 
 /// What the command line requests.
 #[derive(Clone, Copy, Debug, PartialEq, Eq)]

@@ -8,9 +8,9 @@ mod film_page;
 mod films;
 mod jobs;
 
+pub use command_answers::{Answer, ToolFault};
 pub use commands::{answer, draw};
 pub use drawing::{Form, draw_bytes};
 pub use films::{film_script, write_film};
 pub use jobs::{Request, asks_film, frames_of, request_of};
 pub use script_film::End;
-pub use tool_answers::{Answer, ToolFault};

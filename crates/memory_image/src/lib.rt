@@ -2,11 +2,11 @@
 //! bytes.
 #![tactic(auto)]
 
+mod core_image;
 mod faults;
 mod fields;
 mod images;
 mod laws;
-mod making;
 mod processes;
 mod reading;
 mod restoring;

@@ -4,10 +4,10 @@
 //! 1 if memory runs out or a device fails.
 #![tactic(auto)]
 
+use command_answers::{answer_of_words, status_of, tell, words};
 use map_jobs::answer;
 use std::io;
 use std::process::ExitCode;
-use tool_answers::{answer_of_words, status_of, tell, words};
 
 fn main(rt: HostRuntime) -> ExitCode {
     let answer = match words(&rt) {

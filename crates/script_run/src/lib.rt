@@ -9,12 +9,12 @@
 mod faults;
 mod lines;
 mod numbers;
-mod often;
 mod output;
 mod replies;
 mod script;
 mod session;
 mod tokens;
+mod usual_lines;
 
 pub use faults::ScriptFault;
 pub use lines::{Line, line_of};

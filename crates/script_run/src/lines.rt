@@ -6,8 +6,8 @@ ghost use Rattle.std.specs.Str.{bytes_eq};
 ghost use Rattle.script_run.specs.Tokens.{tokens_of};
 
 use super::numbers::{digit_of, hexadecimal, number_below};
-use super::often::often_call_of;
 use super::tokens::{first_token, is_blank};
+use super::usual_lines::often_call_of;
 use kernel_calls::{Call, Event};
 use page_words::{Page, Pid, Size, Vaddr};
 

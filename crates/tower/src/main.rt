@@ -5,9 +5,9 @@
 //! fails of an image.
 #![tactic(auto)]
 
+use command_answers::{answer_of_words, status_of, tell, words};
 use std::io;
 use std::process::ExitCode;
-use tool_answers::{answer_of_words, status_of, tell, words};
 use tower_jobs::answer;
 
 fn main(rt: HostRuntime) -> ExitCode {

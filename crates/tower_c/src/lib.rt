@@ -10,7 +10,7 @@ ghost use Rattle.process_table.specs.State.{open_with};
 ghost use Rattle.process_table.specs.Image.{StandsFor, image_of};
 ghost use Rattle.phys_memory.specs.Bytes.{frame_bytes};
 ghost use Rattle.tower_c.specs.Border.{event_in, reply_in, state_after, is_carried_out, none_is_carried_out, replies_in, end_after, given, frames_in, directory_in, container_in, role_in, copy_in, walk_in, ended_in, ends_in, ended_numbers, version};
-ghost use Rattle.core_handle.specs.Handle.{IsTower};
+ghost use Rattle.c_handle.specs.Handle.{IsTower};
 ghost use Rattle.kernel_calls.specs.Translations.{Ends};
 
 mod memory;
@@ -19,8 +19,8 @@ mod pages;
 mod runs;
 mod transfers;
 
-pub use core_handle::{Passes, Tower};
-use core_handle::{put, take};
+pub use c_handle::{Passes, Tower};
+use c_handle::{put, take};
 use kernel_calls::{BootFault, Core, Ended};
 pub use memory::{TowerMemory, tower_memory};
 use numbers::{

@@ -2,10 +2,10 @@
 
 ghost use Rattle.std.specs.Prelude.{◌≡◌, false};
 ghost use Rattle.tower_c.specs.Border.{given};
-ghost use Rattle.core_handle.specs.Handle.{IsTower};
+ghost use Rattle.c_handle.specs.Handle.{IsTower};
 ghost use Rattle.tower_c.specs.Memory.{length_in};
 
-use core_handle::{Tower, put, take};
+use c_handle::{Tower, put, take};
 use std::alloc::Global;
 
 /// Where a core's memory begins, and how many bytes it has.

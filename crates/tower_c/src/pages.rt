@@ -2,11 +2,11 @@
 
 ghost use Rattle.std.specs.Prelude.{◌≡◌, IfSome, IfNone, true, false};
 ghost use Rattle.tower_c.specs.Border.{pid_of};
-ghost use Rattle.core_handle.specs.Handle.{IsTower};
+ghost use Rattle.c_handle.specs.Handle.{IsTower};
 ghost use Rattle.tower_c.specs.Pages.{page_numbers, IsNextIn, HasNone};
 
 use crate::numbers::pid_from;
-use core_handle::{Tower, put, take};
+use c_handle::{Tower, put, take};
 use kernel_calls::{Core, PageState};
 use page_words::Page;
 use std::alloc::Global;

@@ -3,17 +3,17 @@
 ghost use Rattle.std.specs.Prelude.{◌≡◌, ◌↔◌, Some, IfSome, length, true, false};
 ghost use Rattle.process_table.specs.Image.{StandsFor, image_of};
 ghost use Rattle.tower_c.specs.Border.{event_in, reply_in, state_after, is_carried_out, end_after};
-ghost use Rattle.core_handle.specs.Handle.{IsTower};
+ghost use Rattle.c_handle.specs.Handle.{IsTower};
 ghost use Rattle.tower_c.specs.Runs.{carried_in, replies_until};
 
 use crate::numbers::{TowerEvent, TowerReply};
 use crate::step;
-use core_handle::{Tower, put, take};
+use c_handle::{Tower, put, take};
 use kernel_calls::Core;
 use std::alloc::Global;
 
 /// Carries out an event on a core, and returns its reply and whether it completed.
-fn step_told(core: &mut Core, event: &TowerEvent) -> (TowerReply, bool)
+fn step_with_outcome(core: &mut Core, event: &TowerEvent) -> (TowerReply, bool)
     ensures reply { result.0 ≡ reply_in core.old.state (event_in event.now) }
     ensures done { result.1 ≡ is_carried_out core.old.state (event_in event.now) }
     ensures state { core.new.state ≡ state_after core.old.state (event_in event.now) }
@@ -35,7 +35,7 @@ fn run_until(core: &mut Core, events: &[TowerEvent], replies: &mut [TowerReply])
     ensures refused { result ≡ 0 → core.new ≡ core.old }
 {
     for (i, event) in events.iter().enumerate() {
-        let told = step_told(core, event);
+        let told = step_with_outcome(core, event);
         replies[i] = told.0;
         if !told.1 {
             return i;

@@ -6,11 +6,11 @@ ghost use Rattle.process_table.specs.Image.{StandsFor, image_of, memory_of};
 ghost use Rattle.kernel_calls.specs.Machine.{answers, end_of};
 ghost use Rattle.kernel_calls.specs.Transfers.{carried, values};
 ghost use Rattle.tower_c.specs.Border.{pid_of};
-ghost use Rattle.core_handle.specs.Handle.{IsTower};
+ghost use Rattle.c_handle.specs.Handle.{IsTower};
 ghost use Rattle.tower_c.specs.Transfers.{loads_in, stores_in, gone_in, stop_in, stop_numbers};
 
 use crate::numbers::{TowerReply, done, no_event, pid_from, told_from};
-use core_handle::{Tower, put, take};
+use c_handle::{Tower, put, take};
 use kernel_calls::{Core, Reply};
 use page_words::Vaddr;
 use std::alloc::Global;

@@ -8,21 +8,21 @@
 ghost use Rattle.std.specs.Prelude.{◌≡◌, ◌≢◌, ◌↔◌, ◌≤◌, ◌<◌, ◌⊎◌, IfSome, length, take, drop, true, false};
 ghost use Rattle.memory_image.specs.Sound.{IsSound};
 ghost use Rattle.memory_image.specs.Spelling.{Spells};
-ghost use Rattle.core_handle.specs.Handle.{IsTower};
+ghost use Rattle.c_handle.specs.Handle.{IsTower};
 ghost use Rattle.tower_images.specs.Images.{image_length, SpellsCore, HasSoundImage};
 ghost use Rattle.tower_images.specs.Restored.{StandsForCore};
 ghost use Rattle.tower_images.specs.Audits.{SpellsOne, FailsProcess, FailsFrame, IsNoImage};
 
 mod checking;
+mod image_bytes;
 mod restoring;
-mod spelling;
 mod statuses;
 mod verdicts;
 
+use c_handle::{Tower, put, take};
 use checking::{check_bytes, check_core};
-use core_handle::{Tower, put, take};
+use image_bytes::{image_length, write_core};
 use restoring::restore_bytes;
-use spelling::{image_length, write_core};
 use statuses::{DONE, HAS_CORE, NO_CORE};
 use std::alloc::Global;
 pub use verdicts::TowerVerdict;

@@ -1,7 +1,7 @@
 -- A run on the machine of an image, where it is not said what the image's file has.
 use Rattle.std.proofs.Common.{ℕ, List, Option, None, inl, inr}
-use Rattle.tool_answers.specs.declared.answers.Answer.{Answer}
-use Rattle.tool_answers.specs.declared.answers.Answer.TheVariants.{Done, NotSound, Failed, NotText, Refused}
+use Rattle.command_answers.specs.declared.answers.Answer.{Answer}
+use Rattle.command_answers.specs.declared.answers.Answer.TheVariants.{Done, NotSound, Failed, NotText, Refused}
 use Rattle.tower_jobs.specs.Answers.{ResumesFile}
 
 pub forget_file : (answer : Answer) (file remained remains held holds : Option (List ℕ)) → ResumesFile answer file remained remains held holds → ResumesFile answer None remained remains held holds

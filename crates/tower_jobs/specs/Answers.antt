@@ -10,14 +10,14 @@ use Rattle.process_table.specs.View.{View}
 use Rattle.script_run.specs.Progress.{EndsBy}
 use Rattle.script_run.specs.Script.{events_of, replies_text}
 use Rattle.script_run.specs.declared.faults.ScriptFault.{ScriptFault}
-use Rattle.tool_answers.specs.Answers.{Refuses}
-use Rattle.tool_answers.specs.Faults.{tool_of_script}
-use Rattle.tool_answers.specs.Files.{IsRead}
-use Rattle.tool_answers.specs.declared.answers.Answer.{Answer}
-use Rattle.tool_answers.specs.declared.answers.Answer.TheVariants.{Done, NotSound, Failed, NotText, Refused}
-use Rattle.tool_answers.specs.declared.faults.ToolFault.TheVariants as tool
-use Rattle.tower_line.specs.Images.{Checks, EndsCheck, EndsImage, IsWhole, Restores, WritesImage}
-use Rattle.tower_line.specs.Jobs.{Asked, a_run, an_image, a_check, a_resume, a_race, job_asked, tower_app}
+use Rattle.command_answers.specs.Answers.{Refuses}
+use Rattle.command_answers.specs.Faults.{tool_of_script}
+use Rattle.command_answers.specs.Files.{IsRead}
+use Rattle.command_answers.specs.declared.answers.Answer.{Answer}
+use Rattle.command_answers.specs.declared.answers.Answer.TheVariants.{Done, NotSound, Failed, NotText, Refused}
+use Rattle.command_answers.specs.declared.faults.ToolFault.TheVariants as tool
+use Rattle.tower_cli.specs.Images.{Checks, EndsCheck, EndsImage, IsWhole, Restores, WritesImage}
+use Rattle.tower_cli.specs.Jobs.{Asked, a_run, an_image, a_check, a_resume, a_race, job_asked, tower_app}
 use Rattle.tower_jobs.specs.Races.{EndsRace, Writes}
 
 -- ---- Jobs

@@ -12,8 +12,8 @@ use Rattle.guest_race.specs.declared.faults.RoundFault.TheVariants as round
 use Rattle.memory_report.specs.declared.rows.Row.{Row}
 use Rattle.memory_report.specs.Text.{report_text}
 use Rattle.text_output.specs.Output.{AppendsFront}
-use Rattle.tool_answers.specs.declared.faults.ToolFault.{ToolFault}
-use Rattle.tool_answers.specs.declared.faults.ToolFault.TheVariants as tool
+use Rattle.command_answers.specs.declared.faults.ToolFault.{ToolFault}
+use Rattle.command_answers.specs.declared.faults.ToolFault.TheVariants as tool
 
 -- So many rounds were played, each on a kernel of its own, and the report is that of the last one.
 pub record Raced (frames rounds : ℕ) (rows : List (Option Row)) : Type 0 where

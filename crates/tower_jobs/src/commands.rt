@@ -2,9 +2,10 @@
 
 ghost use Rattle.std.specs.Prelude.{◌≤◌, None, map};
 ghost use Rattle.tower_jobs.specs.Answers.{AnswersWords, ChecksFile, DoesJob, ImagesScript, PlaysRace, ResumesFile, RunsScript};
-ghost use Rattle.tower_line.specs.Jobs.{HasRounds, as_asked};
+ghost use Rattle.tower_cli.specs.Jobs.{HasRounds, as_asked};
 
 use crate::races::race;
+use command_answers::{Answer, ToolFault, bytes_of, refuse};
 use script_run::{resume_script, run_script};
 use std::alloc::Global;
 use std::convert::AsStr;
@@ -13,8 +14,7 @@ use std::fs::Files;
 use std::io::{Read, Write};
 use std::sync::Wait;
 use std::thread::Threads;
-use tool_answers::{Answer, ToolFault, bytes_of, refuse};
-use tower_line::{Job, check_bytes, job_of, restore_bytes, write_script_image};
+use tower_cli::{Job, check_bytes, job_of, restore_bytes, write_script_image};
 
 /// Runs a script on a machine of so many frames, and writes its replies.
 fn run_replies<I: Read, O: Write>(

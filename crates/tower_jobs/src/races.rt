@@ -7,6 +7,7 @@ ghost use Rattle.tower_jobs.specs.Races.{Raced, Writes, WritesAnswers, EndsRace,
 ghost use Rattle.text_output.specs.Output.{AppendsFront};
 
 use arrayvec::ArrayVec;
+use command_answers::ToolFault;
 use guest_race::{Asks, Referee, RoundFault, round_by};
 use memory_report::Report;
 use page_words::is_frame_count;
@@ -15,7 +16,6 @@ use std::io::Write;
 use std::sync::Wait;
 use std::thread::Threads;
 use text_output::{WriteFailed, push_number, push_word, write_whole};
-use tool_answers::ToolFault;
 
 /// Room for the lines before the report.
 const ROOM: usize = 64;

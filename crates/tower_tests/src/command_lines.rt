@@ -1,8 +1,8 @@
 //! The outcome of a command line.
 
 use crate::comparing::{same, same_bytes};
+use command_answers::{Answer, status_of, tell};
 use std::process::Abort;
-use tool_answers::{Answer, status_of, tell};
 
 /// The outcome of a command line: its status, and the bytes of standard output and standard error.
 #[derive(Drop)]

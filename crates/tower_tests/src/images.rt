@@ -1,7 +1,7 @@
 //! Images for the tests of the programs.
 
 use std::process::Abort;
-use tower_line::write_script_image;
+use tower_cli::write_script_image;
 
 /// The places of the version and of process 0's quota in an image.
 const VERSION: u8 = 4;

@@ -4,10 +4,10 @@ ghost use Rattle.std.specs.Prelude.{◌≤◌};
 
 use crate::comparing::{same, same_bytes};
 use base_tests::streams::FullWriter;
+use command_answers::ToolFault;
 use std::process::Abort;
 use std::sync::Wait;
 use std::thread::Threads;
-use tool_answers::ToolFault;
 use tower_jobs::race;
 
 const THREE_ROUNDS: &[u8] =

@@ -3,12 +3,12 @@
 use crate::command_lines::{Ended, check_answer, check_ended, check_nothing_done, end_of};
 use crate::images::{opening, opening_with_quota};
 use base_tests::streams::FullWriter;
+use command_answers::{Answer, ToolFault};
 use std::fs;
 use std::fs::Files;
 use std::process::Abort;
 use std::sync::Wait;
 use std::thread::Threads;
-use tool_answers::{Answer, ToolFault};
 use tower_jobs::answer;
 
 const MAP: &str = "0 0 map 40000 rw\n";

@@ -5,13 +5,13 @@ use std::fmt::Write;
 use std::str::SplitWhitespace;
 use tower::{Call, Core, Event, Page, Pid, Reply, Size, Vaddr};
 
-#[path = "../../../crates/worked_scripts/src/alone.rt"]
+#[path = "../../../crates/script_examples/src/alone.rt"]
 mod alone;
-#[path = "../../../crates/worked_scripts/src/forks.rt"]
+#[path = "../../../crates/script_examples/src/forks.rt"]
 mod forks;
-#[path = "../../../crates/worked_scripts/src/processes.rt"]
+#[path = "../../../crates/script_examples/src/processes.rt"]
 mod processes;
-#[path = "../../../crates/worked_scripts/src/sharing.rt"]
+#[path = "../../../crates/script_examples/src/sharing.rt"]
 mod sharing;
 
 /// A script and the replies that it must get.

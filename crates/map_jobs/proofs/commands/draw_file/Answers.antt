@@ -1,5 +1,5 @@
 use Rattle.std.proofs.Common.{ℕ, Bool, List, inl, inr, subst}
-use Rattle.tool_answers.proofs.Writers.{keeps_itself}
+use Rattle.command_answers.proofs.Writers.{keeps_itself}
 use Rattle.map_jobs.specs.Drawings.{Draws, EndsDrawing}
 use Rattle.map_jobs.proofs.commands.draw_file.Goals as goal
 

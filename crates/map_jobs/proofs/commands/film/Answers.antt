@@ -1,5 +1,5 @@
 use Rattle.std.proofs.Common.{ℕ, inl, inr, subst}
-use Rattle.tool_answers.proofs.Writers.{keeps_itself}
+use Rattle.command_answers.proofs.Writers.{keeps_itself}
 use Rattle.map_jobs.specs.Films.{FilmsScript}
 use Rattle.map_jobs.proofs.commands.film.Goals as goal
 

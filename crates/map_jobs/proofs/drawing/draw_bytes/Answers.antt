@@ -1,7 +1,7 @@
 use Rattle.std.proofs.Common.{inl, inr, refl}
 use Rattle.memory_image.proofs.RespellLemmas.{unfaulted}
 use Rattle.memory_image.specs.declared.faults.ImageFault.TheVariants.{NoMemory}
-use Rattle.tool_answers.proofs.Writers.{keeps_itself}
+use Rattle.command_answers.proofs.Writers.{keeps_itself}
 use Rattle.map_jobs.proofs.drawing.draw_bytes.Goals as goal
 
 -- there is no memory for the check of an image that was read

@@ -1,5 +1,5 @@
 use Rattle.std.proofs.Common.{ℕ, List, inl, inr, refl, subst}
-use Rattle.tool_answers.proofs.Writers.{keeps_itself}
+use Rattle.command_answers.proofs.Writers.{keeps_itself}
 use Rattle.map_jobs.specs.Films.{WritesFilm, EndsFilm}
 use Rattle.map_jobs.proofs.films.film_script.Goals as goal
 

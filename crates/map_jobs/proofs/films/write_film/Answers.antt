@@ -1,6 +1,6 @@
 use Rattle.std.proofs.Common.{inl, refl}
 use Rattle.script_run.specs.declared.faults.ScriptFault.TheVariants.{NoMemory}
-use Rattle.tool_answers.proofs.Writers.{keeps_itself}
+use Rattle.command_answers.proofs.Writers.{keeps_itself}
 use Rattle.map_jobs.proofs.films.write_film.Goals as goal
 
 -- there is no memory for the page of a film that was made

@@ -3,7 +3,7 @@ use Rattle.std.specs.Prelude.{codes, option_map}
 use Rattle.std.specs.Option.{option_map_or}
 use Rattle.std.specs.Str.{bytes_eq}
 use Rattle.clap.specs.Words.{found_of}
-use Rattle.tool_answers.proofs.FirstValue.{first_is}
+use Rattle.command_answers.proofs.FirstValue.{first_is}
 use Rattle.map_jobs.specs.Drawings.{form_of}
 use Rattle.map_jobs.proofs.jobs.form_in.Goals as goal
 

@@ -20,10 +20,10 @@ loop-i-preserved c =
     let replies = c.loop-i.replies in
     let i = c.loop-i.i in
     let e : TowerEvent = slice_index_or events i none in
-    let told = c.step_told-told.ensures in
+    let told = c.step_with_outcome-told.ensures in
     let goes : is_carried_out t (event_in e) ≡ true = sym told.done ∙ not-false _ c.if-not-told.false in
     record {
-      so_far = subst (λ (x : State). SoFar s x events old (slice_set replies i c.step_told-told.result.0) (i + 1)) (sym told.state)
+      so_far = subst (λ (x : State). SoFar s x events old (slice_set replies i c.step_with_outcome-told.result.0) (i + 1)) (sym told.state)
           (subst (λ (r : TowerReply). SoFar s (state_after t (event_in e)) events old (slice_set replies i r) (i + 1)) (sym told.reply)
           (on s t events old replies i e (drop (i + 1) events) c.loop-i.invariant.so_far (begins events i none c.loop-i-test.true) (c.requires ∙ sym c.loop-i.auto.replies) goes));
       still = λ nothing. absurd (omega (arith, nothing));
@@ -35,7 +35,7 @@ returns-then-not-told-clause-replies c =
     let events = c.args.events.now in
     let i = c.loop-i.i in
     let e : TowerEvent = slice_index_or events i none in
-    let told = c.step_told-told.ensures in
+    let told = c.step_with_outcome-told.ensures in
     let fails : is_carried_out t (event_in e) ≡ false = sym told.done ∙ not-true _ c.if-not-told.true in
     ap (λ (r : TowerReply). slice_set c.loop-i.replies i r) told.reply
     ∙ (stops c.args.core.now.state t events c.args.replies.now c.loop-i.replies i e (drop (i + 1) events) c.loop-i.invariant.so_far (begins events i none c.loop-i-test.true)

@@ -1,6 +1,6 @@
 use Rattle.std.proofs.Common.{ℕ, Bool, List, inl, inr, subst}
-use Rattle.tool_answers.proofs.Writers.{keeps_itself}
-use Rattle.tower_line.specs.Images.{Checks, EndsCheck}
+use Rattle.command_answers.proofs.Writers.{keeps_itself}
+use Rattle.tower_cli.specs.Images.{Checks, EndsCheck}
 use Rattle.tower_jobs.proofs.commands.check_file.Goals as goal
 
 pub returns-in-Err : goal.returns-in-Err

@@ -1,7 +1,7 @@
 use Rattle.std.proofs.Common.{ℕ, List, Option, Some, None, inl, inr, subst}
 use Rattle.process_table.specs.View.{View}
-use Rattle.tool_answers.proofs.Writers.{keeps_itself}
-use Rattle.tower_line.specs.Images.{Restores}
+use Rattle.command_answers.proofs.Writers.{keeps_itself}
+use Rattle.tower_cli.specs.Images.{Restores}
 use Rattle.tower_jobs.proofs.commands.resume_file.Goals as goal
 
 pub returns-in-Err : goal.returns-in-Err

@@ -1,0 +1,64 @@
+-- The texts of faults, and their exit statuses.
+use Rattle.std.specs.Prelude.{ℕ, List, ◌++◌, codes, decimal}
+use Rattle.memory_image.specs.declared.faults.ImageFault.{ImageFault}
+use Rattle.memory_image.specs.declared.faults.ImageFault.TheVariants as image
+use Rattle.script_run.specs.declared.faults.ScriptFault.{ScriptFault}
+use Rattle.command_answers.specs.declared.faults.ToolFault.{ToolFault}
+use Rattle.command_answers.specs.declared.faults.ToolFault.TheVariants as tool
+use Rattle.command_answers.specs.declared.given_words.WordsFault.{WordsFault}
+use Rattle.command_answers.specs.declared.given_words.WordsFault.TheVariants as words
+use Rattle.script_run.specs.declared.faults.ScriptFault.TheVariants as script
+
+-- the message of a fault
+abbrev pub tool_text : ToolFault → List ℕ
+tool_text tool.BadSize = codes "frames must be 16 to 4096"
+tool_text tool.NoMemory = codes "out of memory"
+tool_text (tool.Malformed line) = codes "line " ++ (decimal line ++ codes " is malformed")
+tool_text tool.TooLong = codes "script is too long"
+tool_text tool.ReadFailed = codes "read failed"
+tool_text tool.WriteFailed = codes "write failed"
+tool_text tool.NotImage = codes "not an image"
+tool_text tool.BadVersion = codes "unknown image version"
+tool_text tool.BadLength = codes "wrong image length"
+tool_text (tool.BadField offset) = codes "bad field at byte " ++ decimal offset
+tool_text tool.RaceTurns = codes "race ran out of turns"
+tool_text tool.RaceFailed = codes "race failed"
+
+-- what refuses an image
+abbrev pub tool_of_image : ImageFault → ToolFault
+tool_of_image image.NotImage = tool.NotImage
+tool_of_image image.BadLength = tool.BadLength
+tool_of_image image.BadVersion = tool.BadVersion
+tool_of_image (image.BadField offset) = tool.BadField offset
+tool_of_image image.NoMemory = tool.NoMemory
+
+-- what ends a script's run early
+abbrev pub tool_of_script : ScriptFault → ToolFault
+tool_of_script script.BadSize = tool.BadSize
+tool_of_script script.NoMemory = tool.NoMemory
+tool_of_script (script.Malformed line) = tool.Malformed line
+tool_of_script script.TooLong = tool.TooLong
+tool_of_script script.ReadFailed = tool.ReadFailed
+tool_of_script script.WriteFailed = tool.WriteFailed
+
+-- 2 for a refused size, script or image, and 1 for all else
+abbrev pub status_of_tool : ToolFault → ℕ
+status_of_tool tool.BadSize = 2
+status_of_tool tool.NoMemory = 1
+status_of_tool (tool.Malformed line) = 2
+status_of_tool tool.TooLong = 2
+status_of_tool tool.ReadFailed = 1
+status_of_tool tool.WriteFailed = 1
+status_of_tool tool.NotImage = 2
+status_of_tool tool.BadVersion = 2
+status_of_tool tool.BadLength = 2
+status_of_tool (tool.BadField offset) = 2
+status_of_tool tool.RaceTurns = 1
+status_of_tool tool.RaceFailed = 1
+
+-- ---- Words of the command line
+
+-- the message of refused arguments
+abbrev pub words_text : WordsFault → List ℕ
+words_text words.NoMemory = codes "out of memory"
+words_text words.NotText = codes "a word of the command line is not text"

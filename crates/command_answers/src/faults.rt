@@ -1,0 +1,115 @@
+//! Why a command of a program ends early.
+
+use memory_image::ImageFault;
+use script_run::ScriptFault;
+use std::error::Error;
+use std::fmt;
+use text_output::WriteFailed;
+
+/// Why a command of a program ends early: one for each line of the table of fault texts.
+#[derive(Clone, Copy, Debug, PartialEq, Eq)]
+pub enum ToolFault {
+    /// The number of frames is not 16 to 4,096.
+    BadSize,
+    /// There is not enough memory.
+    NoMemory,
+    /// A line of a script, counted from 1, says nothing that a script may say.
+    Malformed {
+        /// The line's number.
+        line: u32,
+    },
+    /// A script has more than 16,777,216 bytes.
+    TooLong,
+    /// A file could not be opened, or a read answered an error.
+    ReadFailed,
+    /// A write answered an error, or took no byte.
+    WriteFailed,
+    /// A file does not begin as an image does.
+    NotImage,
+    /// An image is of a version other than 1 and 2.
+    BadVersion,
+    /// The length of an image isn't that of its number of frames.
+    BadLength,
+    /// A field of an image breaks its rule.
+    BadField {
+        /// The place of its first byte.
+        offset: u32,
+    },
+    /// A guest of a race ran out of turns.
+    RaceTurns,
+    /// A guest of a race ended otherwise, a kernel of it refused a call or was not closed, or a report
+    /// was not there or differs.
+    RaceFailed,
+}
+
+impl fmt::Display for ToolFault {
+    ghost use Rattle.std.specs.Prelude.{Some};
+    ghost use Rattle.command_answers.specs.Faults.{tool_text};
+
+    ghost output = { λ fault. Some (tool_text fault) };
+
+    fn fmt<W: fmt::Write>(&self, f: &mut fmt::Formatter<W>) -> fmt::Result {
+        match self {
+            ToolFault::BadSize => write!(f, "frames must be 16 to 4096"),
+            ToolFault::NoMemory => write!(f, "out of memory"),
+            ToolFault::Malformed { line } => write!(f, "line {line} is malformed"),
+            ToolFault::TooLong => write!(f, "script is too long"),
+            ToolFault::ReadFailed => write!(f, "read failed"),
+            ToolFault::WriteFailed => write!(f, "write failed"),
+            ToolFault::NotImage => write!(f, "not an image"),
+            ToolFault::BadVersion => write!(f, "unknown image version"),
+            ToolFault::BadLength => write!(f, "wrong image length"),
+            ToolFault::BadField { offset } => write!(f, "bad field at byte {offset}"),
+            ToolFault::RaceTurns => write!(f, "race ran out of turns"),
+            ToolFault::RaceFailed => write!(f, "race failed"),
+        }
+    }
+}
+
+impl Error for ToolFault {}
+
+impl From<WriteFailed> for ToolFault {
+    ghost use Rattle.std.specs.Prelude.{◌≡◌};
+    ghost use Rattle.command_answers.specs.declared.faults.ToolFault.TheVariants as fault;
+
+    ghost from_gives = { λ _ e. e ≡ fault.WriteFailed };
+
+    fn from(_failed: WriteFailed) -> ToolFault {
+        ToolFault::WriteFailed
+    }
+}
+
+impl From<ScriptFault> for ToolFault {
+    ghost use Rattle.std.specs.Prelude.{◌≡◌};
+    ghost use Rattle.command_answers.specs.Faults.{tool_of_script};
+
+    ghost from_gives = { λ fault e. e ≡ tool_of_script fault };
+
+    fn from(fault: ScriptFault) -> ToolFault {
+        match fault {
+            ScriptFault::BadSize => ToolFault::BadSize,
+            ScriptFault::NoMemory => ToolFault::NoMemory,
+            ScriptFault::Malformed { line } => ToolFault::Malformed { line },
+            ScriptFault::TooLong => ToolFault::TooLong,
+            ScriptFault::ReadFailed => ToolFault::ReadFailed,
+            ScriptFault::WriteFailed => ToolFault::WriteFailed,
+        }
+    }
+}
+
+impl From<ImageFault> for ToolFault {
+    ghost use Rattle.std.specs.Prelude.{◌≡◌};
+    ghost use Rattle.command_answers.specs.Faults.{tool_of_image};
+
+    ghost from_gives = { λ fault e. e ≡ tool_of_image fault };
+
+    fn from(fault: ImageFault) -> ToolFault {
+        match fault {
+            ImageFault::NotImage => ToolFault::NotImage,
+            ImageFault::BadLength => ToolFault::BadLength,
+            ImageFault::BadVersion => ToolFault::BadVersion,
+            ImageFault::BadField { offset } => ToolFault::BadField { offset },
+            ImageFault::NoMemory => ToolFault::NoMemory,
+        }
+    }
+}

@@ -1,0 +1,12 @@
+use Rattle.std.proofs.Common.{◌∷◌, ◌++◌, [], length, drop, refl, sym, ap, ◌∙◌, arith}
+use Rattle.std.specs.Prelude.{codes}
+use Rattle.std.proofs.lemmas.List.{take_rest}
+use Rattle.script_run.specs.Tokens.{tokens_of}
+use Rattle.script_run.proofs.TokenLemmas.{front_token, known_front, past_space}
+use Rattle.script_run.proofs.usual_lines.after_accept.Goals as goal
+
+pub returns-in-97 : goal.returns-in-97
+returns-in-97 c =
+    let front = known_front (codes "accept ") c.args.line.now c.in-97.len_at_least (omega arith, (omega arith, (omega arith, (omega arith, (omega arith, (omega arith, (omega arith, tt))))))) in
+    ap tokens_of front ∙ front_token (codes "accept " ++ drop 7 c.args.line.now) 6 refl (omega arith)
+    ∙ ap (λ ts. codes "accept" ∷ ts) (past_space (drop 7 c.args.line.now) ∙ sym (ap tokens_of (take_rest c.args.line.now 7)))

@@ -1,0 +1,1 @@
+use Rattle.tower_cli.proofs.images.restore_bytes.Goals as goal
