@@ -72,22 +72,16 @@ fn ended(pid: Pid) -> [Ended; 9] {
 fn replies<R: AllocGlobal + Abort>(rt: &R) -> [Reply; 6] {
     let pid = root(rt);
     let mut core = Core::boot(rt.alloc(), 16).ok().expect(rt, "a core");
-    let map = event(
-        pid,
-        Call::Map {
-            page: PAGE,
-            write: true,
-        },
-    );
+    let (page, write) = (PAGE, true);
+    let map = event(pid, Call::Map { page, write });
     [
-        map,
-        load(pid),
-        store(pid, 7),
-        store(pid, 8),
-        store(pid, 9),
-        load(pid),
+        core.step(&map),
+        core.step(&load(pid)),
+        core.step(&store(pid, 7)),
+        core.step(&store(pid, 8)),
+        core.step(&store(pid, 9)),
+        core.step(&load(pid)),
     ]
-    .map(|event| core.step(&event))
 }
 
 #[test]
