@@ -6,7 +6,7 @@ use Rattle.process_table.specs.Restored.{image_in}
 use Rattle.memory_image.specs.declared.processes.Process.{Process}
 use Rattle.memory_image.specs.Image.{directory_from}
 use Rattle.memory_image.specs.Restored.{account_from}
-use Rattle.memory_image.proofs.RestoredLemmas.{made_sound, made_root, made_stands, made_shows}
+use Rattle.memory_image.proofs.RestoredLemmas.{made_sound, made_stands, made_shows}
 use Rattle.memory_image.proofs.images.Image.into_core.Goals as goal
 
 pub of_image-requires-clause-sound : goal.of_image-requires-clause-sound
