@@ -1,4 +1,4 @@
--- What address spaces are inside: the spaces and the image that they stand for, and where a page is.
+-- The inside of address spaces: the spaces and the image that they represent, and where a page is.
 use Rattle.std.proofs.Common.{ℕ, Option}
 use Rattle.page_words.specs.Addresses.{slot_number}
 use Rattle.phys_memory.specs.Bytes.{frame_bytes}

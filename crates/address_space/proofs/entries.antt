@@ -1,4 +1,4 @@
--- Lemmas on entries, and on the spaces that they stand for.
+-- Lemmas on entries, and on the spaces that they represent.
 pub mod EntrySteps
 pub mod Readings
 pub mod Refinement

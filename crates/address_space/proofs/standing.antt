@@ -1,4 +1,4 @@
--- What memory's words stand for, and how walks end.
+-- What memory's words represent, and how walks end.
 pub mod FramesStand
 pub mod Restored
 pub mod Standing

@@ -1,4 +1,4 @@
--- An access that goes on: what its plan tells, and that its pages, mapped first, leave what the definition says.
+-- An access whose plan is Ready: what its plan says, and that its pages, mapped first, leave what the definition says.
 use Rattle.std.proofs.Common.{◌≡◌, ◌≢◌, ℕ, ◌≤◌, arith, Bool, true, false, not, ◌&&◌, cond, List, [], ◌∷◌, map as each, refl, sym, ap, ◌∙◌, inl, inr, Option, Some, None, is_some, unwrap_or}
 use Rattle.std.specs.Prelude.{if◌then◌else◌, IfSome, find, slice_index}
 use Rattle.std.specs.Option.{option_map, option_and_then}

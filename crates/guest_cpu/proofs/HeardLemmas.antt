@@ -1,4 +1,4 @@
--- Guests of one program that find the same, over processes that see the same, are told the same and end the same.
+-- Guests of one program that find the same, over processes that see the same, get the same replies and end the same.
 use Rattle.std.proofs.Common.{◌≡◌, ℕ, zero, suc, ◌==◌, Bool, true, false, List, [], ◌∷◌, refl, sym, ap, subst, ◌∙◌, Option, Some, None}
 use Rattle.std.specs.Prelude.{slice_get}
 use Rattle.std.proofs.lemmas.Option.{same_Some}

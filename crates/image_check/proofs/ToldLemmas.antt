@@ -1,4 +1,4 @@
--- A verdict tells of no clause exactly where the image is sound.
+-- A verdict has no clause exactly if the image is sound.
 use Rattle.std.proofs.Common.{◌≡◌, ℕ, zero, suc, ◌<◌, true, List, [], ◌∷◌, length, map, refl, sym, ap, ◌∙◌, arith, Option, Some, None}
 use Rattle.std.specs.Prelude.{slice_get, is_none}
 use Rattle.std.specs.Option.{unwrap_or}

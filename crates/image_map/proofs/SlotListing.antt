@@ -1,4 +1,4 @@
--- What the text of an image that stands for a state lists of a process.
+-- What the text of an image that represents a state lists of a process.
 use Rattle.std.proofs.Common.{◌≡◌, ℕ, ◌+◌, ◌-◌, ◌*◌, ◌<◌, ◌≤◌, Bool, true, false, ◌&&◌, ◌==◌, List, [], ◌∷◌, ◌++◌, map, length, take, refl, sym, ap, subst, ◌∙◌, arith, append-nil, inl, inr, Option, Some, None}
 use Rattle.std.specs.Prelude.{◌↔◌, IsTrue, MatchBool, if◌then◌else◌, nat_lt, slice_get}
 use Rattle.std.specs.Cmp.{both_ways}

@@ -1,4 +1,4 @@
--- Sums over views, and how often a number stands in a list.
+-- Sums over views, and how often a number is in a list.
 use Rattle.std.proofs.Common.{◌≡◌, ℕ, zero, suc, ◌+◌, ◌<◌, ◌≤◌, ◌==◌, min, List, [], ◌∷◌, ◌++◌, length, set, All, Bool, true, false, refl, sym, ap, arith, eq-eqb, ne_eqb}
 use Rattle.std.specs.Prelude.{slice_index, slice_index_or, sum_by}
 use Rattle.integrity_checker.specs.declared.parts.Helper.{Helper}

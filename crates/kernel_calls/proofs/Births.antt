@@ -1,4 +1,4 @@
--- What a new child has, and that it sees what its maker saw.
+-- What a new child has, and that it sees what its parent saw.
 use Rattle.std.proofs.Common.{
   ◌≡◌,
   ℕ,

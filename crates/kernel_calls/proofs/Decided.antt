@@ -1,4 +1,4 @@
--- What is decided of an event goes on exactly where its reply is neither a refusal nor a fault.
+-- The decision of an event is carried out exactly if its reply is neither a refusal nor a fault.
 use Rattle.std.proofs.Common.{◌≡◌, ℕ, Bool, true, false, refl, ap, sym, ◌∙◌, Option, Some, None}
 use Rattle.std.specs.Prelude.{if◌then◌else◌, Result, Ok, Err}
 use Rattle.address_space.specs.Spaces.{cost, at_page}

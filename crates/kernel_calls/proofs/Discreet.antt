@@ -1,4 +1,4 @@
--- What the members of a confined set have and do, outsiders don't see, but for processes that are made and that end.
+-- Outsiders don't see what the members of a confined set have and do, except processes that are made and that end.
 use Rattle.std.proofs.Common.{
   ◌≡◌,
   ℕ,

@@ -1,4 +1,4 @@
--- No call clears a flag of a slot that stays mapped, but for a change of the right to write.
+-- No call clears a flag of a slot that stays mapped, except by a change of the right to write.
 use Rattle.std.proofs.Common.{◌≡◌, ℕ, ◌+◌, Bool, true, false, not, cond, List, [], ◌∷◌, refl, ap, sym, ◌∙◌, inl, inr, Option, Some, None, unwrap_or}
 use Rattle.std.specs.Prelude.{if◌then◌else◌, is_some}
 use Rattle.std.specs.Option.{option_map}

@@ -1,4 +1,4 @@
--- Members of a set that ask the same in two runs are told the same, whatever outsiders do through no channel.
+-- Members of a set that make the same calls in two runs get the same replies, if outsiders use no channel.
 use Rattle.std.proofs.Common.{
   ◌≡◌,
   ℕ,

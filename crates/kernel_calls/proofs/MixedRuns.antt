@@ -1,4 +1,4 @@
--- Steps of a core and its processors are the events that they stand for.
+-- Steps of a core and its processors are the events that they represent.
 use Rattle.std.proofs.Common.{◌≡◌, ℕ, zero, suc, Bool, true, false, ◌==◌, List, [], ◌∷◌, ◌++◌, refl, ap, sym, ◌∙◌, subst, Some}
 use Rattle.std.specs.Prelude.{if◌then◌else◌, slice_get}
 use Rattle.table_walk.specs.declared.Access.{Access}

@@ -1,4 +1,4 @@
--- What a process is told, and what it has afterwards, depends on what it has, but for what it is offered.
+-- A process's replies, and what it has afterwards, depend on what it has, except for its offers.
 use Rattle.std.proofs.Common.{
   ◌≡◌,
   ℕ,

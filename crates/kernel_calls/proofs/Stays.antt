@@ -1,4 +1,4 @@
--- What stays of a page, whosever it is, as long as it is mapped.
+-- What stays of a page, whichever process has it, while it is mapped.
 use Rattle.std.proofs.Common.{
   ◌≡◌,
   ◌≢◌,

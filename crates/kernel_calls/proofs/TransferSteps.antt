@@ -1,4 +1,4 @@
--- What loads and stores of bytes in one page come to.
+-- The effect of loads and stores of bytes in one page.
 use Rattle.std.proofs.Common.{◌≡◌, eq-eqb, ℕ, zero, suc, ◌+◌, ◌*◌, ◌%◌, ◌<◌, ◌≤◌, Bool, true, false, not, ◌&&◌, cond, List, [], ◌∷◌, map as each, length, drop, length-drop, get_or-drop, ◌-◌, refl, ap, sym, subst, ◌∙◌, arith, inl, inr, Option, Some, None, unwrap_or}
 use Rattle.std.specs.Prelude.{◌⊎◌, ◌||◌, ◌==◌, if◌then◌else◌, slice_index, nat_lt, nat_le}
 use Rattle.std.specs.List.{range_with_len}

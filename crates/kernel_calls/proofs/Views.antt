@@ -1,4 +1,4 @@
--- What a process is told depends on what it has, but for what it is offered.
+-- A process's replies depend on what it has, except for the offers to it.
 use Rattle.std.proofs.Common.{
   ◌≡◌,
   ℕ,

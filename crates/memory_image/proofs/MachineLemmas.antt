@@ -1,4 +1,4 @@
--- The image of a machine stands for the machine's state.
+-- The image of a machine represents the machine's state.
 use Rattle.std.proofs.Common.{◌≡◌, ℕ, ◌<◌, ◌≤◌, ◌*◌, ◌&&◌, inl, inr, List, refl, sym, ap, subst, ◌∙◌, Option, Some, None, is_some, length, arith}
 use Rattle.std.proofs.lemmas.Bool.{cases_lt, and_parts}
 use Rattle.std.proofs.lemmas.Option.{slice_get_within, slice_get_past}

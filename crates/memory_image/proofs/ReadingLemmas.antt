@@ -1,4 +1,4 @@
--- Bytes against which there is no reason spell the image that is read from them.
+-- Bytes against which there is no reason encode the image that is read from them.
 use Rattle.std.proofs.Common.{◌≡◌, ℕ, zero, suc, ◌+◌, ◌*◌, ◌<◌, ◌≤◌, Bool, true, false, ◌&&◌, ◌||◌, not, List, [], ◌∷◌, ◌++◌, map, length, length-drop, take, drop, take-append-drop, refl, sym, ap, subst, ◌∙◌, arith, inl, inr, Option, Some, None}
 use Rattle.std.specs.Prelude.{if◌then◌else◌, ◌==◌, ◌⊎◌, nat_lt, nat_le, slice_get, slice_index}
 use Rattle.std.specs.Option.{option_map, unwrap_or}

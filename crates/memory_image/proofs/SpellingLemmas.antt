@@ -1,4 +1,4 @@
--- Each image has one spelling, and no bytes spell two.
+-- Each image has one encoding, and no bytes encode two.
 use Rattle.std.proofs.Common.{◌≡◌, ℕ, suc, ◌+◌, ◌*◌, List, [], ◌∷◌, ◌++◌, length, refl, sym, ap, ◌∙◌, arith, append_assoc, length-append, inl, inr, Option, Some, None}
 use Rattle.std.specs.Prelude.{slice_get, ◌⊎◌}
 use Rattle.std.specs.Option.{unwrap_or}

@@ -1,4 +1,4 @@
--- The parts of a spelling, as they are written.
+-- The parts of an encoding, as they are written.
 use Rattle.std.proofs.Common.{◌≡◌, ℕ, List, ◌++◌, refl, sym, ◌∙◌, Option}
 use Rattle.std.specs.List.{flat_map}
 use Rattle.alloc_table.specs.declared.Role.{Role}

@@ -1,4 +1,4 @@
--- What members of sets are told in a legal history, and that confined sets stay so.
+-- The replies of members of sets in a legal history, and that confined sets stay so.
 use Rattle.std.proofs.Common.{◌≡◌, ℕ, List, ◌++◌, sym, ap, subst, ◌∙◌}
 use Rattle.kernel_calls.specs.Authority.{HearTheirOwn, KeepsBorders}
 use Rattle.kernel_calls.specs.Families.{IsUnreached}

@@ -1,4 +1,4 @@
--- What a process is told in a legal history.
+-- The replies of a process in a legal history.
 use Rattle.std.proofs.Common.{◌≡◌, ℕ, ◌+◌, List, [], ◌∷◌, ◌++◌, length, drop, suc, refl, sym, ap, subst, ◌∙◌, arith, add-one}
 use Rattle.std.specs.List.{zip}
 use Rattle.kernel_calls.specs.Isolation.{exchanges, own, own_behind, InvolvesNobody, IsIsolated}

@@ -1,4 +1,4 @@
--- What the place of a page tells where there is one.
+-- What the place of a page says, if there is one.
 use Rattle.std.proofs.Common.{◌≡◌, ℕ, Bool, true, false, not, refl, ap, ◌&&◌, ◌≤◌, Option, Some, None, unwrap_or, arith}
 use Rattle.std.proofs.lemmas.Bool.{and_parts, not-true}
 use Rattle.std.proofs.lemmas.Bool.Decides.{nat_tests}

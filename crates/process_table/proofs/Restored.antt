@@ -1,4 +1,4 @@
--- What a sound image with today's words stands for: a state without offers, which is well formed.
+-- What a sound image with current words represents: a state without offers, which is well formed.
 use Rattle.std.proofs.Common.{◌≡◌, ℕ, ◌+◌, ◌*◌, ◌<◌, ◌≤◌, ◌&&◌, ◌==◌, not, Bool, true, false, cond, List, length, refl, sym, ap, subst, ◌∙◌, Option, Some, None, is_some, unwrap_or, sum_by, arith, inl, inr}
 use Rattle.std.specs.Prelude.{◌↔◌, IsTrue, MatchBool, slice_get, slice_index, if◌then◌else◌}
 use Rattle.std.specs.Option.{option_map, option_and_then}

@@ -1,4 +1,4 @@
--- What a whole run comes to, from what was read of the script.
+-- The result of a whole run, by what was read of the script.
 use Rattle.std.proofs.Common.{◌≡◌, ℕ, ◌+◌, ◌<◌, ◌≤◌, true, false, List, [], ◌∷◌, ◌++◌, length, take, refl, sym, ap, subst, ◌∙◌, arith, append_assoc, append-nil, length-append, Option, Some, None, IfSome, Result, Ok, Err, ◌↔◌}
 use Rattle.std.specs.Result.{IsErrOf, OnOk, IfErr}
 use Rattle.std.specs.Io.KnownBytes.{Appends, Keeps, Consumes, IsAtEnd}

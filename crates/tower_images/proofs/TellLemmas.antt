@@ -1,4 +1,4 @@
--- The first clause that fails, by what a verdict on an image tells.
+-- The first clause that fails, by the verdict on an image.
 use Rattle.std.proofs.Common.{◌≡◌, ℕ, ◌<◌, List, length, map, ap, sym, subst, ◌∙◌, arith, Option, Some, None}
 use Rattle.std.specs.Prelude.{slice_get}
 use Rattle.std.specs.Option.{option_map, unwrap_or}

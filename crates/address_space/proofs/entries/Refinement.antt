@@ -1,4 +1,4 @@
--- What a finite map from slots to page entries, with bytes for each frame, stands for; and that its steps are the machine's.
+-- The spaces that a map from slots to page entries represents, given bytes for each frame; its steps are the machine's.
 use Rattle.std.proofs.Common.{◌≡◌, ℕ, inl, inr, Bool, true, false, cond, not, ◌&&◌, ◌||◌, ◌==◌, if◌then◌else◌, List, refl, sym, ap, ◌∙◌, Option, Some, None, is_some, unwrap_or}
 use Rattle.std.specs.Option.{option_map}
 use Rattle.page_words.specs.FiniteMap as map

@@ -1,4 +1,4 @@
--- What the entry of a slot tells of its cell.
+-- What the entry of a slot says of its cell.
 use Rattle.std.proofs.Common.{◌≡◌, ℕ, ◌<◌, ap, ◌∙◌, Option, None, unwrap_or, true}
 use Rattle.std.specs.Prelude.{slice_index}
 use Rattle.std.proofs.lemmas.List.{get_or-replicate}
