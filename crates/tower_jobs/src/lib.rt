@@ -1,5 +1,6 @@
-//! The commands of `tower`: running a script, writing the image of a script's last state, checking an image, and
-//! playing rounds of a race. Each job has an answer, which decides the exit status and the message on standard error.
+//! The commands of `tower`: running a script, writing the image of its last state, checking an image, resuming on one,
+//! and playing rounds of a race. Each job has an answer, which decides the exit status and the message on standard
+//! error.
 #![tactic(auto)]
 
 mod commands;
