@@ -1,19 +1,14 @@
 -- The ledger of the frames whose role is Free, made from the last frame down.
-use Rattle.std.proofs.Common.{◌≡◌, ℕ, zero, suc, ◌+◌, ◌<◌, ◌≤◌, Bool, true, false, cond, List, [], ◌∷◌, length, drop, map, refl, sym, ap, ◌∙◌, Some, unwrap_or, arith}
-use Rattle.std.specs.Prelude.{slice_get, if◌then◌else◌}
-use Rattle.std.proofs.lemmas.List.{drop_all}
-use Rattle.page_words.specs.FiniteMap.{nat_order}
+use Rattle.std.proofs.Common.{◌≡◌, ℕ, ◌+◌, ◌<◌, false, cond, List, [], ◌∷◌, length, drop, map, sym, ap, Some, unwrap_or, arith}
+use Rattle.std.specs.Prelude.{slice_get}
 use Rattle.page_words.specs.FiniteSet as set
 use Rattle.page_words.specs.Marked.{marked_from, marked_numbers}
 use Rattle.page_words.proofs.Marks.{contains-below}
-use Rattle.frame_ledger.specs.FreeFrames.{FreeFrames, with_free}
-use Rattle.frame_ledger.specs.FreeList.{all_in_use}
+use Rattle.frame_ledger.specs.FreeFrames.{FreeFrames}
 use Rattle.alloc_table.specs.declared.Role.{Role}
-use Rattle.alloc_table.specs.declared.Role.TheVariants.{Reserved, Free}
+use Rattle.alloc_table.specs.declared.Role.TheVariants.{Reserved}
 use Rattle.alloc_table.specs.Roles.{is_free}
 use Rattle.alloc_table.specs.Free.{free_by}
-use Rattle.alloc_table.specs.Kept.{IsFrameTable}
-use Rattle.alloc_table.specs.Weights.{EachPageHeld}
 
 -- the frames from a first one on that are free
 abbrev pub free_above : ℕ → List Role → FreeFrames

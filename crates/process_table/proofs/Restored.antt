@@ -1,19 +1,19 @@
 -- What a sound image with current words represents: a state without offers, which is well formed.
-use Rattle.std.proofs.Common.{◌≡◌, ℕ, ◌+◌, ◌*◌, ◌<◌, ◌≤◌, ◌&&◌, ◌==◌, not, Bool, true, false, cond, List, length, refl, sym, ap, subst, ◌∙◌, Option, Some, None, is_some, unwrap_or, sum_by, arith, inl, inr}
-use Rattle.std.specs.Prelude.{◌↔◌, IsTrue, MatchBool, slice_get, slice_index, if◌then◌else◌}
+use Rattle.std.proofs.Common.{◌≡◌, ℕ, ◌+◌, ◌<◌, ◌≤◌, Bool, true, false, List, length, refl, sym, ap, subst, ◌∙◌, Option, Some, None, is_some, unwrap_or, arith}
+use Rattle.std.specs.Prelude.{◌↔◌, IsTrue, MatchBool, slice_index}
 use Rattle.std.specs.Option.{option_map, option_and_then}
 use Rattle.std.specs.List.{range_with_len}
 use Rattle.std.proofs.lemmas.Option.{slice_get_within}
 use Rattle.page_words.specs.Addresses.{slot_number, index_number, IsUserPage}
-use Rattle.page_words.specs.Words.{frame_number, is_present, is_lazy, is_granted, has_may, is_accessed, is_dirty, NamesPage}
+use Rattle.page_words.specs.Words.{frame_number, is_lazy, NamesPage}
 use Rattle.page_words.specs.FiniteMap as map
 use Rattle.page_words.specs.FiniteMap.{Order, nat_order}
 use Rattle.page_words.specs.FiniteSet as set
 use Rattle.page_words.proofs.MapLemmas.{same_set}
 use Rattle.page_words.proofs.OptionLemmas.{is_some-map, some_value}
 use Rattle.alloc_table.specs.declared.Role.{Role}
-use Rattle.alloc_table.specs.declared.Role.TheVariants.{Reserved, Page}
-use Rattle.address_space.specs.Spaces.{Slot, slot_order, Cell, Spaces, cost, at_page}
+use Rattle.alloc_table.specs.declared.Role.TheVariants.{Page}
+use Rattle.address_space.specs.Spaces.{Slot, Cell, Spaces, cost}
 use Rattle.address_space.specs.Image as memory
 use Rattle.address_space.specs.Image.{IsCount, CellStands, SlotStands, IsOneGroup, image_from, directory_at, named_by, table_at, present_word, page_word, page_frame, word_of}
 use Rattle.address_space.specs.ImageWords.{own_frame}
@@ -26,19 +26,18 @@ use Rattle.address_space.proofs.standing.Standing.{one_group, word_names}
 use Rattle.address_space.proofs.standing.TablesStand.{owned, own_is}
 use Rattle.address_space.proofs.steps.Steps.{live_small}
 use Rattle.quota_tree.specs.declared.accounts.Account as quota_tree
-use Rattle.quota_tree.specs.Accounts.{account_at, member_in, book_in, containers_in, IsAccounted, Agree}
+use Rattle.quota_tree.specs.Accounts.{account_at, member_in, book_in, containers_in, Agree}
 use Rattle.quota_tree.specs.Book.{Book, Member, given, quota_of}
 use Rattle.quota_tree.specs.Containers.{Containers, IsLive, used_of}
 use Rattle.quota_tree.proofs.CollectedLemmas.{get-collected}
-use Rattle.page_sharing.specs.Offers.{Offers, pending}
+use Rattle.page_sharing.specs.Offers.{Offers}
 use Rattle.process_table.specs.Image.{Account, as_account, account_of, Image, IsCharge, quota_from, IsSoundImage, StandsFor}
 use Rattle.process_table.specs.Restored.{account_told, image_in, RootIsItsParent}
-use Rattle.process_table.specs.State.{State, is_live}
-use Rattle.process_table.specs.View.{IsProcesses, IsWhole}
-use Rattle.process_table.specs.WellFormed.{IsCellAt, IsWellFormed, total}
+use Rattle.process_table.specs.State.{State}
+use Rattle.process_table.specs.View.{IsWhole}
+use Rattle.process_table.specs.WellFormed.{IsCellAt, IsWellFormed}
 use Rattle.process_table.proofs.BookLaws.{total-within}
 use Rattle.process_table.proofs.ImageStanding.{charge-stands, given-range}
-use Rattle.process_table.proofs.Keeping.{whole}
 use Rattle.process_table.proofs.Ranges.{sum-same, total-book}
 
 -- ---- A charge is one number

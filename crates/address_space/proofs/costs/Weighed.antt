@@ -1,7 +1,7 @@
 -- Where frames agree, they and the lazy pages weigh no more than the costs: each process has as many uses as it costs,
 -- and a frame has a use for each of its slots.
-use Rattle.std.proofs.Common.{◌≡◌, ◌≢◌, ℕ, zero, suc, ◌+◌, ◌*◌, ◌<◌, ◌≤◌, ◌==◌, Bool, true, false, cond, ◌||◌, List, [], ◌∷◌, ◌++◌, map as list_map, length, length-append, refl, ap, sym, subst, ◌∙◌, arith, inl, inr, Option, Some, None}
-use Rattle.std.specs.Prelude.{slice_get, is_some, if◌then◌else◌, sum_by, unwrap_or, replicate}
+use Rattle.std.proofs.Common.{◌≡◌, ℕ, zero, suc, ◌+◌, ◌*◌, ◌<◌, ◌≤◌, ◌==◌, Bool, true, false, cond, ◌||◌, List, [], ◌∷◌, ◌++◌, map as list_map, length, length-append, refl, ap, sym, subst, ◌∙◌, arith, inl, inr, Option, Some, None}
+use Rattle.std.specs.Prelude.{slice_get, is_some, if◌then◌else◌, sum_by, unwrap_or}
 use Rattle.std.specs.Option.{option_map, option_and_then}
 use Rattle.std.specs.List.{list_any, range_with_len}
 use Rattle.std.specs.FinMap.Entries.{is_some-find}
@@ -9,19 +9,17 @@ use Rattle.std.proofs.lemmas.Bool.{cases_eq, cases_lt}
 use Rattle.std.proofs.lemmas.List.{length-map}
 use Rattle.std.proofs.lemmas.List.Sums.{sum_by-cons}
 use Rattle.page_words.specs.Addresses.{slot_number, index_number}
-use Rattle.page_words.specs.Words.{is_present}
 use Rattle.page_words.specs.FiniteMap as map_of
 use Rattle.page_words.specs.FiniteMap.{Order, nat_order, same}
 use Rattle.page_words.specs.FiniteSet as set
 use Rattle.page_words.specs.FiniteSet.{Set}
 use Rattle.page_words.proofs.MapLemmas.{same_or_not, same_itself, contains-from_list, len-insert}
-use Rattle.page_words.proofs.OptionLemmas.{is_some-map}
 use Rattle.phys_memory.specs.Bytes.{frame_bytes, word_in}
 use Rattle.alloc_table.specs.declared.Role.{Role}
 use Rattle.alloc_table.specs.declared.Role.TheVariants.{Reserved, Free, Directory, Table, Page}
 use Rattle.alloc_table.specs.Roles.{weight, frames_weight}
 use Rattle.page_map.specs.declared.PageEntry.{PageEntry}
-use Rattle.page_map.specs.Entries.{Frames, dir_word, table_of, word_table, word_entry, entry_from, entry_at}
+use Rattle.page_map.specs.Entries.{Frames, table_of, word_table, word_entry, entry_from, entry_at}
 use Rattle.address_space.specs.Spaces.{Slot, slot_order, Spaces, cost, pages_of, regions_of, at_page}
 use Rattle.address_space.specs.Slots.{user_slots}
 use Rattle.address_space.specs.Cells.{Entries, names, holders_of, lazy_count, spaces_of}
@@ -29,7 +27,7 @@ use Rattle.address_space.specs.View.{Directories, directory_of, table_in, entry_
 use Rattle.address_space.specs.Sound.{IsSound, InUse, weight_in}
 use Rattle.address_space.proofs.costs.Costs.{contains-pages_of}
 use Rattle.address_space.proofs.costs.CostSteps.{keys, region_there}
-use Rattle.address_space.proofs.costs.Hits.{once, hits, sum_from, sum-hits, hits-append, hits-map, weights-below}
+use Rattle.address_space.proofs.costs.Hits.{once, hits, sum-hits, hits-append, hits-map, weights-below}
 use Rattle.address_space.proofs.costs.Sizes.{len-subset}
 use Rattle.address_space.proofs.entries.EntrySteps.{get-entries_in, entry_by_table}
 use Rattle.address_space.proofs.entries.Refinement.{contains-holders_of}

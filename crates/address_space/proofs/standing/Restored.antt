@@ -1,13 +1,12 @@
 -- The frames of a sound image with today's words agree, as a machine's own do.
 use Rattle.std.proofs.Common.{◌≡◌, ℕ, zero, suc, ◌+◌, ◌*◌, ◌<◌, ◌≤◌, Bool, true, false, cond, List, [], ◌∷◌, length, map as list_map, refl, ap, sym, ◌∙◌, subst, arith, inl, inr, Option, Some, None}
 use Rattle.std.specs.Prelude.{◌⊎◌, ◌↔◌, ◌&&◌, is_some, slice_get, slice_index, nat_lt, nat_le, IsTrue, unwrap_or, if◌then◌else◌}
-use Rattle.std.specs.Cmp.{both_ways}
 use Rattle.std.specs.Option.{option_and_then, option_map}
 use Rattle.std.specs.List.{All, range_with_len}
 use Rattle.std.proofs.lemmas.Bool.{cases_lt}
 use Rattle.std.proofs.lemmas.List.{get_or_default}
 use Rattle.std.proofs.lemmas.Bool.Decides.{nat_tests}
-use Rattle.std.proofs.lemmas.Option.{slice_get_within, slice_get_past}
+use Rattle.std.proofs.lemmas.Option.{slice_get_within}
 use Rattle.page_words.specs.Addresses.{slot_number, index_number}
 use Rattle.page_words.specs.Words.{frame_number, is_present, is_lazy, NamesPage}
 use Rattle.page_words.specs.FiniteMap as map
@@ -21,14 +20,14 @@ use Rattle.alloc_table.specs.declared.Role.TheVariants.{Reserved, Free, Director
 use Rattle.page_map.specs.declared.PageEntry.{PageEntry}
 use Rattle.page_map.specs.Entries.{Frames, dir_word, word_table, table_of, word_entry, entry_from}
 use Rattle.page_map.proofs.PageLemmas.{count_range-same}
-use Rattle.address_space.specs.Spaces.{Slot, slot_order, Cell, Spaces, at_page}
+use Rattle.address_space.specs.Spaces.{Slot, slot_order, Cell, at_page}
 use Rattle.address_space.specs.Cells.{Entries, holders_of, spaces_of}
 use Rattle.address_space.specs.Image.{Image, CellStands, IsCount, IsSoundImage, StandsFor, image_from, directory_at, word_of, is_user_slot, named_by, table_at, page_word, page_frame}
 use Rattle.address_space.specs.ImageWords.{own_frame}
 use Rattle.address_space.specs.View.{Directories, directory_of, table_in, entry_in, entries_in, spaces_in}
 use Rattle.address_space.specs.Counts.{IsCounted, pages_by}
 use Rattle.address_space.specs.Restored.{HasRoom, words_by, words_where, counted_at}
-use Rattle.address_space.specs.Sound.{Tables, Pages, HoldsPage, IsSound, InUse, IsSpaces}
+use Rattle.address_space.specs.Sound.{Tables, HoldsPage, IsSound, InUse, IsSpaces}
 use Rattle.address_space.proofs.costs.CostSteps.{keys}
 use Rattle.address_space.proofs.costs.Weighed.{weighs}
 use Rattle.address_space.proofs.entries.EntrySteps.{get-entries_in, entry_by_table}
@@ -36,7 +35,7 @@ use Rattle.address_space.proofs.entries.UserSlots.{in_user_slots}
 use Rattle.address_space.proofs.steps.Steps.{live_small}
 use Rattle.address_space.proofs.standing.TablesStand as tables
 use Rattle.address_space.proofs.standing.TablesStand.{past_end, own_is}
-use Rattle.address_space.proofs.standing.Standing.{one_group, image_stands}
+use Rattle.address_space.proofs.standing.Standing.{one_group}
 
 -- a slot past either end of the user range
 beside : (s : ℕ) → (s < 256) ⊎ (960 ≤ s) → is_user_slot s ≡ false

@@ -1,39 +1,29 @@
 -- Directories, memory and roles that agree represent their spaces, and no others.
-use Rattle.std.proofs.Common.{◌≡◌, ◌≢◌, ℕ, ◌+◌, ◌*◌, ◌<◌, ◌≤◌, Bool, true, false, cond, List, [], ◌∷◌, length, drop, refl, ap, sym, ◌∙◌, subst, arith, inl, inr, Option, Some, None, length-drop}
-use Rattle.std.specs.Prelude.{◌⊎◌, ◌↔◌, ◌&&◌, not, is_some, slice_get, slice_index, nat_lt, nat_le, IsTrue, MatchBool, ◌==◌, ◌||◌, unwrap_or, if◌then◌else◌}
+use Rattle.std.proofs.Common.{◌≡◌, ◌≢◌, ℕ, ◌<◌, ◌≤◌, Bool, true, false, List, refl, ap, sym, ◌∙◌, subst, arith, inl, inr, Option, Some, None}
+use Rattle.std.specs.Prelude.{◌↔◌, ◌&&◌, not, is_some, slice_get, IsTrue}
 use Rattle.std.specs.Cmp.{both_ways}
 use Rattle.std.specs.Option.{option_and_then, option_map}
-use Rattle.std.specs.List.{list_any}
-use Rattle.std.proofs.lemmas.Bool.{cases_lt}
-use Rattle.std.proofs.lemmas.Bool.Decides.{nat_tests}
-use Rattle.std.proofs.lemmas.Option.{slice_get_within}
-use Rattle.page_words.specs.Addresses.{slot_number, index_number}
-use Rattle.page_words.specs.Words.{frame_number, is_present, is_lazy, IsKernelTableWord, NamesPage}
+use Rattle.page_words.specs.Words.{frame_number, is_present, NamesPage}
 use Rattle.page_words.specs.FiniteMap as map
 use Rattle.page_words.specs.FiniteMap.{same}
 use Rattle.page_words.specs.FiniteSet as set
-use Rattle.page_words.proofs.MapLemmas.{same_map, same_set, same_or_not, same_itself, contains-insert}
-use Rattle.phys_memory.specs.Bytes.{frame_bytes, word_at, word_in}
+use Rattle.page_words.proofs.MapLemmas.{same_map, same_set}
+use Rattle.phys_memory.specs.Bytes.{frame_bytes, word_in}
 use Rattle.alloc_table.specs.declared.Role.{Role}
-use Rattle.alloc_table.specs.declared.Role.TheVariants.{Directory, Table, Page}
+use Rattle.alloc_table.specs.declared.Role.TheVariants.{Page}
 use Rattle.page_map.specs.declared.PageEntry.{PageEntry}
-use Rattle.page_map.specs.Entries.{Frames, dir_word, word_table, table_of, word_entry, entry_from, entry_at, is_lazy_entry}
-use Rattle.address_space.specs.Spaces.{Slot, slot_order, Cell, cell_or_fresh, at_page}
-use Rattle.address_space.specs.Slots.{user_slots}
-use Rattle.address_space.specs.Cells.{Entries, names, group_of, cell_of, spaces_of, holders_of}
-use Rattle.address_space.specs.Image.{Image, word_of, is_user_slot, named_by, table_at, is_lazy_at, takes_stores, IsOneGroup, present_word, page_word, page_frame, IsSoundImage, SlotStands, StandsFor, StandsForOne, image_from}
+use Rattle.page_map.specs.Entries.{Frames, entry_from, entry_at, is_lazy_entry}
+use Rattle.address_space.specs.Spaces.{Slot, Cell, cell_or_fresh, at_page}
+use Rattle.address_space.specs.Cells.{Entries, spaces_of, holders_of}
+use Rattle.address_space.specs.Image.{Image, table_at, is_lazy_at, takes_stores, page_word, page_frame, IsSoundImage, SlotStands, StandsFor, StandsForOne, image_from}
 use Rattle.address_space.specs.ImageWords.{own_frame}
 use Rattle.address_space.specs.View.{Directories, directory_of, table_in, entry_in, entries_in, spaces_in}
 use Rattle.address_space.specs.Sound.{IsSound, IsSpaces}
 use Rattle.address_space.specs.Changes.{takes_stores_through}
-use Rattle.address_space.proofs.entries.UserSlots.{in_user_slots}
-use Rattle.address_space.proofs.entries.EntrySteps.{get-entries_in, entry_by_table}
-use Rattle.address_space.proofs.entries.Refinement.{get-spaces_of, contains-holders_of, group-real}
 use Rattle.address_space.proofs.entries.Readings.{mapped_read}
 use Rattle.address_space.proofs.steps.Steps.{live_small}
 use Rattle.address_space.proofs.steps.Stores.{cell_read}
 use Rattle.address_space.proofs.steps.Openings.{no_cell}
-use borrow.Author.Tests.{eqb-true, eq-eqb}
 use Rattle.address_space.proofs.standing.TablesStand as tables
 use Rattle.address_space.proofs.standing.TablesStand.{not_user_slot, owned}
 

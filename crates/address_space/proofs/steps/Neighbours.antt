@@ -15,7 +15,7 @@ use Rattle.address_space.specs.declared.place.Place.{Place}
 use Rattle.address_space.specs.Spaces.{Slot, at_page, write_at}
 use Rattle.address_space.specs.View.{Directories, directory_of, table_in, entry_in}
 use Rattle.address_space.specs.Changes.{PageFilled}
-use Rattle.address_space.specs.Finds.{found_by, EntryIs, BytesStored}
+use Rattle.address_space.specs.Finds.{EntryIs, BytesStored}
 use Rattle.address_space.specs.Places.{place_by, place_there, place_in}
 use Rattle.address_space.specs.Sound.{IsSound}
 use Rattle.address_space.proofs.Insides.{IsKeptInside, found_at}

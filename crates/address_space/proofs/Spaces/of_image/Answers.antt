@@ -1,10 +1,9 @@
-use Rattle.std.proofs.Common.{◌≡◌, ℕ, ◌≤◌, length, List, map, sym, ap, ◌∙◌, subst, arith}
+use Rattle.std.proofs.Common.{◌≡◌, ℕ, length, List, map, sym, ◌∙◌, subst}
 use Rattle.std.specs.List.{range_with_len}
 use Rattle.address_space.specs.Restored.{counted_at}
 use Rattle.alloc_table.specs.declared.Role.{Role}
 use Rattle.address_space.specs.Image.{StandsFor, image_from}
-use Rattle.address_space.specs.Counts.{IsKept, IsCounted}
-use Rattle.address_space.specs.Sound.{IsSpaces}
+use Rattle.address_space.specs.Counts.{IsKept}
 use Rattle.address_space.specs.View.{spaces_in}
 use Rattle.address_space.proofs.standing.Restored.{kept, stands, words_counted}
 use Rattle.address_space.proofs.Spaces.of_image.Goals as goal

@@ -1,4 +1,4 @@
-use Rattle.std.proofs.Common.{◌≡◌, ◌≤◌, length, drop, ap, sym, ◌∙◌, arith}
+use Rattle.std.proofs.Common.{◌≡◌, length, drop, ap, sym, ◌∙◌, arith}
 use Rattle.quota_tree.proofs.AccountLemmas.{children_from, children-end, number-all}
 use Rattle.quota_tree.proofs.accounts.children_of.Goals as goal
 

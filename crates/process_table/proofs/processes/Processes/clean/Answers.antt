@@ -1,7 +1,6 @@
 use Rattle.std.proofs.Common.{◌≡◌, refl, sym, subst, ap, ◌∙◌, length, true}
-use Rattle.address_space.specs.Spaces.{Spaces, cost, cell_or_fresh, at_page}
+use Rattle.address_space.specs.Spaces.{Spaces, cost, at_page}
 use Rattle.address_space.proofs.costs.AccessCosts.{cost-same, kept}
-use Rattle.page_words.specs.FiniteMap as map
 use Rattle.process_table.specs.State.{State, is_mapped}
 use Rattle.process_table.specs.View.{View, state_of}
 use Rattle.process_table.proofs.Charged.{charged-same}

@@ -1,10 +1,6 @@
-use Rattle.std.proofs.Common.{◌≡◌, ℕ, sym, ap, ◌∙◌, subst}
-use Rattle.address_space.specs.View as frames
-use Rattle.quota_tree.specs.Containers.{Containers}
-use Rattle.page_sharing.specs.Offers.{Offers}
+use Rattle.std.proofs.Common.{◌≡◌, sym, subst}
 use Rattle.process_table.specs.Image.{StandsFor}
 use Rattle.process_table.specs.Restored.{image_in}
-use Rattle.process_table.specs.State.{State}
 use Rattle.process_table.proofs.Restored.{agree, room, parts_whole, state, state_stands}
 use Rattle.process_table.proofs.processes.Processes.of_image.Goals as goal
 
