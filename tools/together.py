@@ -59,7 +59,7 @@ def marked(folder, edit):
         old, new = pair.old, pair.new
         if pair.inside:
             end = text.find("\n", at)
-            rest, mark = text[at + len(old):end].removesuffix(f" // in {pair.inside}"), f" // in {pair.inside}"
+            rest, mark = text[at + len(old):end].removesuffix(f" // in {pair.inside}."), f" // in {pair.inside}."
             text = text[:at] + old + rest + mark + text[end:]
             old, new = old + rest + mark, new + rest
         texts[pair.file] = text
