@@ -18,7 +18,9 @@ ghost use Rattle.page_words.specs.FiniteMap as map;
 use crate::{Cell, Spaces, accesses, mapping, space_of};
 use alloc_table::{FrameTable, Role};
 use page_map::PageEntry;
-use page_words::{Frame, Page, Pid, Size, Vaddr, offset_of, page_of, second_page, slot_of};
+use page_words::{
+    Frame, Page, Pid, Size, Vaddr, in_user_range, offset_of, page_of, second_page, slot_of,
+};
 use phys_memory::Memory;
 
 /// A mapped page: its table, and the entry that the table has for it.
@@ -245,11 +247,13 @@ impl Spaces {
         self.place(pid, page).found()
     }
 
-    /// Whether a slot has a lazy page, which has no frame of its own yet.
+    /// Whether a slot has a lazy page, which has no frame of its own yet. A page outside the user range is none.
     pub fn is_lazy(&self, pid: Pid, page: Page) -> bool
-        requires user { IsUserPage page }
         ensures { result ≡ is_lazy_at (image_of self.now) (at_page pid page) }
     {
+        if !in_user_range(page) {
+            return false;
+        }
         self.stands();
         self.place(pid, page).is_lazy()
     }

@@ -10,7 +10,7 @@ fn check_text<R: AllocGlobal + Abort>(rt: &R, fault: MachineFault, expected: &st
 
 #[test]
 fn faults_of_a_machine_have_texts(rt: HostRuntime) {
-    check_text(&rt, MachineFault::BadSize, "not 16 to 4096 frames");
+    check_text(&rt, MachineFault::BadSize, "frames must be 16 to 4096");
     check_text(&rt, MachineFault::NoMemory, "out of memory");
 }
 

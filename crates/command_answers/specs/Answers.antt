@@ -6,7 +6,7 @@ use Rattle.std.specs.Io.KnownBytes.{Appends, Keeps}
 use Rattle.clap.specs.Words.{kind_of}
 use Rattle.clap.specs.declared.error.Error.{Error}
 use Rattle.clap.specs.declared.error.kind.ErrorKind.TheVariants as kind
-use Rattle.command_answers.specs.Faults.{status_of_tool, tool_text, words_text}
+use Rattle.command_answers.specs.Faults.{status_of_tool, tool_message, words_text}
 use Rattle.command_answers.specs.declared.answers.Answer.{Answer}
 use Rattle.command_answers.specs.declared.answers.Answer.TheVariants.{Done, NotSound, Failed, NotText, Refused}
 use Rattle.command_answers.specs.declared.faults.ToolFault.TheVariants as tool
@@ -31,7 +31,7 @@ told_line program text = program ++ (codes ": " ++ (text ++ 10 ∷ []))
 abbrev pub Tells : List ℕ → Answer → Option (List ℕ) → Option (List ℕ) → Type 0
 Tells program Done held holds = Keeps held holds
 Tells program NotSound held holds = Keeps held holds
-Tells program (Failed fault) held holds = Appends held holds (told_line program (tool_text fault))
+Tells program (Failed fault) held holds = Appends held holds (told_line program (tool_message fault))
 Tells program NotText held holds = Appends held holds (told_line program (words_text words.NotText))
 Tells program (Refused error) held holds = Unit {0}
 

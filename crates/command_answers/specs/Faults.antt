@@ -9,20 +9,24 @@ use Rattle.command_answers.specs.declared.given_words.WordsFault.{WordsFault}
 use Rattle.command_answers.specs.declared.given_words.WordsFault.TheVariants as words
 use Rattle.script_run.specs.declared.faults.ScriptFault.TheVariants as script
 
--- the message of a fault
+-- what a fault says, without a program's name
+abbrev pub tool_message : ToolFault → List ℕ
+tool_message tool.BadSize = codes "frames must be 16 to 4096"
+tool_message tool.NoMemory = codes "out of memory"
+tool_message (tool.Malformed line) = codes "line " ++ (decimal line ++ codes " is malformed")
+tool_message tool.TooLong = codes "script is too long"
+tool_message tool.ReadFailed = codes "read failed"
+tool_message tool.WriteFailed = codes "write failed"
+tool_message tool.NotImage = codes "not an image"
+tool_message tool.BadVersion = codes "unknown image version"
+tool_message tool.BadLength = codes "wrong image length"
+tool_message (tool.BadField offset) = codes "bad field at byte " ++ decimal offset
+tool_message tool.RaceTurns = codes "race ran out of turns"
+tool_message tool.RaceFailed = codes "race failed"
+
+-- the text of a fault of `tower`
 abbrev pub tool_text : ToolFault → List ℕ
-tool_text tool.BadSize = codes "frames must be 16 to 4096"
-tool_text tool.NoMemory = codes "out of memory"
-tool_text (tool.Malformed line) = codes "line " ++ (decimal line ++ codes " is malformed")
-tool_text tool.TooLong = codes "script is too long"
-tool_text tool.ReadFailed = codes "read failed"
-tool_text tool.WriteFailed = codes "write failed"
-tool_text tool.NotImage = codes "not an image"
-tool_text tool.BadVersion = codes "unknown image version"
-tool_text tool.BadLength = codes "wrong image length"
-tool_text (tool.BadField offset) = codes "bad field at byte " ++ decimal offset
-tool_text tool.RaceTurns = codes "race ran out of turns"
-tool_text tool.RaceFailed = codes "race failed"
+tool_text fault = codes "tower: " ++ tool_message fault
 
 -- what refuses an image
 abbrev pub tool_of_image : ImageFault → ToolFault

@@ -3,9 +3,9 @@
 ghost use Rattle.std.specs.Prelude.{◌≡◌, OnOk};
 ghost use Rattle.std.specs.Io.KnownBytes.{Appends};
 ghost use Rattle.command_answers.specs.Answers.{Refuses, Tells, answer_of_words, status_of, told_line};
-ghost use Rattle.command_answers.specs.Faults.{status_of_tool, tool_text, words_text};
+ghost use Rattle.command_answers.specs.Faults.{status_of_tool, tool_message, words_text};
 
-use crate::faults::ToolFault;
+use crate::faults::{Message, ToolFault};
 use crate::given_words::WordsFault;
 use clap::error::ErrorKind;
 use std::io;
@@ -63,9 +63,10 @@ pub fn status_of(answer: &Answer) -> u8
 /// Writes a fault of a program's job, in a line after the program's name.
 #[tactic(auto, unfolding(crate::specs::Answers::told_line))]
 fn tell_fault<E: Write>(program: &str, fault: ToolFault, errors: &mut E) -> io::Result<()>
-    ensures { OnOk result (Appends (E.contents errors.old) (E.contents errors.new) (told_line program.now (tool_text fault))) }
+    ensures { OnOk result (Appends (E.contents errors.old) (E.contents errors.new) (told_line program.now (tool_message fault))) }
 {
-    write!(errors, "{program}: {fault}\n")
+    let message = Message(fault);
+    write!(errors, "{program}: {message}\n")
 }
 
 /// Writes why the arguments of a command line were not read, in such a line.

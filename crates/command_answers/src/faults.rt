@@ -49,7 +49,25 @@ impl fmt::Display for ToolFault {
     ghost output = { λ fault. Some (tool_text fault) };
 
     fn fmt<W: fmt::Write>(&self, f: &mut fmt::Formatter<W>) -> fmt::Result {
-        match self {
+        let message = Message(*self);
+        write!(f, "tower: {message}")
+    }
+}
+
+impl Error for ToolFault {}
+
+/// What a fault says, without the name of the program whose command it ended.
+#[derive(Clone, Copy, Debug, PartialEq, Eq)]
+pub struct Message(pub ToolFault);
+
+impl fmt::Display for Message {
+    ghost use Rattle.std.specs.Prelude.{Some};
+    ghost use Rattle.command_answers.specs.Faults.{tool_message};
+
+    ghost output = { λ message. Some (tool_message message.0) };
+
+    fn fmt<W: fmt::Write>(&self, f: &mut fmt::Formatter<W>) -> fmt::Result {
+        match self.0 {
             ToolFault::BadSize => write!(f, "frames must be 16 to 4096"),
             ToolFault::NoMemory => write!(f, "out of memory"),
             ToolFault::Malformed { line } => write!(f, "line {line} is malformed"),
@@ -65,8 +83,6 @@ impl fmt::Display for ToolFault {
         }
     }
 }
-
-impl Error for ToolFault {}
 
 impl From<WriteFailed> for ToolFault {
     ghost use Rattle.std.specs.Prelude.{◌≡◌};

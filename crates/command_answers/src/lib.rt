@@ -10,7 +10,7 @@ mod given_words;
 mod options;
 
 pub use answers::{Answer, answer_of_words, refuse, status_of, tell};
-pub use faults::ToolFault;
+pub use faults::{Message, ToolFault};
 pub use file_words::{file_argument, file_in};
 pub use files::bytes_of;
 pub use given_words::{WordsFault, words};

@@ -3,6 +3,7 @@
 use crate::common::same;
 use base_tests::streams::{BrokenWriter, Pieces};
 use script_run::{ScriptFault, run_script};
+use std::process::Abort;
 use std::test::Fail;
 
 const SCRIPT: &[u8] =
@@ -17,6 +18,34 @@ fn replies_to_a_script(rt: HostRuntime) {
     let ended = run_script(rt.alloc(), &mut reader, &mut written, 16);
     same(&rt, &ended.map(|core| core.frames()), &Ok(16));
     assert_eq!(rt; written.as_slice(), REPLIES);
+}
+
+/// A run of the script on 16 frames ends with this fault, and has written these replies.
+fn check_fault<R: AllocGlobal + Abort>(
+    rt: &R,
+    script: &[u8],
+    writer: &mut BrokenWriter,
+    fault: ScriptFault,
+    replies: &[u8],
+) {
+    let mut reader = script;
+    let found = run_script(rt.alloc(), &mut reader, writer, 16).err();
+    assert_eq!(rt; (found, writer.written.as_slice()), (Some(fault), replies));
+}
+
+#[test]
+fn tells_the_number_of_a_malformed_line(rt: HostRuntime) {
+    let mut writer = BrokenWriter::new(256, Pieces::Whole);
+    let script = b"0 0 quota\n0 0 lode 40000000 4\n0 0 quota\n";
+    let fault = ScriptFault::Malformed { line: 2 };
+    check_fault(&rt, script, &mut writer, fault, b"quota 15 1 0\n");
+}
+
+#[test]
+fn a_write_that_fails_after_five_bytes_leaves_the_first_reply(rt: HostRuntime) {
+    let mut writer = BrokenWriter::new(5, Pieces::Whole);
+    let fault = ScriptFault::WriteFailed;
+    check_fault(&rt, SCRIPT, &mut writer, fault, b"done\n");
 }
 
 /// `rt try --test --fail-alloc N` refuses the Nth allocation of this test alone, and each is one of

@@ -16,6 +16,7 @@ use crate::kernel_words::{is_lazy_word, names_page, names_table};
 use crate::walking::{Walked, walk};
 use alloc_table::Role;
 use memory_image::{Image, Process};
+use page_map::{FIRST_SLOT, SLOT_END};
 use page_words::{DirWord, Frame, Pid, TableWord};
 
 fn is_directory_of(pid: Pid, role: Option<Role>) -> bool
@@ -68,7 +69,7 @@ fn has_directory(image: &Image, pid: Pid, process: &Process) -> bool
 pub fn is_user_slot(slot: u32) -> bool
     ensures { result ≡ is_user_slot slot }
 {
-    256 <= slot && slot < 960
+    (FIRST_SLOT..SLOT_END).contains(&slot)
 }
 
 pub fn links_table(image: &Image, pid: Pid, slot: u32, word: u32) -> bool
@@ -106,7 +107,7 @@ pub fn table_of(image: &Image, pid: Pid, slot: u32) -> Option<Frame>
     ensures { result ≡ table_at (memory_of image.now) pid slot }
 {
     let process = image.process(pid)?;
-    if slot < 256 || slot >= 960 {
+    if !is_user_slot(slot) {
         return None;
     }
     let word = DirWord::read(image.word(process.directory, slot));

@@ -10,6 +10,7 @@ ghost use Rattle.image_check.specs.Adds.{Adds, Counts, HaveRoom, MayGrow, words_
 use crate::counting::{count_more, count_one, frame_named};
 use crate::walking::table_at;
 use memory_image::Image;
+use page_map::{FIRST_SLOT, SLOT_END};
 use page_words::{Frame, MAX_FRAMES, Pid};
 
 /// Adds how often the words of a directory name each frame.
@@ -18,7 +19,7 @@ fn count_slots(image: &Image, pid: Pid, directory: Frame, names: &mut [u32])
     requires names { HaveRoom names.old 704 }
     ensures { Adds names.old names.new (λ f. names_by image.now pid f) }
 {
-    for slot in 256..960 {
+    for slot in FIRST_SLOT..SLOT_END {
         count_one(names, table_at(image, pid, directory, slot));
     }
 }

@@ -13,6 +13,7 @@ use crate::counting::{count_one, frame_named};
 use crate::process_clauses::{is_user_slot, links_table, maps_page, word_count};
 use crate::repeated_names::count_named;
 use memory_image::Image;
+use page_map::{FIRST_SLOT, SLOT_END};
 use page_words::{DirWord, Frame, Pid};
 
 /// What one pass over a table finds.
@@ -173,7 +174,7 @@ fn walk_tables(
     let mut right = true;
     let mut tables = 0;
     let mut pages = 0;
-    for slot in 256..960 {
+    for slot in FIRST_SLOT..SLOT_END {
         let found = walk_slot(image, pid, directory, slot, names, maps);
         right &= found.right;
         tables += found.tables;

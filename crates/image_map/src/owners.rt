@@ -6,6 +6,7 @@ ghost use Rattle.memory_image.specs.Image.{process_at};
 use crate::page_flags::is_lazy_word;
 use crate::runs::{Run, runs_at};
 use image_check::{Image, Process, pid_of};
+use page_map::{FIRST_SLOT, SLOT_END};
 use page_words::{Frame, MAX_FRAMES, Pid, TableWord};
 
 /// The processes that map a frame, in ascending order.
@@ -114,7 +115,7 @@ impl Mapped {
     fn add_process(&mut self, image: &Image, pid: Pid, process: &Process)
         requires { process_at image.now pid ≡ Some process.now }
     {
-        for slot in 256..960 {
+        for slot in FIRST_SLOT..SLOT_END {
             let runs = runs_at(image, pid, process.directory, slot);
             self.add_runs(image.version(), pid, runs.as_slice());
         }

@@ -13,6 +13,7 @@ use crate::frames::{row_count, row_line};
 use crate::lines::{bar_line, image_line, more_line, process_line, run_line};
 use crate::runs::{Run, runs_at};
 use image_check::{Image, Process, Verdict, WriteFailed, pid_of};
+use page_map::{FIRST_SLOT, SLOT_END};
 use page_words::{Frame, Pid};
 use std::io::Write;
 use text_output::write_whole;
@@ -98,7 +99,7 @@ fn write_pages<W: Write>(
     ensures ok { OnOk result (Appends (W.contents writer.old) (W.contents writer.new) (pages_text image.now most pid)) }
     ensures err { OnErr result (AppendsFront (W.contents writer.old) (W.contents writer.new) (pages_text image.now most pid)) }
 {
-    for slot in 256..960 {
+    for slot in FIRST_SLOT..SLOT_END {
         write_slot(image, most, pid, directory, slot, writer)?;
     }
     Ok(())

@@ -486,6 +486,28 @@ fn two_helpers_of_half_the_numbers_tell_what_fails(rt: HostRuntime) {
     check_halves(&rt, 50_960, 0x1005, "process 0 P4\nframe 1 F5\n");
 }
 
+/// By 1 to 8 helpers, in turn and in threads, the verdict on the changed image has this text.
+fn check_texts<R: AllocGlobal + Threads + Abort + Sync>(
+    rt: &R,
+    changes: &[(usize, u32)],
+    text: &str,
+) {
+    let told = verdict_on(rt, &image_with(rt, changes));
+    for helpers in 1..9usize {
+        for in_threads in [false, true] {
+            let image = image_with(rt, changes);
+            let (verdict, _answers) = audited(rt, image, helpers, in_threads, &told);
+            same_bytes(rt, &text_on(rt, &verdict), text.as_bytes());
+        }
+    }
+}
+
+#[test]
+fn helpers_tell_a_page_that_names_a_table(rt: HostRuntime) {
+    let text = "process 1 P4\nframe 11 F4\nframe 12 F3\n";
+    check_texts(&rt, &[(26_380, 0xca67)], text);
+}
+
 /// By 1 to 8 helpers, in turn or in threads, the verdict on a core is the check's.
 fn check_core_by<R: AllocGlobal + Threads + Abort + Sync>(
     rt: &R,

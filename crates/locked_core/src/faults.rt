@@ -9,7 +9,7 @@ use thiserror::Error;
 #[derive(Clone, Copy, Debug, PartialEq, Eq, Error)]
 pub enum BootFault {
     /// The number of frames is not 16 to 4,096.
-    #[error("not 16 to 4096 frames")]
+    #[error("frames must be 16 to 4096")]
     BadSize,
     /// The number of CPUs is not 1 to 8, or that of monitors not 0 to 8.
     #[error("not 1 to 8 CPUs, or more than 8 monitors")]

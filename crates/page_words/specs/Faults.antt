@@ -5,5 +5,5 @@ use Rattle.page_words.specs.declared.faults.MachineFault.TheVariants.{BadSize, N
 
 -- the text of a fault
 abbrev pub fault_text : MachineFault → List ℕ
-fault_text BadSize = codes "not 16 to 4096 frames"
+fault_text BadSize = codes "frames must be 16 to 4096"
 fault_text NoMemory = codes "out of memory"

@@ -24,7 +24,7 @@ impl fmt::Display for MachineFault {
 
     fn fmt<W: fmt::Write>(&self, f: &mut fmt::Formatter<W>) -> fmt::Result {
         match self {
-            MachineFault::BadSize => write!(f, "not 16 to 4096 frames"),
+            MachineFault::BadSize => write!(f, "frames must be 16 to 4096"),
             MachineFault::NoMemory => write!(f, "out of memory"),
         }
     }

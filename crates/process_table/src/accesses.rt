@@ -116,9 +116,8 @@ impl Processes {
         self.spaces.store_at(pid, address, size, value, place);
     }
 
-    /// Whether a process's page is lazy: it has no frame of its own yet.
+    /// Whether a process's page is lazy: it has no frame of its own yet. A page outside the user range is not.
     pub fn is_lazy(&self, pid: Pid, page: Page) -> bool
-        requires user { IsUserPage page }
         ensures { result ≡ is_lazy_at (memory_of self.now) (at_page pid page) }
     {
         self.spaces.is_lazy(pid, page)

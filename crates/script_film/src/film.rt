@@ -9,11 +9,8 @@ ghost use Rattle.script_film.specs.Recordings.{Records, Reaches};
 use crate::ends::End;
 use crate::recording::{Recording, Shot};
 use crate::rows::{end_row, frames_row};
-use script_run::{ScriptFault, split_line};
+use script_run::{SCRIPT_BYTES, ScriptFault, split_line};
 use std::alloc::Global;
-
-/// The most bytes of a script.
-const LIMIT: usize = 16_777_216;
 
 /// The data of a film, and how it ends.
 #[derive(Drop)]
@@ -76,7 +73,7 @@ pub fn film_of(alloc: Global, frames: u32, script: &[u8]) -> Result<Film, Script
     ensures film { IfOk result (λ film. IsFilm frames script.now film.rows.items film.end) }
     ensures fault { IfErr result (λ fault. IsRefused fault frames script.now) }
 {
-    if script.len() > LIMIT {
+    if script.len() > SCRIPT_BYTES {
         return Err(ScriptFault::TooLong);
     }
     let mut recording = Recording::begin(alloc, frames)?;

@@ -2,6 +2,8 @@
 use Rattle.std.proofs.Common.{◌≡◌, ℕ, zero, suc, ◌<◌, ◌≤◌, ◌+◌, ◌*◌, ◌/◌, ◌%◌, ◌^◌, Bool, true, false, ◌&&◌, cond, eq-eqb, List, [], ◌∷◌, refl, ap, ◌∙◌, arith, inl, inr}
 use Rattle.std.specs.Prelude.{nat_le, slice_index, ◌==◌, if◌then◌else◌}
 use Rattle.std.specs.Char.{digit_value, digit_char}
+use Rattle.std.specs.Int.{w32, to_be_bytes}
+use Rattle.hex.specs.Hex.{encode_lower, encode_with}
 use Rattle.script_run.specs.Operands.{worth}
 use Rattle.script_run.specs.Replies.{eight_digits}
 use Rattle.std.proofs.lemmas.Bool.{and_parts, leb-true, eqb-true, cases_eq, cases_Bool}
@@ -54,45 +56,20 @@ worth_by_table r b is inside =
 pub worth_bound : (b : ℕ) → b < 256 → worth b ≤ 4294967296
 worth_bound b inside = leb-true (worth b) 4294967296 (all_below_at (λ b. nat_le (worth b) 4294967296) 256 b refl inside)
 
--- the two hexadecimal digits of each byte
-abbrev digit_in_pairs : ℕ → ℕ
-digit_in_pairs place = digit_char (if place % 2 == 0 then place / 2 / 16 else place / 2 % 16)
+-- a digit by the table of the sixteen
+digit_at : (d e : ℕ) → d < 16 → d ≡ e → slice_index (table_from digit_char 0 16) d ≡ digit_char e
+digit_at d e small same = table_at digit_char 0 16 d small ∙ ap digit_char (omega (arith, same))
 
-abbrev pub pairs : List ℕ
-pairs = table_from digit_in_pairs 0 512
-
-pub pair_by_table : (r place : ℕ) → r ≡ slice_index pairs place → place < 512 → r ≡ digit_in_pairs place
-pair_by_table r place is inside = is ∙ table_at digit_in_pairs 0 512 place inside ∙ ap digit_in_pairs (omega arith)
-
-pub high_by_table : (r n : ℕ) → r ≡ slice_index pairs (2 * (n % 256)) → r ≡ digit_char (n / 16 % 16)
-high_by_table r n is =
-    let byte = n % 256 in
-    let even : (2 * byte % 2 == 0) ≡ true = eq-eqb _ _ (omega arith) in
-    let half : 2 * byte / 2 / 16 ≡ n / 16 % 16 = omega arith in
-    pair_by_table r (2 * byte) is (omega arith) ∙ ap (λ b. digit_char (cond b (2 * byte / 2 / 16) (2 * byte / 2 % 16))) even ∙ ap digit_char half
-
-pub low_by_table : (r n : ℕ) → r ≡ slice_index pairs (2 * (n % 256) + 1) → r ≡ digit_char (n % 16)
-low_by_table r n is =
-    let byte = n % 256 in
-    let odd : ((2 * byte + 1) % 2 == 0) ≡ false = elim (cases_Bool ((2 * byte + 1) % 2 == 0)) [
-      | inl even ↦ absurd (omega (arith, eqb-true ((2 * byte + 1) % 2) 0 even))
-      | inr other ↦ other
-    ] in
-    let half : (2 * byte + 1) / 2 % 16 ≡ n % 16 = omega arith in
-    pair_by_table r (2 * byte + 1) is (omega arith) ∙ ap (λ b. digit_char (cond b ((2 * byte + 1) / 2 / 16) ((2 * byte + 1) / 2 % 16))) odd ∙ ap digit_char half
-
--- a number's digits, two by two
-pub eight_by_pairs : (n a b c d e f g h : ℕ)
-    → a ≡ digit_char (n / 2 ^ 24 / 16 % 16) → b ≡ digit_char (n / 2 ^ 24 % 16) → c ≡ digit_char (n / 2 ^ 16 / 16 % 16) → d ≡ digit_char (n / 2 ^ 16 % 16) → e ≡ digit_char (n / 2 ^ 8 / 16 % 16) → f ≡ digit_char (n / 2 ^ 8 % 16) → g ≡ digit_char (n / 16 % 16) → h ≡ digit_char (n % 16)
-    → (a ∷ b ∷ c ∷ d ∷ e ∷ f ∷ g ∷ h ∷ []) ≡ eight_digits n
-unfolding eight_digits
-eight_by_pairs n a b c d e f g h a_is b_is c_is d_is e_is f_is g_is h_is =
-    let a_at : a ≡ digit_char (n / 16 ^ 7 % 16) = a_is ∙ ap digit_char (omega arith) in
-    let b_at : b ≡ digit_char (n / 16 ^ 6 % 16) = b_is ∙ ap digit_char (omega arith) in
-    let c_at : c ≡ digit_char (n / 16 ^ 5 % 16) = c_is ∙ ap digit_char (omega arith) in
-    let d_at : d ≡ digit_char (n / 16 ^ 4 % 16) = d_is ∙ ap digit_char (omega arith) in
-    let e_at : e ≡ digit_char (n / 16 ^ 3 % 16) = e_is ∙ ap digit_char (omega arith) in
-    let f_at : f ≡ digit_char (n / 16 ^ 2 % 16) = f_is ∙ ap digit_char (omega arith) in
-    let g_at : g ≡ digit_char (n / 16 ^ 1 % 16) = g_is ∙ ap digit_char (omega arith) in
-    let h_at : h ≡ digit_char (n / 16 ^ 0 % 16) = h_is ∙ ap digit_char (omega arith) in
-    cc (a_at, b_at, c_at, d_at, e_at, f_at, g_at, h_at)
+-- a number's digits, byte by byte
+pub digits_of_bytes : (n : ℕ) → n < 2 ^ 32 → encode_lower (to_be_bytes w32 n) ≡ eight_digits n
+unfolding eight_digits encode_with
+digits_of_bytes n fits =
+    let a = digit_at (n / 16777216 % 256 / 16) (n / 16 ^ 7 % 16) (omega arith) (omega arith) in
+    let b = digit_at (n / 16777216 % 256 % 16) (n / 16 ^ 6 % 16) (omega arith) (omega arith) in
+    let c = digit_at (n / 65536 % 256 / 16) (n / 16 ^ 5 % 16) (omega arith) (omega arith) in
+    let d = digit_at (n / 65536 % 256 % 16) (n / 16 ^ 4 % 16) (omega arith) (omega arith) in
+    let e = digit_at (n / 256 % 256 / 16) (n / 16 ^ 3 % 16) (omega arith) (omega arith) in
+    let f = digit_at (n / 256 % 256 % 16) (n / 16 ^ 2 % 16) (omega arith) (omega arith) in
+    let g = digit_at (n % 256 / 16) (n / 16 ^ 1 % 16) (omega arith) (omega arith) in
+    let h = digit_at (n % 256 % 16) (n / 16 ^ 0 % 16) (omega arith) (omega arith) in
+    λ i. a i ∷ b i ∷ c i ∷ d i ∷ e i ∷ f i ∷ g i ∷ h i ∷ []

@@ -20,4 +20,4 @@ pub use faults::ScriptFault;
 pub use lines::{Line, line_of};
 pub use replies::{Block, push_reply_line};
 pub use script::{malformed_line_ends_a_script, resume_script, run_script};
-pub use session::split_line;
+pub use session::{SCRIPT_BYTES, split_line};

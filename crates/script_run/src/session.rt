@@ -18,7 +18,7 @@ use std::alloc::Global;
 use std::io::{Read, Write};
 
 /// The most bytes of a script.
-const LIMIT: usize = 16_777_216;
+pub const SCRIPT_BYTES: usize = 16_777_216;
 
 /// The progress of a script: the machine after the lines so far, and the replies not written yet.
 #[derive(Drop)]
@@ -181,8 +181,8 @@ impl Session {
         ensures err { (begun : State) → Reached begun [] self.old (W.contents writer.old) (W.contents writer.old) → IfErr result (λ fault. RanInto begun fault (R.remaining reader.old) (R.remaining reader.new) self.new.output (W.contents writer.old) (W.contents writer.new)) }
     {
         let mut total = 0;
-        while total < LIMIT {
-            let count = read_some(reader, block, LIMIT - total)?;
+        while total < SCRIPT_BYTES {
+            let count = read_some(reader, block, SCRIPT_BYTES - total)?;
             if count == 0 {
                 return self.finish(writer);
             }

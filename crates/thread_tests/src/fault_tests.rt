@@ -14,7 +14,7 @@ fn check_text<F: Display, R: AllocGlobal + Abort>(rt: &R, fault: &F, expected: &
 #[test]
 fn faults_of_a_boot_have_texts(rt: HostRuntime) {
     let counts = "not 1 to 8 CPUs, or more than 8 monitors";
-    check_text(&rt, &BootFault::BadSize, "not 16 to 4096 frames");
+    check_text(&rt, &BootFault::BadSize, "frames must be 16 to 4096");
     check_text(&rt, &BootFault::BadCount, counts);
     check_text(&rt, &BootFault::NoMemory, "out of memory");
 }

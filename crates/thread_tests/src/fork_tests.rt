@@ -8,7 +8,7 @@ use crate::kernels::{
 };
 use kernel_calls::{Call, Cause, Reply};
 use locked_core::{Blank, Boot, Cpu, Kernel, Name, OpenGate, Seen};
-use page_words::Page;
+use page_words::{Page, Size, Vaddr};
 use std::marker::Brand;
 use std::process::Abort;
 use std::sync::Wait;
@@ -43,24 +43,68 @@ fn call_parent<N: Name, R: Wait + Abort>(rt: &R, kernel: &Kernel<N, OpenGate>, c
     fork(rt, kernel, cpu, 10, Reply::Child(process(rt, 1)));
 }
 
-/// The copy's calls.
-fn call_copy<N: Name, R: Wait + Abort>(rt: &R, kernel: &Kernel<N, OpenGate>, cpu: &mut Cpu<N>) {
+/// The copy's calls up to its store.
+fn store_in_copy<N: Name, R: Wait + Abort>(
+    rt: &R,
+    kernel: &Kernel<N, OpenGate>,
+    cpu: &mut Cpu<N>,
+) {
     let copy = process(rt, 1);
-    let used = Reply::Quota {
-        quota: 10,
-        used: 4,
-        given: 0,
-    };
     answered(rt, kernel, cpu, copy, load(), Reply::Value(7));
     answered(rt, kernel, cpu, copy, store(9), Reply::Done);
-    answered(rt, kernel, cpu, copy, Call::Quota, used);
 }
 
-/// A report on nine entries, by which both use 8, the parent gave 10 and the copy uses 4.
+/// A page of the copy, whose flags are all set or of which only the right to write may be had, has one holder.
+fn check_page<N: Name, R: Wait + Abort>(
+    rt: &R,
+    kernel: &Kernel<N, OpenGate>,
+    cpu: &mut Cpu<N>,
+    page: Page,
+    set: bool,
+) {
+    let info = Reply::Info {
+        write: set,
+        may: true,
+        accessed: set,
+        dirty: set,
+        holders: 1,
+    };
+    answered(rt, kernel, cpu, process(rt, 1), Call::Info { page }, info);
+}
+
+/// The process has this quota, of which it uses 4 frames and gave away so many.
+fn check_quota<N: Name, R: Wait + Abort>(
+    rt: &R,
+    kernel: &Kernel<N, OpenGate>,
+    cpu: &mut Cpu<N>,
+    number: u8,
+    quota: u32,
+    given: u32,
+) {
+    let reply = Reply::Quota {
+        quota,
+        used: 4,
+        given,
+    };
+    answered(rt, kernel, cpu, process(rt, number), Call::Quota, reply);
+}
+
+/// The copy's other calls: its pages, a store that its rights forbid, and its quota.
+fn ask_copy<N: Name, R: Wait + Abort>(rt: &R, kernel: &Kernel<N, OpenGate>, cpu: &mut Cpu<N>) {
+    let (addr, size, value) = (Vaddr(0x4000_1000), Size::One, 1);
+    let forbidden = Call::Store { addr, size, value };
+    let fault = Reply::Fault { addr, code: 7 };
+    check_page(rt, kernel, cpu, Page(0x40000), true);
+    check_page(rt, kernel, cpu, Page(0x40001), false);
+    answered(rt, kernel, cpu, process(rt, 1), forbidden, fault);
+    check_quota(rt, kernel, cpu, 1, 10, 0);
+}
+
+/// A report on fourteen entries, by which both use 8, the parent gave 10 and the copy uses 4.
 fn check_seen<R: Abort>(rt: &R, seen: &Seen) {
     let given = seen.report.row(process(rt, 0)).map(|row| row.given);
     let used = seen.report.row(process(rt, 1)).map(|row| row.used);
-    same(rt, &(seen.front, seen.report.total()), &(9, 8));
+    same(rt, &(seen.front, seen.report.total()), &(14, 8));
     same(rt, &(given, used), &(Some(10), Some(4)));
 }
 
@@ -77,7 +121,18 @@ fn copied<N: Name, R: Wait + Abort>(rt: &R, blank: Blank<OpenGate>)
     let mut first = taken(rt, &mut cpus);
     let mut monitor = watcher(rt, &mut monitors);
     call_parent(rt, &kernel, &mut first);
-    call_copy(rt, &kernel, &mut second);
+    store_in_copy(rt, &kernel, &mut second);
+    answered(
+        rt,
+        &kernel,
+        &mut first,
+        process(rt, 0),
+        load(),
+        Reply::Value(7),
+    );
+    ask_copy(rt, &kernel, &mut second);
+    check_quota(rt, &kernel, &mut first, 0, 31, 10);
+    tell(&first, &mut monitor);
     tell(&second, &mut monitor);
     let seen = reported(rt, &mut monitor);
     let history = closed(rt, kernel, put(rt, put(rt, cpus, first), second));

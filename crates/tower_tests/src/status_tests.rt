@@ -116,8 +116,10 @@ fn a_write_that_fails_ends_with_status_1(rt: HostRuntime) {
     check_unwritten(&rt, &["tower", "race", "--rounds=1"]);
 }
 
-/// A fault ends with this status, and this line on standard error.
+/// A fault ends with this status, and this line on standard error, which is its own text.
 fn check_fault<R: AllocGlobal + Abort>(rt: &R, fault: ToolFault, status: u8, line: &str) {
+    let text = format!(in rt.alloc(); "{fault}\n").expect(rt, "memory");
+    assert_eq!(rt; text.as_str(), line);
     check_answer(rt, "tower", &Answer::Failed(fault), status, line);
 }
 

@@ -4,9 +4,9 @@ use Rattle.script_film.specs.Rows.{frames_row, end_row}
 use Rattle.script_film.proofs.FilmLemmas.{whole_film}
 use Rattle.script_film.proofs.film.film_of.Goals as goal
 
-pub returns-then-script-gt-LIMIT-clause-fault : goal.returns-then-script-gt-LIMIT-clause-fault
+pub returns-then-script-gt-SCRIPT_BYTES-clause-fault : goal.returns-then-script-gt-SCRIPT_BYTES-clause-fault
 unfolding limit
-returns-then-script-gt-LIMIT-clause-fault c = omega arith
+returns-then-script-gt-SCRIPT_BYTES-clause-fault c = omega arith
 
 pub returns-clause-film : goal.returns-clause-film
 returns-clause-film c =
