@@ -1,7 +1,7 @@
 //! Links the archive of `crates/tower_c`, and with the feature `images` that of `crates/tower_images`.
 //!
-//! If `TOWER_LIB` names a folder, they are that folder's. Otherwise, in a release, they are those in `lib/` next to
-//! this crate. Otherwise they are the repository's, which `make -C c` proves and builds if one is missing or older than
+//! If `TOWER_LIB` names a folder, they are that folder's. Otherwise, in a release, they are those in its `lib/`.
+//! Otherwise they are the repository's, which `make -C c` proves and builds if one is missing or older than
 //! its sources. That takes minutes and needs the kit's `rt`; a warning says so before it begins.
 use std::path::{Path, PathBuf};
 use std::process::Command;
@@ -78,7 +78,8 @@ fn folder(name: &str) -> PathBuf {
         return PathBuf::from(named);
     }
     let own = PathBuf::from(env::var_os("CARGO_MANIFEST_DIR").expect("cargo sets it"));
-    let (released, root) = (own.join("../lib"), own.join("../.."));
+    let root = own.join("../..");
+    let released = root.join("lib");
     if released.join(archive(name)).exists() {
         return released;
     }
