@@ -30,7 +30,8 @@ def commands(lines):
 def script(lines, runner):
     """The command that runs a script, and the replies, each of which is next to its line."""
     rows = [re.split(r" {2,}", line, maxsplit=1) for line in lines.splitlines()]
-    return "\n".join([f"{runner} <<'END' # {rows[0][0]} ..", *(row[0] for row in rows), "END"]), [reply for _, reply in rows]
+    command = [f"{runner} <<'END' # {rows[0][0]} ..", *(row[0] for row in rows), "END"]
+    return "\n".join(command), [reply for _, reply in rows]
 
 
 def as_pattern(lines):
@@ -41,9 +42,10 @@ def as_pattern(lines):
 
 def ran(folder, asked, environment=None):
     """What each command of a shell prints that begins in a folder, its status and its seconds."""
-    script = "".join(f"{command}\necho\necho '{MARK}' $? $SECONDS\n" for command in asked)
-    how = {"cwd": folder, "env": environment, "stdout": subprocess.PIPE, "stderr": subprocess.STDOUT, "stdin": subprocess.DEVNULL}
-    said = subprocess.run(["bash", "-c", script], timeout=SECONDS, text=True, errors="replace", **how).stdout
+    script = "".join(f"{command}\nended=$?\necho\necho '{MARK}' $ended $SECONDS\n" for command in asked)
+    how = {"cwd": folder, "env": environment, "stdin": subprocess.DEVNULL, "stdout": subprocess.PIPE}
+    how |= {"stderr": subprocess.STDOUT, "text": True, "errors": "replace"}
+    said = subprocess.run(["bash", "-c", script], timeout=SECONDS, **how).stdout
     return [(text[:-1] if text.endswith("\n\n") or text == "\n" else text, int(status), int(at))
             for text, status, at in re.findall(rf"(.*?){MARK} (\d+) (\d+)\n", said, re.S)]
 
@@ -54,8 +56,8 @@ def without_which(text):
 
 
 def fits(lines, said, status):
-    """Whether a command printed what is written; if nothing is written, whether it ended with 0."""
-    if not lines:
+    """Whether a command printed what is written; if that may be anything, whether it ended with 0."""
+    if all(line.strip() == "..." for line in lines):
         return status == 0
     wanted = without_which("".join(f"{line}\n" for line in lines)).splitlines()
     plain = "".join(f"{line.rstrip()}\n" for line in without_which(said).rstrip("\n").split("\n"))
