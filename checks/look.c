@@ -3,9 +3,8 @@
 
 static void look_at_roles(const struct tower *tower, uint32_t *roles) {
     for (uint32_t frame = 0; frame < tower_frames(tower); frame++) {
-        struct tower_role role = {99, 99, 99, 99};
-        tower_role(tower, frame, &role);
-        *roles++ = role.kind;
+        struct tower_role role = {0, 0, 0, 0};
+        *roles++ = tower_role(tower, frame, &role) ? role.kind : 99;
         *roles++ = role.pid;
         *roles++ = role.slot;
         *roles++ = role.count;
@@ -30,7 +29,7 @@ void look(const struct tower *tower, uint32_t *roles, uint32_t *containers, uint
     look_at_roles(tower, roles);
     look_at_containers(tower, containers);
     for (uint32_t pid = 0; pid < TOWER_PROCESSES; pid++) {
-        directories[pid] = UINT32_MAX;
-        tower_directory(tower, pid, &directories[pid]);
+        uint32_t frame = 0;
+        directories[pid] = tower_directory(tower, pid, &frame) ? frame : UINT32_MAX;
     }
 }

@@ -1,6 +1,7 @@
 /* Measures calls through the library: the nanoseconds of a million loads, and of a million maps with unmaps, the best
  * of fifteen runs. Also measures one copy of a page's 4,096 bytes, in each of five ways. */
 #include <stdio.h>
+#include <stdlib.h>
 #include <string.h>
 #include <time.h>
 
@@ -10,6 +11,12 @@ enum { TIMES = 1000000, RUNS = 15 };
 
 static struct tower tower = TOWER_NONE;
 
+static void need(bool holds) {
+    if (!holds) {
+        abort();
+    }
+}
+
 static unsigned long long now(void) {
     struct timespec at;
     clock_gettime(CLOCK_MONOTONIC, &at);
@@ -17,23 +24,22 @@ static unsigned long long now(void) {
 }
 
 static unsigned long long loads(void) {
-    struct tower_event load = {.call = TOWER_LOAD, .flag = 4, .first = 0x40000000};
+    struct tower_event load = tower_load(0, 0x40000000, 4);
     struct tower_reply reply;
     unsigned long long start = now();
     for (int i = 0; i < TIMES; i++) {
-        tower_step(&tower, &load, &reply);
+        need(tower_step(&tower, &load, &reply));
     }
     return now() - start;
 }
 
 static unsigned long long maps(void) {
-    struct tower_event map = {.call = TOWER_MAP, .flag = 1, .first = 0x40001};
-    struct tower_event unmap = {.call = TOWER_UNMAP, .first = 0x40001};
+    struct tower_event map = tower_map(0, 0x40001, TOWER_READ_WRITE), unmap = tower_unmap(0, 0x40001);
     struct tower_reply reply;
     unsigned long long start = now();
     for (int i = 0; i < TIMES; i++) {
-        tower_step(&tower, &map, &reply);
-        tower_step(&tower, &unmap, &reply);
+        need(tower_step(&tower, &map, &reply));
+        need(tower_step(&tower, &unmap, &reply));
     }
     return now() - start;
 }
@@ -45,11 +51,11 @@ static uint8_t copy[BYTES];
 
 /* Copies a page with loads of four bytes. */
 static void by_events(void) {
-    struct tower_event load = {.call = TOWER_LOAD, .flag = 4};
+    struct tower_event load = tower_load(0, 0, 4);
     struct tower_reply reply;
     for (uint32_t at = 0; at < BYTES; at += 4) {
         load.first = FROM + at;
-        tower_step(&tower, &load, &reply);
+        need(tower_step(&tower, &load, &reply));
         memcpy(copy + at, &reply.first, 4);
     }
 }
@@ -59,9 +65,9 @@ static void by_run(void) {
     static struct tower_event events[BYTES / 4];
     static struct tower_reply replies[BYTES / 4];
     for (uint32_t i = 0; i < BYTES / 4; i++) {
-        events[i] = (struct tower_event){.call = TOWER_LOAD, .flag = 4, .first = FROM + 4 * i};
+        events[i] = tower_load(0, FROM + 4 * i, 4);
     }
-    tower_run(&tower, events, BYTES / 4, replies, BYTES / 4);
+    need(tower_run(&tower, events, BYTES / 4, replies, BYTES / 4));
     for (uint32_t i = 0; i < BYTES / 4; i++) {
         memcpy(copy + 4 * i, &replies[i].first, 4);
     }
@@ -70,21 +76,21 @@ static void by_run(void) {
 static void by_read(void) {
     struct tower_reply stop;
     size_t moved;
-    tower_read(&tower, 0, FROM, copy, BYTES, &moved, &stop);
+    need(tower_read(&tower, 0, FROM, copy, BYTES, &moved, &stop));
 }
 
 static void by_write(void) {
     struct tower_reply stop;
     size_t moved;
-    tower_write(&tower, 0, FROM, copy, BYTES, &moved, &stop);
+    need(tower_write(&tower, 0, FROM, copy, BYTES, &moved, &stop));
 }
 
 /* Copies a page with a walk of the tables, from the memory to which the walk leads. */
 static void by_walk(void) {
     struct tower_memory memory;
     struct tower_walk found;
-    tower_memory(&tower, &memory);
-    tower_walk(&tower, 0, FROM, false, &found);
+    need(tower_memory(&tower, &memory));
+    need(tower_walk(&tower, 0, FROM, false, &found));
     memcpy(copy, (const uint8_t *)memory.begins + (size_t)BYTES * found.frame, BYTES);
 }
 
@@ -102,7 +108,7 @@ static unsigned long long least(unsigned long long one, unsigned long long other
 }
 
 int main(void) {
-    struct tower_event store = {.call = TOWER_STORE, .flag = 4, .first = 0x40000000, .second = 7};
+    struct tower_event store = tower_store(0, 0x40000000, 4, 7);
     struct tower_reply reply;
     unsigned long long load = ~0ull, map = ~0ull;
     if (tower_boot(4096, &tower) != TOWER_BOOTED || !tower_step(&tower, &store, &reply)) {

@@ -26,6 +26,15 @@
 extern "C" {
 #endif
 
+/* A compiler warns if the result of a function with this mark is not used. */
+#if defined(__cplusplus) ? __cplusplus >= 201703L : defined(__STDC_VERSION__) && __STDC_VERSION__ >= 202311L
+#define TOWER_NODISCARD [[nodiscard]]
+#elif defined(__GNUC__)
+#define TOWER_NODISCARD __attribute__((warn_unused_result))
+#else
+#define TOWER_NODISCARD
+#endif
+
 /* The header's version: 10,000 for each major version, 100 for each minor one, 1 for each patch.
  * tower_version() returns the library's. */
 #define TOWER_VERSION 200
@@ -69,6 +78,9 @@ static inline const char *tower_status_name(uint32_t status) {
     default: return "";
     }
 }
+
+/* Quota is a call, a kind of reply and a cause: TOWER_QUOTA, TOWER_USAGE and TOWER_OVER_QUOTA. Info is a call and a
+ * kind: TOWER_INFO and TOWER_FLAGS. The functions for names return the names of docs/MACHINE.md, which are alike. */
 
 /* The calls, and what each takes:    flag                first          second    third  */
 enum tower_call {
@@ -118,6 +130,86 @@ struct tower_event {
     uint32_t second;
     uint32_t third;
 };
+
+/* The right of Map, Protect and Offer, which a script calls `ro` and `rw`. */
+enum tower_right {
+    TOWER_READ_ONLY = 0,
+    TOWER_READ_WRITE = 1,
+};
+
+/* A number in a byte. One that is too large becomes 255, which is no process, size or right. */
+static inline uint8_t tower_byte(uint32_t number) {
+    return number < 255 ? (uint8_t)number : (uint8_t)255;
+}
+
+/* An event of these numbers, from CPU 0. */
+static inline struct tower_event tower_event_of(uint32_t pid, uint32_t call, uint32_t flag, uint32_t first,
+                                                uint32_t second, uint32_t third) {
+    struct tower_event event = {0, tower_byte(pid), tower_byte(call), tower_byte(flag), first, second, third};
+    return event;
+}
+
+/* The same event from another CPU. The CPU has no effect; a log may want it. */
+static inline struct tower_event tower_on_cpu(uint8_t cpu, struct tower_event event) {
+    event.cpu = cpu;
+    return event;
+}
+
+/* Each call as an event of process pid, from CPU 0. The arguments are in the order of docs/MACHINE.md. If the process,
+ * the size or the right is no such number, tower_step replies TOWER_NO_EVENT. A size is 1, 2 or 4, a right one of enum
+ * tower_right. */
+static inline struct tower_event tower_load(uint32_t pid, uint32_t address, uint32_t size) {
+    return tower_event_of(pid, TOWER_LOAD, size, address, 0, 0);
+}
+
+static inline struct tower_event tower_store(uint32_t pid, uint32_t address, uint32_t size, uint32_t value) {
+    return tower_event_of(pid, TOWER_STORE, size, address, value, 0);
+}
+
+static inline struct tower_event tower_map(uint32_t pid, uint32_t page, uint32_t right) {
+    return tower_event_of(pid, TOWER_MAP, right, page, 0, 0);
+}
+
+static inline struct tower_event tower_unmap(uint32_t pid, uint32_t page) {
+    return tower_event_of(pid, TOWER_UNMAP, 0, page, 0, 0);
+}
+
+static inline struct tower_event tower_protect(uint32_t pid, uint32_t page, uint32_t right) {
+    return tower_event_of(pid, TOWER_PROTECT, right, page, 0, 0);
+}
+
+static inline struct tower_event tower_info(uint32_t pid, uint32_t page) {
+    return tower_event_of(pid, TOWER_INFO, 0, page, 0, 0);
+}
+
+static inline struct tower_event tower_offer(uint32_t pid, uint32_t page, uint32_t target, uint32_t right) {
+    return tower_event_of(pid, TOWER_OFFER, right, page, target, 0);
+}
+
+static inline struct tower_event tower_withdraw(uint32_t pid, uint32_t page, uint32_t target) {
+    return tower_event_of(pid, TOWER_WITHDRAW, 0, page, target, 0);
+}
+
+/* `page` is the process's own page, at which it maps giver_page of the giver. */
+static inline struct tower_event tower_accept(uint32_t pid, uint32_t giver, uint32_t giver_page, uint32_t page) {
+    return tower_event_of(pid, TOWER_ACCEPT, 0, giver_page, giver, page);
+}
+
+static inline struct tower_event tower_spawn(uint32_t pid, uint32_t quota) {
+    return tower_event_of(pid, TOWER_SPAWN, 0, quota, 0, 0);
+}
+
+static inline struct tower_event tower_exit(uint32_t pid) {
+    return tower_event_of(pid, TOWER_EXIT, 0, 0, 0, 0);
+}
+
+static inline struct tower_event tower_quota(uint32_t pid) {
+    return tower_event_of(pid, TOWER_QUOTA, 0, 0, 0, 0);
+}
+
+static inline struct tower_event tower_fork(uint32_t pid, uint32_t quota) {
+    return tower_event_of(pid, TOWER_FORK, 0, quota, 0, 0);
+}
 
 /* The kinds of replies, and what each has:     first      second   third  */
 enum tower_kind {
@@ -268,25 +360,25 @@ uint32_t tower_version(void);
 
 /* Boots a core of 16 to TOWER_MAX_FRAMES frames, and returns a status. Of the functions here only this one and
  * tower_boot_wide allocate, and only tower_free and a boot that fails free. */
-uint32_t tower_boot(uint32_t frames, struct tower *tower);
+TOWER_NODISCARD uint32_t tower_boot(uint32_t frames, struct tower *tower);
 
 /* Boots a core as tower_boot does, but of 16 to TOWER_WIDE_FRAMES frames. */
-uint32_t tower_boot_wide(uint32_t frames, struct tower *tower);
+TOWER_NODISCARD uint32_t tower_boot_wide(uint32_t frames, struct tower *tower);
 
 /* Carries out one event. False if the handle has no core; then nothing is written. */
-bool tower_step(struct tower *tower, const struct tower_event *event, struct tower_reply *reply);
+TOWER_NODISCARD bool tower_step(struct tower *tower, const struct tower_event *event, struct tower_reply *reply);
 
 /* Carries out events in order. False if the handle has no core or the lengths differ; then nothing is
  * written. */
-bool tower_run(struct tower *tower, const struct tower_event *events, size_t event_count,
-               struct tower_reply *replies, size_t reply_count);
+TOWER_NODISCARD bool tower_run(struct tower *tower, const struct tower_event *events, size_t event_count,
+                               struct tower_reply *replies, size_t reply_count);
 
 /* Carries out events in order up to the first that is refused, faults or is no event. Writes the reply to each in its
  * place, and to that one too; the other places are unchanged. `carried` becomes the number of events carried out, which
  * is the place of that one. If all were carried out, it is their number. False as for tower_run; then nothing is
  * written. */
-bool tower_run_until(struct tower *tower, const struct tower_event *events, size_t event_count,
-                     struct tower_reply *replies, size_t reply_count, size_t *carried);
+TOWER_NODISCARD bool tower_run_until(struct tower *tower, const struct tower_event *events, size_t event_count,
+                                     struct tower_reply *replies, size_t reply_count, size_t *carried);
 
 /* Copy a process's memory out and in, as copyin and copyout do, with the effect of one-byte loads, or stores, in order,
  * up to the first that is refused or faults. `moved` becomes the number of bytes copied, and `stop` what stopped the
@@ -298,22 +390,22 @@ bool tower_run_until(struct tower *tower, const struct tower_event *events, size
  * event.
  *
  * False if the handle has no core; then nothing is written. */
-bool tower_read(struct tower *tower, uint32_t pid, uint32_t address, uint8_t *bytes, size_t byte_count, size_t *moved,
-                struct tower_reply *stop);
-bool tower_write(struct tower *tower, uint32_t pid, uint32_t address, const uint8_t *bytes, size_t byte_count,
-                 size_t *moved, struct tower_reply *stop);
+TOWER_NODISCARD bool tower_read(struct tower *tower, uint32_t pid, uint32_t address, uint8_t *bytes,
+                                size_t byte_count, size_t *moved, struct tower_reply *stop);
+TOWER_NODISCARD bool tower_write(struct tower *tower, uint32_t pid, uint32_t address, const uint8_t *bytes,
+                                 size_t byte_count, size_t *moved, struct tower_reply *stop);
 
 /* Which cached translations an event will end. A processor that caches what its walks gave invalidates these once the
  * event is carried out, and no others. It changes nothing of the core. False if the handle has no core or the numbers
  * are no event; then nothing is written. */
-bool tower_ends(const struct tower *tower, const struct tower_event *event, struct tower_ended *ended);
+TOWER_NODISCARD bool tower_ends(const struct tower *tower, const struct tower_event *event, struct tower_ended *ended);
 
 /* Carries out one event, as tower_step does, and reports the cached translations that tower_ends would have reported
  * before it. A kernel whose processors cache what their walks gave invalidates these, on all processors, before the
  * next access or event. An event that was refused, faulted or was no event ends nothing. False if the handle has no
  * core; then nothing is written. What was ended is for the kernel; do not pass it on to a process. */
-bool tower_step_ending(struct tower *tower, const struct tower_event *event, struct tower_reply *reply,
-                       struct tower_ended *ended);
+TOWER_NODISCARD bool tower_step_ending(struct tower *tower, const struct tower_event *event, struct tower_reply *reply,
+                                       struct tower_ended *ended);
 
 /* How many frames the core has; 0 if the handle has no core. */
 uint32_t tower_frames(const struct tower *tower);
@@ -322,11 +414,12 @@ uint32_t tower_frames(const struct tower *tower);
  * is a core, and a live process of that number or such a frame. A walk is that of a load, or of a store
  * if `write` is true, at the first byte of the access; it sets no flag. A copy also returns false if
  * byte_count is not TOWER_FRAME_BYTES. */
-bool tower_directory(const struct tower *tower, uint32_t pid, uint32_t *frame);
-bool tower_container(const struct tower *tower, uint32_t pid, struct tower_container *container);
-bool tower_role(const struct tower *tower, uint32_t frame, struct tower_role *role);
-bool tower_walk(const struct tower *tower, uint32_t pid, uint32_t address, bool write, struct tower_walk *found);
-bool tower_copy_frame(const struct tower *tower, uint32_t frame, uint8_t *bytes, size_t byte_count);
+TOWER_NODISCARD bool tower_directory(const struct tower *tower, uint32_t pid, uint32_t *frame);
+TOWER_NODISCARD bool tower_container(const struct tower *tower, uint32_t pid, struct tower_container *container);
+TOWER_NODISCARD bool tower_role(const struct tower *tower, uint32_t frame, struct tower_role *role);
+TOWER_NODISCARD bool tower_walk(const struct tower *tower, uint32_t pid, uint32_t address, bool write,
+                                struct tower_walk *found);
+TOWER_NODISCARD bool tower_copy_frame(const struct tower *tower, uint32_t frame, uint8_t *bytes, size_t byte_count);
 
 /* The state of a mapped page. */
 struct tower_page {
@@ -341,7 +434,8 @@ struct tower_page {
 /* Finds the lowest page from `from` on that a process has mapped, and its state. It changes nothing of the core. False
  * if there is no core, pid is no process's number, or the process has no page from there on; then nothing is written.
  * To iterate over all pages, begin with 0, and continue with the page after the one returned. */
-bool tower_next_page(const struct tower *tower, uint32_t pid, uint32_t from, uint32_t *page, struct tower_page *found);
+TOWER_NODISCARD bool tower_next_page(const struct tower *tower, uint32_t pid, uint32_t from, uint32_t *page,
+                                     struct tower_page *found);
 
 /* Where the core's memory lies, from the boot until tower_free: frame f is the 4,096 bytes from place
  * 4,096 f on. It begins where rattle_alloc put the block. Between two calls only a processor that walks the
@@ -351,10 +445,49 @@ struct tower_memory {
     void *begins;
     size_t length;
 };
-bool tower_memory(const struct tower *tower, struct tower_memory *memory);
+TOWER_NODISCARD bool tower_memory(const struct tower *tower, struct tower_memory *memory);
 
 /* Frees the core, if the handle has one. The handle may be booted again. */
 void tower_free(struct tower *tower);
+
+/* How an event ended. */
+enum tower_outcome {
+    TOWER_OUTCOME_DONE = 0,      /* it was carried out, and the reply has what the call returns */
+    TOWER_OUTCOME_REFUSED = 1,   /* the reply has the cause */
+    TOWER_OUTCOME_FAULT = 2,     /* the reply has the address and the code */
+    TOWER_OUTCOME_NO_EVENT = 3,  /* the numbers are no event */
+    TOWER_OUTCOME_NO_CORE = 4,   /* the handle has no core, and no reply was written */
+};
+
+/* The name of an outcome; "" for a number that is no outcome. */
+static inline const char *tower_outcome_name(uint32_t outcome) {
+    switch (outcome) {
+    case TOWER_OUTCOME_DONE: return "Done";
+    case TOWER_OUTCOME_REFUSED: return "Refused";
+    case TOWER_OUTCOME_FAULT: return "Fault";
+    case TOWER_OUTCOME_NO_EVENT: return "NoEvent";
+    case TOWER_OUTCOME_NO_CORE: return "NoCore";
+    default: return "";
+    }
+}
+
+/* How the event ended that has this reply. */
+TOWER_NODISCARD static inline enum tower_outcome tower_outcome_of(const struct tower_reply *reply) {
+    switch (reply->kind) {
+    case TOWER_REFUSED: return TOWER_OUTCOME_REFUSED;
+    case TOWER_FAULT: return TOWER_OUTCOME_FAULT;
+    case TOWER_NO_EVENT: return TOWER_OUTCOME_NO_EVENT;
+    default: return TOWER_OUTCOME_DONE;
+    }
+}
+
+/* Carries out one event, as tower_step does, and returns how it ended. `reply` may be NULL. */
+TOWER_NODISCARD static inline enum tower_outcome tower_do(struct tower *tower, struct tower_event event,
+                                                          struct tower_reply *reply) {
+    struct tower_reply own;
+    struct tower_reply *to = reply ? reply : &own;
+    return tower_step(tower, &event, to) ? tower_outcome_of(to) : TOWER_OUTCOME_NO_CORE;
+}
 
 #ifdef __cplusplus
 }

@@ -8,6 +8,7 @@
 #define TOWER_IMAGES_H
 
 #include "tower.h"
+#include "tower_text.h"
 
 #ifdef __cplusplus
 extern "C" {
@@ -47,19 +48,82 @@ struct tower_verdict {
     uint32_t clause;
 };
 
+/* The names of these statuses, of the reasons against bytes, and of a clause of docs/IMAGES.md: "P1" to "P7" for
+ * TOWER_PROCESS_FAILS, "F1" to "F5" for TOWER_FRAME_FAILS. "" for any other number. */
+static inline const char *tower_image_status_name(uint32_t status) {
+    switch (status) {
+    case TOWER_IMAGE_WRITTEN: return "Written";
+    case TOWER_IMAGE_NO_CORE: return "NoCore";
+    case TOWER_IMAGE_NO_MEMORY: return "NoMemory";
+    case TOWER_IMAGE_TOO_SHORT: return "TooShort";
+    default: return "";
+    }
+}
+
+static inline const char *tower_check_status_name(uint32_t status) {
+    switch (status) {
+    case TOWER_SOUND: return "Sound";
+    case TOWER_CHECK_NO_CORE: return "NoCore";
+    case TOWER_CHECK_NO_MEMORY: return "NoMemory";
+    case TOWER_PROCESS_FAILS: return "ProcessFails";
+    case TOWER_FRAME_FAILS: return "FrameFails";
+    case TOWER_NOT_IMAGE: return "NotImage";
+    default: return "";
+    }
+}
+
+static inline const char *tower_image_fault_name(uint32_t fault) {
+    switch (fault) {
+    case TOWER_FAULT_NOT_IMAGE: return "NotImage";
+    case TOWER_FAULT_BAD_LENGTH: return "BadLength";
+    case TOWER_FAULT_BAD_VERSION: return "BadVersion";
+    case TOWER_FAULT_BAD_FIELD: return "BadField";
+    default: return "";
+    }
+}
+
+static inline const char *tower_clause_name(uint32_t status, uint32_t clause) {
+    static const char *const names[2][7] = {{"P1", "P2", "P3", "P4", "P5", "P6", "P7"},
+                                            {"F1", "F2", "F3", "F4", "F5", "", ""}};
+    bool is_clause = (status == TOWER_PROCESS_FAILS || status == TOWER_FRAME_FAILS) && clause - 1 < 7;
+    return is_clause ? names[status - TOWER_PROCESS_FAILS][clause - 1] : "";
+}
+
+/* Writes the verdict with a status of 0 or 3 to 5 as `tower check` prints it, such as "sound", "process 3 P2", "frame 9
+ * F4" or "bad field at byte 16". With any other status the text is empty. The rest is as in tower_text.h. */
+static inline size_t tower_verdict_text(uint32_t status, const struct tower_verdict *verdict, char *to, size_t size) {
+    static const char *const faults[] = {"not an image", "wrong image length", "unknown image version",
+                                         "bad field at byte"};
+    struct tower_text text = {to, size, 0};
+    if (status == TOWER_SOUND) {
+        tower_put_letters(&text, "sound");
+    } else if (status == TOWER_PROCESS_FAILS || status == TOWER_FRAME_FAILS) {
+        tower_put_letters(&text, status == TOWER_PROCESS_FAILS ? "process" : "frame");
+        tower_put_decimal(&text, verdict->number);
+        tower_put_letter(&text, ' ');
+        tower_put_letters(&text, tower_clause_name(status, verdict->clause));
+    } else if (status == TOWER_NOT_IMAGE && verdict->clause - 1 < 4) {
+        tower_put_letters(&text, faults[verdict->clause - 1]);
+        if (verdict->clause == TOWER_FAULT_BAD_FIELD) {
+            tower_put_decimal(&text, verdict->number);
+        }
+    }
+    return tower_end_text(&text);
+}
+
 /* Writes the image of the core at the start of `bytes`. `size` becomes the number of bytes that the image has, whenever
  * there is a core; call it with a count of 0 to get only the size. If the status is not TOWER_IMAGE_WRITTEN, no byte is
  * written. It changes nothing of the core. */
-uint32_t tower_image(const struct tower *tower, uint8_t *bytes, size_t byte_count, size_t *size);
+TOWER_NODISCARD uint32_t tower_image(const struct tower *tower, uint8_t *bytes, size_t byte_count, size_t *size);
 
 /* Checks the image of the core, and changes nothing of the core. It is proved that the status is TOWER_SOUND,
  * TOWER_CHECK_NO_CORE or TOWER_CHECK_NO_MEMORY, and that nothing is written. TOWER_PROCESS_FAILS or TOWER_FRAME_FAILS
  * says that something else wrote in the core's memory, or that C breaks a requirement of tower.h. */
-uint32_t tower_check(const struct tower *tower, struct tower_verdict *verdict);
+TOWER_NODISCARD uint32_t tower_check(const struct tower *tower, struct tower_verdict *verdict);
 
 /* Checks the image that bytes encode, whatever wrote them. It takes no handle. The verdict is written if something
  * fails, or the bytes encode no image; otherwise it is unchanged. */
-uint32_t tower_check_bytes(const uint8_t *bytes, size_t byte_count, struct tower_verdict *verdict);
+TOWER_NODISCARD uint32_t tower_check_bytes(const uint8_t *bytes, size_t byte_count, struct tower_verdict *verdict);
 
 /* The statuses of a restore, in addition to TOWER_PROCESS_FAILS, TOWER_FRAME_FAILS and TOWER_NOT_IMAGE. */
 enum tower_restore_status {
@@ -69,10 +133,25 @@ enum tower_restore_status {
     TOWER_RESTORE_OLD_WORDS = 6,  /* the image is of version 1 */
 };
 
+/* The name of a status of tower_restore; "" for a number that is no status. */
+static inline const char *tower_restore_status_name(uint32_t status) {
+    switch (status) {
+    case TOWER_RESTORED: return "Restored";
+    case TOWER_RESTORE_HAS_CORE: return "HasCore";
+    case TOWER_RESTORE_NO_MEMORY: return "NoMemory";
+    case TOWER_PROCESS_FAILS: return "ProcessFails";
+    case TOWER_FRAME_FAILS: return "FrameFails";
+    case TOWER_NOT_IMAGE: return "NotImage";
+    case TOWER_RESTORE_OLD_WORDS: return "OldWords";
+    default: return "";
+    }
+}
+
 /* Restores a core from the image that bytes encode, if the handle has no core. Its state is the one that the image
  * represents, and no offer is pending. With any status but TOWER_RESTORED the handle is unchanged. The verdict is
  * written as tower_check_bytes writes it. */
-uint32_t tower_restore(const uint8_t *bytes, size_t byte_count, struct tower *tower, struct tower_verdict *verdict);
+TOWER_NODISCARD uint32_t tower_restore(const uint8_t *bytes, size_t byte_count, struct tower *tower,
+                                       struct tower_verdict *verdict);
 
 #ifdef __cplusplus
 }

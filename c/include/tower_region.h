@@ -37,10 +37,15 @@ uint32_t tower_frames_within(size_t size);
 
 /* Boots a core of that many frames over a block. With any status but TOWER_BOOTED the block stays the caller's. Its
  * bytes may have changed if that is TOWER_NO_MEMORY, and are unchanged at any other. tower_free frees the core. */
-uint32_t tower_boot_over(uint32_t frames, struct tower *tower, void *block, size_t size);
+TOWER_NODISCARD uint32_t tower_boot_over(uint32_t frames, struct tower *tower, void *block, size_t size);
+
+/* The name of a status of tower_boot_over; "" for a number that is no status. */
+static inline const char *tower_boot_over_status_name(uint32_t status) {
+    return status == TOWER_BAD_BLOCK ? "BadBlock" : tower_status_name(status);
+}
 
 /* Whether a byte lies in a core's block. */
-bool tower_holds(const void *byte);
+TOWER_NODISCARD bool tower_holds(const void *byte);
 
 /* Functions for memory that is requested outside tower_boot_over, as by tower_boot or for an image. At first there are
  * none, and such a request is refused. Once they are set, all of a program's blocks that are in no region come from

@@ -58,17 +58,15 @@ static void leave(long status) {
 
 static bool answers(struct tower *tower, struct tower_event event, uint32_t kind, uint32_t first) {
     struct tower_reply reply = {0};
-    return tower_step(tower, &event, &reply) && reply.kind == kind && reply.first == first;
+    return tower_do(tower, event, &reply) == TOWER_OUTCOME_DONE && reply.kind == kind && reply.first == first;
 }
 
 static long tried_out(void) {
     static struct tower tower, big;
     if (tower_boot(64, &tower) != TOWER_BOOTED) return 1;
-    if (!answers(&tower, (struct tower_event){.call = TOWER_MAP, .flag = 1, .first = PAGE}, TOWER_DONE, 0)) return 2;
-    if (!answers(&tower, (struct tower_event){.call = TOWER_STORE, .flag = 4, .first = ADDRESS, .second = 77},
-                 TOWER_DONE, 0)) return 3;
-    if (!answers(&tower, (struct tower_event){.call = TOWER_LOAD, .flag = 4, .first = ADDRESS}, TOWER_VALUE, 77))
-        return 4;
+    if (!answers(&tower, tower_map(0, PAGE, TOWER_READ_WRITE), TOWER_DONE, 0)) return 2;
+    if (!answers(&tower, tower_store(0, ADDRESS, 4, 77), TOWER_DONE, 0)) return 3;
+    if (!answers(&tower, tower_load(0, ADDRESS, 4), TOWER_VALUE, 77)) return 4;
     if (tower_boot(4096, &big) != TOWER_NO_MEMORY || big.live) return 5;
     tower_free(&tower);
     if (blocks != 0) return 6;

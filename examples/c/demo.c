@@ -26,22 +26,22 @@ static void need(bool holds, const char *what) {
 
 static struct tower_reply call(struct tower_event event) {
     struct tower_reply reply = {0};
-    need(tower_step(&tower, &event, &reply), "a call is answered");
+    need(tower_do(&tower, event, &reply) != TOWER_OUTCOME_NO_CORE, "a call is answered");
     return reply;
 }
 
 static bool is_done(struct tower_event event) {
-    return call(event).kind == TOWER_DONE;
+    return tower_do(&tower, event, NULL) == TOWER_OUTCOME_DONE;
 }
 
 static bool is_refused(struct tower_event event, enum tower_cause cause) {
-    struct tower_reply reply = call(event);
-    return reply.kind == TOWER_REFUSED && reply.first == cause;
+    struct tower_reply reply = {0};
+    return tower_do(&tower, event, &reply) == TOWER_OUTCOME_REFUSED && reply.first == cause;
 }
 
 static bool faults(struct tower_event event, uint32_t code) {
-    struct tower_reply reply = call(event);
-    return reply.kind == TOWER_FAULT && reply.first == event.first && reply.second == code;
+    struct tower_reply reply = {0};
+    return tower_do(&tower, event, &reply) == TOWER_OUTCOME_FAULT && reply.first == event.first && reply.second == code;
 }
 
 static bool loads(struct tower_event event, uint32_t value) {
@@ -67,56 +67,77 @@ static bool walk_faults(uint32_t pid, uint32_t address, bool write, uint32_t cod
 }
 
 static void boots(void) {
-    struct tower_event quota = {.call = TOWER_QUOTA};
+    struct tower_event quota = tower_quota(0);
     struct tower_reply reply = {.kind = 99};
     expect(!tower_step(&tower, &quota, &reply) && reply.kind == 99, "no core, no reply");
+    expect(tower_do(&tower, quota, &reply) == TOWER_OUTCOME_NO_CORE && reply.kind == 99, "and so it is told");
     expect(tower_boot(15, &tower) == TOWER_BAD_SIZE && !tower.live, "15 frames are too few");
     expect(tower_boot(64, &tower) == TOWER_BOOTED && tower_frames(&tower) == 64, "64 frames boot");
     expect(tower_boot(64, &tower) == TOWER_HAS_CORE, "a second core is refused");
 }
 
 static void maps_and_loads(void) {
-    expect(is_done((struct tower_event){.call = TOWER_MAP, .flag = 1, .first = PAGE}), "a page is mapped");
-    expect(is_refused((struct tower_event){.call = TOWER_MAP, .flag = 1, .first = PAGE}, TOWER_MAPPED), "but once");
-    expect(is_done((struct tower_event){.call = TOWER_STORE, .flag = 4, .first = ADDRESS + 8, .second = WORD}),
-           "a word is stored");
-    expect(loads((struct tower_event){.call = TOWER_LOAD, .flag = 4, .first = ADDRESS + 8}, WORD), "and loaded");
-    expect(loads((struct tower_event){.call = TOWER_LOAD, .flag = 1, .first = ADDRESS + 9}, 0x33),
-           "its second byte too");
-    expect(faults((struct tower_event){.call = TOWER_LOAD, .flag = 4, .first = 0x1000}, 4),
-           "below the user range it faults");
-    expect(loads((struct tower_event){.call = TOWER_LOAD, .flag = 2, .first = ADDRESS + 9}, WORD >> 8 & 0xffff),
-           "two bytes at an odd place");
-    expect(loads((struct tower_event){.call = TOWER_LOAD, .flag = 4, .first = ADDRESS + 4094}, 0),
-           "and four over two pages");
+    expect(is_done(tower_map(0, PAGE, TOWER_READ_WRITE)), "a page is mapped");
+    expect(is_refused(tower_map(0, PAGE, TOWER_READ_WRITE), TOWER_MAPPED), "but once");
+    expect(is_done(tower_store(0, ADDRESS + 8, 4, WORD)), "a word is stored");
+    expect(loads(tower_load(0, ADDRESS + 8, 4), WORD), "and loaded");
+    expect(loads(tower_load(0, ADDRESS + 9, 1), 0x33), "its second byte too");
+    expect(faults(tower_load(0, 0x1000, 4), 4), "below the user range it faults");
+    expect(loads(tower_load(0, ADDRESS + 9, 2), WORD >> 8 & 0xffff), "two bytes at an odd place");
+    expect(loads(tower_load(0, ADDRESS + 4094, 4), 0), "and four over two pages");
 }
 
 static void shares(void) {
-    struct tower_reply child = call((struct tower_event){.call = TOWER_SPAWN, .first = 10});
-    uint8_t pid = (uint8_t)child.first;
+    struct tower_reply child = call(tower_spawn(0, 10));
+    uint32_t pid = child.first;
     expect(child.kind == TOWER_CHILD && pid == 1, "process 1 is spawned");
-    expect(is_done((struct tower_event){.call = TOWER_OFFER, .first = PAGE, .second = pid}), "the page is offered");
-    expect(is_done((struct tower_event){
-               .pid = pid, .call = TOWER_ACCEPT, .first = PAGE, .second = 0, .third = OTHER_PAGE}),
-           "and accepted");
-    expect(loads((struct tower_event){.pid = pid, .call = TOWER_LOAD, .flag = 4, .first = (OTHER_PAGE << 12) + 8}, WORD),
-           "process 1 reads the word");
-    expect(faults((struct tower_event){.pid = pid, .call = TOWER_STORE, .flag = 4, .first = OTHER_PAGE << 12}, 7),
-           "and may not write");
+    expect(is_done(tower_offer(0, PAGE, pid, TOWER_READ_ONLY)), "the page is offered");
+    expect(is_done(tower_accept(pid, 0, PAGE, OTHER_PAGE)), "and accepted");
+    expect(loads(tower_load(pid, (OTHER_PAGE << 12) + 8, 4), WORD), "process 1 reads the word");
+    expect(faults(tower_store(pid, OTHER_PAGE << 12, 4, 0), 7), "and may not write");
     expect(walked(0, ADDRESS + 8) == WORD, "process 0's tables lead to it");
     expect(walked(pid, (OTHER_PAGE << 12) + 8) == WORD, "process 1's tables too");
     expect(walk_faults(pid, OTHER_PAGE << 12, true, 7), "by which it may not write");
     expect(walk_faults(pid, ADDRESS, false, 4), "and which lead to no other page");
 }
 
+static bool is_event(struct tower_event event, struct tower_event of) {
+    return memcmp(&event, &of, sizeof event) == 0;
+}
+
+/* Each constructor has the numbers of its call. A number that no byte has becomes one that is no event. */
+static void makes_events(void) {
+    expect(is_event(tower_load(1, 2, 4), (struct tower_event){0, 1, TOWER_LOAD, 4, 2, 0, 0}) &&
+               is_event(tower_store(1, 2, 4, 3), (struct tower_event){0, 1, TOWER_STORE, 4, 2, 3, 0}),
+           "a load and a store are made of numbers");
+    expect(is_event(tower_map(1, 2, TOWER_READ_WRITE), (struct tower_event){0, 1, TOWER_MAP, 1, 2, 0, 0}) &&
+               is_event(tower_unmap(1, 2), (struct tower_event){0, 1, TOWER_UNMAP, 0, 2, 0, 0}) &&
+               is_event(tower_protect(1, 2, TOWER_READ_WRITE), (struct tower_event){0, 1, TOWER_PROTECT, 1, 2, 0, 0}) &&
+               is_event(tower_info(1, 2), (struct tower_event){0, 1, TOWER_INFO, 0, 2, 0, 0}), "calls of pages too");
+    expect(is_event(tower_offer(1, 2, 3, TOWER_READ_WRITE), (struct tower_event){0, 1, TOWER_OFFER, 1, 2, 3, 0}) &&
+               is_event(tower_withdraw(1, 2, 3), (struct tower_event){0, 1, TOWER_WITHDRAW, 0, 2, 3, 0}) &&
+               is_event(tower_accept(1, 3, 2, 4), (struct tower_event){0, 1, TOWER_ACCEPT, 0, 2, 3, 4}),
+           "and of offers");
+    expect(is_event(tower_spawn(1, 2), (struct tower_event){0, 1, TOWER_SPAWN, 0, 2, 0, 0}) &&
+               is_event(tower_fork(1, 2), (struct tower_event){0, 1, TOWER_FORK, 0, 2, 0, 0}) &&
+               is_event(tower_exit(1), (struct tower_event){0, 1, TOWER_EXIT, 0, 0, 0, 0}) &&
+               is_event(tower_on_cpu(7, tower_quota(1)), (struct tower_event){7, 1, TOWER_QUOTA, 0, 0, 0, 0}),
+           "and of processes");
+    expect(tower_do(&tower, tower_quota(256), NULL) == TOWER_OUTCOME_NO_EVENT &&
+               tower_do(&tower, tower_load(0, ADDRESS, 260), NULL) == TOWER_OUTCOME_NO_EVENT &&
+               tower_do(&tower, tower_map(0, PAGE, 256), NULL) == TOWER_OUTCOME_NO_EVENT &&
+               tower_do(&tower, tower_offer(0, PAGE, 257, TOWER_READ_ONLY), NULL) == TOWER_OUTCOME_NO_EVENT,
+           "and numbers that are too large are no event");
+}
+
 /* A page that was loaded and never stored to has no frame yet. Its accept gives it one. That ends the giver's
  * translation, and none of the caller's. */
 static void tells_what_ends(void) {
     enum { LAZY = PAGE + 1 };
-    struct tower_event accept = {.pid = 1, .call = TOWER_ACCEPT, .first = LAZY, .second = 0, .third = OTHER_PAGE + 1};
+    struct tower_event accept = tower_accept(1, 0, LAZY, OTHER_PAGE + 1);
     struct tower_reply reply = {0};
     struct tower_ended before = {0}, ended = {0};
-    expect(is_done((struct tower_event){.call = TOWER_OFFER, .first = LAZY, .second = 1}), "a page with no frame is offered");
+    expect(is_done(tower_offer(0, LAZY, 1, TOWER_READ_ONLY)), "a page with no frame is offered");
     expect(tower_ends(&tower, &accept, &before) && before.kind == TOWER_ENDS_PAGE && before.pid == 0 && before.first == LAZY,
            "its accept will end the giver's translation");
     expect(tower_step_ending(&tower, &accept, &reply, &ended) && reply.kind == TOWER_DONE, "it is accepted");
@@ -154,11 +175,12 @@ static void names(void) {
            "and statuses");
     expect(is_named(tower_end_name(TOWER_WALK_OUTSIDE), "Outside") && is_named(tower_end_name(3), ""),
            "and ends of a walk");
+    expect(is_named(tower_outcome_name(TOWER_OUTCOME_NO_CORE), "NoCore") && is_named(tower_outcome_name(5), ""),
+           "and outcomes");
 }
 
 static void runs(void) {
-    struct tower_event events[3] = {
-        {.call = TOWER_LOAD, .flag = 4, .first = ADDRESS + 8}, {.call = 13}, {.pid = 64, .call = TOWER_QUOTA}};
+    struct tower_event events[3] = {tower_load(0, ADDRESS + 8, 4), {.call = 13}, tower_quota(64)};
     struct tower_reply replies[3] = {{0}};
     expect(!tower_run(&tower, events, 3, replies, 2), "three events want three replies");
     expect(tower_run(&tower, events, 3, replies, 3), "three events are run");
@@ -168,8 +190,8 @@ static void runs(void) {
 
 /* Stops at the second event, which is refused: the third is not made. */
 static void runs_until(void) {
-    struct tower_event map = {.call = TOWER_MAP, .flag = 1, .first = PAGE + 9};
-    struct tower_event events[3] = {map, map, {.call = TOWER_UNMAP, .first = PAGE + 9}};
+    struct tower_event map = tower_map(0, PAGE + 9, TOWER_READ_WRITE);
+    struct tower_event events[3] = {map, map, tower_unmap(0, PAGE + 9)};
     struct tower_reply replies[3] = {{.kind = 99}, {.kind = 99}, {.kind = 99}};
     size_t carried = 99;
     expect(!tower_run_until(&tower, events, 3, replies, 2, &carried) && carried == 99, "no room for a reply, no run");
@@ -190,8 +212,7 @@ static void copies(void) {
                stop.kind == TOWER_DONE, "6,000 bytes are written");
     expect(tower_read(&tower, 0, ADDRESS + 100, read, sizeof read, &moved, &stop) && moved == sizeof read &&
                memcmp(read, wrote, sizeof read) == 0, "and read again");
-    expect(loads((struct tower_event){.call = TOWER_LOAD, .flag = 1, .first = ADDRESS + 107}, 49),
-           "as a load reads them");
+    expect(loads(tower_load(0, ADDRESS + 107, 1), 49), "as a load reads them");
     expect(tower_write(&tower, 0, 0xeffffffe, wrote, 3, &moved, &stop) && moved == 2 && stop.kind == TOWER_FAULT &&
                stop.first == 0xf0000000, "a write stops at the first byte that faults");
     expect(tower_read(&tower, 64, ADDRESS, read, 1, &moved, &stop) && moved == 0 && stop.kind == TOWER_NO_EVENT,
@@ -216,6 +237,7 @@ int main(void) {
     boots();
     maps_and_loads();
     shares();
+    makes_events();
     tells_what_ends();
     asks();
     names();

@@ -34,15 +34,13 @@ static void other_dealloc(void *block) {
 
 static bool answers(struct tower *tower, struct tower_event event, uint32_t kind, uint32_t first_number) {
     struct tower_reply reply = {0};
-    return tower_step(tower, &event, &reply) && reply.kind == kind && reply.first == first_number;
+    return tower_do(tower, event, &reply) == TOWER_OUTCOME_DONE && reply.kind == kind && reply.first == first_number;
 }
 
 static bool works(struct tower *tower, uint32_t value) {
-    struct tower_event map = {.call = TOWER_MAP, .flag = 1, .first = PAGE};
-    struct tower_event store = {.call = TOWER_STORE, .flag = 4, .first = ADDRESS, .second = value};
-    struct tower_event load = {.call = TOWER_LOAD, .flag = 4, .first = ADDRESS};
-    return answers(tower, map, TOWER_DONE, 0) && answers(tower, store, TOWER_DONE, 0)
-        && answers(tower, load, TOWER_VALUE, value);
+    return answers(tower, tower_map(0, PAGE, TOWER_READ_WRITE), TOWER_DONE, 0)
+        && answers(tower, tower_store(0, ADDRESS, 4, value), TOWER_DONE, 0)
+        && answers(tower, tower_load(0, ADDRESS, 4), TOWER_VALUE, value);
 }
 
 int main(void) {
@@ -71,6 +69,8 @@ int main(void) {
     EXPECT(tower_boot_over(TOWER_WIDE_FRAMES + 1, &one, around, sizeof first) == TOWER_BAD_SIZE);
     EXPECT(tower_boot_over(UINT32_MAX, &one, around, sizeof first) == TOWER_BAD_SIZE);
     EXPECT(!one.live && !tower_holds(around));
+    EXPECT(strcmp(tower_boot_over_status_name(TOWER_BAD_BLOCK), "BadBlock") == 0);
+    EXPECT(strcmp(tower_boot_over_status_name(TOWER_BAD_SIZE), "BadSize") == 0);
     for (size_t at = 0; at < sizeof around; at++) {
         EXPECT(around[at] == 0x5a);
     }
@@ -97,7 +97,7 @@ int main(void) {
     /* two cores together, one of them wide */
     EXPECT(tower_boot_over(WIDE, &two, second, sizeof second) == TOWER_BOOTED);
     EXPECT(tower_frames(&two) == WIDE && works(&two, 78));
-    EXPECT(answers(&two, (struct tower_event){.call = TOWER_QUOTA}, TOWER_USAGE, WIDE - 1));
+    EXPECT(answers(&two, tower_quota(0), TOWER_USAGE, WIDE - 1));
 
     /* other requests are refused until they have functions of their own */
     EXPECT(tower_boot(FRAMES, &three) == TOWER_NO_MEMORY && !three.live);
@@ -110,12 +110,12 @@ int main(void) {
     tower_set_other_heap(NULL);
 
     /* freed in any order: the block is the caller's, and may be used for another core */
-    EXPECT(answers(&one, (struct tower_event){.call = TOWER_LOAD, .flag = 4, .first = ADDRESS}, TOWER_VALUE, 77));
+    EXPECT(answers(&one, tower_load(0, ADDRESS, 4), TOWER_VALUE, 77));
     tower_free(&one);
     EXPECT(!tower_holds(around + 4096) && tower_holds(second));
     tower_free(&one);
     memset(around, 0xa5, sizeof around);
-    EXPECT(answers(&two, (struct tower_event){.call = TOWER_LOAD, .flag = 4, .first = ADDRESS}, TOWER_VALUE, 78));
+    EXPECT(answers(&two, tower_load(0, ADDRESS, 4), TOWER_VALUE, 78));
     EXPECT(tower_boot_over(FRAMES, &one, around, sizeof around) == TOWER_BOOTED && works(&one, 80));
     tower_free(&two);
     tower_free(&one);

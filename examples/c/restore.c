@@ -22,15 +22,13 @@ static void expect(bool holds, const char *what) {
 
 static bool answers(struct tower *tower, struct tower_event event, uint32_t kind, uint32_t value) {
     struct tower_reply reply = {0};
-    return tower_step(tower, &event, &reply) && reply.kind == kind && reply.first == value;
+    return tower_do(tower, event, &reply) != TOWER_OUTCOME_NO_CORE && reply.kind == kind && reply.first == value;
 }
 
 /* Process 0 stores a word, and process 1 gets its page. */
 static void boots(void) {
-    struct tower_event store = {.call = TOWER_STORE, .flag = 4, .first = PAGE << 12, .second = 0xdeadbeef};
-    struct tower_event spawn = {.call = TOWER_SPAWN, .first = 6};
-    struct tower_event offer = {.call = TOWER_OFFER, .flag = 1, .first = PAGE, .second = 1};
-    struct tower_event accept = {.pid = 1, .call = TOWER_ACCEPT, .first = PAGE, .second = 0, .third = OTHER_PAGE};
+    struct tower_event store = tower_store(0, PAGE << 12, 4, 0xdeadbeef), spawn = tower_spawn(0, 6);
+    struct tower_event offer = tower_offer(0, PAGE, 1, TOWER_READ_WRITE), accept = tower_accept(1, 0, PAGE, OTHER_PAGE);
     expect(tower_boot(FRAMES, &first) == TOWER_BOOTED, "a core boots");
     expect(answers(&first, store, TOWER_DONE, 0) && answers(&first, spawn, TOWER_CHILD, 1), "and gets a second process");
     expect(answers(&first, offer, TOWER_DONE, 0) && answers(&first, accept, TOWER_DONE, 0), "which gets its page");
@@ -51,32 +49,23 @@ static void restores(void) {
     expect(tower_restore(image, LENGTH, &second, &verdict) == TOWER_RESTORE_HAS_CORE, "a handle with a core gets no other");
 }
 
-/* The calls that both cores then get, with the kind and the first number of the reply that each has to have. */
-static const struct {
-    struct tower_event event;
-    uint32_t kind, value;
-} CASES[] = {
-    {{.pid = 1, .call = TOWER_LOAD, .flag = 4, .first = OTHER_PAGE << 12}, TOWER_VALUE, 0xdeadbeef},
-    {{.pid = 1, .call = TOWER_STORE, .flag = 4, .first = OTHER_PAGE << 12, .second = 7}, TOWER_DONE, 0},
-    {{.call = TOWER_LOAD, .flag = 4, .first = PAGE << 12}, TOWER_VALUE, 7},
-    {{.call = TOWER_MAP, .flag = 1, .first = PAGE}, TOWER_REFUSED, TOWER_MAPPED},
-    {{.call = TOWER_FORK, .first = 3}, TOWER_CHILD, 2},
-    {{.pid = 2, .call = TOWER_STORE, .flag = 4, .first = PAGE << 12, .second = 9}, TOWER_DONE, 0},
-    {{.pid = 1, .call = TOWER_EXIT}, TOWER_DONE, 0},
-    {{.call = TOWER_SPAWN, .first = 9}, TOWER_CHILD, 1},
-    {{.call = TOWER_SPAWN, .first = 1}, TOWER_REFUSED, TOWER_OVER_QUOTA},
-    {{.call = TOWER_LOAD, .flag = 4, .first = PAGE << 12}, TOWER_VALUE, 7},
-};
+/* Makes a call on both cores. Each reply has to have this kind and this first number, and the two are the same. */
+static bool alike(struct tower_event event, uint32_t kind, uint32_t value) {
+    struct tower_reply reply = {0}, other = {0};
+    return tower_step(&first, &event, &reply) && tower_step(&second, &event, &other) && reply.kind == kind &&
+           reply.first == value && memcmp(&reply, &other, sizeof reply) == 0;
+}
 
 static void go_on_alike(void) {
-    for (size_t i = 0; i < sizeof CASES / sizeof *CASES; i++) {
-        struct tower_reply reply = {0}, other = {0};
-        if (!tower_step(&first, &CASES[i].event, &reply) || !tower_step(&second, &CASES[i].event, &other) ||
-            reply.kind != CASES[i].kind || reply.first != CASES[i].value || memcmp(&reply, &other, sizeof reply) != 0) {
-            expect(false, "both answer each call as expected");
-        }
-    }
-    expect(true, "both answer each call as expected");
+    const uint32_t own = PAGE << 12, others = OTHER_PAGE << 12;
+    expect(alike(tower_load(1, others, 4), TOWER_VALUE, 0xdeadbeef) &&
+               alike(tower_store(1, others, 4, 7), TOWER_DONE, 0) && alike(tower_load(0, own, 4), TOWER_VALUE, 7),
+           "both share the page");
+    expect(alike(tower_map(0, PAGE, TOWER_READ_WRITE), TOWER_REFUSED, TOWER_MAPPED) &&
+               alike(tower_fork(0, 3), TOWER_CHILD, 2) && alike(tower_store(2, own, 4, 9), TOWER_DONE, 0) &&
+               alike(tower_exit(1), TOWER_DONE, 0) && alike(tower_spawn(0, 9), TOWER_CHILD, 1) &&
+               alike(tower_spawn(0, 1), TOWER_REFUSED, TOWER_OVER_QUOTA) &&
+               alike(tower_load(0, own, 4), TOWER_VALUE, 7), "both answer each call as expected");
     expect(writes(&first, first_image) && writes(&second, second_image), "and both write their images");
     expect(memcmp(first_image, second_image, LENGTH) == 0, "which are the same");
     expect(memcmp(image, first_image, LENGTH) != 0, "and not the old one");
@@ -84,8 +73,7 @@ static void go_on_alike(void) {
 
 /* A pending offer isn't in the image. */
 static void loses_an_offer(void) {
-    struct tower_event offer = {.call = TOWER_OFFER, .first = PAGE, .second = 1};
-    struct tower_event accept = {.pid = 1, .call = TOWER_ACCEPT, .first = PAGE, .second = 0, .third = PAGE};
+    struct tower_event offer = tower_offer(0, PAGE, 1, TOWER_READ_ONLY), accept = tower_accept(1, 0, PAGE, PAGE);
     struct tower_verdict verdict = {0};
     expect(answers(&first, offer, TOWER_DONE, 0) && writes(&first, first_image), "with an offer the image is written");
     tower_free(&second);
@@ -119,6 +107,9 @@ static void refuses_images(void) {
                verdict.clause == TOWER_FAULT_BAD_LENGTH,
            "a byte too few: another length");
     expect(tower_restore(image, LENGTH, &second, &verdict) == TOWER_RESTORED, "and as it was it makes a core");
+    expect(strcmp(tower_restore_status_name(TOWER_RESTORE_OLD_WORDS), "OldWords") == 0 &&
+               strcmp(tower_restore_status_name(TOWER_NOT_IMAGE), "NotImage") == 0 &&
+               strcmp(tower_restore_status_name(7), "") == 0, "statuses have names");
 }
 
 int main(void) {

@@ -1,4 +1,4 @@
-/* run_script FRAMES < SCRIPT: passes each line of a script to tower_step, and prints each reply as a line.
+/* run_script FRAMES < SCRIPT: passes each line of a script to tower_do, and prints each reply as a line.
  *
  * docs/MACHINE.md has the lines of scripts and replies. It ends with status 2 at the first line that is no
  * event. This runner is for well-formed scripts, and does not detect all that the program refuses. */
@@ -6,7 +6,7 @@
 #include <stdlib.h>
 #include <string.h>
 
-#include "tower.h"
+#include "tower_text.h"
 
 static const char *const calls[] = {"load",   "store", "map",  "unmap", "protect", "info", "offer", "withdraw",
                                     "accept", "spawn", "exit", "quota", "fork"};
@@ -101,44 +101,26 @@ static bool parsed(char *text, struct tower_event *event) {
     return line.ok && line.rest[strspn(line.rest, " ")] == 0;
 }
 
-static void print_reply(const struct tower_reply *reply) {
-    switch (reply->kind) {
-    case TOWER_DONE:
-        puts("done");
-        break;
-    case TOWER_VALUE:
-        printf("value %08x\n", reply->first);
-        break;
-    case TOWER_CHILD:
-        printf("child %u\n", reply->first);
-        break;
-    case TOWER_FLAGS:
-        printf("info %d %d %d %d %u\n", reply->write, reply->may, reply->accessed, reply->dirty, reply->first);
-        break;
-    case TOWER_USAGE:
-        printf("quota %u %u %u\n", reply->first, reply->second, reply->third);
-        break;
-    case TOWER_FAULT:
-        printf("fault %08x %u\n", reply->first, reply->second);
-        break;
-    case TOWER_REFUSED:
-        printf("refused %s\n", tower_cause_name(reply->first));
-        break;
-    }
+/* Returns whether the event's own line parses as the same event. */
+static bool has_a_line(const struct tower_event *event) {
+    char text[TOWER_TEXT_BYTES];
+    struct tower_event again;
+    bool fits = tower_event_text(event, text, sizeof text) < sizeof text;
+    return fits && parsed(text, &again) && memcmp(&again, event, sizeof again) == 0;
 }
 
 /* Carries out a line. Returns whether it was carried out, or is one to skip. */
 static bool carried_out(struct tower *tower, char *text) {
     struct tower_event event = {0};
     struct tower_reply reply = {0};
+    char line[TOWER_TEXT_BYTES];
     if (text[0] == '#' || text[strspn(text, " ")] == 0) {
         return true;
     }
-    if (!parsed(text, &event) || !tower_step(tower, &event, &reply) || reply.kind == TOWER_NO_EVENT) {
+    if (!parsed(text, &event) || !has_a_line(&event) || tower_do(tower, event, &reply) >= TOWER_OUTCOME_NO_EVENT) {
         return false;
     }
-    print_reply(&reply);
-    return true;
+    return tower_reply_text(&reply, line, sizeof line) < sizeof line && puts(line) >= 0;
 }
 
 int main(int count, char **words) {
