@@ -3,7 +3,7 @@
 //! The event's CPU is 0: it has no effect.
 
 use crate::core::Core;
-use crate::words::{Call, Event, Page, Pid, Refusal, Reply, Size, Vaddr};
+use crate::words::{Call, Event, Failure, Page, Pid, Reply, Size, Vaddr};
 
 /// The state of a page of a process.
 #[derive(Clone, Copy, Debug, PartialEq, Eq, Hash)]
@@ -38,18 +38,18 @@ fn untold(told: Reply) -> ! {
 }
 
 impl Core {
-    fn call(&mut self, pid: Pid, call: Call) -> Result<Reply, Refusal> {
+    fn call(&mut self, pid: Pid, call: Call) -> Result<Reply, Failure> {
         self.step(&Event { cpu: 0, pid, call }).into_result()
     }
 
-    fn done(&mut self, pid: Pid, call: Call) -> Result<(), Refusal> {
+    fn done(&mut self, pid: Pid, call: Call) -> Result<(), Failure> {
         match self.call(pid, call)? {
             Reply::Done => Ok(()),
             told => untold(told),
         }
     }
 
-    fn child(&mut self, pid: Pid, call: Call) -> Result<Pid, Refusal> {
+    fn child(&mut self, pid: Pid, call: Call) -> Result<Pid, Failure> {
         match self.call(pid, call)? {
             Reply::Child(child) => Ok(child),
             told => untold(told),
@@ -61,7 +61,7 @@ impl Core {
     /// # Errors
     ///
     /// The fault or the refusal, as docs/MACHINE.md has it; nothing changed then.
-    pub fn load(&mut self, pid: Pid, addr: Vaddr, size: Size) -> Result<u32, Refusal> {
+    pub fn load(&mut self, pid: Pid, addr: Vaddr, size: Size) -> Result<u32, Failure> {
         match self.call(pid, Call::Load { addr, size })? {
             Reply::Value(value) => Ok(value),
             told => untold(told),
@@ -73,7 +73,7 @@ impl Core {
     /// # Errors
     ///
     /// The fault or the refusal, as docs/MACHINE.md has it; nothing changed then.
-    pub fn store(&mut self, pid: Pid, addr: Vaddr, size: Size, value: u32) -> Result<(), Refusal> {
+    pub fn store(&mut self, pid: Pid, addr: Vaddr, size: Size, value: u32) -> Result<(), Failure> {
         self.done(pid, Call::Store { addr, size, value })
     }
 
@@ -82,7 +82,7 @@ impl Core {
     /// # Errors
     ///
     /// The fault or the refusal, as docs/MACHINE.md has it; nothing changed then.
-    pub fn map(&mut self, pid: Pid, page: Page, write: bool) -> Result<(), Refusal> {
+    pub fn map(&mut self, pid: Pid, page: Page, write: bool) -> Result<(), Failure> {
         self.done(pid, Call::Map { page, write })
     }
 
@@ -91,7 +91,7 @@ impl Core {
     /// # Errors
     ///
     /// The fault or the refusal, as docs/MACHINE.md has it; nothing changed then.
-    pub fn unmap(&mut self, pid: Pid, page: Page) -> Result<(), Refusal> {
+    pub fn unmap(&mut self, pid: Pid, page: Page) -> Result<(), Failure> {
         self.done(pid, Call::Unmap { page })
     }
 
@@ -100,7 +100,7 @@ impl Core {
     /// # Errors
     ///
     /// The fault or the refusal, as docs/MACHINE.md has it; nothing changed then.
-    pub fn protect(&mut self, pid: Pid, page: Page, write: bool) -> Result<(), Refusal> {
+    pub fn protect(&mut self, pid: Pid, page: Page, write: bool) -> Result<(), Failure> {
         self.done(pid, Call::Protect { page, write })
     }
 
@@ -109,7 +109,7 @@ impl Core {
     /// # Errors
     ///
     /// The fault or the refusal, as docs/MACHINE.md has it; nothing changed then.
-    pub fn info(&mut self, pid: Pid, page: Page) -> Result<Info, Refusal> {
+    pub fn info(&mut self, pid: Pid, page: Page) -> Result<Info, Failure> {
         match self.call(pid, Call::Info { page })? {
             Reply::Info {
                 write,
@@ -133,7 +133,7 @@ impl Core {
     /// # Errors
     ///
     /// The fault or the refusal, as docs/MACHINE.md has it; nothing changed then.
-    pub fn offer(&mut self, pid: Pid, page: Page, target: Pid, write: bool) -> Result<(), Refusal> {
+    pub fn offer(&mut self, pid: Pid, page: Page, target: Pid, write: bool) -> Result<(), Failure> {
         self.done(
             pid,
             Call::Offer {
@@ -149,7 +149,7 @@ impl Core {
     /// # Errors
     ///
     /// The fault or the refusal, as docs/MACHINE.md has it; nothing changed then.
-    pub fn withdraw(&mut self, pid: Pid, page: Page, target: Pid) -> Result<(), Refusal> {
+    pub fn withdraw(&mut self, pid: Pid, page: Page, target: Pid) -> Result<(), Failure> {
         self.done(pid, Call::Withdraw { page, target })
     }
 
@@ -164,7 +164,7 @@ impl Core {
         giver: Pid,
         giver_page: Page,
         page: Page,
-    ) -> Result<(), Refusal> {
+    ) -> Result<(), Failure> {
         self.done(
             pid,
             Call::Accept {
@@ -180,7 +180,7 @@ impl Core {
     /// # Errors
     ///
     /// The fault or the refusal, as docs/MACHINE.md has it; nothing changed then.
-    pub fn spawn(&mut self, pid: Pid, quota: u32) -> Result<Pid, Refusal> {
+    pub fn spawn(&mut self, pid: Pid, quota: u32) -> Result<Pid, Failure> {
         self.child(pid, Call::Spawn { quota })
     }
 
@@ -189,7 +189,7 @@ impl Core {
     /// # Errors
     ///
     /// The fault or the refusal, as docs/MACHINE.md has it; nothing changed then.
-    pub fn fork(&mut self, pid: Pid, quota: u32) -> Result<Pid, Refusal> {
+    pub fn fork(&mut self, pid: Pid, quota: u32) -> Result<Pid, Failure> {
         self.child(pid, Call::Fork { quota })
     }
 
@@ -198,7 +198,7 @@ impl Core {
     /// # Errors
     ///
     /// The fault or the refusal, as docs/MACHINE.md has it; nothing changed then.
-    pub fn exit(&mut self, pid: Pid) -> Result<(), Refusal> {
+    pub fn exit(&mut self, pid: Pid) -> Result<(), Failure> {
         self.done(pid, Call::Exit)
     }
 
@@ -207,7 +207,7 @@ impl Core {
     /// # Errors
     ///
     /// The fault or the refusal, as docs/MACHINE.md has it; nothing changed then.
-    pub fn quota(&mut self, pid: Pid) -> Result<Usage, Refusal> {
+    pub fn quota(&mut self, pid: Pid) -> Result<Usage, Failure> {
         match self.call(pid, Call::Quota)? {
             Reply::Quota { quota, used, given } => Ok(Usage { quota, used, given }),
             told => untold(told),

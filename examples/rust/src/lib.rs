@@ -15,7 +15,10 @@
 //! assert_eq!(core.load(Pid::ROOT, addr, Size::Four)?, 7);
 //! let call = Call::Quota;
 //! let told = Reply::Quota { quota: 15, used: 3, given: 0 };
-//! assert_eq!(core.step(&Event { cpu: 0, pid: Pid::ROOT, call }), told);
+//! let event = Event { cpu: 0, pid: Pid::ROOT, call };
+//! assert_eq!(core.step(&event), told);
+//! // (as lines of a script, and of its replies)
+//! assert_eq!((event.to_string(), told.to_string()), ("0 0 quota".into(), "quota 15 3 0".into()));
 //! # Ok::<(), Box<dyn std::error::Error>>(())
 //! ```
 #![no_std]
@@ -29,6 +32,7 @@ mod heap;
 mod images;
 mod memory;
 mod raw;
+mod text;
 mod words;
 
 pub use calls::{Info, Usage};
@@ -37,7 +41,7 @@ pub use core::{BootFault, Core, UnequalLengths, version};
 pub use images::{ImageFault, NoMemory, Verdict, check_image};
 pub use memory::{Mapped, Pages, Stopped};
 pub use words::{
-    Access, Call, Cause, Container, Ended, Event, FRAME_BYTES, Frame, Page, Pid, Refusal, Reply,
+    Access, Call, Cause, Container, Ended, Event, FRAME_BYTES, Failure, Frame, Page, Pid, Reply,
     Role, Size, Vaddr, WalkEnd,
 };
 

@@ -2,7 +2,7 @@
 
 use crate::core::Core;
 use crate::raw;
-use crate::words::{Page, Pid, Refusal, Reply, Vaddr};
+use crate::words::{Failure, Page, Pid, Reply, Vaddr};
 use ::core::error::Error;
 use ::core::fmt;
 use ::core::iter::FusedIterator;
@@ -13,12 +13,12 @@ pub struct Stopped {
     /// How many bytes were copied before it.
     pub count: usize,
     /// Why the access to the next byte was not carried out.
-    pub refusal: Refusal,
+    pub failure: Failure,
 }
 
 impl fmt::Display for Stopped {
     fn fmt(&self, to: &mut fmt::Formatter<'_>) -> fmt::Result {
-        write!(to, "stopped after {} bytes: {}", self.count, self.refusal)
+        write!(to, "stopped after {} bytes: {}", self.count, self.failure)
     }
 }
 
@@ -28,7 +28,7 @@ impl Error for Stopped {}
 fn ended(count: usize, stop: &raw::Reply) -> Result<(), Stopped> {
     match Reply::from(stop).into_result() {
         Ok(_) => Ok(()),
-        Err(refusal) => Err(Stopped { count, refusal }),
+        Err(failure) => Err(Stopped { count, failure }),
     }
 }
 

@@ -191,7 +191,7 @@ pub enum Reply {
 
 /// Why an event was not carried out. Nothing changed.
 #[derive(Clone, Copy, Debug, PartialEq, Eq, Hash)]
-pub enum Refusal {
+pub enum Failure {
     /// A page fault.
     Fault {
         /// The first byte that the access may not have.
@@ -203,18 +203,18 @@ pub enum Refusal {
     Refused(Cause),
 }
 
-impl fmt::Display for Refusal {
+impl fmt::Display for Failure {
     fn fmt(&self, to: &mut fmt::Formatter<'_>) -> fmt::Result {
         match self {
-            Refusal::Fault { addr, code } => {
+            Failure::Fault { addr, code } => {
                 write!(to, "page fault at {:08x}, code {code}", addr.0)
             }
-            Refusal::Refused(cause) => write!(to, "refused: {cause}"),
+            Failure::Refused(cause) => write!(to, "refused: {cause}"),
         }
     }
 }
 
-impl Error for Refusal {}
+impl Error for Failure {}
 
 impl Reply {
     /// Returns the reply of an event that was carried out, or why it was not.
@@ -222,10 +222,10 @@ impl Reply {
     /// # Errors
     ///
     /// The fault or the refusal, if the reply is one.
-    pub fn into_result(self) -> Result<Reply, Refusal> {
+    pub fn into_result(self) -> Result<Reply, Failure> {
         match self {
-            Reply::Fault { addr, code } => Err(Refusal::Fault { addr, code }),
-            Reply::Refused(cause) => Err(Refusal::Refused(cause)),
+            Reply::Fault { addr, code } => Err(Failure::Fault { addr, code }),
+            Reply::Refused(cause) => Err(Failure::Refused(cause)),
             told => Ok(told),
         }
     }

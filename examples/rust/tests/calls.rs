@@ -1,8 +1,8 @@
 //! Tests of each call and query, and of the conversion between types and numbers.
 
 use tower::{
-    Access, BootFault, Call, Cause, Container, Core, Ended, Event, FRAME_BYTES, Frame, Info, Page,
-    Pid, Refusal, Reply, Role, Size, Stopped, UnequalLengths, Usage, Vaddr, WalkEnd,
+    Access, BootFault, Call, Cause, Container, Core, Ended, Event, FRAME_BYTES, Failure, Frame,
+    Info, Page, Pid, Reply, Role, Size, Stopped, UnequalLengths, Usage, Vaddr, WalkEnd,
 };
 
 const PAGE: Page = Page(0x40000);
@@ -315,7 +315,7 @@ fn calls_as_methods() -> Result<(), Box<dyn std::error::Error>> {
     core.store(Pid::ROOT, Vaddr(0x4000_1000), Size::Two, 0x1234)?;
     assert_eq!(core.load(Pid::ROOT, Vaddr(0x4000_1001), Size::One)?, 0x12);
     core.protect(Pid::ROOT, Page(0x40001), false)?;
-    let fault = Refusal::Fault {
+    let fault = Failure::Fault {
         addr: Vaddr(0x4000_1000),
         code: 7,
     };
@@ -333,7 +333,7 @@ fn calls_as_methods() -> Result<(), Box<dyn std::error::Error>> {
     core.offer(Pid::ROOT, Page(0x40001), child, false)?;
     core.withdraw(Pid::ROOT, Page(0x40001), child)?;
     let accept = core.accept(child, Pid::ROOT, Page(0x40001), Page(0x40001));
-    assert_eq!(accept, Err(Refusal::Refused(Cause::NoOffer)));
+    assert_eq!(accept, Err(Failure::Refused(Cause::NoOffer)));
     let usage = Usage {
         quota: 10,
         used: 3,
@@ -399,7 +399,7 @@ fn copies_in_and_out() {
     let mut few = [9; 32];
     let stopped = Stopped {
         count: 0,
-        refusal: Refusal::Fault {
+        failure: Failure::Fault {
             addr: Vaddr(0x5000_0ff0),
             code: 7,
         },
@@ -421,7 +421,7 @@ fn stops_a_transfer_at_the_end_of_the_user_range() {
     let mut core = Core::boot(64).unwrap();
     let stopped = Stopped {
         count: 10,
-        refusal: Refusal::Fault {
+        failure: Failure::Fault {
             addr: Vaddr(0xf000_0000),
             code: 6,
         },
@@ -437,8 +437,8 @@ fn stops_a_transfer_at_the_end_of_the_user_range() {
     assert_eq!(core.read_bytes(Pid::ROOT, Vaddr(0), &mut []), Ok(()));
     let none = core.read_bytes(Pid::new(3).unwrap(), ADDR, &mut read);
     assert_eq!(
-        none.unwrap_err().refusal,
-        Refusal::Refused(Cause::NoProcess)
+        none.unwrap_err().failure,
+        Failure::Refused(Cause::NoProcess)
     );
 }
 

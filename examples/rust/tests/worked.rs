@@ -3,7 +3,7 @@
 
 use std::fmt::Write;
 use std::str::SplitWhitespace;
-use tower::{Call, Core, Event, Page, Pid, Reply, Size, Vaddr};
+use tower::{Call, Core, Event, Page, Pid, Size, Vaddr};
 
 #[path = "../../../crates/script_examples/src/alone.rt"]
 mod alone;
@@ -100,51 +100,68 @@ fn event(line: &str) -> Option<Event> {
     })
 }
 
-fn line(reply: &Reply) -> String {
-    match *reply {
-        Reply::Done => "done".into(),
-        Reply::Value(value) => format!("value {value:08x}"),
-        Reply::Child(pid) => format!("child {}", pid.number()),
-        Reply::Info {
-            write,
-            may,
-            accessed,
-            dirty,
-            holders,
-        } => {
-            let flags = [write, may, accessed, dirty].map(|flag| u8::from(flag).to_string());
-            format!("info {} {holders}", flags.join(" "))
-        }
-        Reply::Quota { quota, used, given } => format!("quota {quota} {used} {given}"),
-        Reply::Fault { addr, code } => format!("fault {:08x} {code}", addr.0),
-        Reply::Refused(cause) => format!("refused {cause}"),
-    }
-}
-
-fn replies_to(worked: &Worked) -> String {
-    let mut core = Core::boot(worked.frames).unwrap();
-    let mut text = String::new();
-    for event in worked
-        .script
-        .lines()
+/// The events of a worked script.
+fn events(worked: &Worked) -> Vec<Event> {
+    let lines = worked.script.lines();
+    lines
         .filter(|line| !line.starts_with('#'))
         .filter_map(event)
-    {
-        writeln!(text, "{}", line(&core.step(&event))).unwrap();
+        .collect()
+}
+
+fn replies_to(worked: &Worked, events: &[Event]) -> String {
+    let mut core = Core::boot(worked.frames).unwrap();
+    let mut text = String::new();
+    for event in events {
+        writeln!(text, "{}", core.step(event)).unwrap();
     }
     text
 }
 
-#[test]
-fn worked_scripts_have_their_replies() {
+/// The worked scripts without a malformed line.
+fn whole() -> impl Iterator<Item = &'static Worked> {
     let all = alone::SCRIPTS
         .iter()
         .chain(&forks::SCRIPTS)
         .chain(&processes::SCRIPTS)
         .chain(&sharing::SCRIPTS);
-    let whole: Vec<&Worked> = all.filter(|worked| worked.malformed.is_none()).collect();
-    assert!(whole.len() >= 24, "{} scripts", whole.len());
-    for worked in whole {
-        assert_eq!(replies_to(worked), worked.replies, "{}", worked.name);
+    all.filter(|worked| worked.malformed.is_none())
+}
+
+#[test]
+fn worked_scripts_have_their_replies() {
+    assert!(whole().count() >= 24, "{} scripts", whole().count());
+    for worked in whole() {
+        let replies = replies_to(worked, &events(worked));
+        assert_eq!(replies, worked.replies, "{}", worked.name);
+    }
+}
+
+#[test]
+fn printed_events_are_lines_of_the_same_events() {
+    let (mut lines, mut words) = (0, Vec::new());
+    for event in whole().flat_map(events) {
+        let line = event.to_string();
+        assert_eq!(self::event(&line), Some(event), "{line}");
+        words.extend(line.split(' ').nth(2).map(String::from));
+        lines += 1;
+    }
+    words.sort();
+    words.dedup();
+    assert!(
+        lines >= 200 && words.len() == 13,
+        "{lines} lines of {words:?}"
+    );
+}
+
+#[test]
+fn plain_lines_are_printed_as_they_are() {
+    let plain = "7 63 store effffffe 2 beef\n0 0 load 0 1\n1 2 map 40000 rw\n1 2 map 40000 ro\n\
+                 0 1 unmap f\n0 1 protect 50000 ro\n0 1 info 40001\n0 0 offer 40000 5 rw\n\
+                 0 0 withdraw 40000 5\n3 5 accept 0 40000 ffffffff\n0 0 spawn 4294967295\n\
+                 0 0 fork 3\n0 9 exit\n0 9 quota";
+    for line in plain.lines() {
+        let event = event(line).expect(line);
+        assert_eq!(event.to_string(), line);
     }
 }
