@@ -12,7 +12,7 @@
 #include "walk.h"
 #include "wrong.h"
 
-enum { RUNNING_MAX = 16, NOBODY = 255, NONE_LEFT = 254, NO_CALL = 255 };
+enum { RUNNING_MAX = 16, NOBODY = 255, NONE_LEFT = 254 };
 enum { SLICES = 5, EXITS = 1000, WALKS = 10000, EVENTS = 20000, TURNS = 4000 };
 
 static struct tower tower = TOWER_NONE;
@@ -66,16 +66,11 @@ static void all_kept_is_given(void) {
 }
 
 /* Makes an event. What it ended is invalidated before anything else is done. */
-static struct tower_reply step(uint32_t pid, struct tower_event event) {
-    struct tower_reply reply = make_event(&kernel, pid, event);
+static struct tower_reply step(struct tower_event event) {
+    struct tower_reply reply = make_event(&kernel, event.pid, event);
     all_kept_is_given();
     return reply;
 }
-
-static const char *const causes[] = {
-    "", "NoProcess", "BadPage", "", "NotMapped", "Mapped", "Quota", "Rights", "SelfOffer", "NoTarget",
-    "OfferPending", "TooManyOffers", "NoOffer", "TableFull", "BadQuota", "HasChildren", "RootExit", "TooSmall",
-};
 
 /* Checks that the guests' memory is the core's, frame by frame. */
 static void same_memory(void) {
@@ -90,21 +85,16 @@ static void same_memory(void) {
 
 /* ---- Programs */
 
-/* Stores the program's bytes with stores of the process's own. Its pages are then made read-only. */
+/* Writes the program's bytes into the process's memory, as its own stores would. Its pages are then made read-only. */
 static bool store_program(uint32_t program, uint32_t pid) {
     uint32_t bytes = (uint32_t)(programs[program].end - programs[program].begin);
-    for (uint32_t at = 0; at < bytes; at++) {
-        struct tower_event event = {.call = TOWER_STORE, .flag = 1, .first = PROGRAM_AT + at};
-        event.second = programs[program].begin[at];
-        if (step(pid, event).kind != TOWER_DONE) {
-            return false;
-        }
+    bool is_stored = write_memory(&kernel, pid, PROGRAM_AT, programs[program].begin, bytes);
+    all_kept_is_given();
+    for (uint32_t at = 0; is_stored && at < bytes; at += FRAME) {
+        struct tower_event protect = tower_protect(pid, (PROGRAM_AT + at) >> 12, TOWER_READ_ONLY);
+        need(step(protect).kind == TOWER_DONE, "a program's page is protected");
     }
-    for (uint32_t at = 0; at < bytes; at += FRAME) {
-        struct tower_event event = {.call = TOWER_PROTECT, .flag = 0, .first = (PROGRAM_AT + at) >> 12};
-        need(step(pid, event).kind == TOWER_DONE, "a program's page is protected");
-    }
-    return true;
+    return is_stored;
 }
 
 static bool load(uint32_t program, uint32_t pid) {
@@ -120,7 +110,7 @@ static bool load(uint32_t program, uint32_t pid) {
     return true;
 }
 
-/* Loads a program into a guest's own child. The core does not check the parent: a loader's stores are events of the
+/* Loads a program into a guest's own child. The core does not check the parent: a loader's stores are those of the
  * process that it loads. */
 static bool load_child(uint32_t parent, uint32_t program, uint32_t pid) {
     struct tower_container container;
@@ -135,11 +125,11 @@ static void end(struct guest *guest) {
 
 /* Ends a guest; its process exits, too, if the core lets it. */
 static void stop(uint32_t pid) {
-    struct tower_reply reply = step(pid, (struct tower_event){.call = TOWER_EXIT});
+    struct tower_reply reply = step(tower_exit(pid));
     end(&guests[pid]);
     stopped++;
     if (reply.kind != TOWER_DONE) {
-        say("[%u] stays, as its exit is refused: %s\n", pid, causes[reply.first]);
+        say("[%u] stays, as its exit is refused: %s\n", pid, tower_cause_name(reply.first));
     }
 }
 
@@ -170,8 +160,7 @@ static void page_fault(uint32_t pid, struct guest *guest) {
     if (is_store && !is_cores_store(pid, at.address)) {
         return;
     }
-    struct tower_event event = {.call = is_store ? TOWER_STORE : TOWER_LOAD, .flag = 1, .first = at.address};
-    struct tower_reply reply = step(pid, event);
+    struct tower_reply reply = step(is_store ? tower_store(pid, at.address, 1, 0) : tower_load(pid, at.address, 1));
     if (reply.kind == TOWER_DONE || reply.kind == TOWER_VALUE) {
         return;
     }
@@ -180,27 +169,25 @@ static void page_fault(uint32_t pid, struct guest *guest) {
         say("the core at %x with code %u\n", reply.first, reply.second);
         need(reply.first == at.address && reply.second == at.code, "the processor and the core agree on a fault");
     } else {
-        say("and the core refuses the page: %s\n", causes[reply.first]);
+        say("and the core refuses the page: %s\n", tower_cause_name(reply.first));
     }
     stop(pid);
 }
 
 /* ---- Calls */
 
-/* Prints a line of a guest's text, read byte by byte with loads of its process. */
+/* Prints a line of a guest's text, read from its process's memory: all that the process may load of it. */
 static struct tower_reply write(uint32_t pid, uint32_t address, uint32_t bytes) {
+    uint8_t text[100];
+    struct tower_reply stop = {0};
+    size_t moved = 0, count = bytes < sizeof text ? bytes : sizeof text;
+    need(tower_read(&tower, pid, address, text, count, &moved, &stop), "a core answers");
     say("[%u] ", pid);
-    for (uint32_t at = 0; at < bytes && at < 100; at++) {
-        struct tower_reply reply =
-            step(pid, (struct tower_event){.call = TOWER_LOAD, .flag = 1, .first = address + at});
-        if (reply.kind != TOWER_VALUE) {
-            say("\n");
-            return reply;
-        }
-        say("%c", (int)reply.first);
+    for (size_t at = 0; at < moved; at++) {
+        say("%c", text[at]);
     }
     say("\n");
-    return (struct tower_reply){.kind = TOWER_DONE};
+    return stop;
 }
 
 /* Makes a guest sleep: it has no turn until a guest announces that number or a higher one. */
@@ -255,20 +242,15 @@ static struct tower_reply answer(uint32_t pid, struct guest *guest, const struct
     case TOWER_STORE: /* a guest's accesses are the processor's */
         return (struct tower_reply){.kind = TOWER_NO_EVENT};
     default:
-        return step(pid, *event);
+        return step(*event);
     }
 }
 
 /* Makes a guest's call. Returns whether its turn is over. */
 static bool call(uint32_t pid, struct guest *guest) {
     bool over = false;
-    struct tower_event event = {
-        .call = svm_eax(&guest->cpu) < NO_CALL ? (uint8_t)svm_eax(&guest->cpu) : NO_CALL,
-        .flag = (uint8_t)guest->cpu.more.ebx,
-        .first = guest->cpu.more.ecx,
-        .second = guest->cpu.more.edx,
-        .third = guest->cpu.more.esi,
-    };
+    struct tower_event event = tower_event_of(pid, svm_eax(&guest->cpu), guest->cpu.more.ebx, guest->cpu.more.ecx,
+                                              guest->cpu.more.edx, guest->cpu.more.esi);
     struct tower_reply reply = answer(pid, guest, &event, &over);
     if (event.call == TOWER_EXIT && reply.kind == TOWER_DONE) {
         end(guest);

@@ -105,6 +105,19 @@ struct tower_reply make_event(struct kernel *it, uint32_t pid, struct tower_even
     return reply;
 }
 
+bool write_memory(struct kernel *it, uint32_t pid, uint32_t address, const uint8_t *bytes, uint32_t count) {
+    uint32_t here = this_processor(), home = it->homes[pid];
+    struct tower_reply stop = {0};
+    size_t moved = 0;
+    if (home != here && home != NO_PROCESSOR) {
+        it->moves += give_up(&it->books[home], pid);
+        it->homes[pid] = NO_PROCESSOR;
+    }
+    need(tower_write(it->core, pid, address, bytes, count, &moved, &stop), "a core answers");
+    invalidate_written(&it->books[here], pid, address, count);
+    return stop.kind == TOWER_DONE;
+}
+
 struct invalidated invalidated_by(const struct kernel *it) {
     struct invalidated sum = {0};
     for (const struct translations *book = it->books; book < it->books + MOST_PROCESSORS; book++) {

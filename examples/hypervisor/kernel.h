@@ -31,6 +31,11 @@ void leave_kernel(struct kernel *it);
  * invalidated the translation. While a fork copies pages, all others stand still. */
 struct tower_reply make_event(struct kernel *it, uint32_t pid, struct tower_event event);
 
+/* Writes into the memory of a process that runs nowhere, as the process's own stores would. Returns whether all bytes
+ * were written. What the write made stale is invalidated by then. If another processor may cache it, the identifier of
+ * the process there is released. */
+bool write_memory(struct kernel *it, uint32_t pid, uint32_t address, const uint8_t *bytes, uint32_t count);
+
 /* How many pages were invalidated, identifiers released at exits, and flushes of all made, on all processors. */
 struct invalidated {
     uint32_t pages, spaces, all;

@@ -46,3 +46,9 @@ void invalidate(struct translations *it, struct tower_ended ended) {
         it->spaces += give_up(it, ended.pid);
     }
 }
+
+void invalidate_written(struct translations *it, uint32_t pid, uint32_t address, uint32_t count) {
+    for (uint32_t page = address >> 12; page <= (address + count) >> 12; page++) {
+        invalidate_page(it, pid, page);
+    }
+}

@@ -26,4 +26,8 @@ bool give_up(struct translations *it, uint32_t pid);
 /* Invalidates what an event ended. Call it right after the event, before any access or event. */
 void invalidate(struct translations *it, struct tower_ended ended);
 
+/* Invalidates what a write of the kernel's own may have made stale: the pages of the process from the first byte's to
+ * that of the address after the last byte. The write was at no address past the user range's end. */
+void invalidate_written(struct translations *it, uint32_t pid, uint32_t address, uint32_t count);
+
 #endif
