@@ -284,16 +284,54 @@ static void kernels_access(uint32_t pid) {
                                       .first = page << 12 | offset, .second = random(0xffffffff)});
 }
 
+/* Writes into a process's memory on one core, and invalidates what that made stale. On the processors in software a
+ * wrong version invalidates nothing. Returns how many bytes were written, and what stopped the write. */
+static size_t write_on(struct machine *it, uint32_t pid, uint32_t address, const uint8_t *bytes, uint32_t count,
+                       struct tower_reply *stop) {
+    size_t moved = 0;
+    need(tower_write(it->core, pid, address, bytes, count, &moved, stop), "a core answers");
+    if (it != &cached || wrong != WRONG_WRITE) {
+        invalidate_written(it->kept, pid, address, count);
+    }
+    return moved;
+}
+
+/* Writes up to 32 bytes as the kernel, half of them in two pages. The third core gets a store of each byte. */
+static void kernels_write(uint32_t pid) {
+    uint8_t bytes[32];
+    uint32_t page = random_page(), address = page << 12 | random_offset(2);
+    uint32_t count = 1 + random(sizeof bytes), stored = 0;
+    struct tower_reply expected = {.kind = TOWER_DONE}, stop = {0};
+    load_anew(pid, page);
+    load_anew(pid, page + 1);
+    for (uint32_t i = 0; i < count; i++) {
+        bytes[i] = (uint8_t)random(256);
+    }
+    while (stored < count && expected.kind == TOWER_DONE) {
+        expected = on(&mirror, pid, tower_store(pid, address + stored, 1, bytes[stored]));
+        stored += expected.kind == TOWER_DONE;
+    }
+    need(write_on(&walked, pid, address, bytes, count, &stop) == stored && same_replies(stop, expected),
+         "a write ends where stores of its bytes do");
+    need(write_on(&cached, pid, address, bytes, count, &stop) == stored && same_replies(stop, expected),
+         "a write below what is kept ends where stores of its bytes do");
+}
+
 /* The last offer, which is accepted more often than others; its page may have been only loaded. */
 static struct {
     uint32_t giver, page, target;
 } offered;
 
+/* Accepts the last offer. The target then stores into the page, and its giver loads there, which may have cached the
+ * page before. */
 static void accept_offered(void) {
-    uint32_t own = random_page();
-    on_each(offered.target, (struct tower_event){.call = TOWER_UNMAP, .first = own});
-    on_each(offered.target, (struct tower_event){.call = TOWER_ACCEPT, .first = offered.page, .second = offered.giver,
-                                                 .third = own});
+    uint32_t own = random_page(), giver = offered.giver, target = offered.target;
+    on_each(target, tower_unmap(target, own));
+    struct tower_reply reply = on_each(target, tower_accept(target, giver, offered.page, own));
+    if (reply.kind == TOWER_DONE && has_stub[target] && has_stub[giver]) {
+        access_by_all(target, STORE4, own << 12, random(0xffffffff));
+        access_by_all(giver, LOAD4, offered.page << 12, 0);
+    }
 }
 
 static void plain_call(uint32_t pid, uint8_t call) {
@@ -322,7 +360,7 @@ static void other_call(uint32_t pid) {
     static const uint8_t asked[PLAIN] = {TOWER_MAP, TOWER_UNMAP, TOWER_UNMAP, TOWER_PROTECT, TOWER_PROTECT, TOWER_INFO,
                                          TOWER_OFFER, TOWER_OFFER, TOWER_WITHDRAW, TOWER_ACCEPT, TOWER_ACCEPT,
                                          TOWER_QUOTA, TOWER_EXIT};
-    uint32_t nth = random(PLAIN + 5);
+    uint32_t nth = random(PLAIN + 6);
     calls++;
     if (nth < PLAIN) {
         plain_call(pid, asked[nth]);
@@ -330,6 +368,8 @@ static void other_call(uint32_t pid) {
         accept_offered();
     } else if (nth < PLAIN + 3) {
         kernels_access(pid);
+    } else if (nth == PLAIN + 3) {
+        kernels_write(pid);
     } else {
         make_child(random(2) ? 0 : pid);
     }

@@ -27,6 +27,7 @@ static const struct {
     {"twice", STORM, "two processors run one process"},
     {"move", STORM, "a process that comes back to a processor finds what this one kept of it"},
     {"fork", STORM, "the other processors run on while a fork copies"},
+    {"write", EVENTS, "nothing is invalidated after a write of the kernel's own"},
 };
 
 static bool is_same(const char *a, const char *b) {

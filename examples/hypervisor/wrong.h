@@ -21,6 +21,7 @@ enum wrong {
     WRONG_TWICE,
     WRONG_MOVE,
     WRONG_FORK,
+    WRONG_WRITE,
 };
 extern enum wrong wrong;
 
