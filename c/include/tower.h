@@ -6,8 +6,8 @@
  *  - One call at a time for each handle. It may come from any thread or CPU, under a lock of the
  *    caller's own. Calls with different handles need no common lock.
  *  - Each pointer is to memory that is valid, aligned and, unless it is const, writable. No other argument
- *    of the same call shares that memory. A slice is a pointer and its length; the pointer is valid, and
- *    not null, even if the length is 0. Each `bool` is 0 or 1.
+ *    of the same call shares that memory. A slice is a pointer and its length. If the length is 0, the
+ *    pointer may be NULL. Each `bool` is 0 or 1.
  *  - memset and memmove do what the C library's do, and rattle_alloc and rattle_dealloc what
  *    tower_heap.h says. No call is made from a signal handler.
  *
@@ -488,6 +488,52 @@ TOWER_NODISCARD static inline enum tower_outcome tower_do(struct tower *tower, s
     struct tower_reply *to = reply ? reply : &own;
     return tower_step(tower, &event, to) ? tower_outcome_of(to) : TOWER_OUTCOME_NO_CORE;
 }
+
+/* The functions of the archive require pointers that are not null, whatever the count is. A program calls each function
+ * below by its own name, without `_inline`. In place of NULL with a count of 0 it passes the address of an object. */
+TOWER_NODISCARD static inline bool tower_run_inline(struct tower *tower, const struct tower_event *events,
+                                                    size_t event_count, struct tower_reply *replies,
+                                                    size_t reply_count) {
+    const struct tower_event event = {0, 0, 0, 0, 0, 0, 0};
+    struct tower_reply reply = {0, 0, 0, 0, false, false, false, false};
+    return tower_run(tower, event_count || events ? events : &event, event_count,
+                     reply_count || replies ? replies : &reply, reply_count);
+}
+
+TOWER_NODISCARD static inline bool tower_run_until_inline(struct tower *tower, const struct tower_event *events,
+                                                          size_t event_count, struct tower_reply *replies,
+                                                          size_t reply_count, size_t *carried) {
+    const struct tower_event event = {0, 0, 0, 0, 0, 0, 0};
+    struct tower_reply reply = {0, 0, 0, 0, false, false, false, false};
+    return tower_run_until(tower, event_count || events ? events : &event, event_count,
+                           reply_count || replies ? replies : &reply, reply_count, carried);
+}
+
+TOWER_NODISCARD static inline bool tower_read_inline(struct tower *tower, uint32_t pid, uint32_t address,
+                                                     uint8_t *bytes, size_t byte_count, size_t *moved,
+                                                     struct tower_reply *stop) {
+    uint8_t byte = 0;
+    return tower_read(tower, pid, address, byte_count || bytes ? bytes : &byte, byte_count, moved, stop);
+}
+
+TOWER_NODISCARD static inline bool tower_write_inline(struct tower *tower, uint32_t pid, uint32_t address,
+                                                      const uint8_t *bytes, size_t byte_count, size_t *moved,
+                                                      struct tower_reply *stop) {
+    const uint8_t byte = 0;
+    return tower_write(tower, pid, address, byte_count || bytes ? bytes : &byte, byte_count, moved, stop);
+}
+
+TOWER_NODISCARD static inline bool tower_copy_frame_inline(const struct tower *tower, uint32_t frame, uint8_t *bytes,
+                                                           size_t byte_count) {
+    uint8_t byte = 0;
+    return tower_copy_frame(tower, frame, byte_count || bytes ? bytes : &byte, byte_count);
+}
+
+#define tower_run tower_run_inline
+#define tower_run_until tower_run_until_inline
+#define tower_read tower_read_inline
+#define tower_write tower_write_inline
+#define tower_copy_frame tower_copy_frame_inline
 
 #ifdef __cplusplus
 }

@@ -153,6 +153,30 @@ static inline const char *tower_restore_status_name(uint32_t status) {
 TOWER_NODISCARD uint32_t tower_restore(const uint8_t *bytes, size_t byte_count, struct tower *tower,
                                        struct tower_verdict *verdict);
 
+/* As in tower.h: a program calls these without `_inline`. In place of NULL with a count of 0 they pass the address of
+ * an object. */
+TOWER_NODISCARD static inline uint32_t tower_image_inline(const struct tower *tower, uint8_t *bytes, size_t byte_count,
+                                                          size_t *size) {
+    uint8_t byte = 0;
+    return tower_image(tower, byte_count || bytes ? bytes : &byte, byte_count, size);
+}
+
+TOWER_NODISCARD static inline uint32_t tower_check_bytes_inline(const uint8_t *bytes, size_t byte_count,
+                                                                struct tower_verdict *verdict) {
+    const uint8_t byte = 0;
+    return tower_check_bytes(byte_count || bytes ? bytes : &byte, byte_count, verdict);
+}
+
+TOWER_NODISCARD static inline uint32_t tower_restore_inline(const uint8_t *bytes, size_t byte_count,
+                                                            struct tower *tower, struct tower_verdict *verdict) {
+    const uint8_t byte = 0;
+    return tower_restore(byte_count || bytes ? bytes : &byte, byte_count, tower, verdict);
+}
+
+#define tower_image tower_image_inline
+#define tower_check_bytes tower_check_bytes_inline
+#define tower_restore tower_restore_inline
+
 #ifdef __cplusplus
 }
 #endif

@@ -34,7 +34,7 @@ static void boots(void) {
 
 static void asks_for_the_length(void) {
     size_t length = 0;
-    expect(tower_image(&tower, image, 0, &length) == TOWER_IMAGE_TOO_SHORT && length == TOWER_IMAGE_LENGTH(FRAMES),
+    expect(tower_image(&tower, NULL, 0, &length) == TOWER_IMAGE_TOO_SHORT && length == TOWER_IMAGE_LENGTH(FRAMES),
            "with no room the length is told");
     expect(tower_image(&tower, image, length - 1, &length) == TOWER_IMAGE_TOO_SHORT && image[0] == 0,
            "and with a byte too few, and nothing is written");
@@ -79,6 +79,8 @@ static void damages(void) {
     expect(tower_check_bytes(image, sizeof image - 2, &verdict) == TOWER_NOT_IMAGE &&
                verdict.clause == TOWER_FAULT_BAD_LENGTH,
            "a byte too few: another length");
+    expect(tower_check_bytes(NULL, 0, &verdict) == TOWER_NOT_IMAGE && verdict.clause == TOWER_FAULT_NOT_IMAGE,
+           "no byte: no image");
 }
 
 static bool is_named(const char *given, const char *name) {

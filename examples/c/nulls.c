@@ -1,0 +1,77 @@
+/* NULL with a count of 0, for each function that takes a slice. The linker has each of these functions call one of this
+ * file first (--wrap), which checks that no null pointer reaches the archive. It ends with status 0 if all goes as
+ * expected, and otherwise prints the line of what does not. */
+#include <stdio.h>
+
+#include "tower_images.h"
+
+enum { FRAMES = 16 };
+
+#define EXPECT(fact) do { if (!(fact)) { printf("nulls.c:%d: not so: %s\n", __LINE__, #fact); return 1; } } while (0)
+
+static unsigned calls, nulls;
+
+/* Notes whether a pointer is null. */
+static void note(const void *pointer) {
+    nulls += pointer == NULL;
+}
+
+/* Defines what the linker calls in place of a function: it notes the pointers of slices, and calls the function. */
+#define WRAP(type, name, taken, given, notes)                                                                         \
+    type __real_##name taken;                                                                                         \
+    type __wrap_##name taken;                                                                                         \
+    type __wrap_##name taken {                                                                                        \
+        calls++;                                                                                                      \
+        notes;                                                                                                        \
+        return __real_##name given;                                                                                   \
+    }
+
+WRAP(bool, tower_run,
+     (struct tower *tower, const struct tower_event *events, size_t events_count, struct tower_reply *replies,
+      size_t count),
+     (tower, events, events_count, replies, count), (note(events), note(replies)))
+WRAP(bool, tower_run_until,
+     (struct tower *tower, const struct tower_event *events, size_t events_count, struct tower_reply *replies,
+      size_t count, size_t *carried),
+     (tower, events, events_count, replies, count, carried), (note(events), note(replies)))
+WRAP(bool, tower_read,
+     (struct tower *tower, uint32_t pid, uint32_t address, uint8_t *bytes, size_t count, size_t *moved,
+      struct tower_reply *stop),
+     (tower, pid, address, bytes, count, moved, stop), note(bytes))
+WRAP(bool, tower_write,
+     (struct tower *tower, uint32_t pid, uint32_t address, const uint8_t *bytes, size_t count, size_t *moved,
+      struct tower_reply *stop),
+     (tower, pid, address, bytes, count, moved, stop), note(bytes))
+WRAP(bool, tower_copy_frame, (const struct tower *tower, uint32_t frame, uint8_t *bytes, size_t count),
+     (tower, frame, bytes, count), note(bytes))
+WRAP(uint32_t, tower_image, (const struct tower *tower, uint8_t *bytes, size_t count, size_t *size),
+     (tower, bytes, count, size), note(bytes))
+WRAP(uint32_t, tower_check_bytes, (const uint8_t *bytes, size_t count, struct tower_verdict *verdict),
+     (bytes, count, verdict), note(bytes))
+WRAP(uint32_t, tower_restore,
+     (const uint8_t *bytes, size_t count, struct tower *tower, struct tower_verdict *verdict),
+     (bytes, count, tower, verdict), note(bytes))
+
+int main(void) {
+    static struct tower tower, other;
+    struct tower_reply reply = {0}, stop = {.kind = 99};
+    struct tower_event quota = tower_quota(0);
+    struct tower_verdict verdict = {7, 7};
+    size_t count = 99, size = 0;
+    EXPECT(tower_boot(FRAMES, &tower) == TOWER_BOOTED);
+    EXPECT(tower_run(&tower, NULL, 0, NULL, 0));
+    EXPECT(!tower_run(&tower, &quota, 1, NULL, 0) && !tower_run(&tower, NULL, 0, &reply, 1));
+    EXPECT(tower_run_until(&tower, NULL, 0, NULL, 0, &count) && count == 0);
+    EXPECT(tower_read(&tower, 0, 0, NULL, 0, &count, &stop) && count == 0 && stop.kind == TOWER_DONE);
+    EXPECT(tower_write(&tower, 0, 0, NULL, 0, &count, &stop) && count == 0 && stop.kind == TOWER_DONE);
+    EXPECT(tower_write(&tower, 64, 0, NULL, 0, &count, &stop) && count == 0 && stop.kind == TOWER_NO_EVENT);
+    EXPECT(!tower_copy_frame(&tower, 0, NULL, 0));
+    EXPECT(tower_image(&tower, NULL, 0, &size) == TOWER_IMAGE_TOO_SHORT && size == TOWER_IMAGE_LENGTH(FRAMES));
+    EXPECT(tower_check_bytes(NULL, 0, &verdict) == TOWER_NOT_IMAGE && verdict.clause == TOWER_FAULT_NOT_IMAGE);
+    EXPECT(tower_restore(NULL, 0, &other, &verdict) == TOWER_NOT_IMAGE && !other.live);
+    EXPECT(tower_run(&tower, &quota, 1, &reply, 1) && reply.kind == TOWER_USAGE && reply.second == 1);
+    EXPECT(calls == 12 && nulls == 0);
+    tower_free(&tower);
+    puts("nulls: NULL with a count of 0 reaches no function of the archives");
+    return 0;
+}
