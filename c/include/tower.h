@@ -301,6 +301,18 @@ enum tower_service {
     TOWER_FRAME_PAGE = 4,       /* that count pages share */
 };
 
+/* The name of a role; "" for a number that is no role. */
+static inline const char *tower_service_name(uint32_t role) {
+    switch (role) {
+    case TOWER_FRAME_RESERVED: return "Reserved";
+    case TOWER_FRAME_FREE: return "Free";
+    case TOWER_FRAME_DIRECTORY: return "Directory";
+    case TOWER_FRAME_TABLE: return "Table";
+    case TOWER_FRAME_PAGE: return "Page";
+    default: return "";
+    }
+}
+
 struct tower_role {
     uint32_t kind;
     uint32_t pid;
@@ -347,6 +359,17 @@ enum tower_ending {
     TOWER_ENDS_PAGES = 2,    /* those of its pages first and second */
     TOWER_ENDS_SPACE = 3,    /* all of process pid, which is gone */
 };
+
+/* The name of what an event ends; "" for a number that is none. */
+static inline const char *tower_ending_name(uint32_t ending) {
+    switch (ending) {
+    case TOWER_ENDS_NOTHING: return "Nothing";
+    case TOWER_ENDS_PAGE: return "Page";
+    case TOWER_ENDS_PAGES: return "Pages";
+    case TOWER_ENDS_SPACE: return "Space";
+    default: return "";
+    }
+}
 
 struct tower_ended {
     uint32_t kind;
@@ -487,6 +510,15 @@ TOWER_NODISCARD static inline enum tower_outcome tower_do(struct tower *tower, s
     struct tower_reply own;
     struct tower_reply *to = reply ? reply : &own;
     return tower_step(tower, &event, to) ? tower_outcome_of(to) : TOWER_OUTCOME_NO_CORE;
+}
+
+/* Carries out one event, as tower_step_ending does, and returns how it ended. `reply` may be NULL. */
+TOWER_NODISCARD static inline enum tower_outcome tower_do_ending(struct tower *tower, struct tower_event event,
+                                                                 struct tower_reply *reply,
+                                                                 struct tower_ended *ended) {
+    struct tower_reply own;
+    struct tower_reply *to = reply ? reply : &own;
+    return tower_step_ending(tower, &event, to, ended) ? tower_outcome_of(to) : TOWER_OUTCOME_NO_CORE;
 }
 
 /* The functions of the archive require pointers that are not null, whatever the count is. A program calls each function

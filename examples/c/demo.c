@@ -142,7 +142,7 @@ static void tells_what_ends(void) {
            "its accept will end the giver's translation");
     expect(tower_step_ending(&tower, &accept, &reply, &ended) && reply.kind == TOWER_DONE, "it is accepted");
     expect(memcmp(&ended, &before, sizeof ended) == 0, "and ends what was told");
-    expect(tower_step_ending(&tower, &accept, &reply, &ended) && reply.kind == TOWER_REFUSED && ended.kind == TOWER_ENDS_NOTHING,
+    expect(tower_do_ending(&tower, accept, NULL, &ended) == TOWER_OUTCOME_REFUSED && ended.kind == TOWER_ENDS_NOTHING,
            "what is refused ends none");
 }
 
@@ -175,6 +175,9 @@ static void names(void) {
            "and statuses");
     expect(is_named(tower_end_name(TOWER_WALK_OUTSIDE), "Outside") && is_named(tower_end_name(3), ""),
            "and ends of a walk");
+    expect(is_named(tower_service_name(TOWER_FRAME_PAGE), "Page") && is_named(tower_service_name(5), "") &&
+               is_named(tower_ending_name(TOWER_ENDS_SPACE), "Space") && is_named(tower_ending_name(4), ""),
+           "and roles, and what an event ends");
     expect(is_named(tower_outcome_name(TOWER_OUTCOME_NO_CORE), "NoCore") && is_named(tower_outcome_name(5), ""),
            "and outcomes");
 }
