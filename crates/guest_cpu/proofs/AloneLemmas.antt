@@ -217,10 +217,10 @@ asked_is [] = refl
 asked_is (x ∷ part) = ap (λ l. alone_event x.0.call ∷ l) (asked_is part)
 
 pub guests_isolated : GuestsAreIsolated
-guests_isolated s events k p e mine rest well at child part quiet program turns g h stop ran before final last stop_alone state other =
-    let here : State = alone_with (quota_asked e.call) (pages_given (end_of s (take k events)) e.pid e.call) in
+guests_isolated s events k p e mine rest well at child part quiet program turns g h stop ran before final last stop_alone root state other =
+    let here : State = alone_with root (quota_asked e.call) (pages_given (end_of s (take k events)) e.pid e.call) in
     let calls : List Event = map alone_event (calls_of mine) in
-    let all = runs_isolated s events well k p e at child (subst InvolvesNobody (sym part) quiet) in
+    let all = runs_isolated s events well k p e at child (subst InvolvesNobody (sym part) quiet) root in
     let told_alone : replies_of mine ≡ answers here calls = begins here mine rest (subst (λ xs. replies_of xs ≡ answers here (map alone_event (calls_of xs))) part all) in
     let first : IsRun program turns (alone g) (told calls here) calls stop (alone h) =
     subst (λ es. IsRun program turns (alone g) (told calls here) es stop (alone h)) (asked_is mine)

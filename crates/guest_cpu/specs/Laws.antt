@@ -46,13 +46,13 @@ abbrev pub answered : List Exchange → List Answer
 answered part = map (λ x. Ok x.1) part
 
 -- A guest's exchanges begin the part of a process that a run made, and that part involves nobody. Then the guest ends
--- as it ends over any core in which process 1 is alone with the quota and the pages that the process was given. It ends
--- in the same way, with the same registers and the same counter.
+-- as it ends over any core in which process 1 is alone with the quota and the pages that the process was given, whatever
+-- the root's quota is. It ends in the same way, with the same registers and the same counter.
 abbrev pub GuestsAreIsolated : Type 0
 GuestsAreIsolated = (s : State) (events : List Event) (k p : ℕ) (e : Event) (mine rest : List Exchange) → IsWellFormed s → slice_get events k ≡ Some e
     → slice_get (answers s events) k ≡ Some (Child p) → own p (drop (k + 1) (exchanges s events)) ≡ mine ++ rest → InvolvesNobody (mine ++ rest)
     → (program : List Instruction) (turns : ℕ) (g h : GuestView) (ends : End) → IsRun program turns g (answered mine) (asked mine) ends h
-    → (before after : core.View) (last : GuestView) (ends_alone : End) → before.state ≡ alone_with (quota_asked e.call) (pages_given (end_of s (take k events)) e.pid e.call)
+    → (before after : core.View) (last : GuestView) (ends_alone : End) (root : ℕ) → before.state ≡ alone_with root (quota_asked e.call) (pages_given (end_of s (take k events)) e.pid e.call)
     → HasRun IsCoreStep program turns (alone g) before ends_alone last after → (ends_alone ≡ ends) × (last ≡ alone h)
 
 -- what an event shows its caller: its exchange, and what its call finds

@@ -26,13 +26,14 @@ use Rattle.process_table.specs.Calls.{map_refusal, accept_refusal, protect_refus
 use Rattle.process_table.specs.WellFormed.{IsWellFormed}
 use Rattle.process_table.specs.declared.causes.Cause.{Cause}
 use Rattle.process_table.specs.declared.causes.Cause.TheVariants as cause
+use Rattle.process_table.proofs.Apart.{in_lone}
 use Rattle.process_table.proofs.CellLaws.{get-inserted, get-inserted_other}
 use Rattle.process_table.proofs.Refusals.{may_map, may_accept, may_protect}
 use Rattle.process_table.proofs.SpaceLaws.{well_formed-bytes, well_formed-touched}
 use Rattle.fault_handler.specs.Plans.{plan_of, step_of}
 use Rattle.fault_handler.proofs.Settled.{Goes, ready, all_user, same_cells}
 use Rattle.kernel_calls.specs.Authority.{flags_of, flags_at, byte_in, shares}
-use Rattle.kernel_calls.specs.Effects.{Tells, IsCovered, Does, DoneMeansDone, Maps, SlotsCome, SlotsGo}
+use Rattle.kernel_calls.specs.Effects.{Tells, IsCovered, IsStoredAt, IsTogether, Does, DoneMeansDone, Maps, SlotsCome, SlotsGo}
 use Rattle.kernel_calls.specs.Machine.{answer, answer_of, after, next, completes, refused_or}
 use Rattle.kernel_calls.specs.declared.calls.Call.{Call}
 use Rattle.kernel_calls.specs.declared.calls.Call.TheVariants as call
@@ -230,6 +231,20 @@ alone s e slot w none no_accept other h = elim (same_cases slot_order other slot
   ]
 ]
 
+-- what holds a page of a cell, or of a new one, is in its group
+together : (s : State) (own slot : Slot) → set.contains (cell_or_fresh s.spaces own).holders slot ≡ true
+    → IsTogether s own slot
+together s own slot = by (map.get s.spaces own) refl
+  where
+    by : (x : Option Cell) → map.get s.spaces own ≡ x
+        → set.contains (unwrap_or x (fresh own true)).holders slot ≡ true → IsTogether s own slot
+    by None none h = elim (same_cases slot_order slot own) [
+      | inl same ↦ inl (sym same.0)
+      | inr other ↦ absurd (let f = in_lone own slot other.0 in let x = h in cc)
+    ]
+    by (Some c) some h =
+        inr (ap (λ (x : Option Cell). unwrap_or (option_map (λ (c : Cell). set.contains c.holders slot) x) false) some ∙ h)
+
 -- ---- What each call does
 
 module _ (s : State) (e : Event) (w : IsWellFormed s) (live : is_live s e.pid ≡ true)
@@ -334,12 +349,19 @@ module _ (s : State) (e : Event) (w : IsWellFormed s) (live : is_live s e.pid �
           (a - address) inside)
 
       bytes : (byte_in (next s e) slot place ≡ byte_in s slot place)
-          ⊎ ((b : ℕ) × IsCovered address size b × (offset_number b ≡ place))
+          ⊎ ((b : ℕ) × IsStoredAt s e.pid address size b slot place
+          × (byte_in (next s e) slot place ≡ slice_index (bytes_of (byte_count size) value) (b - address)))
       bytes = elim (many_bytes (record s { spaces = T }) e.pid address (byte_count size) value well there slot
           (cell_or_fresh T slot) place at) [
             | inl same ↦ inl (ap (λ (t : State). byte_in t slot place) goes ∙ same
                 ∙ ap (λ (c : Cell). slice_index c.bytes place) cell_is)
-            | inr r ↦ inr (r.byte, (r.first, r.last), r.there)
+            | inr r ↦ inr (
+                r.byte,
+                ((r.first, r.last), r.there, together s (slot_at e.pid r.byte) slot
+                (ap (λ (c : Cell). set.contains c.holders slot)
+                (sym (same_cells s.spaces e.pid (touched address size) (slot_at e.pid r.byte))) ∙ r.shared)),
+                ap (λ (t : State). byte_in t slot place) goes ∙ r.stored,
+              )
           ]
 
   map_does : (page : ℕ) (write : Bool) → e.call ≡ call.Map page write → is_mapped s (at_page e.pid page) ≡ false

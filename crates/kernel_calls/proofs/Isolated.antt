@@ -236,8 +236,8 @@ planned_child (plan.Fault f) r k h = cc
 planned_child (plan.Ready first second) r k h = h
 
 -- a call that is answered with a child leaves it alike to process 1 alone with what the call gave it
-abbrev IsMade : State → ℕ → Call → ℕ → Type 0
-IsMade s p c k = AreAlike (after s p c) k (alone_with (quota_asked c) (pages_given s p c)) 1
+abbrev IsMade : ℕ → State → ℕ → Call → ℕ → Type 0
+IsMade root s p c k = AreAlike (after s p c) k (alone_with root (quota_asked c) (pages_given s p c)) 1
 
 child_value : (x k : ℕ) → reply.Child x ≡ reply.Child k → x ≡ k
 child_value x k h = cc
@@ -245,40 +245,40 @@ child_value x k h = cc
 done_not : (k : ℕ) → reply.Done ≡ reply.Child k → ⊥
 done_not k h = cc
 
-made : (s : State) (p : ℕ) (c : Call) (k : ℕ) → IsWellFormed s → is_live s p ≡ true → answer_of s p c ≡ reply.Child k → IsMade s p c k
-made s p (call.Load addr size) k w live h = absurd (value_not (loaded s p addr size) k (planned_child (plan_of s p addr size Read) (reply.Value (loaded s p addr size)) k h))
+made : (root : ℕ) (s : State) (p : ℕ) (c : Call) (k : ℕ) → IsWellFormed s → is_live s p ≡ true → answer_of s p c ≡ reply.Child k → IsMade root s p c k
+made root s p (call.Load addr size) k w live h = absurd (value_not (loaded s p addr size) k (planned_child (plan_of s p addr size Read) (reply.Value (loaded s p addr size)) k h))
   where
     value_not : (v k : ℕ) → reply.Value v ≡ reply.Child k → ⊥
     value_not v k h = cc
-made s p (call.Store addr size value) k w live h = absurd (done_not k (planned_child (plan_of s p addr size Write) reply.Done k h))
-made s p (call.Map page write) k w live h = absurd (done_not k (not_refused_child (map_refusal s p page) reply.Done k h).1)
-made s p (call.Unmap page) k w live h = absurd (done_not k (not_refused_child (unmap_refusal s p page) reply.Done k h).1)
-made s p (call.Protect page write) k w live h = absurd (done_not k (not_refused_child (protect_refusal s p page write) reply.Done k h).1)
-made s p (call.Info page) k w live h = absurd (info_not (cell_or_fresh s.spaces (at_page p page)) k (not_refused_child (protect_refusal s p page false) (info_of (cell_or_fresh s.spaces (at_page p page))) k h).1)
+made root s p (call.Store addr size value) k w live h = absurd (done_not k (planned_child (plan_of s p addr size Write) reply.Done k h))
+made root s p (call.Map page write) k w live h = absurd (done_not k (not_refused_child (map_refusal s p page) reply.Done k h).1)
+made root s p (call.Unmap page) k w live h = absurd (done_not k (not_refused_child (unmap_refusal s p page) reply.Done k h).1)
+made root s p (call.Protect page write) k w live h = absurd (done_not k (not_refused_child (protect_refusal s p page write) reply.Done k h).1)
+made root s p (call.Info page) k w live h = absurd (info_not (cell_or_fresh s.spaces (at_page p page)) k (not_refused_child (protect_refusal s p page false) (info_of (cell_or_fresh s.spaces (at_page p page))) k h).1)
   where
     info_not : (c : Cell) (k : ℕ) → info_of c ≡ reply.Child k → ⊥
     info_not c k h = cc
-made s p (call.Offer page target write) k w live h = absurd (done_not k (not_refused_child (offer_refusal s p page target write) reply.Done k h).1)
-made s p (call.Withdraw page target) k w live h = absurd (done_not k (not_refused_child (withdraw_refusal s p page target) reply.Done k h).1)
-made s p (call.Accept giver giver_page page) k w live h = absurd (done_not k (not_refused_child (accept_refusal s p giver giver_page page) reply.Done k h).1)
-made s p (call.Spawn quota) k w live h =
+made root s p (call.Offer page target write) k w live h = absurd (done_not k (not_refused_child (offer_refusal s p page target write) reply.Done k h).1)
+made root s p (call.Withdraw page target) k w live h = absurd (done_not k (not_refused_child (withdraw_refusal s p page target) reply.Done k h).1)
+made root s p (call.Accept giver giver_page page) k w live h = absurd (done_not k (not_refused_child (accept_refusal s p giver giver_page page) reply.Done k h).1)
+made root s p (call.Spawn quota) k w live h =
     let n = not_refused_child (spawn_refusal s p quota) (reply.Child (child_of s)) k h in
-    subst (λ c. AreAlike (after_spawn s p quota) c (alone_with quota map.empty) 1) (child_value (child_of s) k n.1) (spawn_alike s p quota w live n.0)
-made s p (call.Fork quota) k w live h =
+    subst (λ c. AreAlike (after_spawn s p quota) c (alone_with root quota map.empty) 1) (child_value (child_of s) k n.1) (spawn_alike s p root quota w live n.0)
+made root s p (call.Fork quota) k w live h =
     let n = not_refused_child (fork_refusal s p quota) (reply.Child (child_of s)) k h in
-    subst (λ c. AreAlike (after_fork s p quota) c (alone_with quota (pages_held s p)) 1) (child_value (child_of s) k n.1) (fork_alike s p quota w live n.0)
-made s p call.Exit k w live h = absurd (done_not k (not_refused_child (exit_refusal s p) reply.Done k h).1)
-made s p call.Quota k w live h = absurd (quota_not (quota_of s.book p) (cost s.spaces p) (given s.book p) k h)
+    subst (λ c. AreAlike (after_fork s p quota) c (alone_with root quota (pages_held s p)) 1) (child_value (child_of s) k n.1) (fork_alike s p root quota w live n.0)
+made root s p call.Exit k w live h = absurd (done_not k (not_refused_child (exit_refusal s p) reply.Done k h).1)
+made root s p call.Quota k w live h = absurd (quota_not (quota_of s.book p) (cost s.spaces p) (given s.book p) k h)
   where
     quota_not : (q u g k : ℕ) → reply.Quota q u g ≡ reply.Child k → ⊥
     quota_not q u g k h = cc
 
-child_alike : (s : State) (e : Event) (p : ℕ) → IsWellFormed s → answer s e ≡ reply.Child p → AreAlike (next s e) p (alone_with (quota_asked e.call) (pages_given s e.pid e.call)) 1
-child_alike s e p w h =
+child_alike : (root : ℕ) (s : State) (e : Event) (p : ℕ) → IsWellFormed s → answer s e ≡ reply.Child p → AreAlike (next s e) p (alone_with root (quota_asked e.call) (pages_given s e.pid e.call)) 1
+child_alike root s e p w h =
     let goes : completes (answer s e) ≡ true = ap completes h in
     let live = (caller_live s e goes).0 in
-    subst (λ t. AreAlike t p (alone_with (quota_asked e.call) (pages_given s e.pid e.call)) 1) (sym (next-goes s e goes))
-    (made s e.pid e.call p w live (sym (ap (λ b. if b then answer_of s e.pid e.call else reply.Refused cause.NoProcess) live) ∙ h))
+    subst (λ t. AreAlike t p (alone_with root (quota_asked e.call) (pages_given s e.pid e.call)) 1) (sym (next-goes s e goes))
+    (made root s e.pid e.call p w live (sym (ap (λ b. if b then answer_of s e.pid e.call else reply.Refused cause.NoProcess) live) ∙ h))
 
 -- ---- The laws
 
@@ -297,14 +297,14 @@ answer_at zero s (f ∷ events) e r h told = ap (answer s) (sym (same_Some f e h
 answer_at (suc k) s (f ∷ events) e r h told = answer_at k (next s f) events e r h told
 
 pub runs_isolated : RunsAreIsolated
-runs_isolated s events w k p e at told alone =
+runs_isolated s events w k p e at told alone root =
     let here = end_of s (take k events) in
     let well : IsWellFormed here = (kept-run s (take k events) w).0 in
-    let a = child_alike here e p well (answer_at k s events e (reply.Child p) at told) in
+    let a = child_alike root here e p well (answer_at k s events e (reply.Child p) at told) in
     let later = drop (suc k) events in
     let part : drop (k + 1) (exchanges s events) ≡ exchanges (next here e) later = ap (λ n. drop n (exchanges s events)) (add-one k) ∙ later_of k s events e at in
-    subst (λ xs. InvolvesNobody (own p xs) → replies_of (own p xs) ≡ solo (quota_asked e.call) (pages_given here e.pid e.call) (calls_of (own p xs))) (sym part)
-    (own_alike (next here e) (alone_with (quota_asked e.call) (pages_given here e.pid e.call)) p later (kept-next here e well).0 a) alone
+    subst (λ xs. InvolvesNobody (own p xs) → replies_of (own p xs) ≡ solo root (quota_asked e.call) (pages_given here e.pid e.call) (calls_of (own p xs))) (sym part)
+    (own_alike (next here e) (alone_with root (quota_asked e.call) (pages_given here e.pid e.call)) p later (kept-next here e well).0 a) alone
 
 -- what comes behind an event of a run
 behind : (before : List Event) (s : State) (e : Event) (later : List Event) → drop (suc (length before)) (exchanges s (before ++ e ∷ later)) ≡ exchanges (next (end_of s before) e) later
@@ -315,7 +315,7 @@ pub others_make_no_difference : OthersMakeNoDifference
 others_make_no_difference s before e later p w h alone =
     let here = end_of s before in
     let well : IsWellFormed here = (kept-run s before w).0 in
-    let a = child_alike here e p well h in
+    let a = child_alike 0 here e p well h in
     let part : (xs : List Event) → drop (length before + 1) (exchanges s (before ++ e ∷ xs)) ≡ exchanges (next here e) xs =
     λ xs. ap (λ n. drop n (exchanges s (before ++ e ∷ xs))) (add-one (length before)) ∙ behind before s e xs in
     ap (own p) (part (filter (is_by p) later))

@@ -1,6 +1,7 @@
 pub mod Availability
 pub mod Beside
 pub mod Births
+pub mod Causes
 pub mod Charges
 pub mod Cleanings
 pub mod Peeked

@@ -26,10 +26,10 @@ module _ (s : State) (e : Event) (child : ℕ) (w : IsWellFormed s) (told : answ
   apart = let b = maker_of s e child told in elim b.birth.1 [
     | inl spawned ↦ subst (λ k. IsApart t k) b.birth.0
         (subst (λ u. IsApart u (child_of s)) (sym (next-goes s e b.done ∙ ap (after s e.pid) spawned.1))
-        (spawn_alike s e.pid spawned.0 w b.live spawned.2).one)
+        (spawn_alike s e.pid 0 spawned.0 w b.live spawned.2).one)
     | inr forked ↦ subst (λ k. IsApart t k) b.birth.0
         (subst (λ u. IsApart u (child_of s)) (sym (next-goes s e b.done ∙ ap (after s e.pid) forked.1))
-        (fork_alike s e.pid forked.0 w b.live forked.2).one)
+        (fork_alike s e.pid 0 forked.0 w b.live forked.2).one)
   ]
 
   alone : (slot other : Slot) → (slot.pid == child) ≡ true → (other.pid == child) ≡ false → shares t slot other ≡ false

@@ -67,6 +67,15 @@ pub record IsTaken (s t : State) (p giver giver_page page : ℕ) : Type 0 where
   pub group : shares t (at_page p page) (at_page giver giver_page) ≡ true
   pub gone : map.get t.offers (offer_key giver giver_page p) ≡ None
 
+-- the slots are one, or in one group
+abbrev pub IsTogether : State → Slot → Slot → Type 0
+IsTogether s slot other = (slot ≡ other) ⊎ (shares s slot other ≡ true)
+
+-- the byte is covered, lies at this place of its page, and its slot is this one or in its group
+abbrev pub IsStoredAt : State → ℕ → ℕ → Size → ℕ → Slot → ℕ → Type 0
+IsStoredAt s p address size byte slot place =
+    IsCovered address size byte × (offset_number byte ≡ place) × IsTogether s (slot_at p byte) slot
+
 -- the effect of a call of p; a place that no Store covers keeps its byte, which is 0 if the slot was not mapped
 abbrev pub Does : State → State → ℕ → Call → Type 0
 Does s t p (call.Load address size) = (a place : ℕ) → IsCovered address size a
@@ -75,7 +84,8 @@ Does s t p (call.Store address size value) = (a place : ℕ) → IsCovered addre
     → IsAccessed s t (slot_at p a) true
     × (byte_in t (slot_at p a) (offset_number a) ≡ slice_index (bytes_of (byte_count size) value) (a - address))
     × ((byte_in t (slot_at p a) place ≡ byte_in s (slot_at p a) place)
-    ⊎ ((b : ℕ) × IsCovered address size b × (offset_number b ≡ place)))
+    ⊎ ((b : ℕ) × IsStoredAt s p address size b (slot_at p a) place
+      × (byte_in t (slot_at p a) place ≡ slice_index (bytes_of (byte_count size) value) (b - address))))
 Does s t p (call.Map page write) = (place : ℕ)
     → (flags_at t (at_page p page) ≡ Some (record { write = write; may = true; accessed = false; dirty = false }))
     × IsAlone t (at_page p page) × (byte_in t (at_page p page) place ≡ 0)

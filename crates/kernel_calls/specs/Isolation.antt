@@ -51,9 +51,10 @@ replies_of run = map (λ x. x.1) run
 abbrev pub InvolvesNobody : List Exchange → Type 0
 InvolvesNobody run = All (λ c. involves_others c ≡ false) (calls_of run)
 
--- the replies to these calls of process 1, on CPU 0, of a machine where it is alone with that quota and these pages
-abbrev pub solo : ℕ → Map nat_order FirstPage → List Call → List Reply
-solo quota pages calls = answers (alone_with quota pages) (map (λ c. record { cpu = 0; pid = 1; call = c }) calls)
+-- the replies to these calls of process 1, on CPU 0, of a machine where it is alone with that quota and these pages,
+-- under a root of another quota
+abbrev pub solo : ℕ → ℕ → Map nat_order FirstPage → List Call → List Reply
+solo root quota pages calls = answers (alone_with root quota pages) (map (λ c. record { cpu = 0; pid = 1; call = c }) calls)
 
 -- the quota that a call gives the child that it makes
 abbrev pub quota_asked : Call → ℕ
@@ -66,9 +67,10 @@ abbrev pub pages_given : State → ℕ → Call → Map nat_order FirstPage
 pages_given s p (call.Fork _) = pages_held s p
 pages_given s p _ = map.empty
 
--- a part that involves nobody gets the replies that process 1 gets alone with that quota and these pages
+-- a part that involves nobody gets the replies that process 1 gets alone with that quota and these pages, whatever the
+-- root's quota is
 abbrev pub IsAsAlone : ℕ → Map nat_order FirstPage → List Exchange → Type 0
-IsAsAlone quota pages part = InvolvesNobody part → replies_of part ≡ solo quota pages (calls_of part)
+IsAsAlone quota pages part = InvolvesNobody part → (root : ℕ) → replies_of part ≡ solo root quota pages (calls_of part)
 
 -- each process that a run makes, at some place, gets afterwards the replies that it gets alone
 abbrev pub IsIsolated : State → List Event → List Reply → Type 0

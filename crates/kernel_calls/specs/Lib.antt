@@ -1,5 +1,6 @@
 pub mod Acts
 pub mod Authority
+pub mod Causes
 pub mod Cleaned
 pub mod Beside
 pub mod Decisions

@@ -40,7 +40,7 @@ quiet_replies =
 
 -- alone with that quota
 abbrev pub ToldAlone : Type 0
-ToldAlone = solo 5 map.empty quiet_calls ≡ quiet_replies
+ToldAlone = solo 6 5 map.empty quiet_calls ≡ quiet_replies
 
 -- as the root's only child
 abbrev pub ToldBesideTheRoot : ℕ → Type 0
@@ -114,7 +114,7 @@ copy_replies =
 
 -- alone with that quota and the pages that it got
 abbrev pub CopyToldAlone : Type 0
-CopyToldAlone = solo 5 (pages_given (end_of (open_with 16) before_copy) 1 copy) copy_calls ≡ copy_replies
+CopyToldAlone = solo 6 5 (pages_given (end_of (open_with 16) before_copy) 1 copy) copy_calls ≡ copy_replies
 
 -- the copy's replies while its parent stores to the same page of its own
 abbrev pub CopyToldBeside : ℕ → Type 0

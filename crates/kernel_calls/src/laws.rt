@@ -3,6 +3,7 @@
 ghost use Rattle.kernel_calls.specs.Cleaned.{CleaningKeepsStates, CleaningIsUnseen, EventsEndMarks, KeptThroughMarks, KeptAmongMarks, CleaningIsNoEvent, CleaningShows};
 ghost use Rattle.kernel_calls.specs.Authority.{StatesStayWellFormed, RefusalsChangeNothing, SlotsAreKept, Integrity, NobodyTakesBack, SharingByConsent, SharingStays, OffersByOfferer, ExitsEnd, UnmapsEnd, OffersEnd, OffersStay, ChildrenAreTheirMakers, PlacesStay, MembersToldTheSame, OwnIsEnough, MembersSeeTheSame, OutsidersUnseen, MembersHearTheSame, RunsKeepBorders, OutsidersHearNothing};
 ghost use Rattle.kernel_calls.specs.Beside.{AccessesBeside, OrdersEndTheSame};
+ghost use Rattle.kernel_calls.specs.Causes.{CompletesUnless, RefusedByTheFirst, FaultsAtTheFirstByte};
 ghost use Rattle.kernel_calls.specs.Effects.{CompletesByKind, DoneMeansDone, SlotsCome, SlotsGo, FlagsChange, OthersNeverRefuse, RunsNeverRefuse};
 ghost use Rattle.kernel_calls.specs.Families.{FamiliesHearTheirOwn, FamiliesEndTheSame, NewbornsAreFamilies};
 ghost use Rattle.kernel_calls.specs.Isolation.{RunsAreIsolated, OthersMakeNoDifference};
@@ -162,6 +163,16 @@ pub fn done_means_done()
 /// computes nothing.
 pub fn completes_by_kind()
     ensures { CompletesByKind }
+{}
+
+/// States when a call completes, and why it doesn't. Each call has a list of causes, and each cause a condition on the
+/// state. A call completes exactly if none of its causes applies and no byte of it faults. It is refused for the first
+/// cause of its list that applies. An access faults at its lowest byte outside the user range. If there is none, a Store
+/// faults at its lowest byte in a page that it may not write. It computes nothing.
+pub fn calls_complete_unless_refused()
+    ensures completes { CompletesUnless }
+    ensures refused { RefusedByTheFirst }
+    ensures faults { FaultsAtTheFirstByte }
 {}
 
 /// States that a new child is a family by itself. A family that makes the same calls and finds the same in two runs,

@@ -332,8 +332,8 @@ kept_where_some f None = refl
 kept_where_some f (Some a) = refl
 
 -- what process 1 has at each page, where it is alone with these
-pub page_alone : (quota : ℕ) (pages : Map nat_order FirstPage) (n : ℕ) → map.get (alone_with quota pages).spaces (at_page 1 n) ≡ option_map (first_cell (at_page 1 n)) (map.get pages n)
-page_alone quota pages n =
+pub page_alone : (root quota : ℕ) (pages : Map nat_order FirstPage) (n : ℕ) → map.get (alone_with root quota pages).spaces (at_page 1 n) ≡ option_map (first_cell (at_page 1 n)) (map.get pages n)
+page_alone root quota pages n =
     get-collect slot_order (λ slot. option_map (first_cell slot) (map.get pages slot.page)) (map (at_page 1) (map.keys pages)) (at_page 1 n)
     ∙ ap (λ b. cond b (option_map (first_cell (at_page 1 n)) (map.get pages n)) None) (among_pages 1 n (map.keys pages) ∙ sym (is_some-find nat_cmp n pages.entries))
     ∙ kept_where_some (first_cell (at_page 1 n)) (map.get pages n)
@@ -347,20 +347,20 @@ first_held : (p q n : ℕ) (x : Option FirstPage) → option_map held_in (option
 first_held p q n None = refl
 first_held p q n (Some page) = refl
 
-alone_apart : (quota : ℕ) (pages : Map nat_order FirstPage) → IsApart (alone_with quota pages) 1
-alone_apart quota pages = record {
+alone_apart : (root quota : ℕ) (pages : Map nat_order FirstPage) → IsApart (alone_with root quota pages) 1
+alone_apart root quota pages = record {
   live = refl;
   not_root = λ e. cc;
   childless = refl;
   offers_none = λ key right h. cc;
-  shares_none = λ n c h. first_lone (at_page 1 n) (map.get pages n) c (sym (page_alone quota pages n) ∙ h);
+  shares_none = λ n c h. first_lone (at_page 1 n) (map.get pages n) c (sym (page_alone root quota pages n) ∙ h);
 }
 
 -- a new child with some pages, each in a group of its own, is alike to one that is alone with them
-pub child_alike : (s : State) (p k quota : ℕ) (T : Spaces) (pages : Map nat_order FirstPage) → IsWellFormed s → is_live s p ≡ true → is_live s k ≡ false
+pub child_alike : (s : State) (p k root quota : ℕ) (T : Spaces) (pages : Map nat_order FirstPage) → IsWellFormed s → is_live s p ≡ true → is_live s k ≡ false
     → ((n : ℕ) → map.get T (at_page k n) ≡ option_map (first_cell (at_page k n)) (map.get pages n))
-    → AreAlike (record { spaces = T; book = map.insert s.book k (record { parent = p; quota = quota }); offers = s.offers }) k (alone_with quota pages) 1
-child_alike s p k quota T pages w live free copies =
+    → AreAlike (record { spaces = T; book = map.insert s.book k (record { parent = p; quota = quota }); offers = s.offers }) k (alone_with root quota pages) 1
+child_alike s p k root quota T pages w live free copies =
     let none = no_value (map.get s.book k) free in
     let child : Member = record { parent = p; quota = quota } in
     let before = number-none s.book k none (parents_in s w) in
@@ -375,15 +375,15 @@ child_alike s p k quota T pages w live free copies =
         offers_none = no_offer s k w free;
         shares_none = λ n c h. first_lone (at_page k n) (map.get pages n) c (sym (copies n) ∙ h);
       };
-      other = alone_apart quota pages;
-      pages = λ n. ap (option_map held_in) (copies n) ∙ first_held k 1 n (map.get pages n) ∙ sym (ap (option_map held_in) (page_alone quota pages n));
+      other = alone_apart root quota pages;
+      pages = λ n. ap (option_map held_in) (copies n) ∙ first_held k 1 n (map.get pages n) ∙ sym (ap (option_map held_in) (page_alone root quota pages n));
       quota = ap (λ (x : Option Member). unwrap_or (option_map (λ (m : Member). m.quota) x) 0) here;
     }
 
-pub spawn_alike : (s : State) (p quota : ℕ) → IsWellFormed s → is_live s p ≡ true → spawn_refusal s p quota ≡ None → AreAlike (after_spawn s p quota) (child_of s) (alone_with quota map.empty) 1
-spawn_alike s p quota w live allowed =
+pub spawn_alike : (s : State) (p root quota : ℕ) → IsWellFormed s → is_live s p ≡ true → spawn_refusal s p quota ≡ None → AreAlike (after_spawn s p quota) (child_of s) (alone_with root quota map.empty) 1
+spawn_alike s p root quota w live allowed =
     let free = child_free s p quota allowed in
-    child_alike s p (child_of s) quota s.spaces map.empty w live free (no_page s (child_of s) w free)
+    child_alike s p (child_of s) root quota s.spaces map.empty w live free (no_page s (child_of s) w free)
 
 -- whether a page is one of a process's
 among_own : (S : Spaces) (p n : ℕ) → list_any (same nat_order n) (set.items (pages_of S p)) ≡ map.contains_key S (at_page p n)
@@ -403,7 +403,7 @@ copied_held s p k n =
     ∙ ap (λ b. cond b (option_map first_page (map.get s.spaces (at_page p n))) None) (among_own s.spaces p n)
     ∙ kept_where_some first_page (map.get s.spaces (at_page p n))))
 
-pub fork_alike : (s : State) (p quota : ℕ) → IsWellFormed s → is_live s p ≡ true → fork_refusal s p quota ≡ None → AreAlike (after_fork s p quota) (child_of s) (alone_with quota (pages_held s p)) 1
-fork_alike s p quota w live allowed =
+pub fork_alike : (s : State) (p root quota : ℕ) → IsWellFormed s → is_live s p ≡ true → fork_refusal s p quota ≡ None → AreAlike (after_fork s p quota) (child_of s) (alone_with root quota (pages_held s p)) 1
+fork_alike s p root quota w live allowed =
     let free = fork_free s p quota allowed in
-    child_alike s p (child_of s) quota (copied s.spaces p (child_of s)) (pages_held s p) w live free (copied_held s p (child_of s))
+    child_alike s p (child_of s) root quota (copied s.spaces p (child_of s)) (pages_held s p) w live free (copied_held s p (child_of s))

@@ -65,10 +65,10 @@ first_page cell = record { bytes = cell.bytes; write = cell.write; may = cell.ma
 abbrev pub pages_held : State → ℕ → Map nat_order FirstPage
 pages_held s p = map.collect (λ page. option_map first_page (map.get s.spaces (at_page p page))) (set.items (pages_of s.spaces p))
 
--- process 1 with that quota and these pages, under a root that has given it all but what its own directory costs
-abbrev pub alone_with : ℕ → Map nat_order FirstPage → State
-alone_with quota pages = record {
+-- process 1 with that quota and these pages, under a root of any quota that has nothing else
+abbrev pub alone_with : ℕ → ℕ → Map nat_order FirstPage → State
+alone_with root quota pages = record {
   spaces = map.collect (λ slot. option_map (first_cell slot) (map.get pages slot.page)) (map (at_page 1) (map.keys pages));
-  book = map.insert (map.insert map.empty 0 (record { parent = 0; quota = quota + 1 })) 1 (record { parent = 0; quota = quota });
+  book = map.insert (map.insert map.empty 0 (record { parent = 0; quota = root })) 1 (record { parent = 0; quota = quota });
   offers = map.empty;
 }

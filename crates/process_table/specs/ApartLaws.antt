@@ -78,5 +78,5 @@ CallsLeaveOthers =
 -- caller's pages
 abbrev pub ChildrenBeginAlone : Type 0
 ChildrenBeginAlone =
-    ((s : State) (p quota : ℕ) → IsWellFormed s → is_live s p ≡ true → spawn_refusal s p quota ≡ None → AreAlike (after_spawn s p quota) (child_of s) (alone_with quota map.empty) 1)
-    × ((s : State) (p quota : ℕ) → IsWellFormed s → is_live s p ≡ true → fork_refusal s p quota ≡ None → AreAlike (after_fork s p quota) (child_of s) (alone_with quota (pages_held s p)) 1)
+    ((s : State) (p root quota : ℕ) → IsWellFormed s → is_live s p ≡ true → spawn_refusal s p quota ≡ None → AreAlike (after_spawn s p quota) (child_of s) (alone_with root quota map.empty) 1)
+    × ((s : State) (p root quota : ℕ) → IsWellFormed s → is_live s p ≡ true → fork_refusal s p quota ≡ None → AreAlike (after_fork s p quota) (child_of s) (alone_with root quota (pages_held s p)) 1)
