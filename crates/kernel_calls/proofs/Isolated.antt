@@ -290,7 +290,7 @@ later_of (suc k) s [] e h = cc
 later_of zero s (f ∷ events) e h = ap (λ (x : Event). exchanges (next s x) events) (same_Some f e h)
 later_of (suc k) s (f ∷ events) e h = later_of k (next s f) events e h
 
-answer_at : (k : ℕ) (s : State) (events : List Event) (e : Event) (r : Reply) → slice_get events k ≡ Some e → slice_get (answers s events) k ≡ Some r → answer (end_of s (take k events)) e ≡ r
+pub answer_at : (k : ℕ) (s : State) (events : List Event) (e : Event) (r : Reply) → slice_get events k ≡ Some e → slice_get (answers s events) k ≡ Some r → answer (end_of s (take k events)) e ≡ r
 answer_at zero s [] e r h told = cc
 answer_at (suc k) s [] e r h told = cc
 answer_at zero s (f ∷ events) e r h told = ap (answer s) (sym (same_Some f e h)) ∙ same_Some (answer s f) r told

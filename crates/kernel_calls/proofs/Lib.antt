@@ -42,6 +42,7 @@ pub mod PlayedTurns
 pub mod Runs
 pub mod Seen
 pub mod SeenTogether
+pub mod Served
 pub mod Stays
 pub mod Tellings
 pub mod TogetherSpaces

@@ -1,7 +1,7 @@
 -- The reply and the effects of each call that completes, and the calls that events of others can refuse.
-use Rattle.std.proofs.Common.{◌≡◌, ◌≢◌, ℕ, ◌+◌, ◌-◌, ◌<◌, ◌≤◌, ◌||◌, Bool, true, false, List, map, Option, Some, None}
+use Rattle.std.proofs.Common.{◌≡◌, ◌≢◌, ℕ, ◌+◌, ◌-◌, ◌<◌, ◌≤◌, ◌||◌, Bool, true, false, List, map, take, drop, Option, Some, None}
 use Rattle.std.specs.Prelude.{◌⊎◌, slice_index}
-use Rattle.std.specs.List.{All}
+use Rattle.std.specs.List.{All, slice_get}
 use Rattle.page_words.specs.Addresses.{page_number, offset_number, byte_count, covered}
 use Rattle.page_words.specs.declared.addresses.Size.{Size}
 use Rattle.page_words.specs.FiniteMap as map
@@ -159,3 +159,10 @@ abbrev pub RunsNeverRefuse : Type 0
 RunsNeverRefuse = (s : State) (others : List Event) (e : Event) → IsWellFormed s
     → All (λ (o : Event). e.pid ≢ o.pid) others → completes (answer s e) ≡ true
     → (completes (answer (end_of s others) e) ≡ true) ⊎ (lost e.call ≡ Some (answer (end_of s others) e))
+
+-- In a run with these replies, take a call that would complete after the first k events. If the next n events are of
+-- other processes, and it comes then, it completes or gets that refusal.
+abbrev pub IsServed : State → List Event → List Reply → Type 0
+IsServed s events replies = (k n : ℕ) (e : Event) (r : Reply) → slice_get events (k + n) ≡ Some e
+    → slice_get replies (k + n) ≡ Some r → All (λ (o : Event). e.pid ≢ o.pid) (take n (drop k events))
+    → completes (answer (end_of s (take k events)) e) ≡ true → (completes r ≡ true) ⊎ (lost e.call ≡ Some r)

@@ -20,6 +20,7 @@ ghost use Rattle.phys_memory.specs.Bytes.{frame_bytes};
 ghost use Rattle.fault_handler.specs.Plans.{goes_on, takes_no_frame};
 ghost use Rattle.kernel_calls.specs.Authority.{HearTheirOwn, KeepsBorders};
 ghost use Rattle.kernel_calls.specs.Cleaned.{is_dirty_at, cleaned, EndsMarks};
+ghost use Rattle.kernel_calls.specs.Effects.{IsServed};
 ghost use Rattle.kernel_calls.specs.Families.{IsUnreached};
 ghost use Rattle.kernel_calls.specs.Isolation.{IsIsolated};
 ghost use Rattle.kernel_calls.specs.Pages.{page_in};
@@ -361,7 +362,8 @@ impl Core {
     /// even a byte of memory. A process that the run made, and that involves no other, gets the replies that it would
     /// get alone. Members of any set get the replies that they would get in any other run in which they make the same
     /// calls, find the same, and others use no channel to them. A set that keeps within itself stays confined. Such a
-    /// family gets the same replies, whatever others do.
+    /// family gets the same replies, whatever others do. A call that would complete still completes after events of
+    /// others, except for the calls that these can make impossible.
     pub fn run(&mut self, events: &[Event], replies: &mut [Reply])
         requires { length events.now ≡ length replies.old }
         ensures replies { replies.new ≡ answers self.old.state events.now }
@@ -371,6 +373,7 @@ impl Core {
         ensures heard { HearTheirOwn self.old.state events.now replies.new }
         ensures borders { KeepsBorders self.old.state events.now self.new.state }
         ensures unreached { IsUnreached self.old.state events.now replies.new }
+        ensures served { IsServed self.old.state events.now replies.new }
         ensures kept { none_completes replies.new ≡ true → self.new ≡ self.old }
     {
         self.stands();

@@ -1,12 +1,14 @@
 -- The replies of members of sets in a legal history, and that confined sets stay so.
 use Rattle.std.proofs.Common.{◌≡◌, ℕ, List, ◌++◌, sym, ap, subst, ◌∙◌}
 use Rattle.kernel_calls.specs.Authority.{HearTheirOwn, KeepsBorders}
+use Rattle.kernel_calls.specs.Effects.{IsServed}
 use Rattle.kernel_calls.specs.Families.{IsUnreached}
 use Rattle.kernel_calls.specs.Machine.{end_of}
 use Rattle.kernel_calls.specs.declared.calls.Reply.{Reply}
 use Rattle.kernel_calls.proofs.Confined.{runs_keep_borders}
 use Rattle.kernel_calls.proofs.Hearing.{members_hear_the_same, families_hear_their_own}
 use Rattle.kernel_calls.proofs.Runs.{kept-run, end_of-append}
+use Rattle.kernel_calls.proofs.Served.{runs_are_served}
 use Rattle.memory_report.proofs.HistoryLemmas.{events-append, later_replies}
 use Rattle.memory_report.proofs.IsolatedHistories.{opens_well}
 use Rattle.memory_report.specs.Histories.{events_of, state_after, Legal}
@@ -39,4 +41,6 @@ histories_guarded frames log h = record {
       subst (λ (replies : List Reply). IsUnreached (state_after frames before) (events_of later) replies)
       (sym (later_replies frames before later (subst (Legal frames) is h)))
       (families_hear_their_own (state_after frames before) (events_of later) (well_after frames log before h));
+  served = subst (IsServed (open_with frames) (events_of log)) (sym h.replies)
+      (runs_are_served (open_with frames) (events_of log) (opens_well frames log h));
 }

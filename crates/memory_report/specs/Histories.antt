@@ -2,6 +2,7 @@
 use Rattle.std.specs.Prelude.{◌≡◌, ◌≤◌, ℕ, ◌==◌, List, ◌∷◌, ◌++◌, map, length, filter, nat_lt, if◌then◌else◌}
 use Rattle.kernel_calls.specs.Authority.{HearTheirOwn, KeepsBorders}
 use Rattle.kernel_calls.specs.Decisions.{charge_after}
+use Rattle.kernel_calls.specs.Effects.{IsServed}
 use Rattle.kernel_calls.specs.Families.{IsUnreached}
 use Rattle.kernel_calls.specs.Isolation.{Exchange, IsIsolated}
 use Rattle.kernel_calls.specs.Machine.{answer, answers, end_of}
@@ -37,7 +38,8 @@ abbrev pub AreIsolated : ℕ → List LogEntry → Type 0
 AreIsolated frames log = IsIsolated (open_with frames) (events_of log) (replies_of log)
 
 -- From each place of these entries on, the members of every set get their own replies. Every confined set that keeps
--- within itself stays confined, and every such family gets the same replies, whatever others do.
+-- within itself stays confined, and every such family gets the same replies, whatever others do. A call that would
+-- complete still completes after entries of others, except where these can make it impossible.
 pub record AreGuarded (frames : ℕ) (log : List LogEntry) : Type 0 where
   pub heard : (before later : List LogEntry) → log ≡ before ++ later
       → HearTheirOwn (state_after frames before) (events_of later) (replies_of later)
@@ -45,6 +47,7 @@ pub record AreGuarded (frames : ℕ) (log : List LogEntry) : Type 0 where
       → KeepsBorders (state_after frames before) (events_of later) (state_after frames log)
   pub unreached : (before later : List LogEntry) → log ≡ before ++ later
       → IsUnreached (state_after frames before) (events_of later) (replies_of later)
+  pub served : IsServed (open_with frames) (events_of log) (replies_of log)
 
 -- the entries of one CPU
 abbrev pub entries_of : ℕ → List LogEntry → List LogEntry

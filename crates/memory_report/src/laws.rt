@@ -23,7 +23,8 @@ pub fn histories_are_isolated()
 /// States what holds from each place of a legal history on. The members of any set get the replies that they would get
 /// in any run from a state that looks the same to them. In that run they make the same calls, find the same, and others
 /// use no channel to them. A set that shares and offers nothing outside, and keeps within itself, stays so, and keeps
-/// through the calls of others what it had. As a family it gets the same replies, whatever others do. It computes
+/// through the calls of others what it had. As a family it gets the same replies, whatever others do. A call that would
+/// complete still completes after calls of others, except for the few that these can make impossible. It computes
 /// nothing.
 pub fn histories_are_guarded()
     ensures { HistoriesAreGuarded }
