@@ -231,6 +231,10 @@ EndAlong (e ∷ events) (x ∷ ended) v w = (u : View) × (x ≡ ended_by v e) �
 EndAlong [] (x ∷ ended) v w = ⊥
 EndAlong (e ∷ events) [] v w = ⊥
 
+-- each of these events ended what `ended_by` says, and nothing else
+abbrev pub EndsAlong : List Event → View → View → Type 0
+EndsAlong events v w = (ended : List Ended) × EndAlong events ended v w
+
 -- what was read before a run, and was ended by none of its events, is read after it
 abbrev pub KeptThroughRuns : Type 0
 KeptThroughRuns = (v w : View) (events : List Event) (ended : List Ended) (kept : List Kept) → EndAlong events ended v w

@@ -1,7 +1,8 @@
-use Rattle.std.proofs.Common.{rules, ◌≡◌, ◌+◌, ◌<◌, ◌≤◌, ◌++◌, ℕ, List, [], ◌∷◌, length, take, drop, ap, sym, ◌∙◌, subst, refl, get_or, append_assoc, append-nil}
+use Rattle.std.proofs.Common.{rules, ◌≡◌, ◌+◌, ◌<◌, ◌≤◌, ◌++◌, ℕ, not, List, [], ◌∷◌, length, take, drop, ap, sym, ◌∙◌, subst, refl, get_or, append_assoc, append-nil}
+use Rattle.std.proofs.lemmas.Bool.{and_parts, not-true}
 use Rattle.std.proofs.lemmas.List.{take_more_set, drop_more, drop_all, take_all}
 use Rattle.process_table.specs.State.{State}
-use Rattle.kernel_calls.specs.Machine.{answers, end_of}
+use Rattle.kernel_calls.specs.Machine.{answers, end_of, completes, none_completes}
 use Rattle.kernel_calls.specs.Translations.{EndAlong}
 use Rattle.kernel_calls.specs.declared.calls.Event.{Event}
 use Rattle.kernel_calls.specs.declared.calls.Reply.{Reply}
@@ -23,6 +24,8 @@ loop-i-preserved c =
     let here : drop i events ≡ e ∷ rest = drop_more events i e within ∙ ap (λ y. y ∷ rest) at in
     let told : i < length c.loop-i.replies = search rules in
     let small : i < length c.loop-i.ended = search rules in
+    let replies_here : answers c.loop-i.self.state (drop i events) ≡ r ∷ answers s rest =
+    ap (answers c.loop-i.self.state) here ∙ (λ j. sym step.reply j ∷ answers (sym step.state j) rest) in
     record {
       told = ap (λ l. l ++ answers s rest) (take_more_set c.loop-i.replies i r told)
           ∙ append_assoc (take i c.loop-i.replies) (r ∷ []) (answers s rest)
@@ -36,6 +39,13 @@ loop-i-preserved c =
           (c.loop-i.invariant.along (x ∷ later) w
           (subst (λ (es : List Event). EndAlong es (x ∷ later) c.loop-i.self w) (sym here)
           (c.step_ending-told.new.self, step.ended, step.state, step.ends, more)));
+      still = λ none.
+          let parts = and_parts (not (completes r)) (none_completes (answers s rest))
+          (ap none_completes (sym replies_here) ∙ c.loop-i.invariant.refused none) in
+          step.kept (not-true (completes r) parts.0) ∙ c.loop-i.invariant.still none;
+      refused = λ none.
+          (and_parts (not (completes r)) (none_completes (answers s rest))
+          (ap none_completes (sym replies_here) ∙ c.loop-i.invariant.refused none)).1;
     }
 
 pub returns-clause-ended : goal.returns-clause-ended

@@ -1,6 +1,6 @@
-use Rattle.std.proofs.Common.{◌≡◌, ◌++◌, List, take, drop}
+use Rattle.std.proofs.Common.{◌≡◌, ◌++◌, List, take, drop, true}
 use Rattle.process_table.specs.View.{View}
-use Rattle.kernel_calls.specs.Machine.{answers, end_of}
+use Rattle.kernel_calls.specs.Machine.{answers, end_of, none_completes}
 use Rattle.kernel_calls.specs.Translations.{EndAlong}
 use Rattle.kernel_calls.specs.declared.translations.Ended.{Ended}
 use Rattle.kernel_calls.proofs.cores.Core.run_ending.Given as goal
@@ -11,4 +11,6 @@ invariant-loop-i l = record {
   told : take l.i l.replies ++ answers l.self.state (drop l.i l.events) ≡ answers l.fn.self.state l.events;
   rest : end_of l.self.state (drop l.i l.events) ≡ end_of l.fn.self.state l.events;
   along : (later : List Ended) (w : View) → EndAlong (drop l.i l.events) later l.self w → EndAlong l.events (take l.i l.ended ++ later) l.fn.self w;
+  still : none_completes (answers l.fn.self.state l.events) ≡ true → l.self ≡ l.fn.self;
+  refused : none_completes (answers l.fn.self.state l.events) ≡ true → none_completes (answers l.self.state (drop l.i l.events)) ≡ true;
 }

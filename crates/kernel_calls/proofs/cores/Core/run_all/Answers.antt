@@ -1,0 +1,52 @@
+use Rattle.std.proofs.Common.{rules, ◌≡◌, ◌+◌, ◌<◌, ◌≤◌, ◌++◌, ℕ, true, false, not, ◌&&◌, List, [], ◌∷◌, length, take, drop, ap, sym, ◌∙◌, subst, refl, get_or, append_assoc}
+use Rattle.std.proofs.lemmas.Bool.{and_parts, not-true}
+use Rattle.std.proofs.lemmas.List.{take_more_set, drop_more, drop_all}
+use Rattle.process_table.specs.State.{State}
+use Rattle.process_table.specs.View.{View}
+use Rattle.kernel_calls.specs.Machine.{answers, end_of, completes, none_completes}
+use Rattle.kernel_calls.specs.Translations.{ended_by, EndAlong, EndsAlong}
+use Rattle.kernel_calls.specs.declared.calls.Event.{Event}
+use Rattle.kernel_calls.specs.declared.calls.Reply.{Reply}
+use Rattle.kernel_calls.specs.declared.translations.Ended.{Ended}
+use Rattle.kernel_calls.proofs.cores.Core.run_all.Goals as goal
+
+pub loop-i-preserved : goal.loop-i-preserved
+loop-i-preserved c =
+    let i : ℕ = c.loop-i.i in
+    let events : List Event = c.args.events.now in
+    let e : Event = c.index-events-i.result in
+    let step = c.step.ensures in
+    let r : Reply = c.step.result in
+    let v : View = c.loop-i.self in
+    let s : State = c.step.new.self.state in
+    let rest : List Event = drop (i + 1) events in
+    let within : i < length events = search rules in
+    let at : get_or events i e ≡ e = search rules in
+    let here : drop i events ≡ e ∷ rest = drop_more events i e within ∙ ap (λ y. y ∷ rest) at in
+    let told : i < length c.loop-i.replies = search rules in
+    let replies_here : answers v.state (drop i events) ≡ r ∷ answers s rest =
+    ap (answers v.state) here ∙ (λ j. sym step.reply j ∷ answers (sym step.state j) rest) in
+    record {
+      told = ap (λ l. l ++ answers s rest) (take_more_set c.loop-i.replies i r told)
+          ∙ append_assoc (take i c.loop-i.replies) (r ∷ []) (answers s rest)
+          ∙ ap (λ l. take i c.loop-i.replies ++ l) (sym replies_here)
+          ∙ c.loop-i.invariant.told;
+      rest = ap (λ (t : State). end_of t rest) step.state ∙ ap (end_of v.state) (sym here) ∙ c.loop-i.invariant.rest;
+      still = λ none.
+          let parts = and_parts (not (completes r)) (none_completes (answers s rest))
+          (ap none_completes (sym replies_here) ∙ c.loop-i.invariant.refused none) in
+          step.kept (not-true (completes r) parts.0) ∙ c.loop-i.invariant.still none;
+      along = λ later w more. c.loop-i.invariant.along (ended_by v e ∷ later) w
+          (subst (λ (es : List Event). EndAlong es (ended_by v e ∷ later) v w) (sym here)
+          (c.step.new.self, refl, step.state, step.ends, more));
+      refused = λ none.
+          (and_parts (not (completes r)) (none_completes (answers s rest))
+          (ap none_completes (sym replies_here) ∙ c.loop-i.invariant.refused none)).1;
+    }
+
+pub returns-clause-ends : goal.returns-clause-ends
+returns-clause-ends c =
+    let past : length c.args.events.now ≤ c.loop-i.i = search rules in
+    let none : drop c.loop-i.i c.args.events.now ≡ [] = drop_all c.loop-i.i c.args.events.now past in
+    c.loop-i.invariant.along [] c.loop-i.self
+    (subst (λ (es : List Event). EndAlong es [] c.loop-i.self c.loop-i.self) (sym none) refl)
