@@ -1,5 +1,5 @@
 -- Runs that stop at the first numbers that are not carried out.
-use Rattle.std.proofs.Common.{◌≡◌, ℕ, zero, suc, ◌+◌, ◌<◌, true, false, List, [], ◌∷◌, ◌++◌, length, take, drop, refl, ap, sym, ◌∙◌, arith, length-drop, append_assoc, drop-drop}
+use Rattle.std.proofs.Common.{◌≡◌, ℕ, zero, suc, ◌+◌, ◌<◌, true, false, List, [], ◌∷◌, ◌++◌, length, take, drop, refl, ap, sym, subst, ◌∙◌, arith, length-drop, append_assoc, drop-drop}
 use Rattle.std.specs.Prelude.{if◌then◌else◌, slice_set, slice_index_or, nat_lt, Option, Some, None}
 use Rattle.kernel_calls.specs.Machine.{answer, completes}
 use Rattle.kernel_calls.specs.declared.calls.Event.{Event}
@@ -7,7 +7,9 @@ use Rattle.kernel_calls.specs.declared.calls.Reply.{Reply}
 use Rattle.kernel_calls.specs.declared.calls.Reply.TheVariants as reply
 use Rattle.std.proofs.lemmas.List.{append-nil, length-take-le, take-append-drop, take_more_set, take_all, drop_all}
 use Rattle.process_table.specs.State.{State}
-use Rattle.tower_c.specs.Border.{event_in, reply_in, reply_numbers, state_after, is_carried_out, replies_in, end_after}
+use Rattle.process_table.specs.View.{View}
+use Rattle.kernel_calls.specs.Translations.{Ends}
+use Rattle.tower_c.specs.Border.{EndInOrder, event_in, ends_in, reply_in, reply_numbers, state_after, is_carried_out, replies_in, end_after}
 use Rattle.tower_c.specs.Runs.{carried_in, replies_until}
 use Rattle.tower_c.specs.declared.numbers.TowerEvent.{TowerEvent}
 use Rattle.tower_c.specs.declared.numbers.TowerReply.{TowerReply}
@@ -56,6 +58,12 @@ begins [] i d less = absurd (omega (arith, less))
 begins (x ∷ xs) zero d less = let n : 0 + 1 ≡ 1 = omega arith in sym (ap (λ k. x ∷ drop k (x ∷ xs)) n)
 begins (x ∷ xs) (suc i) d less = let n : suc i + 1 ≡ suc (i + 1) = omega arith in begins xs i d (omega (arith, less)) ∙ sym (ap (λ k. slice_index_or xs i d ∷ drop k (x ∷ xs)) n)
 
+-- one event more ended what it ends
+pub ends_on : (events : List TowerEvent) (v u w : View) (e : TowerEvent) → EndInOrder events v u
+    → w.state ≡ state_after u.state (event_in e) → Ends (ends_in u (event_in e)) u w → EndInOrder (events ++ (e ∷ [])) v w
+ends_on [] v u w e same state ends = subst (λ (x : View). EndInOrder (e ∷ []) x w) (sym same) (w, state, ends, refl)
+ends_on (x ∷ events) v u w e h state ends = (h.0, h.1, h.2, ends_on events h.0 u w e h.3 state ends)
+
 -- ---- As far as a run came
 
 -- the first events were carried out, and led here
@@ -67,6 +75,7 @@ pub record SoFar (s t : State) (events : List TowerEvent) (old replies : List To
 
 -- what a run tells in the end
 pub record Ended (s t : State) (events : List TowerEvent) (old told : List TowerReply) (n : ℕ) : Type 0 where
+  pub carried : carried_in s events ≡ take n events
   pub count : n ≡ length (carried_in s events)
   pub replies : told ≡ replies_until s events old
   pub state : t ≡ end_after s (carried_in s events)
@@ -110,6 +119,7 @@ module _ (s t : State) (events : List TowerEvent) (old replies : List TowerReply
       let long : length (take i events) ≡ i = let a = less in length-take-le i events (omega (arith, a)) in
       let count : suc (length (carried_in s events)) ≡ i + 1 = let a = ap length here in omega (arith, a, long) in
       record {
+        carried = here;
         count = sym long ∙ sym (ap length here);
         replies =
             sym (take-append-drop (i + 1) (slice_set replies i (reply_in t (event_in e))))
@@ -128,6 +138,7 @@ all_carried s t events old replies i so_far is same kept =
     let here : carried_in s events ≡ events = so_far.carried ∙ ap (λ es. take i events ++ carried_in t es) none ∙ append-nil (take i events) ∙ all in
     let count : suc (length (carried_in s events)) ≡ suc (length events) = ap (λ es. suc (length es)) here in
     record {
+      carried = here ∙ sym (take_all (length events) events (omega arith));
       count = sym (ap length here);
       replies =
           sym (take_all i replies (omega (arith, is, same))) ∙ so_far.told ∙ ap (replies_in s) all

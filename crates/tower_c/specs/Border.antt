@@ -1,5 +1,5 @@
 -- Events and replies as numbers.
-use Rattle.std.specs.Prelude.{ℕ, Bool, true, false, not, ◌==◌, ◌&&◌, nat_lt, Option, None, Some, Result, Ok, Err, if◌then◌else◌, List, [], ◌∷◌, length, slice_get}
+use Rattle.std.specs.Prelude.{◌≡◌, ℕ, Bool, true, false, not, ◌==◌, ◌&&◌, nat_lt, Option, None, Some, Result, Ok, Err, if◌then◌else◌, List, [], ◌∷◌, length, slice_get}
 use Rattle.std.specs.Option.{option_map}
 use Rattle.page_words.specs.declared.addresses.Size.{Size}
 use Rattle.page_words.specs.declared.addresses.Size.TheVariants.{One, Two, Four}
@@ -29,7 +29,7 @@ use Rattle.tower_c.specs.declared.numbers.TowerEvent.{TowerEvent}
 use Rattle.tower_c.specs.declared.numbers.TowerReply.{TowerReply}
 use Rattle.tower_c.specs.declared.numbers.TowerWalk.{TowerWalk}
 use Rattle.tower_c.specs.declared.numbers.TowerEnded.{TowerEnded}
-use Rattle.kernel_calls.specs.Translations.{ended_by}
+use Rattle.kernel_calls.specs.Translations.{ended_by, Ends}
 use Rattle.kernel_calls.specs.declared.translations.Ended.{Ended}
 use Rattle.kernel_calls.specs.declared.translations.Ended.TheVariants as end
 
@@ -266,6 +266,12 @@ ended_in None event = None
 abbrev pub ends_in : View → Option Event → Ended
 ends_in core (Some event) = ended_by core event
 ends_in core None = end.Nothing
+
+-- each event, one after the other, ended what `ends_in` says, and nothing else
+abbrev pub EndInOrder : List TowerEvent → View → View → Type 0
+EndInOrder [] v w = v ≡ w
+EndInOrder (e ∷ events) v w = (u : View) × (u.state ≡ state_after v.state (event_in e)) × Ends (ends_in v (event_in e)) v u
+    × EndInOrder events u w
 
 -- ---- The version
 

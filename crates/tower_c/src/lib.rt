@@ -9,7 +9,7 @@ ghost use Rattle.std.specs.Prelude.{◌≡◌, ◌≢◌, ◌↔◌, ◌≤◌, 
 ghost use Rattle.process_table.specs.State.{open_with};
 ghost use Rattle.process_table.specs.Image.{StandsFor, image_of};
 ghost use Rattle.phys_memory.specs.Bytes.{frame_bytes};
-ghost use Rattle.tower_c.specs.Border.{event_in, reply_in, state_after, is_carried_out, none_is_carried_out, replies_in, end_after, given, frames_in, directory_in, container_in, role_in, copy_in, walk_in, ended_in, ends_in, ended_numbers, version};
+ghost use Rattle.tower_c.specs.Border.{EndInOrder, event_in, reply_in, state_after, is_carried_out, none_is_carried_out, replies_in, end_after, given, frames_in, directory_in, container_in, role_in, copy_in, walk_in, ended_in, ends_in, ended_numbers, version};
 ghost use Rattle.c_handle.specs.Handle.{IsTower};
 ghost use Rattle.kernel_calls.specs.Translations.{Ends};
 
@@ -129,6 +129,7 @@ pub extern "C" fn tower_step(
     ensures reply { IfSome tower.old.hold.core (λ core. reply.new ≡ reply_in core.state (event_in event.now)) }
     ensures state { IfSome tower.old.hold.core (λ core. IfSome tower.new.hold.core (λ next. next.state ≡ state_after core.state (event_in event.now))) }
     ensures stands { IfSome tower.new.hold.core (λ core. StandsFor (image_of core) core.state) }
+    ensures ends { IfSome tower.old.hold.core (λ core. IfSome tower.new.hold.core (λ next. Ends (ends_in core (event_in event.now)) core next)) }
     ensures refused { IfSome tower.old.hold.core (λ core. is_carried_out core.state (event_in event.now) ≡ false → tower.new.hold.core ≡ Some core) }
     ensures none { result ≡ false → reply.new ≡ reply.old }
 {
@@ -249,6 +250,7 @@ fn run(core: &mut Core, events: &[TowerEvent], replies: &mut [TowerReply])
     ensures replies { replies.new ≡ replies_in core.old.state events.now }
     ensures state { core.new.state ≡ end_after core.old.state events.now }
     ensures stands { StandsFor (image_of core.new) core.new.state }
+    ensures ends { EndInOrder events.now core.old core.new }
     ensures refused { none_is_carried_out core.old.state events.now ≡ true → core.new ≡ core.old }
 {
     for (i, event) in events.iter().enumerate() {
@@ -274,6 +276,7 @@ pub extern "C" fn tower_run(
     ensures replies { result ≡ true → IfSome tower.old.hold.core (λ core. replies.new ≡ replies_in core.state events.now) }
     ensures state { result ≡ true → IfSome tower.old.hold.core (λ core. IfSome tower.new.hold.core (λ next. next.state ≡ end_after core.state events.now)) }
     ensures stands { result ≡ true → IfSome tower.new.hold.core (λ core. StandsFor (image_of core) core.state) }
+    ensures ends { result ≡ true → IfSome tower.old.hold.core (λ core. IfSome tower.new.hold.core (λ next. EndInOrder events.now core next)) }
     ensures refused { IfSome tower.old.hold.core (λ core. none_is_carried_out core.state events.now ≡ true → tower.new.hold.core ≡ Some core) }
     ensures none { result ≡ false → replies.new ≡ replies.old }
     ensures same { result ≡ false → tower.new.hold.core ≡ tower.old.hold.core }

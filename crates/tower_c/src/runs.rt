@@ -2,7 +2,8 @@
 
 ghost use Rattle.std.specs.Prelude.{◌≡◌, ◌↔◌, Some, IfSome, length, true, false};
 ghost use Rattle.process_table.specs.Image.{StandsFor, image_of};
-ghost use Rattle.tower_c.specs.Border.{event_in, reply_in, state_after, is_carried_out, end_after};
+ghost use Rattle.tower_c.specs.Border.{EndInOrder, event_in, reply_in, state_after, is_carried_out, end_after, ends_in};
+ghost use Rattle.kernel_calls.specs.Translations.{Ends};
 ghost use Rattle.c_handle.specs.Handle.{IsTower};
 ghost use Rattle.tower_c.specs.Runs.{carried_in, replies_until};
 
@@ -18,6 +19,7 @@ fn step_with_outcome(core: &mut Core, event: &TowerEvent) -> (TowerReply, bool)
     ensures done { result.1 ≡ is_carried_out core.old.state (event_in event.now) }
     ensures state { core.new.state ≡ state_after core.old.state (event_in event.now) }
     ensures stands { StandsFor (image_of core.new) core.new.state }
+    ensures ends { Ends (ends_in core.old (event_in event.now)) core.old core.new }
     ensures refused { is_carried_out core.old.state (event_in event.now) ≡ false → core.new ≡ core.old }
 {
     let told = step(core, event);
@@ -32,6 +34,7 @@ fn run_until(core: &mut Core, events: &[TowerEvent], replies: &mut [TowerReply])
     ensures replies { replies.new ≡ replies_until core.old.state events.now replies.old }
     ensures state { core.new.state ≡ end_after core.old.state (carried_in core.old.state events.now) }
     ensures stands { StandsFor (image_of core.new) core.new.state }
+    ensures ends { EndInOrder (carried_in core.old.state events.now) core.old core.new }
     ensures refused { result ≡ 0 → core.new ≡ core.old }
 {
     for (i, event) in events.iter().enumerate() {
@@ -64,6 +67,7 @@ pub extern "C" fn tower_run_until(
     ensures replies { result ≡ true → IfSome tower.old.hold.core (λ core. replies.new ≡ replies_until core.state events.now replies.old) }
     ensures state { result ≡ true → IfSome tower.old.hold.core (λ core. IfSome tower.new.hold.core (λ next. next.state ≡ end_after core.state (carried_in core.state events.now))) }
     ensures stands { result ≡ true → IfSome tower.new.hold.core (λ core. StandsFor (image_of core) core.state) }
+    ensures ends { result ≡ true → IfSome tower.old.hold.core (λ core. IfSome tower.new.hold.core (λ next. EndInOrder (carried_in core.state events.now) core next)) }
     ensures refused { result ≡ true → IfSome tower.old.hold.core (λ core. carried.new ≡ 0 → tower.new.hold.core ≡ Some core) }
     ensures none { result ≡ false → (replies.new ≡ replies.old) × (carried.new ≡ carried.old) }
     ensures same { result ≡ false → tower.new.hold.core ≡ tower.old.hold.core }
