@@ -9,4 +9,4 @@ mod restoring;
 pub use faults::{Failed, RestoreFault};
 pub use image_check::{FrameClause, Image, ProcessClause, read_image};
 pub use laws::restored_cores_answer_alike;
-pub use restoring::restore;
+pub use restoring::{first_failed, restore};

@@ -41,7 +41,7 @@ fn first_frame(verdict: &Verdict, frames: u32) -> Option<(u32, FrameClause)>
 }
 
 /// The first clause that fails of an image, by the verdict on it; None where it is sound.
-fn first_failed(image: &Image, verdict: &Verdict) -> Option<Failed>
+pub fn first_failed(image: &Image, verdict: &Verdict) -> Option<Failed>
     requires { verdict.now ≡ verdict_on image.now }
     ensures failed { IfSome result (FailsFirst image.now) }
     ensures sound { IfNone result (IsSound image.now) }

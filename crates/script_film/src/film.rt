@@ -1,6 +1,6 @@
 //! The film of a script.
 
-ghost use Rattle.std.specs.Prelude.{◌≡◌, ℕ, ◌≤◌, ◌<◌, ◌++◌, [], ◌∷◌, IfOk, IfErr, IfSome, MatchOption, length};
+ghost use Rattle.std.specs.Prelude.{◌≡◌, ℕ, ◌≤◌, ◌<◌, ◌++◌, [], ◌∷◌, ◌↔◌, IfOk, IfErr, IsErrOf, IfSome, MatchOption, length};
 ghost use Rattle.script_run.specs.Script.{lines_of};
 ghost use Rattle.script_film.specs.Rows.{frames_row, end_row};
 ghost use Rattle.script_film.specs.Film.{IsFilm, IsRefused};
@@ -9,6 +9,7 @@ ghost use Rattle.script_film.specs.Recordings.{Records, Reaches};
 use crate::ends::End;
 use crate::recording::{Recording, Shot};
 use crate::rows::{end_row, frames_row};
+use page_words::is_frame_count;
 use script_run::{SCRIPT_BYTES, ScriptFault, split_line};
 use std::alloc::Global;
 
@@ -65,19 +66,34 @@ fn rows_of(alloc: Global, frames: u32, rows: &[u8], end: End) -> Result<Vec<u8>,
     Ok(text)
 }
 
-/// The film of a script on a machine of so many frames: its data as rows, and how it ends.
-///
-/// A film shows the lines before the first malformed one, and 2,000 events at most. BadSize where the number of
-/// frames is not 16 to 4,096; TooLong where the script has more than 16,777,216 bytes; NoMemory.
-pub fn film_of(alloc: Global, frames: u32, script: &[u8]) -> Result<Film, ScriptFault>
+/// The film of a script that isn't too long, on a machine that may have so many frames.
+fn recorded(alloc: Global, frames: u32, script: &[u8]) -> Result<Film, ScriptFault>
+    requires size { (16 ≤ frames) × (frames ≤ 4096) }
+    requires short { length script.now ≤ 16777216 }
     ensures film { IfOk result (λ film. IsFilm frames script.now film.rows.items film.end) }
-    ensures fault { IfErr result (λ fault. IsRefused fault frames script.now) }
+    ensures fault { IfErr result (λ fault. fault ≡ ScriptFault.NoMemory) }
 {
-    if script.len() > SCRIPT_BYTES {
-        return Err(ScriptFault::TooLong);
-    }
     let mut recording = Recording::begin(alloc, frames)?;
     let end = take_lines(alloc, &mut recording, script)?;
     let rows = rows_of(alloc, frames, recording.rows.as_slice(), end)?;
     Ok(Film { rows, end })
+}
+
+/// The film of a script on a machine of so many frames: its data as rows, and how it ends.
+///
+/// A film shows the lines before the first malformed one, and 2,000 events at most. The faults come in this order:
+/// BadSize if the number of frames is not 16 to 4,096, TooLong if the script has more than 16,777,216 bytes, NoMemory.
+pub fn film_of(alloc: Global, frames: u32, script: &[u8]) -> Result<Film, ScriptFault>
+    ensures film { IfOk result (λ film. IsFilm frames script.now film.rows.items film.end) }
+    ensures fault { IfErr result (λ fault. IsRefused fault frames script.now) }
+    ensures size { IsErrOf result ScriptFault.BadSize ↔ (16 ≤ frames → frames ≤ 4096 → ⊥) }
+    ensures long { IsErrOf result ScriptFault.TooLong ↔ (16 ≤ frames) × (frames ≤ 4096) × (16777216 < length script.now) }
+{
+    if !is_frame_count(frames) {
+        return Err(ScriptFault::BadSize);
+    }
+    if script.len() > SCRIPT_BYTES {
+        return Err(ScriptFault::TooLong);
+    }
+    recorded(alloc, frames, script)
 }

@@ -10,7 +10,8 @@ ghost use Rattle.memory_image.specs.Sound.{IsSound};
 ghost use Rattle.memory_image.specs.Spelling.{Spells};
 ghost use Rattle.c_handle.specs.Handle.{IsTower};
 ghost use Rattle.tower_images.specs.Images.{image_length, SpellsCore, HasSoundImage};
-ghost use Rattle.tower_images.specs.Restored.{StandsForCore};
+ghost use Rattle.process_table.specs.Image.{StandsFor, image_of};
+ghost use Rattle.tower_images.specs.Restored.{HasOldWords, IsRestored};
 ghost use Rattle.tower_images.specs.Audits.{SpellsOne, FailsProcess, FailsFrame, IsNoImage};
 
 mod checking;
@@ -102,7 +103,7 @@ pub extern "C" fn tower_check_bytes(alloc: Global, bytes: &[u8], verdict: &mut T
 
 /// Restores a core from the image in bytes, without any offer, and returns 0. Otherwise the handle stays as it was. 1:
 /// it has a core already. 2: there is no memory for the image, its check or the core. 3, 4 and 5: as for
-/// `tower_check_bytes`. 6: the image is of version 1.
+/// `tower_check_bytes`, with its verdict. 6: the image is of version 1. At 0, 1, 2 and 6 no verdict is written.
 #[unsafe(no_mangle)]
 pub extern "C" fn tower_restore(
     alloc: Global,
@@ -114,8 +115,15 @@ pub extern "C" fn tower_restore(
     ensures kept { IsTower tower.new }
     ensures statuses { result ≤ 6 }
     ensures live { result ≡ 0 → tower.new.live ≡ true }
-    ensures restored { result ≡ 0 → IfSome tower.new.hold.core (λ core. SpellsOne bytes.now (StandsForCore core)) }
+    ensures restored { result ≡ 0 → IfSome tower.new.hold.core (λ core. SpellsOne bytes.now (IsRestored core)) }
+    ensures stands { result ≡ 0 → IfSome tower.new.hold.core (λ core. StandsFor (image_of core) core.state) }
     ensures busy { result ≡ 1 ↔ tower.old.live ≡ true }
+    ensures passes { SpellsOne bytes.now IsSound → tower.old.live ≡ false → (result ≡ 0) ⊎ ((result ≡ 2) ⊎ (result ≡ 6)) }
+    ensures process { result ≡ 3 → SpellsOne bytes.now (FailsProcess verdict.new) }
+    ensures frame { result ≡ 4 → SpellsOne bytes.now (FailsFrame verdict.new) }
+    ensures refused { result ≡ 5 → IsNoImage verdict.new bytes.now }
+    ensures words { result ≡ 6 → SpellsOne bytes.now HasOldWords }
+    ensures none { (result < 3) ⊎ (result ≡ 6) → verdict.new ≡ verdict.old }
     ensures otherwise { result ≢ 0 → tower.new ≡ tower.old }
 {
     if tower.live {

@@ -1,8 +1,12 @@
 //! A verdict in numbers.
 
-ghost use Rattle.std.specs.Prelude.{◌≡◌};
-ghost use Rattle.tower_images.specs.Audits.{fault_numbers};
+ghost use Rattle.std.specs.Prelude.{◌≡◌, ◌⊎◌};
+ghost use Rattle.image_restore.specs.Failing.{FailsFirst};
+ghost use Rattle.memory_image.specs.Image.{Image};
+ghost use Rattle.tower_images.specs.Audits.{FailsFrame, FailsProcess, fault_numbers};
 
+use crate::statuses::{FRAME_FAILS, PROCESS_FAILS};
+use image_restore::Failed;
 use memory_image::ImageFault;
 
 /// What fails, and which clause of it.
@@ -27,4 +31,28 @@ pub fn verdict_from(fault: ImageFault) -> TowerVerdict
         ImageFault::NoMemory => (0, 0),
     };
     TowerVerdict { number, clause }
+}
+
+/// Writes the first clause that fails of an image, in numbers.
+pub fn tell_failed(failed: Failed, told: &mut TowerVerdict) -> u32
+    ensures statuses { (result ≡ 3) ⊎ (result ≡ 4) }
+    ensures process { result ≡ 3 → (image : Image) → FailsFirst image failed → FailsProcess told.new image }
+    ensures frame { result ≡ 4 → (image : Image) → FailsFirst image failed → FailsFrame told.new image }
+{
+    match failed {
+        Failed::Process { pid, clause } => {
+            *told = TowerVerdict {
+                number: u32::from(pid.number()),
+                clause: clause.number(),
+            };
+            PROCESS_FAILS
+        }
+        Failed::Frame { frame, clause } => {
+            *told = TowerVerdict {
+                number: frame.0,
+                clause: clause.number(),
+            };
+            FRAME_FAILS
+        }
+    }
 }
