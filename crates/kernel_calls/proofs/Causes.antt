@@ -162,9 +162,6 @@ module _ (s : State) (e : Event) (ts : List Test) (r : Reply)
 
 -- ---- What each test tells
 
-decided : {A : Type 0} (b : Bool) → (b ≡ true → A) → (A → b ≡ true) → (b ≡ true) ↔ A
-decided b f g = (f, g)
-
 -- a test turned round
 turned : (b : Bool) → (not b ≡ true) ↔ (b ≡ false)
 turned true = (λ h. cc, λ h. cc)
