@@ -1,5 +1,5 @@
 -- The effect of loads and stores of bytes in one page.
-use Rattle.std.proofs.Common.{◌≡◌, eq-eqb, ℕ, zero, suc, ◌+◌, ◌*◌, ◌%◌, ◌<◌, ◌≤◌, Bool, true, false, not, ◌&&◌, cond, List, [], ◌∷◌, map as each, length, drop, length-drop, get_or-drop, ◌-◌, refl, ap, sym, subst, ◌∙◌, arith, inl, inr, Option, Some, None, unwrap_or}
+use Rattle.std.proofs.Common.{leb-true, ◌≡◌, eq-eqb, ℕ, zero, suc, ◌+◌, ◌*◌, ◌%◌, ◌<◌, ◌≤◌, Bool, true, false, not, ◌&&◌, cond, List, [], ◌∷◌, map as each, length, drop, length-drop, get_or-drop, ◌-◌, refl, ap, sym, subst, ◌∙◌, arith, inl, inr, Option, Some, None, unwrap_or}
 use Rattle.std.specs.Prelude.{◌⊎◌, ◌||◌, ◌==◌, if◌then◌else◌, slice_index, nat_lt, nat_le}
 use Rattle.std.specs.List.{range_with_len}
 use Rattle.std.specs.Option.{option_map, option_and_then}
@@ -14,7 +14,7 @@ use Rattle.page_words.proofs.Accesses.{first_by_page, page_stays}
 use Rattle.page_words.proofs.MapLemmas.{same_or_not, same-true, get-insert}
 use Rattle.table_walk.specs.declared.Access.{Access}
 use Rattle.table_walk.specs.declared.Access.TheVariants.{Read, Write}
-use Rattle.address_space.specs.Spaces.{Slot, slot_order, is_slot, Cell, Spaces, at_page, slot_at, cell_or_fresh, fresh, byte_at, accessed, stored, need, access_need, with_pages, all_accessed}
+use Rattle.address_space.specs.Spaces.{Slot, slot_order, is_of, is_slot, Cell, Spaces, at_page, slot_at, cell_or_fresh, fresh, byte_at, accessed, stored, need, access_need, with_pages, all_accessed}
 use Rattle.address_space.specs.Image.{is_lazy_at, page_word, SlotStands, takes_stores}
 use Rattle.address_space.specs.Stays.{WaysAgree, of_lazy}
 use Rattle.address_space.proofs.entries.Refinement.{insert_there}
@@ -471,18 +471,37 @@ store_goes s p a b slot f stays = by (completes (answer s (store_byte p a b)))
     by false = refl
 
 -- so one of the pages of a transfer
-pub part_goes : (p a n done page : ℕ) (slot : Slot) (f : ℕ) → page ≡ page_number (a + done) → done ≤ n → of_lazy_pages p a n slot f ≡ false → of_lazy p page slot f ≡ false
+pub part_goes : (p a n done page : ℕ) (slot : Slot) (f : ℕ) → page ≡ page_number (a + done) → done < n → of_lazy_pages p a n slot f ≡ false → of_lazy p page slot f ≡ false
 part_goes p a n done page slot f is within stays = by (is_slot p page slot) refl
   where
     at_one : (q : Slot) → q ≡ at_page p page → of_lazy_pages p a n q f ≡ (f == 0)
     at_one q here =
         let below : page_number a ≤ page = omega (arith, is) in
-        let above : page ≤ page_number (a + n) = omega (arith, is, within) in
+        let above : page ≤ page_number (a + n - 1) = omega (arith, is, within) in
         let one : (p == p) ≡ true = eq-eqb p p refl in
         let low : nat_le (page_number a) page ≡ true = grind (arith, nat_tests) in
-        let high : nat_le page (page_number (a + n)) ≡ true = grind (arith, nat_tests) in
+        let high : nat_le page (page_number (a + n - 1)) ≡ true = grind (arith, nat_tests) in
         ap (λ x. of_lazy_pages p a n x f) here ∙ (λ i. (one i && (low i && high i)) && (f == 0))
 
     by : (b : Bool) → is_slot p page slot ≡ b → of_lazy p page slot f ≡ false
     by false here = λ i. here i && (f == 0)
     by true here = (λ i. here i && (f == 0)) ∙ sym (at_one slot (sym (same-true slot_order (at_page p page) slot here))) ∙ stays
+
+-- the pages of fewer bytes are among those of more
+pub more_goes : (p a m n : ℕ) (slot : Slot) (f : ℕ) → m ≤ n → of_lazy_pages p a n slot f ≡ false → of_lazy_pages p a m slot f ≡ false
+more_goes p a m n slot f fewer stays = by (nat_le slot.page (page_number (a + m - 1))) refl
+  where
+    none : (x y z : Bool) → ((x && (y && false)) && z) ≡ false
+    none true true z = refl
+    none true false z = refl
+    none false y z = refl
+
+    by : (b : Bool) → nat_le slot.page (page_number (a + m - 1)) ≡ b → of_lazy_pages p a m slot f ≡ false
+    by true is =
+        let fits : slot.page ≤ page_number (a + m - 1) = leb-true slot.page (page_number (a + m - 1)) is in
+        let above : slot.page ≤ page_number (a + n - 1) = omega (arith, fits, fewer) in
+        let high : nat_le slot.page (page_number (a + n - 1)) ≡ true = grind (arith, nat_tests) in
+        (λ i. (is_of p slot && (nat_le (page_number a) slot.page && (is ∙ sym high) i)) && (f == 0)) ∙ stays
+    by false is =
+        (λ i. (is_of p slot && (nat_le (page_number a) slot.page && is i)) && (f == 0))
+        ∙ none (is_of p slot) (nat_le (page_number a) slot.page) (f == 0)

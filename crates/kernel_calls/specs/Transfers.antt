@@ -1,5 +1,5 @@
 -- A process's memory in and out: the accesses of one byte each that it represents, up to the first that stops.
-use Rattle.std.proofs.Common.{◌≡◌, ℕ, zero, suc, ◌+◌, if◌then◌else◌, ◌&&◌, ◌==◌, List, [], ◌∷◌, map, Option, Some, None}
+use Rattle.std.proofs.Common.{◌≡◌, ℕ, zero, suc, ◌+◌, ◌-◌, if◌then◌else◌, ◌&&◌, ◌==◌, List, [], ◌∷◌, map, Option, Some, None}
 use Rattle.std.specs.Prelude.{nat_le}
 use Rattle.page_words.specs.Addresses.{page_number}
 use Rattle.page_words.specs.declared.addresses.Size.TheVariants.{One}
@@ -53,10 +53,10 @@ value_in _ = 0
 abbrev pub values : List Reply → List ℕ
 values replies = map value_in replies
 
--- the walks to a process's lazy pages, from that of an address to that of the address so many bytes later
+-- the walks to the lazy pages of a process in which so many bytes from an address on lie
 abbrev pub of_lazy_pages : ℕ → ℕ → ℕ → Gone
 of_lazy_pages p address count slot frame =
-    (is_of p slot && (nat_le (page_number address) slot.page && nat_le slot.page (page_number (address + count)))) && (frame == 0)
+    (is_of p slot && (nat_le (page_number address) slot.page && nat_le slot.page (page_number (address + count - 1)))) && (frame == 0)
 
 -- ---- Transfers that go on to their end
 

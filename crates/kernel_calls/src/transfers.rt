@@ -209,7 +209,7 @@ impl Core {
         ensures count { result.count ≡ length (carried self.old.state (stores pid address bytes.now)) }
         ensures stop { result.stop ≡ stop_of self.old.state (stores pid address bytes.now) }
         ensures state { self.new.state ≡ end_of self.old.state (carried self.old.state (stores pid address bytes.now)) }
-        ensures stay { FramesStay (of_lazy_pages pid address (length bytes.now)) (memory_of self.old) (memory_of self.new) }
+        ensures stay { FramesStay (of_lazy_pages pid address result.count) (memory_of self.old) (memory_of self.new) }
         ensures kept { result.count ≡ 0 → self.new ≡ self.old }
     {
         let (mut done, mut at) = (0, address);
@@ -227,12 +227,12 @@ impl Core {
     /// Writes a process's memory from an address on, with the effect of one-byte stores in order, up to the first that
     /// is refused or faults. An unmapped page is mapped first, and a lazy one gets a frame. Only ways to frames of lazy
     /// pages change: whoever caches translations invalidates those of the process's pages from the first byte's page to
-    /// the page of the address after the last byte.
+    /// that of the last byte written.
     pub fn write_bytes(&mut self, pid: Pid, address: Vaddr, bytes: &[u8]) -> Transfer
         ensures count { result.count ≡ length (carried self.old.state (stores pid address bytes.now)) }
         ensures stop { result.stop ≡ stop_of self.old.state (stores pid address bytes.now) }
         ensures state { self.new.state ≡ end_of self.old.state (carried self.old.state (stores pid address bytes.now)) }
-        ensures stay { FramesStay (of_lazy_pages pid address (length bytes.now)) (memory_of self.old) (memory_of self.new) }
+        ensures stay { FramesStay (of_lazy_pages pid address result.count) (memory_of self.old) (memory_of self.new) }
         ensures stands { StandsFor (image_of self.new) self.new.state }
         ensures kept { result.count ≡ 0 → self.new ≡ self.old }
     {

@@ -89,7 +89,7 @@ fn write(core: &mut Core, pid: u32, address: u32, bytes: &[u8]) -> (usize, Tower
     ensures count { result.0 ≡ length (carried core.old.state (stores_in (pid_of pid) address bytes.now)) }
     ensures stop { result.1 ≡ stop_in core.old.state (pid_of pid) (stores_in (pid_of pid) address bytes.now) }
     ensures state { core.new.state ≡ end_of core.old.state (carried core.old.state (stores_in (pid_of pid) address bytes.now)) }
-    ensures stay { FramesStay (gone_in (pid_of pid) address (length bytes.now)) (memory_of core.old) (memory_of core.new) }
+    ensures stay { FramesStay (gone_in (pid_of pid) address result.0) (memory_of core.old) (memory_of core.new) }
     ensures stands { StandsFor (image_of core.new) core.new.state }
     ensures refused { result.0 ≡ 0 → core.new ≡ core.old }
 {
@@ -107,8 +107,8 @@ fn write(core: &mut Core, pid: u32, address: u32, bytes: &[u8]) -> (usize, Tower
 
 /// Writes a process's memory from an address on, with the effect of one-byte stores in order, up to the first that is
 /// refused or faults. `moved` and `stop` are as for `tower_read`. Only ways to frames of lazy pages change: whoever
-/// caches translations invalidates those of the process's pages from the first byte's page to the page of the address
-/// after the last byte. Returns false if the handle has no core.
+/// caches translations invalidates those of the process's pages from the first byte's page to that of the last byte
+/// written. Returns false if the handle has no core.
 #[unsafe(no_mangle)]
 pub extern "C" fn tower_write(
     alloc: Global,
@@ -125,7 +125,7 @@ pub extern "C" fn tower_write(
     ensures moved { IfSome tower.old.hold.core (λ core. moved.new ≡ length (carried core.state (stores_in (pid_of pid) address bytes.now))) }
     ensures stop { IfSome tower.old.hold.core (λ core. stop.new ≡ stop_in core.state (pid_of pid) (stores_in (pid_of pid) address bytes.now)) }
     ensures state { IfSome tower.old.hold.core (λ core. IfSome tower.new.hold.core (λ next. next.state ≡ end_of core.state (carried core.state (stores_in (pid_of pid) address bytes.now)))) }
-    ensures stay { IfSome tower.old.hold.core (λ core. IfSome tower.new.hold.core (λ next. FramesStay (gone_in (pid_of pid) address (length bytes.now)) (memory_of core) (memory_of next))) }
+    ensures stay { IfSome tower.old.hold.core (λ core. IfSome tower.new.hold.core (λ next. FramesStay (gone_in (pid_of pid) address moved.new) (memory_of core) (memory_of next))) }
     ensures stands { IfSome tower.new.hold.core (λ core. StandsFor (image_of core) core.state) }
     ensures refused { IfSome tower.old.hold.core (λ core. moved.new ≡ 0 → tower.new.hold.core ≡ Some core) }
     ensures none { result ≡ false → (moved.new ≡ moved.old) × (stop.new ≡ stop.old) }

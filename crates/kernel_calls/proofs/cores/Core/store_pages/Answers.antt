@@ -6,7 +6,7 @@ use Rattle.process_table.specs.View.{View}
 use Rattle.kernel_calls.specs.Machine.{answer}
 use Rattle.kernel_calls.specs.Transfers.{store_byte}
 use Rattle.kernel_calls.specs.declared.transfers.Transfer.{Transfer}
-use Rattle.kernel_calls.proofs.TransferSteps.{part_goes}
+use Rattle.kernel_calls.proofs.TransferSteps.{part_goes, more_goes}
 use Rattle.kernel_calls.proofs.TransferLemmas.{written_whole, written_stopped, written_on}
 use Rattle.kernel_calls.proofs.cores.Core.store_pages.Goals as goal
 
@@ -65,7 +65,8 @@ loop-done-preserved c =
       within = fits;
       stored = written_on c.args.self.now.state c.loop-done.self.state c.store_in_page.new.self.state c.args.pid c.args.address c.loop-done.at done count (done + count - done) c.args.bytes.now
           place fits (omega arith) i.stored (c.in_default.ensures.stored refl);
-      stay = stays_then i.stay (stays_more (λ slot f. part_goes c.args.pid c.args.address (length c.args.bytes.now) done (page_number c.loop-done.at) slot f (ap page_number place) within) c.store_in_page.ensures.stay);
+      stay = stays_then (stays_more (λ slot f. more_goes c.args.pid c.args.address done (done + count) slot f (omega arith)) i.stay)
+          (stays_more (λ slot f. part_goes c.args.pid c.args.address (done + count) done (page_number c.loop-done.at) slot f (ap page_number place) (omega (arith, some))) c.store_in_page.ensures.stay);
       still = λ none. absurd (omega (arith, none, some));
     }
 

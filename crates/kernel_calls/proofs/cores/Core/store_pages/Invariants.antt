@@ -10,7 +10,7 @@ invariant-loop-done l = record {
   place : l.at ≡ l.fn.address + l.done;
   within : l.done ≤ length l.bytes;
   stored : AreStored l.fn.self.state l.pid l.fn.address (take l.done l.bytes) l.self.state;
-  stay : FramesStay (of_lazy_pages l.pid l.fn.address (length l.bytes)) (memory_of l.fn.self) (memory_of l.self);
+  stay : FramesStay (of_lazy_pages l.pid l.fn.address l.done) (memory_of l.fn.self) (memory_of l.self);
   still : l.done ≡ 0 → l.self ≡ l.fn.self;
 }
 
