@@ -8,7 +8,7 @@ const LEFT: u32 = 64;
 pub(crate) const TOP: u32 = 56;
 
 /// How wide the legend and the bars are.
-pub(crate) const PANEL: u32 = 510;
+pub(crate) const PANEL: u32 = 540;
 
 /// The height of the legend.
 pub(crate) const LEGEND: u32 = 265;

@@ -140,7 +140,7 @@ const SAMPLES: [Sample; 10] = [
         edge: "#222222",
         dash: "3 2",
         ticks: 0,
-        says: "beside a bar: lazy page, which has no frame",
+        says: "beside a bar: lazy page, which has no frame; + others",
     },
     Sample {
         label: "",
@@ -257,9 +257,10 @@ impl fmt::Display for Named {
 }
 
 /// The most lazy pages of a process that are drawn.
-const MOST_LAZY: u32 = 14;
+const MOST_LAZY: u32 = 12;
 
-/// Draws a dashed square for each lazy page, of so many at most, behind their number.
+/// Draws a dashed square for each lazy page after their number. Of more than `MOST_LAZY` it draws so many, and writes
+/// how many others there are.
 fn draw_lazy<W: Write>(writer: &mut W, lazy: u32, left: u32, top: u32) -> io::Result<()>
     requires { (left ≤ 8192) × (top ≤ 262144) }
 {
@@ -267,6 +268,13 @@ fn draw_lazy<W: Write>(writer: &mut W, lazy: u32, left: u32, top: u32) -> io::Re
     write!(writer, "<text x=\"{left}\" y=\"{base}\">lazy {lazy}</text>")?;
     for place in 0..lazy.min(MOST_LAZY) {
         draw_dashed(writer, left + 70 + 13 * place, top + 2)?;
+    }
+    if MOST_LAZY < lazy {
+        let (behind, others) = (left + 73 + 13 * MOST_LAZY, lazy - MOST_LAZY);
+        write!(
+            writer,
+            "<text x=\"{behind}\" y=\"{base}\">+ {others}</text>"
+        )?;
     }
     write!(writer, "\n")
 }

@@ -31,9 +31,15 @@ button { font: inherit; min-width: 2.4rem; padding: .2rem .6rem; color: inherit;
 #place { flex: 1; min-width: 10rem; }
 :focus-visible { outline: 3px solid var(--mark); outline-offset: 2px; }
 main { display: grid; grid-template-columns: minmax(20rem, 30rem) 1fr; gap: 1.2rem; padding: 0 1rem 2rem; }
-@media (max-width: 60rem) { main { grid-template-columns: 1fr; } }
-#script { position: sticky; top: 3.6rem; max-height: calc(100vh - 4.2rem); overflow: auto; }
-@media (max-width: 60rem) { #script { position: relative; top: 0; max-height: 40vh; } }
+#side { position: sticky; top: 3.6rem; height: calc(100vh - 4.2rem); display: flex; flex-direction: column; }
+#script { position: relative; flex: 3; min-height: 0; overflow: auto; }
+#step-changes { flex: 2; min-height: 0; overflow: auto; border-top: 1px solid var(--edge); }
+@media (max-width: 60rem) {
+  main { grid-template-columns: 1fr; }
+  #side { position: static; height: auto; }
+  #script { max-height: 40vh; }
+  #step-changes { max-height: 30vh; }
+}
 #lines { list-style: none; margin: 0; padding: 0; font-size: .8rem; }
 #lines li { display: flex; gap: .6rem; padding: .08rem .4rem; border-left: 4px solid transparent; }
 #lines .number { flex: none; width: 2.6rem; text-align: right; color: var(--faint); }
@@ -43,29 +49,42 @@ main { display: grid; grid-template-columns: minmax(20rem, 30rem) 1fr; gap: 1.2r
 #lines a:hover { text-decoration: underline; }
 #lines .skipped { color: var(--faint); }
 #lines .later .reply { visibility: hidden; }
+#lines .refused:not(.later) .text { text-decoration: line-through; text-decoration-color: var(--bad); }
+#lines .refused:not(.later) .reply { color: var(--bad); font-weight: bold; }
 #lines [aria-current] { background: var(--now); border-left-color: var(--mark); font-weight: bold; }
-#says { margin: .2rem 0; padding: .6rem .8rem; min-height: 4.4rem; background: var(--raised);
+#says { margin: .2rem 0; padding: .6rem .8rem; min-height: 3.4rem; background: var(--raised);
   border: 1px solid var(--edge); border-left: 5px solid var(--mark); border-radius: 5px; }
+#says.refused { border-left-color: var(--bad); }
 #frames { display: grid; grid-template-columns: repeat(auto-fill, 3.3rem); gap: 5px; margin: 0; padding: 0; list-style: none; }
+#frames.many { grid-template-columns: repeat(auto-fill, 2.6rem); gap: 4px; }
+.many .square { height: 2.6rem; padding-top: .75rem; font-size: .78rem; }
+.many .table { padding-top: .45rem; }
+.many .table .at { top: -2px; }
+.many .square .who { line-height: .66rem; }
 .square { position: relative; height: 3.3rem; padding-top: 1.05rem; text-align: center; font-size: .85rem;
   border: 1px solid var(--edge); border-radius: 4px; background: var(--raised); }
+.square, .process { scroll-margin: 4rem 0 1rem; }
+.square::after, .process::after { content: ""; position: absolute; left: 3px; bottom: 2px; height: 6px; width: calc(4px * var(--ticks));
+  background: repeating-linear-gradient(90deg, currentColor 0 2px, transparent 2px 4px); }
 .square .at { position: absolute; left: 3px; top: 1px; font-size: .62rem; color: inherit; opacity: .85; }
 .square .how { position: absolute; right: 2px; top: -1px; font-size: .85rem; font-weight: bold; }
 .square .who { display: block; font-size: .62rem; line-height: .8rem; white-space: nowrap; overflow: hidden; }
 .square[hidden] { display: none; }
 .reserved { background: repeating-linear-gradient(45deg, var(--edge) 0 2px, transparent 2px 7px); }
 .free { border-style: dotted; color: var(--faint); background: transparent; }
-.directory { color: light-dark(#ffffff, #ffffff); background: hsl(var(--hue) 45% 26%); border: 3px double #ffffff; }
-.table { background: light-dark(hsl(var(--hue) 45% 72%), hsl(var(--hue) 40% 38%)); border-top: 5px solid var(--ink); }
-.page { background: light-dark(hsl(var(--hue) 50% 90%), hsl(var(--hue) 30% 22%)); }
+.directory { color: #ffffff; background: var(--dark); border: 3px double #ffffff; }
+.table { color: #000000; background: var(--middle); border-top: 5px solid #000000; }
+.page { color: #000000; background: var(--light); }
+.page.shared { background: linear-gradient(135deg, var(--light) 50%, var(--second) 50%); }
 .changed { outline: 3px solid var(--mark); outline-offset: 0; }
 .failing { outline: 3px dashed var(--bad); outline-offset: 0; }
 .failing .how { color: var(--bad); font-size: .75rem; background: var(--ground); }
-.process { margin: .5rem 0; padding: .3rem .6rem; border: 1px solid var(--edge); border-radius: 5px; background: var(--raised); }
+#processes { display: grid; grid-template-columns: repeat(auto-fill, minmax(21rem, 1fr)); gap: .4rem; }
+.process { position: relative; padding: .3rem .6rem; border: 1px solid var(--edge); border-radius: 5px; background: var(--raised); font-size: .8rem; }
 .bar { display: flex; width: 100%; max-width: 26rem; height: .9rem; margin: .25rem 0; border: 1px solid var(--ink); }
 .bar i { display: block; height: 100%; }
-.used { background: hsl(var(--hue) 45% 45%); }
-.given { background: repeating-linear-gradient(45deg, hsl(var(--hue) 45% 60%) 0 4px, transparent 4px 8px); }
+.used { background: var(--middle); }
+.given { background: repeating-linear-gradient(45deg, var(--middle) 0 4px, transparent 4px 8px); }
 .lazy { display: inline-block; margin: 2px 3px 0 0; padding: 0 3px; font-size: .72rem; border: 1px dashed var(--ink); border-radius: 3px; }
 #changes { margin: 0; padding-left: 1.2rem; font-size: .85rem; }
 #changes li { margin: .1rem 0; overflow-wrap: anywhere; }
@@ -88,24 +107,29 @@ main { display: grid; grid-template-columns: minmax(20rem, 30rem) 1fr; gap: 1.2r
 <button id="theme">light or dark</button>
 </header>
 <main>
+<div id="side">
 <section id="script" aria-label="the script and its replies" tabindex="0">
 <h2>Script and replies</h2>
 <ol id="lines"></ol>
 <p id="end" class="hint"></p>
 </section>
+<section id="step-changes" aria-label="all that this step changes" tabindex="0">
+<h2>All that this step changes</h2>
+<ul id="changes"></ul>
+</section>
+</div>
 <section aria-label="memory after the step">
 <h2>What happens</h2>
 <p id="says" role="status" aria-live="polite"></p>
 <h2 id="heading">Frames</h2>
 <ol id="frames" aria-label="frames"></ol>
-<p class="hint">D directory, T table, P page of the process behind the letter; S page with that many holders, whose processes stand below;
-# the reserved frame, . a free one. A thick edge marks what this step changes: + taken, - freed, * words, roles or holders, o offered.</p>
 <h2>Processes</h2>
 <div id="processes"></div>
+<p class="hint">D directory, T table, P page of the process behind the letter; S page with that many holders, whose processes stand below;
+# the reserved frame, . a free one. The hue is the process's, of five; the bars in a corner tell it from those of its hue, one for each five
+processes before it. A thick edge marks what this step changes: + taken, - freed, * words, roles or holders, o offered.</p>
 <p class="hint">In a bar: used plain, given striped, room empty. A dashed square is a lazy page: it has no frame yet, and reads as zeros.</p>
-<h2>All that this step changes</h2>
-<ul id="changes"></ul>
-<p class="hint">Arrow keys step, Home and End go to the ends, the space bar plays and pauses; a link such as <code>#12</code> leads to a step.
+<p class="hint">A line that is refused or faults changes nothing, and is struck through. Arrow keys step, Home and End go to the ends, the space bar plays and pauses; a link such as <code>#12</code> leads to a step.
 Flags of a page: r a user's, w may write now, m may be made writable, a accessed, d dirty.</p>
 </section>
 </main>
@@ -197,6 +221,7 @@ function mapped() {
 const numbersOf = held => [...new Set(held.map(page => page.process))];
 
 // ---- What happens, in words
+const isRefused = reply => /^(refused|fault) /.test(reply || "");
 const right = word => word === "rw" ? "to read and write" : "to read";
 const count = (number, one) => `${number} ${one}${number === 1 ? "" : "s"}`;
 const page = text => hex(parseInt(text, 16), 5);
@@ -306,7 +331,12 @@ function details(owners) {
 }
 
 // ---- The picture
-const hue = process => (process * 137 + 190) % 360;
+// The shades and ticks of a process, as in the picture of an image: process numbers that are apart by five have one hue.
+const dark = ["#214141", "#524118", "#5a297a", "#526a10", "#7a5a7a"];
+const middle = ["#448888", "#aa8833", "#bb55ff", "#aadd22", "#ffbbff"];
+const light = ["#b0cdcd", "#dbcda9", "#e2b8ff", "#dbf1a2", "#ffe2ff"];
+const shades = process => `--dark:${dark[process % 5]};--middle:${middle[process % 5]};--light:${light[process % 5]}`;
+const ticksOf = process => Math.floor(process / 5);
 const kinds = { R: "reserved", F: "free", D: "directory", T: "table", P: "page" };
 const few = frameCount <= 1024;
 const squares = [], shown = [];
@@ -347,8 +377,10 @@ function lookOf(frame, owners, marked, failing) {
   } else if (parts.kind === "T") below = String(parts.slot);
   const how = failing.get(frame) || marked.get(frame) || "";
   const classes = ["square", kinds[parts.kind], marked.has(frame) ? "changed" : "", failing.has(frame) ? "failing" : ""];
+  if (parts.kind === "P" && who.length > 1) classes.push("shared");
+  const style = first === undefined ? "--ticks:0;--light:transparent" : `${shades(first)};--ticks:${ticksOf(first)}`;
   const said = failing.has(frame) ? `, fails ${failing.get(frame)}` : marked.has(frame) ? ", changed in this step" : "";
-  return { label, below, how, classes: classes.join(" "), hue: first === undefined ? 0 : hue(first),
+  return { label, below, how, classes: classes.join(" "), style: who.length > 1 ? `${style};--second:${light[who[1] % 5]}` : style,
     title: `frame ${frame}: ${roleInWords(role, frame, owners)}${said}`, hidden: !few && role === "F" && !marked.has(frame) };
 }
 function drawSquare(frame, look) {
@@ -357,7 +389,7 @@ function drawSquare(frame, look) {
   shown[frame] = key;
   const square = squares[frame] || (squares[frame] = makeSquare(frame));
   square.className = look.classes;
-  square.style.setProperty("--hue", look.hue);
+  square.style.cssText = look.style;
   square.title = look.title;
   square.setAttribute("aria-label", look.title);
   square.hidden = look.hidden;
@@ -380,16 +412,21 @@ function drawProcesses(lazy) {
     const name = number === 0 ? "process 0" : `process ${number}, child of ${parent}`;
     const mark = failing.has(number) ? ` <strong>fails ${failing.get(number)}</strong>` : changed.has(number) && at > 0 ? " <strong>* changed</strong>" : "";
     const squares = pages.slice(0, 48).map(page => `<span class="lazy">${hex(page.page, 5)}</span>`).join("");
-    text += `<div class="process ${failing.has(number) ? "failing" : changed.has(number) && at > 0 ? "changed" : ""}" style="--hue:${hue(number)}">` +
+    text += `<div class="process ${failing.has(number) ? "failing" : changed.has(number) && at > 0 ? "changed" : ""}" style="${shades(number)};--ticks:${ticksOf(number)}">` +
       `${name}: used ${used}, given ${given}, room ${room} of ${quota}${mark}${bar(used, given, quota)}` +
       (pages.length ? `<div>${count(pages.length, "lazy page")}: ${squares}${pages.length > 48 ? "and others" : ""}</div>` : "") + "</div>";
   });
   find("processes").innerHTML = text;
 }
 // Scrolls the script alone, and only where the line is out of sight.
-function scrollTo(item) {
+function showLine(item) {
   const box = find("script"), top = item.offsetTop, bottom = top + item.offsetHeight;
   if (top < box.scrollTop || bottom > box.scrollTop + box.clientHeight) box.scrollTop = top - box.clientHeight / 2;
+}
+// Scrolls the page where the first frame or process that the step changes is out of sight.
+function showChange() {
+  const first = at === 0 ? null : document.querySelector("#frames .changed, #frames .failing") || document.querySelector("#processes .changed, #processes .failing");
+  if (first) first.scrollIntoView({ block: "nearest" });
 }
 let told = 0;
 // Shows the replies up to the step, and marks its line: only what lies between the last step and this one changes.
@@ -399,10 +436,13 @@ function drawLines() {
   }
   if (told > 0) find("lines").children[steps[told].line].removeAttribute("aria-current");
   told = at;
-  if (at === 0) return;
+  if (at === 0) {
+    find("script").scrollTop = 0;
+    return;
+  }
   const item = find("lines").children[steps[at].line];
   item.setAttribute("aria-current", "step");
-  scrollTo(item);
+  showLine(item);
 }
 function draw() {
   const { owners, lazy } = mapped(), marked = marks(owners);
@@ -413,9 +453,11 @@ function draw() {
   drawProcesses(lazy);
   drawLines();
   find("says").textContent = sentence(at, owners);
+  find("says").className = isRefused(steps[at].reply) ? "refused" : "";
   find("changes").replaceChildren(...details(owners).map(text => Object.assign(document.createElement("li"), { textContent: text })));
   find("place").value = at;
   find("step").textContent = `step ${at} of ${steps.length - 1}`;
+  showChange();
 }
 
 // ---- Steps
@@ -443,11 +485,13 @@ function makeLine(line, number) {
   (item.querySelector("a") || item.children[1]).textContent = line.text;
   item.children[2].textContent = line.reply;
   item.className = line.step > 0 ? "later" : "skipped";
+  item.classList.toggle("refused", isRefused(line.reply));
   return item;
 }
 function begin() {
   find("title").textContent = `Film of a script on ${frameCount} frames`;
   find("heading").textContent = few ? "Frames" : "Frames in use";
+  find("frames").className = frameCount > 64 ? "many" : "";
   find("lines").append(...lines.map(makeLine));
   const ends = { whole: "The script ends here.", cut: "A film shows the first 2,000 events; the script goes on." };
   find("end").textContent = ends[end] || `Line ${end.split(" ")[1]} is malformed: the script is not run further.`;
