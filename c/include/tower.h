@@ -409,8 +409,7 @@ TOWER_NODISCARD bool tower_run_until(struct tower *tower, const struct tower_eve
  *
  * A read leaves the other bytes as they were. It maps a page that is not mapped, as a load does, and gives no page a
  * frame. A write gives lazy pages frames. A kernel whose processors cache translations then invalidates those of the
- * process's pages from the first byte's page to the page of the address after the last byte, before the next access or
- * event.
+ * process's pages from the first byte's page to that of the last byte copied, before the next access or event.
  *
  * False if the handle has no core; then nothing is written. */
 TOWER_NODISCARD bool tower_read(struct tower *tower, uint32_t pid, uint32_t address, uint8_t *bytes,

@@ -100,7 +100,7 @@ impl Core {
 
     /// Writes a process's memory from an address on, as copyout does, with the effect of one-byte stores in order. It
     /// gives lazy pages frames. A kernel whose processors cache translations then invalidates those of the process's
-    /// pages from the first byte's page to the page of the address after the last byte.
+    /// pages from the first byte's page to that of the last byte copied.
     ///
     /// # Errors
     ///
