@@ -15,6 +15,10 @@ use std::process::Abort;
 const FAMILY: &str =
     "0 0 store 40000000 4 1\n0 0 map 40001 rw\n0 0 map 40002 rw\n0 0 map 40003 rw\n0 0 map 40005 ro\n0 0 load 40003000 1\n0 0 spawn 5\n0 0 offer 40000 1 ro\n1 1 accept 0 40000 403ff\n1 1 spawn 1\n";
 
+/// A page that three processes hold.
+const THREE: &str =
+    "0 0 store 40000000 4 1\n0 0 spawn 4\n0 0 spawn 4\n0 0 offer 40000 1 rw\n0 0 offer 40000 2 rw\n1 1 accept 0 40000 40000\n2 2 accept 0 40000 40000\n";
+
 const HEADING: &str = "frames # reserved . free D directory T table P page S shared\n";
 
 /// An image's map, and whether it is sound.
@@ -318,6 +322,19 @@ fn check_picture<R: AllocGlobal + Abort>(rt: &R, image: &[u8], frames: u64) {
         picture.ends_with(b"</svg>\n"),
     );
     same(rt, &found, &(frames, true));
+}
+
+/// The picture of the image after a script has this text once.
+fn check_once<R: AllocGlobal + Abort>(rt: &R, script: &str, part: &[u8]) {
+    let (picture, sound) = picture_of(rt, &image_after(rt, script, 16));
+    same(rt, &(times(&picture, part), sound), &(1, true));
+}
+
+#[test]
+fn a_picture_names_who_maps_a_page_and_counts_lazy_pages(rt: HostRuntime) {
+    check_once(&rt, FAMILY, b"processes 0 and 1");
+    check_once(&rt, FAMILY, b">lazy 4<");
+    check_once(&rt, THREE, b"processes 0, 1 and others");
 }
 
 #[test]

@@ -1,9 +1,9 @@
 -- The first cause that applies to a call, and the first byte of an access that faults.
-use Rattle.std.proofs.Common.{◌≡◌, ℕ, zero, suc, ◌+◌, ◌-◌, ◌<◌, ◌≤◌, ◌++◌, ◌==◌, ◌&&◌, Bool, true, false, not, List, [], ◌∷◌, map, refl, sym, ap, subst, ◌∙◌, Option, Some, None, is_some, is_none, unwrap_or, nat_lt, nat_le, arith, inl, inr}
-use Rattle.std.specs.Prelude.{◌⊎◌, ◌↔◌, if◌then◌else◌, find, IfSome}
+use Rattle.std.proofs.Common.{◌≡◌, ℕ, zero, suc, ◌+◌, ◌<◌, ◌≤◌, ◌++◌, ◌==◌, ◌&&◌, Bool, true, false, not, List, [], ◌∷◌, refl, sym, ap, subst, ◌∙◌, Option, Some, None, is_some, is_none, unwrap_or, nat_lt, nat_le, arith, inl, inr}
+use Rattle.std.specs.Prelude.{◌⊎◌, ◌↔◌, if◌then◌else◌, find}
 use Rattle.std.specs.List.{All, range_with_len}
 use Rattle.std.specs.Option.{option_map}
-use Rattle.std.proofs.lemmas.Bool.{not-false, not-true, ltb-true, leb-true, eqb-true, lt-ltb, le-leb, eq-eqb, cases_eq, cases_lt}
+use Rattle.std.proofs.lemmas.Bool.{not-false, ltb-true, leb-true, eqb-true, lt-ltb, le-leb, eq-eqb, cases_eq, cases_lt}
 use Rattle.std.proofs.lemmas.Option.{same_Some}
 use Rattle.std.proofs.lemmas.List.Elements.{All-nil, All-cons, All-head, All-tail}
 use Rattle.page_words.specs.Addresses.{byte_count, covered, page_number, second_page, is_user_page, IsUserPage}
@@ -23,7 +23,6 @@ use Rattle.process_table.proofs.Placed.{page_is_user}
 use Rattle.process_table.proofs.SpaceLaws.{user_page}
 use Rattle.fault_handler.specs.Plans.{outside, is_read_only, read_only, fault_or, step_of}
 use Rattle.fault_handler.specs.declared.plans.PageStep.{PageStep}
-use Rattle.fault_handler.specs.declared.plans.Plan.{Plan}
 use Rattle.fault_handler.specs.declared.plans.Plan.TheVariants as plan
 use Rattle.kernel_calls.specs.Authority.{Flags, flags_of, flags_at}
 use Rattle.kernel_calls.specs.Causes.{frames_asked, causes_of, Applies, IsOutside, IsReadOnly, IsFirst, Faults, CompletesUnless, RefusedByTheFirst, FaultsAtTheFirstByte}
@@ -172,9 +171,9 @@ itself b = (λ h. h, λ h. h)
 
 outside_user : (page : ℕ) → (not (is_user_page page) ≡ true) ↔ (IsUserPage page → ⊥)
 outside_user page = (
-    λ h user. let a = page_is_user page user in let b = (turned (is_user_page page)).0 h in cc,
-    λ h. by (is_user_page page) refl h,
-  )
+  λ h user. let a = page_is_user page user in let b = (turned (is_user_page page)).0 h in cc,
+  λ h. by (is_user_page page) refl h,
+)
   where
     by : (b : Bool) → is_user_page page ≡ b → (IsUserPage page → ⊥) → not b ≡ true
     by true is h = absurd (h (user_page page is))
@@ -255,12 +254,15 @@ no_number book = by (next_number book) refl
 
     by : (x : Option ℕ) → next_number book ≡ x → (is_none x ≡ true) ↔ ((k : ℕ) → k < 64 → map.contains_key book k ≡ true)
     by None is = (λ _ k low. not-false (map.contains_key book k) (first_number free 0 64 is k (omega arith) (omega (arith, low))), λ _. refl)
-    by (Some k) is = (λ h. cc, λ h.
-      let r = found_number free 0 64 k is in
-      let m = r.high in
-      let there = h k (omega (arith, m)) in
-      let dead = r.passes in
-      absurd (let x = ap not there in cc))
+    by (Some k) is = (
+      λ h. cc,
+      λ h.
+          let r = found_number free 0 64 k is in
+          let m = r.high in
+          let there = h k (omega (arith, m)) in
+          let dead = r.passes in
+          absurd (let x = ap not there in cc),
+    )
 
 -- ---- Each call
 
@@ -326,29 +328,38 @@ module _ (access : Access) (first : PageStep) (second : Option PageStep) (r : Re
   outcome true None None true = record {
     completes = (λ h. cc, λ h. let b = h.3 in cc);
     refused = λ c h. inr (refl, refl, sym (ap cause_in h));
-    faults = λ byte code. (λ h. cc, λ h. elim h.1 [
-      | inl k ↦ (let b = k.0 in cc)
-      | inr k ↦ (let b = k.1 in cc)
-    ]);
+    faults = λ byte code. (
+      λ h. cc,
+      λ h. elim h.1 [
+        | inl k ↦ (let b = k.0 in cc)
+        | inr k ↦ (let b = k.1 in cc)
+      ],
+    );
   }
   outcome true None None false = record {
     completes = (λ h. (refl, refl, refl, refl), λ h. good);
     refused = λ c h. (let a = sym good ∙ ap completes h in cc);
-    faults = λ byte code. (λ h. (let a = sym good ∙ ap completes h in cc), λ h. elim h.1 [
-      | inl k ↦ (let b = k.0 in cc)
-      | inr k ↦ (let b = k.1 in cc)
-    ]);
+    faults = λ byte code. (
+      λ h. (let a = sym good ∙ ap completes h in cc),
+      λ h. elim h.1 [
+        | inl k ↦ (let b = k.0 in cc)
+        | inr k ↦ (let b = k.1 in cc)
+      ],
+    );
   }
 
 -- the first byte that a test finds is the first for which what it tells holds
 module _ (t : ℕ → Bool) (Q : ℕ → Type 0) (tells : (a : ℕ) → (t a ≡ true) ↔ Q a) (address : ℕ) (size : Size) where
   first_is : (byte : ℕ) → find t (covered address size) ≡ Some byte → IsFirst address size Q byte
   first_is byte h =
-      let r = found_number t address (byte_count size) byte h in
-      ((r.low, r.high), (tells byte).0 r.passes, λ other inside q. elim (cases_lt other byte) [
-        | inl below ↦ absurd (let a = r.first other inside.0 below in let b = (tells other).1 q in cc)
-        | inr least ↦ least
-      ])
+      let r = found_number t address (byte_count size) byte h in (
+        (r.low, r.high),
+        (tells byte).0 r.passes,
+        λ other inside q. elim (cases_lt other byte) [
+          | inl below ↦ absurd (let a = r.first other inside.0 below in let b = (tells other).1 q in cc)
+          | inr least ↦ least
+        ],
+      )
 
   is_first : (byte : ℕ) → IsFirst address size Q byte → find t (covered address size) ≡ Some byte
   is_first byte h = by (find t (covered address size)) refl
@@ -404,7 +415,7 @@ module _ (s : State) (e : Event) (access : Access) (o f : Option ℕ) (r : Reply
     (is : answer s e ≡ told access first second r good (is_live s e.pid) o f (nat_lt (room s e.pid) (frames_asked s e.pid e.call)))
     (all : causes_of e.call ≡ cause.NoProcess ∷ cause.Quota ∷ [])
     (faulting : (byte code : ℕ) → Faults s e.pid e.call byte code
-        ↔ (((o ≡ Some byte) × (code ≡ error_code access false)) ⊎ ((o ≡ None) × (f ≡ Some byte) × (code ≡ error_code access true)))) where
+    ↔ (((o ≡ Some byte) × (code ≡ error_code access false)) ⊎ ((o ≡ None) × (f ≡ Some byte) × (code ≡ error_code access true)))) where
   abbrev l : Bool
   l = is_live s e.pid
 
@@ -460,23 +471,23 @@ module _ (s : State) (e : Event) (access : Access) (o f : Option ℕ) (r : Reply
     completes = (
       λ h. let k = out.completes.0 (sym (ap completes is) ∙ h) in (subst (All (λ c. A c → ⊥)) (sym all) (clear k.0 k.3), goes_on (k.1, k.2)),
       λ h. let clear = subst (All (λ c. A c → ⊥)) all h.0 in let none = no_byte h.1 in
-        ap completes is ∙ out.completes.1 (live_by clear, none.0, none.1, room_by clear),
+          ap completes is ∙ out.completes.1 (live_by clear, none.0, none.1, room_by clear),
     );
     refused = λ c h. elim (out.refused c (sym is ∙ h)) [
       | inl k ↦ record {
-          before = [];
-          after = cause.Quota ∷ [];
-          order = all ∙ ap (λ x. x ∷ cause.Quota ∷ []) (sym k.1);
-          applies = subst A (sym k.1) k.0;
-          none = All-nil (λ c. A c → ⊥);
-        }
+        before = [];
+        after = cause.Quota ∷ [];
+        order = all ∙ ap (λ x. x ∷ cause.Quota ∷ []) (sym k.1);
+        applies = subst A (sym k.1) k.0;
+        none = All-nil (λ c. A c → ⊥);
+      }
       | inr k ↦ record {
-          before = cause.NoProcess ∷ [];
-          after = [];
-          order = all ∙ ap (λ x. cause.NoProcess ∷ x ∷ []) (sym k.2);
-          applies = subst A (sym k.2) (asks_more.0 k.1);
-          none = All-cons (λ c. A c → ⊥) cause.NoProcess [] (λ dead. let a = k.0 in cc) (All-nil (λ c. A c → ⊥));
-        }
+        before = cause.NoProcess ∷ [];
+        after = [];
+        order = all ∙ ap (λ x. cause.NoProcess ∷ x ∷ []) (sym k.2);
+        applies = subst A (sym k.2) (asks_more.0 k.1);
+        none = All-cons (λ c. A c → ⊥) cause.NoProcess [] (λ dead. let a = k.0 in cc) (All-nil (λ c. A c → ⊥));
+      }
     ];
     faults = λ byte code. (
       λ h. let k = (out.faults byte code).0 (sym is ∙ h) in (k.0, (faulting byte code).1 k.1),
@@ -507,7 +518,7 @@ module _ (s : State) (p address : ℕ) (size : Size) where
   abbrev StoreFaults : ℕ → ℕ → Type 0
   StoreFaults byte code = (IsFirst address size IsOutside byte × (code ≡ 6))
       ⊎ (((other : ℕ) → IsCovered address size other → IsUserPage (page_number other))
-        × IsFirst address size (IsReadOnly s p) byte × (code ≡ 7))
+      × IsFirst address size (IsReadOnly s p) byte × (code ≡ 7))
 
   store_faults : (byte code : ℕ) → StoreFaults byte code
       ↔ (((outside address size ≡ Some byte) × (code ≡ 6)) ⊎ ((outside address size ≡ None) × (read_only s p address size ≡ Some byte) × (code ≡ 7)))
@@ -539,7 +550,7 @@ settle s cpu p (call.Store address size value) =
 settle s cpu p (call.Map page write) =
     settled s (event_of cpu p (call.Map page write))
     (test (not (is_live s p)) cause.NoProcess ∷ test (not (is_user_page page)) cause.BadPage ∷ test (is_mapped s (at_page p page)) cause.Mapped
-      ∷ test (has_no_room s (at_page p page)) cause.Quota ∷ [])
+    ∷ test (has_no_room s (at_page p page)) cause.Quota ∷ [])
     reply.Done (refused_as (is_live s p) (map_refusal s p page) reply.Done) refl
     (and (turned (is_live s p)) (and (outside_user page) (and (itself (is_mapped s (at_page p page))) (and (less (room s p) (need s.spaces p page)) tt))))
     refl (λ byte code h. h)
@@ -552,7 +563,7 @@ settle s cpu p (call.Unmap page) =
 settle s cpu p (call.Protect page write) =
     settled s (event_of cpu p (call.Protect page write))
     (test (not (is_live s p)) cause.NoProcess ∷ test (not (is_user_page page)) cause.BadPage ∷ test (not (is_mapped s (at_page p page))) cause.NotMapped
-      ∷ test (write && not (cell_or_fresh s.spaces (at_page p page)).may) cause.Rights ∷ [])
+    ∷ test (write && not (cell_or_fresh s.spaces (at_page p page)).may) cause.Rights ∷ [])
     reply.Done (refused_as (is_live s p) (protect_refusal s p page write) reply.Done) refl
     (and (turned (is_live s p)) (and (outside_user page) (and (turned (is_mapped s (at_page p page))) (and (withheld s (at_page p page) write) tt))))
     refl (λ byte code h. h)
@@ -566,42 +577,42 @@ settle s cpu p (call.Info page) =
 settle s cpu p (call.Offer page target write) =
     settled s (event_of cpu p (call.Offer page target write))
     (test (not (is_live s p)) cause.NoProcess ∷ test (not (is_user_page page)) cause.BadPage ∷ test (not (is_mapped s (at_page p page))) cause.NotMapped
-      ∷ test (target == p) cause.SelfOffer ∷ test (not (is_live s target)) cause.NoTarget
-      ∷ test (write && not (cell_or_fresh s.spaces (at_page p page)).may) cause.Rights
-      ∷ test (map.contains_key s.offers (offer_key p page target)) cause.OfferPending
-      ∷ test (nat_le 32 (map.len (pending s.offers p))) cause.TooManyOffers ∷ [])
+    ∷ test (target == p) cause.SelfOffer ∷ test (not (is_live s target)) cause.NoTarget
+    ∷ test (write && not (cell_or_fresh s.spaces (at_page p page)).may) cause.Rights
+    ∷ test (map.contains_key s.offers (offer_key p page target)) cause.OfferPending
+    ∷ test (nat_le 32 (map.len (pending s.offers p))) cause.TooManyOffers ∷ [])
     reply.Done (refused_as (is_live s p) (offer_refusal s p page target write) reply.Done) refl
     (and (turned (is_live s p)) (and (outside_user page) (and (turned (is_mapped s (at_page p page)))
-      (and (same_target target p) (and (turned (is_live s target)) (and (withheld s (at_page p page) write)
-        (and (itself (map.contains_key s.offers (offer_key p page target))) (and (at_least 32 (map.len (pending s.offers p))) tt))))))))
+    (and (same_target target p) (and (turned (is_live s target)) (and (withheld s (at_page p page) write)
+    (and (itself (map.contains_key s.offers (offer_key p page target))) (and (at_least 32 (map.len (pending s.offers p))) tt))))))))
     refl (λ byte code h. h)
 settle s cpu p (call.Withdraw page target) =
     settled s (event_of cpu p (call.Withdraw page target))
     (test (not (is_live s p)) cause.NoProcess ∷ test (not (is_user_page page)) cause.BadPage
-      ∷ test (not (map.contains_key s.offers (offer_key p page target))) cause.NoOffer ∷ [])
+    ∷ test (not (map.contains_key s.offers (offer_key p page target))) cause.NoOffer ∷ [])
     reply.Done (refused_as (is_live s p) (withdraw_refusal s p page target) reply.Done) refl
     (and (turned (is_live s p)) (and (outside_user page) (and (turned (map.contains_key s.offers (offer_key p page target))) tt)))
     refl (λ byte code h. h)
 settle s cpu p (call.Accept giver giver_page page) =
     settled s (event_of cpu p (call.Accept giver giver_page page))
     (test (not (is_live s p)) cause.NoProcess ∷ test (not (is_user_page page)) cause.BadPage
-      ∷ test (not (map.contains_key s.offers (offer_key giver giver_page p))) cause.NoOffer
-      ∷ test (is_mapped s (at_page p page)) cause.Mapped ∷ test (has_no_room s (at_page p page)) cause.Quota ∷ [])
+    ∷ test (not (map.contains_key s.offers (offer_key giver giver_page p))) cause.NoOffer
+    ∷ test (is_mapped s (at_page p page)) cause.Mapped ∷ test (has_no_room s (at_page p page)) cause.Quota ∷ [])
     reply.Done (refused_as (is_live s p) (accept_refusal s p giver giver_page page) reply.Done) refl
     (and (turned (is_live s p)) (and (outside_user page) (and (turned (map.contains_key s.offers (offer_key giver giver_page p)))
-      (and (itself (is_mapped s (at_page p page))) (and (less (room s p) (need s.spaces p page)) tt)))))
+    (and (itself (is_mapped s (at_page p page))) (and (less (room s p) (need s.spaces p page)) tt)))))
     refl (λ byte code h. h)
 settle s cpu p (call.Spawn quota) =
     settled s (event_of cpu p (call.Spawn quota))
     (test (not (is_live s p)) cause.NoProcess ∷ test (quota == 0) cause.BadQuota ∷ test (is_none (next_number s.book)) cause.TableFull
-      ∷ test (nat_lt (room s p) quota) cause.Quota ∷ [])
+    ∷ test (nat_lt (room s p) quota) cause.Quota ∷ [])
     (reply.Child (child_of s)) (refused_as (is_live s p) (spawn_refusal s p quota) (reply.Child (child_of s))) refl
     (and (turned (is_live s p)) (and (same_number quota 0) (and (no_number s.book) (and (less (room s p) quota) tt))))
     refl (λ byte code h. h)
 settle s cpu p (call.Fork quota) =
     settled s (event_of cpu p (call.Fork quota))
     (test (not (is_live s p)) cause.NoProcess ∷ test (quota == 0) cause.BadQuota ∷ test (is_none (next_number s.book)) cause.TableFull
-      ∷ test (nat_lt quota (cost s.spaces p)) cause.TooSmall ∷ test (nat_lt (room s p) quota) cause.Quota ∷ [])
+    ∷ test (nat_lt quota (cost s.spaces p)) cause.TooSmall ∷ test (nat_lt (room s p) quota) cause.Quota ∷ [])
     (reply.Child (child_of s)) (refused_as (is_live s p) (fork_refusal s p quota) (reply.Child (child_of s))) refl
     (and (turned (is_live s p)) (and (same_number quota 0) (and (no_number s.book) (and (less quota (cost s.spaces p)) (and (less (room s p) quota) tt)))))
     refl (λ byte code h. h)

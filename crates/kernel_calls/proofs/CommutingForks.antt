@@ -1,17 +1,17 @@
 -- Pages that are copied to a new process, and accesses of another, in either order.
-use Rattle.std.proofs.Common.{◌≡◌, ◌≢◌, ℕ, zero, suc, ◌+◌, ◌<◌, Bool, true, false, cond, ◌==◌, List, [], ◌∷◌, length, refl, ap, sym, ◌∙◌, subst, arith, inl, inr, Option, Some, None, unwrap_or, ne_eqb, eqb-true}
+use Rattle.std.proofs.Common.{◌≡◌, ◌≢◌, ℕ, suc, ◌+◌, ◌<◌, Bool, true, false, cond, List, [], ◌∷◌, length, refl, ap, sym, ◌∙◌, subst, arith, inl, inr, Option, Some, unwrap_or, ne_eqb, eqb-true}
 use Rattle.std.specs.Prelude.{◌⊎◌, if◌then◌else◌}
 use Rattle.std.specs.Option.{option_map}
-use Rattle.page_words.specs.Addresses.{page_number, offset_number}
+use Rattle.page_words.specs.Addresses.{offset_number}
 use Rattle.page_words.specs.FiniteMap as map
 use Rattle.page_words.specs.FiniteMap.{same}
 use Rattle.page_words.specs.FiniteSet as set
 use Rattle.page_words.specs.FiniteSet.{Set}
 use Rattle.page_words.proofs.MapLemmas.{same_map, same_or_not, get-insert, get-map_values}
-use Rattle.address_space.specs.Spaces.{Slot, slot_order, Cell, Spaces, at_page, slot_at, cell_or_fresh, fresh, with_bytes, set_bytes, write_at, store_in, stored, all_stored, accessed, all_accessed, with_page, with_pages, copy_of, copied_at, copied, is_of}
+use Rattle.address_space.specs.Spaces.{Slot, slot_order, Cell, Spaces, at_page, slot_at, cell_or_fresh, fresh, with_bytes, set_bytes, write_at, store_in, stored, all_stored, accessed, all_accessed, with_page, with_pages, copy_of, copied, is_of}
 use Rattle.address_space.proofs.costs.Copied.{get-copied, copied-other}
 use Rattle.process_table.proofs.CellLaws.{get-inserted_other}
-use Rattle.kernel_calls.proofs.Commuting.{at_slot, unchanged, page_is, cell_paged, cell_pages}
+use Rattle.kernel_calls.proofs.Commuting.{at_slot, unchanged, page_is, cell_pages}
 use Rattle.kernel_calls.proofs.CommutingStores.{group_at, group_stored}
 
 module _ (p k : ℕ) (b : Slot) (other : b.pid ≢ p) (old : b.pid ≢ k) where

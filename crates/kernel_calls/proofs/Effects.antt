@@ -356,12 +356,16 @@ module _ (s : State) (e : Event) (w : IsWellFormed s) (live : is_live s e.pid �
             | inl same ↦ inl (ap (λ (t : State). byte_in t slot place) goes ∙ same
                 ∙ ap (λ (c : Cell). slice_index c.bytes place) cell_is)
             | inr r ↦ inr (
-                r.byte,
-                ((r.first, r.last), r.there, together s (slot_at e.pid r.byte) slot
-                (ap (λ (c : Cell). set.contains c.holders slot)
-                (sym (same_cells s.spaces e.pid (touched address size) (slot_at e.pid r.byte))) ∙ r.shared)),
-                ap (λ (t : State). byte_in t slot place) goes ∙ r.stored,
-              )
+              r.byte,
+              (
+                (r.first, r.last),
+                r.there,
+                together s (slot_at e.pid r.byte) slot
+                    (ap (λ (c : Cell). set.contains c.holders slot)
+                    (sym (same_cells s.spaces e.pid (touched address size) (slot_at e.pid r.byte))) ∙ r.shared),
+              ),
+              ap (λ (t : State). byte_in t slot place) goes ∙ r.stored,
+            )
           ]
 
   map_does : (page : ℕ) (write : Bool) → e.call ≡ call.Map page write → is_mapped s (at_page e.pid page) ≡ false

@@ -1,6 +1,6 @@
 -- An access and an event of another process, in either order.
-use Rattle.std.proofs.Common.{◌≡◌, ◌≢◌, ℕ, ◌+◌, ◌<◌, ◌≤◌, ◌&&◌, ◌||◌, Bool, true, false, refl, ap, sym, ◌∙◌, inl, inr, arith, Option, Some, None, unwrap_or, is_some, eq-eqb, eqb-true, ne_eqb, subst, List, length}
-use Rattle.std.specs.Prelude.{◌⊎◌, if◌then◌else◌}
+use Rattle.std.proofs.Common.{◌≡◌, ◌≢◌, ℕ, ◌+◌, ◌<◌, ◌≤◌, ◌||◌, Bool, true, false, refl, ap, sym, ◌∙◌, inl, inr, arith, Option, Some, None, unwrap_or, is_some, eq-eqb, eqb-true, ne_eqb, subst, List, length}
+use Rattle.std.specs.Prelude.{if◌then◌else◌}
 use Rattle.std.specs.Option.{option_map}
 use Rattle.page_words.specs.Addresses.{byte_count, touched}
 use Rattle.page_words.specs.declared.addresses.Size.{Size}

@@ -1,13 +1,10 @@
 -- A call that would complete still completes in a run, after events of others.
-use Rattle.std.proofs.Common.{◌≡◌, ◌≢◌, ℕ, zero, suc, ◌+◌, true, List, [], ◌∷◌, ◌++◌, take, drop, refl, sym, ap, ◌∙◌, arith, Option, Some, inl, inr}
-use Rattle.std.specs.Prelude.{◌⊎◌}
-use Rattle.std.specs.List.{All, slice_get}
+use Rattle.std.proofs.Common.{◌≡◌, ℕ, zero, suc, ◌+◌, List, [], ◌∷◌, ◌++◌, take, drop, refl, sym, ap, ◌∙◌, arith, Some, inl, inr}
 use Rattle.process_table.specs.State.{State}
 use Rattle.process_table.specs.WellFormed.{IsWellFormed}
-use Rattle.kernel_calls.specs.Effects.{IsServed, lost}
+use Rattle.kernel_calls.specs.Effects.{IsServed}
 use Rattle.kernel_calls.specs.Machine.{answer, answers, end_of, completes}
 use Rattle.kernel_calls.specs.declared.calls.Event.{Event}
-use Rattle.kernel_calls.specs.declared.calls.Reply.{Reply}
 use Rattle.kernel_calls.proofs.Availability.{runs_never_refuse}
 use Rattle.kernel_calls.proofs.Isolated.{answer_at}
 use Rattle.kernel_calls.proofs.Runs.{end_of-append, kept-run}

@@ -17,7 +17,6 @@ use Rattle.kernel_calls.specs.Machine.{answer, completes}
 use Rattle.kernel_calls.specs.declared.calls.Call.{Call}
 use Rattle.kernel_calls.specs.declared.calls.Call.TheVariants as call
 use Rattle.kernel_calls.specs.declared.calls.Event.{Event}
-use Rattle.kernel_calls.specs.declared.calls.Reply.{Reply}
 use Rattle.kernel_calls.specs.declared.calls.Reply.TheVariants as reply
 
 -- ---- What a call names, and what it asks for
@@ -121,7 +120,7 @@ Faults s p (call.Load address size) byte code = IsFirst address size IsOutside b
 Faults s p (call.Store address size _) byte code =
     (IsFirst address size IsOutside byte × (code ≡ 6))
     ⊎ (((other : ℕ) → IsCovered address size other → IsUserPage (page_number other))
-      × IsFirst address size (IsReadOnly s p) byte × (code ≡ 7))
+    × IsFirst address size (IsReadOnly s p) byte × (code ≡ 7))
 Faults s p _ byte code = ⊥
 
 -- ---- Laws
@@ -130,13 +129,13 @@ Faults s p _ byte code = ⊥
 abbrev pub CompletesUnless : Type 0
 CompletesUnless = (s : State) (e : Event) → (completes (answer s e) ≡ true)
     ↔ (All (λ c. Applies s e.pid e.call c → ⊥) (causes_of e.call)
-      × ((byte code : ℕ) → Faults s e.pid e.call byte code → ⊥))
+    × ((byte code : ℕ) → Faults s e.pid e.call byte code → ⊥))
 
 -- a call is refused for the first cause of its list that applies
 abbrev pub RefusedByTheFirst : Type 0
 RefusedByTheFirst = (s : State) (e : Event) (c : Cause) → answer s e ≡ reply.Refused c
     → (before after : List Cause) × (causes_of e.call ≡ before ++ c ∷ after) × Applies s e.pid e.call c
-      × All (λ other. Applies s e.pid e.call other → ⊥) before
+    × All (λ other. Applies s e.pid e.call other → ⊥) before
 
 -- a call faults exactly if its process is live and one of its bytes faults, also where it has no room
 abbrev pub FaultsAtTheFirstByte : Type 0

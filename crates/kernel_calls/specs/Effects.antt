@@ -85,7 +85,7 @@ Does s t p (call.Store address size value) = (a place : ℕ) → IsCovered addre
     × (byte_in t (slot_at p a) (offset_number a) ≡ slice_index (bytes_of (byte_count size) value) (a - address))
     × ((byte_in t (slot_at p a) place ≡ byte_in s (slot_at p a) place)
     ⊎ ((b : ℕ) × IsStoredAt s p address size b (slot_at p a) place
-      × (byte_in t (slot_at p a) place ≡ slice_index (bytes_of (byte_count size) value) (b - address))))
+    × (byte_in t (slot_at p a) place ≡ slice_index (bytes_of (byte_count size) value) (b - address))))
 Does s t p (call.Map page write) = (place : ℕ)
     → (flags_at t (at_page p page) ≡ Some (record { write = write; may = true; accessed = false; dirty = false }))
     × IsAlone t (at_page p page) × (byte_in t (at_page p page) place ≡ 0)

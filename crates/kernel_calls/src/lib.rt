@@ -27,10 +27,11 @@ pub use calls::{Call, Decision, Event, Outcome, Reply};
 pub use cores::Core;
 pub use fault_handler::{PageStep, Plan};
 pub use laws::{
-    accesses_beside_an_event, authority_spreads_by_consent, children_are_their_makers,
-    cleaning_is_its_own, calls_complete_unless_refused, completes_by_kind, confined_processes_stay_confined, done_means_done,
-    events_write_their_own, kept_translations_are_given, kept_translations_serve_accesses,
-    members_see_their_own, newborns_are_families, others_never_refuse, processes_are_isolated,
+    accesses_beside_an_event, authority_spreads_by_consent, calls_complete_unless_refused,
+    children_are_their_makers, cleaning_is_its_own, completes_by_kind,
+    confined_processes_stay_confined, done_means_done, events_write_their_own,
+    kept_translations_are_given, kept_translations_serve_accesses, members_see_their_own,
+    newborns_are_families, others_never_refuse, processes_are_isolated,
     processes_keep_their_integrity, processors_make_events, runs_stay_well_formed,
     what_a_process_has_is_enough, what_is_given_up_goes,
 };

@@ -44,11 +44,7 @@ fn call_parent<N: Name, R: Wait + Abort>(rt: &R, kernel: &Kernel<N, OpenGate>, c
 }
 
 /// The copy's calls up to its store.
-fn store_in_copy<N: Name, R: Wait + Abort>(
-    rt: &R,
-    kernel: &Kernel<N, OpenGate>,
-    cpu: &mut Cpu<N>,
-) {
+fn store_in_copy<N: Name, R: Wait + Abort>(rt: &R, kernel: &Kernel<N, OpenGate>, cpu: &mut Cpu<N>) {
     let copy = process(rt, 1);
     answered(rt, kernel, cpu, copy, load(), Reply::Value(7));
     answered(rt, kernel, cpu, copy, store(9), Reply::Done);

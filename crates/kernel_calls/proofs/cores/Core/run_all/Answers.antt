@@ -1,13 +1,12 @@
-use Rattle.std.proofs.Common.{rules, ◌≡◌, ◌+◌, ◌<◌, ◌≤◌, ◌++◌, ℕ, true, false, not, ◌&&◌, List, [], ◌∷◌, length, take, drop, ap, sym, ◌∙◌, subst, refl, get_or, append_assoc}
+use Rattle.std.proofs.Common.{rules, ◌≡◌, ◌+◌, ◌<◌, ◌≤◌, ◌++◌, ℕ, not, List, [], ◌∷◌, length, take, drop, ap, sym, ◌∙◌, subst, refl, get_or, append_assoc}
 use Rattle.std.proofs.lemmas.Bool.{and_parts, not-true}
 use Rattle.std.proofs.lemmas.List.{take_more_set, drop_more, drop_all}
 use Rattle.process_table.specs.State.{State}
 use Rattle.process_table.specs.View.{View}
 use Rattle.kernel_calls.specs.Machine.{answers, end_of, completes, none_completes}
-use Rattle.kernel_calls.specs.Translations.{ended_by, EndAlong, EndsAlong}
+use Rattle.kernel_calls.specs.Translations.{ended_by, EndAlong}
 use Rattle.kernel_calls.specs.declared.calls.Event.{Event}
 use Rattle.kernel_calls.specs.declared.calls.Reply.{Reply}
-use Rattle.kernel_calls.specs.declared.translations.Ended.{Ended}
 use Rattle.kernel_calls.proofs.cores.Core.run_all.Goals as goal
 
 pub loop-i-preserved : goal.loop-i-preserved
