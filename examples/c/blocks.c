@@ -1,8 +1,9 @@
 /* Each function frees what it allocates, apart from the blocks of a core: a heap of its own counts the blocks that are
- * allocated after each call, on a handle with a core and on one without. It ends with status 1 at the first count that
- * is not the expected one. */
+ * allocated after each call. Each is called on a handle with a core and on one without, and returns which of the two it
+ * is. It ends with status 1 at the first count or result that is not the expected one. */
 #include <stdio.h>
 #include <stdlib.h>
+#include <string.h>
 
 #include "tower_heap.h"
 #include "tower_images.h"
@@ -32,25 +33,35 @@ void rattle_dealloc(void *block) {
     free(block);
 }
 
+static void need(bool holds, const char *what) {
+    if (!holds) {
+        printf("not so: %s\n", what);
+        exit(1);
+    }
+}
+
+/* The function returns whether the handle has a core. */
+#define SAYS(call) need((call) == tower->live, #call)
+
 static void steps(struct tower *tower) {
     const struct tower_event events[COUNT] = {tower_store(0, 0x40000000, 4, 7), tower_fork(0, 8), tower_exit(1)};
     struct tower_reply replies[COUNT] = {{0}};
     struct tower_ended ended = {0};
     size_t carried = 0;
-    (void)!tower_step(tower, &events[0], &replies[0]);
-    (void)!tower_step_ending(tower, &events[1], &replies[1], &ended);
-    (void)!tower_ends(tower, &events[2], &ended);
-    (void)!tower_run(tower, events, COUNT, replies, COUNT);
-    (void)!tower_run(tower, events, COUNT, replies, COUNT - 1);
-    (void)!tower_run_until(tower, events, COUNT, replies, COUNT, &carried);
+    SAYS(tower_step(tower, &events[0], &replies[0]));
+    SAYS(tower_step_ending(tower, &events[1], &replies[1], &ended));
+    SAYS(tower_ends(tower, &events[2], &ended));
+    SAYS(tower_run(tower, events, COUNT, replies, COUNT));
+    need(!tower_run(tower, events, COUNT, replies, COUNT - 1), "a run has as many replies as events");
+    SAYS(tower_run_until(tower, events, COUNT, replies, COUNT, &carried));
 }
 
 static void transfers(struct tower *tower) {
     struct tower_reply stop = {0};
     size_t moved = 0;
-    (void)!tower_write(tower, 0, 0x40000ffe, data, sizeof data, &moved, &stop);
-    (void)!tower_read(tower, 0, 0x40000ffe, data, sizeof data, &moved, &stop);
-    (void)!tower_read(tower, 70, 0, data, sizeof data, &moved, &stop);
+    SAYS(tower_write(tower, 0, 0x40000ffe, data, sizeof data, &moved, &stop));
+    SAYS(tower_read(tower, 0, 0x40000ffe, data, sizeof data, &moved, &stop));
+    SAYS(tower_read(tower, 70, 0, data, sizeof data, &moved, &stop));
 }
 
 static void queries(struct tower *tower) {
@@ -60,24 +71,25 @@ static void queries(struct tower *tower) {
     struct tower_walk walk = {0};
     struct tower_page page = {0};
     struct tower_memory memory = {0};
-    (void)!tower_frames(tower);
-    (void)!tower_directory(tower, 0, &number);
-    (void)!tower_container(tower, 0, &container);
-    (void)!tower_role(tower, 1, &role);
-    (void)!tower_walk(tower, 0, 0x40000000, true, &walk);
-    (void)!tower_copy_frame(tower, 1, data, TOWER_FRAME_BYTES);
-    (void)!tower_next_page(tower, 0, TOWER_FIRST_PAGE, &number, &page);
-    (void)!tower_memory(tower, &memory);
+    need(tower_frames(tower) == (tower->live ? FRAMES : 0), "the number of frames");
+    SAYS(tower_directory(tower, 0, &number));
+    SAYS(tower_container(tower, 0, &container));
+    SAYS(tower_role(tower, 1, &role));
+    SAYS(tower_walk(tower, 0, 0x40000000, true, &walk));
+    SAYS(tower_copy_frame(tower, 1, data, TOWER_FRAME_BYTES));
+    SAYS(tower_next_page(tower, 0, TOWER_FIRST_PAGE, &number, &page));
+    SAYS(tower_memory(tower, &memory));
 }
 
 static void images(struct tower *tower) {
     struct tower_verdict verdict = {0};
     size_t size = 0;
-    (void)!tower_image(tower, bytes, LENGTH, &size);
-    (void)!tower_image(tower, NULL, 0, &size);
-    (void)!tower_check(tower, &verdict);
-    (void)!tower_check_bytes(image, LENGTH, &verdict);
-    (void)!tower_check_bytes(image, LENGTH - 1, &verdict);
+    need(tower_image(tower, bytes, LENGTH, &size) == (tower->live ? TOWER_IMAGE_WRITTEN : TOWER_IMAGE_NO_CORE), "an image");
+    need(tower_image(tower, NULL, 0, &size) == (tower->live ? TOWER_IMAGE_TOO_SHORT : TOWER_IMAGE_NO_CORE), "its size");
+    need(tower_check(tower, &verdict) == (tower->live ? TOWER_SOUND : TOWER_CHECK_NO_CORE), "a check");
+    need(tower_check_bytes(bytes, LENGTH, &verdict) == (tower->live ? TOWER_SOUND : TOWER_NOT_IMAGE), "a check of bytes");
+    need(tower_check_bytes(bytes, LENGTH - 1, &verdict) == TOWER_NOT_IMAGE, "a check of bytes that are no image");
+    memset(bytes, 0, LENGTH);
 }
 
 /* What is tried on both handles. */
