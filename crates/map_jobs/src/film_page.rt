@@ -451,12 +451,12 @@ function draw() {
     if (few || roles[frame] !== "F" || marked.has(frame) || squares[frame]) drawSquare(frame, lookOf(frame, owners, marked, failing));
   }
   drawProcesses(lazy);
-  drawLines();
   find("says").textContent = sentence(at, owners);
   find("says").className = isRefused(steps[at].reply) ? "refused" : "";
   find("changes").replaceChildren(...details(owners).map(text => Object.assign(document.createElement("li"), { textContent: text })));
   find("place").value = at;
   find("step").textContent = `step ${at} of ${steps.length - 1}`;
+  drawLines();
   showChange();
 }
 
@@ -507,7 +507,7 @@ function begin() {
       (document.documentElement.style.colorScheme === "" && matchMedia("(prefers-color-scheme: dark)").matches);
     document.documentElement.style.colorScheme = dark ? "light" : "dark";
   });
-  window.addEventListener("hashchange", () => go(Number(location.hash.slice(1)) || 0));
+  window.addEventListener("hashchange", event => go(Number(new URL(event.newURL).hash.slice(1)) || 0));
   document.addEventListener("keydown", event => {
     const typed = event.target.tagName === "INPUT" || (event.key === " " && event.target.tagName === "BUTTON");
     if (typed || event.ctrlKey || event.altKey || event.metaKey || !keys[event.key]) return;
