@@ -94,7 +94,7 @@ makes frames before after pid call reply event log new of fits legal grown told 
 pub prevents_refuses : (frames : ℕ) (log : List LogEntry) (cpu : Maker) (f : Fault) → Legal frames log → StartsWith log cpu.seen × (calls_of cpu.number log ≡ calls_of cpu.number cpu.seen) → Prevents f
     → IsRefused frames log cpu f
 prevents_refuses frames log cpu NoMemory legal fits h = (legal, fits.0, fits.1)
-prevents_refuses frames log cpu Unread legal fits h = tt
+prevents_refuses frames log cpu Unread legal fits h = absurd h
 prevents_refuses frames log cpu (Stale front) legal fits h = absurd h
 prevents_refuses frames log cpu Disagree legal fits h = absurd h
 

@@ -68,10 +68,10 @@ IsRefused frames log cpu (Stale front) = (front ≡ length log) × BeginOne fram
 IsRefused frames log cpu NoMemory = Legal frames log × StartsWith log cpu.seen × (calls_of cpu.number log ≡ calls_of cpu.number cpu.seen)
 IsRefused frames log cpu Disagree = ⊥
 
--- the faults that can stop a call after it was checked: out of memory, and Unread
+-- the fault that can stop a call after it was checked: out of memory
 abbrev pub Prevents : Fault → Type 0
 Prevents NoMemory = Unit {0}
-Prevents Unread = Unit {0}
+Prevents Unread = ⊥
 Prevents (Stale front) = ⊥
 Prevents Disagree = ⊥
 
