@@ -18,6 +18,11 @@ pub record Unnamed : Type 0 where
   pub monitors : ℕ
   pub book : Names
 
+-- a kernel that was closed: the entries of all its calls, and the core that they left
+pub record Closed : Type 0 where
+  pub entries : List LogEntry
+  pub core : View
+
 -- a kernel that its threads share: how many CPUs it has
 pub record Shared : Type 0 where
   pub cpus : ℕ

@@ -1,5 +1,5 @@
 -- What a kernel keeps of itself, one fact a line.
-use Rattle.std.specs.Prelude.{◌≡◌, ℕ, ◌≤◌, Bool, true, List, [], length}
+use Rattle.std.specs.Prelude.{◌≡◌, ℕ, ◌<◌, ◌≤◌, Bool, true, List, [], length}
 use Rattle.logbook.specs.Pages.{Book}
 use Rattle.memory_report.specs.Histories.{Legal, state_after}
 use Rattle.memory_report.specs.declared.entries.LogEntry.{LogEntry}
@@ -31,6 +31,7 @@ pub record IsUnderLock (frames : ℕ) (book : Book) (opening core : View) (log :
 
 -- a kernel that was made and has no name yet
 pub record IsMade (frames cpus : ℕ) (book : Book) (parts : ℕ) (core : State) (side other : Page) (seat : WhichKernel) : Type 0 where
+  pub some : 0 < cpus
   pub few : cpus ≤ 8
   -- one part of the count for each CPU
   pub one_each : parts ≡ cpus

@@ -1,5 +1,5 @@
 -- What a contract sees of a CPU, what a call that is made leaves, and when one is refused.
-use Rattle.std.specs.Prelude.{◌≡◌, ◌≢◌, ◌⊎◌, ◌↔◌, ℕ, zero, suc, ◌<◌, List, [], ◌∷◌, ◌++◌, length, take, All, Any, Result, IsOk, IfErr}
+use Rattle.std.specs.Prelude.{◌≡◌, ◌≢◌, ◌⊎◌, ◌↔◌, ℕ, zero, suc, ◌<◌, List, [], ◌∷◌, ◌++◌, length, take, sum_by, All, Any, Result, IsOk, IfErr}
 use Rattle.kernel_calls.specs.declared.calls.Call.{Call}
 use Rattle.kernel_calls.specs.declared.calls.Reply.{Reply}
 use Rattle.locked_core.specs.declared.faults.Fault.{Fault}
@@ -103,6 +103,19 @@ pub record AreAll (count : ℕ) (log : List LogEntry) (cpus : List Maker) : Type
   pub as_many : length cpus ≡ count
   pub fit : All (λ c. IsFit log c) cpus
   pub known : All (λ e. IsOneOf cpus e.cpu) log
+
+-- What a kernel was closed with, if these CPUs came back. The moments are all of its history: they have the entries,
+-- begin with the moments that each of the CPUs has seen, and follow one another from the core that the kernel opened
+-- with. The core is the one that the last of them left.
+pub record IsLeft (opening : View) (cpus : List Maker) (log : List LogEntry) (core : View) (moments : List Moment) : Type 0 where
+  pub entries : entries_in moments ≡ log
+  pub begins : All (λ c. Begins moments c.moments) cpus
+  pub follows : Follows opening moments
+  pub left : core ≡ core_after opening moments
+
+-- how many calls these CPUs made, together
+abbrev pub calls_of_all : List Maker → ℕ
+calls_of_all cpus = sum_by (λ (c : Maker). calls_of c.number c.seen) cpus
 
 -- the result of closing with these CPUs on that log: it succeeds exactly if they are all of that many and agree with
 -- the log, and is otherwise refused as Disagree

@@ -1,31 +1,48 @@
 //! What a closed kernel returns, and whether the CPUs that came back are all of its log's.
 
-ghost use Rattle.std.specs.Prelude.{◌≡◌, ◌↔◌, All, Any, IsTrue};
-ghost use Rattle.locked_core.specs.Makers.{AreAll, IsFit, IsOneOf};
-ghost use Rattle.locked_core.specs.Moments.{entries_in};
+ghost use Rattle.std.specs.Prelude.{◌≡◌, ◌+◌, ◌↔◌, All, Any, IsTrue, vec_len};
+ghost use Rattle.locked_core.specs.Makers.{AreAll, IsFit, IsOneOf, calls_of_all};
+ghost use Rattle.locked_core.specs.Moments.{Begins, entries_in};
+ghost use Rattle.memory_report.specs.Histories.{calls_of};
 
-use crate::book::{Front, Name};
+use crate::book::{Calls, Front, Name};
 use crate::call_log::CallLog;
 use crate::cpu::Cpu;
 use kernel_calls::Core;
 use memory_report::LogEntry;
+use std::marker::Model;
+use std::sync::ledger::Share;
 
-/// All calls of a kernel that was closed, and its core in the state after them.
+/// All calls of a kernel that was closed, and the core that they left. Contracts see the entries and the core.
 #[derive(Drop)]
 pub struct History {
-    pub(crate) entries: Vec<LogEntry>,
-    pub(crate) core: Core,
+    entries: Vec<LogEntry>,
+    core: Core,
+}
+
+impl Model for History {
+    ghost use Rattle.locked_core.specs.Held.{Closed};
+
+    ghost Value = { Closed };
+
+    ghost view = { λ h. record { entries = h.entries.items; core = h.core } };
 }
 
 impl History {
+    pub(crate) fn new(entries: Vec<LogEntry>, core: Core) -> History
+        ensures { result ≡ record { entries = entries.items; core = core } }
+    {
+        History { entries, core }
+    }
+
     /// The entries of all calls, in the order in which they were carried out.
     pub fn entries(&self) -> &[LogEntry]
-        ensures { result.now ≡ self.now.entries.items }
+        ensures { result.now ≡ self.now.entries }
     {
         self.entries.as_slice()
     }
 
-    /// The core, in the state after the last call.
+    /// The core, as the last call left it.
     pub fn core(&self) -> &Core
         ensures { result.now ≡ self.now.core }
     {
@@ -37,7 +54,8 @@ impl History {
 /// has seen then begins the log.
 fn agree<N: Name>(cpus: &[Cpu<N>], log: &CallLog, front: &Front<N>) -> bool
     requires { entries_in front.now ≡ log.now.entries }
-    ensures { IsTrue result ↔ All (λ c. IsFit log.now.entries c) cpus.now }
+    ensures fit { IsTrue result ↔ All (λ c. IsFit log.now.entries c) cpus.now }
+    ensures moments { IsTrue result → All (λ c. Begins front.now c.moments) cpus.now }
 {
     cpus.iter().all(|c| c.agrees(log, front))
 }
@@ -60,7 +78,8 @@ fn all_known<N: Name>(cpus: &[Cpu<N>], log: &[LogEntry]) -> bool
 /// Whether these are all of so many CPUs, whose calls are the log.
 pub fn are_all<N: Name>(cpus: &[Cpu<N>], count: u8, log: &CallLog, front: &Front<N>) -> bool
     requires { entries_in front.now ≡ log.now.entries }
-    ensures { IsTrue result ↔ AreAll count log.now.entries cpus.now }
+    ensures all { IsTrue result ↔ AreAll count log.now.entries cpus.now }
+    ensures moments { IsTrue result → All (λ c. Begins front.now c.moments) cpus.now }
 {
     if cpus.len() != usize::from(count) {
         return false;
@@ -69,4 +88,16 @@ pub fn are_all<N: Name>(cpus: &[Cpu<N>], count: u8, log: &CallLog, front: &Front
         return false;
     }
     all_known(cpus, log.entries())
+}
+
+/// The shares of these CPUs as one, which counts all their calls.
+pub fn merged<N: Name>(first: Cpu<N>, mut others: Vec<Cpu<N>>) -> Share<Calls<N>>
+    ensures parts { result.parts ≡ vec_len others + 1 }
+    ensures amount { result.amount ≡ calls_of_all others.items + calls_of first.number first.seen }
+{
+    let mut all = first.into_share();
+    while let Some(cpu) = others.pop() {
+        all.merge(cpu.into_share());
+    }
+    all
 }

@@ -117,6 +117,19 @@ impl<N: Name> Cpu<N> {
         }
     }
 
+    /// What counts its calls.
+    pub(crate) fn into_share(self) -> Share<Calls<N>>
+        ensures { (result.parts ≡ 1) × (result.amount ≡ calls_of self.number self.seen) }
+    {
+        let Cpu {
+            number: _,
+            calls: _,
+            seen: _,
+            share,
+        } = self;
+        share
+    }
+
     /// Whether it made the calls that the log has of it, and has seen no more than the log. What it has
     /// seen then begins the log.
     pub(crate) fn agrees(&self, log: &CallLog, front: &Front<N>) -> bool

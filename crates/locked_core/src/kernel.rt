@@ -2,7 +2,7 @@
 
 ghost use Rattle.std.specs.Prelude.{◌≡◌, ◌≤◌, ◌↔◌, [], IfErr, IfOk, IsErrOf, All, Any, length, take, replicate, List};
 ghost use Rattle.left_right.specs.Sides.{view};
-ghost use Rattle.locked_core.specs.Makers.{Closes, IsRefused, IsShown, IsSnapshot, new_makers};
+ghost use Rattle.locked_core.specs.Makers.{Closes, IsLeft, IsRefused, IsShown, IsSnapshot, calls_of_all, new_makers};
 ghost use Rattle.locked_core.specs.declared.moment.Moment.{Moment};
 ghost use Rattle.locked_core.specs.Pages.{page};
 ghost use Rattle.locked_core.specs.Published.{view_of};
@@ -64,11 +64,14 @@ pub struct Kernel<N: Name, G: Gate + Drop> {
 }
 
 impl<N: Name, G: Gate + Drop> Model for Kernel<N, G> {
+    ghost use Rattle.std.specs.Prelude.{◌≡◌, ◌<◌};
     ghost use Rattle.locked_core.specs.Held.{Shared};
 
     ghost Value = { Shared };
 
     ghost view = { λ k. record { cpus = k.cpus } };
+
+    ghost invariant = { λ k. (0 < k.cpus) × (k.cpus ≡ N.book.parts) };
 }
 
 /// What an opened kernel returns.
@@ -160,12 +163,14 @@ impl<N: Name, G: Gate + Drop> Kernel<N, G> {
     /// Disagree if a CPU did not come back exactly once, has seen more than the log, or made another number of calls
     /// than the log has of it. Disagree also if an entry is of none of these CPUs. Nothing is returned then.
     pub fn close<R: Wait>(self, rt: &R, cpus: Vec<Cpu<N>>) -> Result<History, Fault>
-        ensures legal { IfOk result (λ h. Legal N.frames h.entries.items × (h.core.state ≡ state_after N.frames h.entries.items)) }
-        ensures begins { IfOk result (λ h. All (λ c. take (length c.seen) h.entries.items ≡ c.seen) cpus.items) }
-        ensures calls { IfOk result (λ h. All (λ c. calls_of c.number h.entries.items ≡ calls_of c.number c.seen) cpus.items) }
-        ensures all { IfOk result (λ h. All (λ e. Any (λ c. c.number ≡ e.cpu) cpus.items) h.entries.items) }
-        ensures isolated { IfOk result (λ h. AreIsolated N.frames h.entries.items) }
-        ensures guarded { IfOk result (λ h. AreGuarded N.frames h.entries.items) }
+        ensures legal { IfOk result (λ h. Legal N.frames h.entries × (h.core.state ≡ state_after N.frames h.entries)) }
+        ensures left { IfOk result (λ h. (moments : List Moment) × IsLeft N.book.opening cpus.items h.entries h.core moments) }
+        ensures begins { IfOk result (λ h. All (λ c. take (length c.seen) h.entries ≡ c.seen) cpus.items) }
+        ensures calls { IfOk result (λ h. All (λ c. calls_of c.number h.entries ≡ calls_of c.number c.seen) cpus.items) }
+        ensures counted { IfOk result (λ h. calls_of_all cpus.items ≡ length h.entries) }
+        ensures all { IfOk result (λ h. All (λ e. Any (λ c. c.number ≡ e.cpu) cpus.items) h.entries) }
+        ensures isolated { IfOk result (λ h. AreIsolated N.frames h.entries) }
+        ensures guarded { IfOk result (λ h. AreGuarded N.frames h.entries) }
         ensures closes { (log : List LogEntry) × Legal N.frames log × Closes self.cpus log cpus.items result }
     {
         let Kernel {
@@ -173,7 +178,7 @@ impl<N: Name, G: Gate + Drop> Kernel<N, G> {
             cpus: count,
             gate: _,
         } = self;
-        state.into_inner().close(rt, cpus.as_slice(), count)
+        state.into_inner().close(rt, cpus, count)
     }
 }
 

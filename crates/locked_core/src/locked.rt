@@ -3,7 +3,7 @@
 ghost use Rattle.std.specs.Prelude.{◌≡◌, ◌≤◌, ◌<◌, ◌+◌, ◌==◌, ◌^◌, ◌++◌, [], ◌∷◌, IfOk, IfErr, OnErr, List, length, true};
 ghost use Rattle.kernel_calls.specs.Translations.{ended_by, Ends};
 ghost use Rattle.left_right.specs.Sides.{view};
-ghost use Rattle.locked_core.specs.Makers.{AreAll, Closes, IsRefused, Prevents, maker_of};
+ghost use Rattle.locked_core.specs.Makers.{AreAll, Closes, IsLeft, IsRefused, Prevents, calls_of_all, maker_of};
 ghost use Rattle.locked_core.specs.Moments.{Begins, Follows, core_after, entries_in, moment};
 ghost use Rattle.locked_core.specs.Pages.{page};
 ghost use Rattle.locked_core.specs.Published.{view_of};
@@ -16,7 +16,7 @@ ghost use Rattle.process_table.specs.State.{open_with};
 
 use crate::book::{Calls, Front, Name, Opened};
 use crate::call_log::{CallLog, entry_of};
-use crate::closing::{History, are_all};
+use crate::closing::{History, are_all, merged};
 use crate::cpu::Cpu;
 use crate::faults::Fault;
 use crate::head::Head;
@@ -217,12 +217,20 @@ impl<N: Name> Locked<N> {
     /// Returns the history, if these CPUs are all of so many, and agree with the log.
     ///
     /// Disagree if they are not, or do not; nothing is returned then.
-    pub(crate) fn close<R: Wait>(self, rt: &R, cpus: &[Cpu<N>], count: u8) -> Result<History, Fault>
+    pub(crate) fn close<R: Wait>(
+        self,
+        rt: &R,
+        cpus: Vec<Cpu<N>>,
+        count: u8,
+    ) -> Result<History, Fault>
+        requires count { (0 < count) × (count ≡ N.book.parts) }
         ensures log { Legal N.frames self.log }
-        ensures closes { Closes count self.log cpus.now result }
-        ensures entries { IfOk result (λ h. h.entries.items ≡ self.log) }
-        ensures legal { IfOk result (λ h. Legal N.frames h.entries.items × (h.core.state ≡ state_after N.frames h.entries.items)) }
-        ensures all { IfOk result (λ h. AreAll count h.entries.items cpus.now) }
+        ensures closes { Closes count self.log cpus.items result }
+        ensures entries { IfOk result (λ h. h.entries ≡ self.log) }
+        ensures legal { IfOk result (λ h. Legal N.frames h.entries × (h.core.state ≡ state_after N.frames h.entries)) }
+        ensures all { IfOk result (λ h. AreAll count h.entries cpus.items) }
+        ensures left { IfOk result (λ h. IsLeft N.book.opening cpus.items h.entries h.core self.moments) }
+        ensures counted { IfOk result (λ h. calls_of_all cpus.items ≡ length h.entries) }
     {
         let Locked {
             core,
@@ -230,17 +238,17 @@ impl<N: Name> Locked<N> {
             head,
             writer,
             is_watched: _,
-            counted: _,
+            mut counted,
         } = self;
         let front = front_of(&log, &head);
         writer.take(rt);
-        if !are_all(cpus, count, &log, &front) {
+        if !are_all(cpus.as_slice(), count, &log, &front) {
             return Err(Fault::Disagree);
         }
-        Ok(History {
-            entries: log.into_entries(),
-            core,
-        })
+        let mut others = cpus;
+        let first = others.pop().unwrap();
+        counted.audit(&mut merged(first, others));
+        Ok(History::new(log.into_entries(), core))
     }
 }
 

@@ -14,28 +14,30 @@ ok_weaker (Ok x) p f = f x p
 ok_weaker (Err e) p f = tt
 
 pub returns-clause-isolated : goal.returns-clause-isolated
-returns-clause-isolated g c = ok_weaker c.close.result c.close.ensures.legal (λ h legal. histories_isolated g.N.Name.frames h.entries.items legal.0)
+returns-clause-isolated g c = ok_weaker c.close.result c.close.ensures.legal (λ h legal. histories_isolated g.N.Name.frames h.entries legal.0)
 
 pub returns-clause-guarded : goal.returns-clause-guarded
-returns-clause-guarded g c = ok_weaker c.close.result c.close.ensures.legal (λ h legal. histories_guarded g.N.Name.frames h.entries.items legal.0)
+returns-clause-guarded g c = ok_weaker c.close.result c.close.ensures.legal (λ h legal. histories_guarded g.N.Name.frames h.entries legal.0)
 
 pub returns-clause-begins : goal.returns-clause-begins
 returns-clause-begins g c =
     let cpus : List Maker = c.args.cpus.items in
-    ok_weaker c.close.result c.close.ensures.all (λ h all.
-    let mine = subst (AreAll c.self.inside.cpus h.entries.items) c.as_slice.ensures.value all in
-    All-weaker (IsFit h.entries.items) (λ (m : Maker). take (length m.seen) h.entries.items ≡ m.seen) (λ m fit. fit.0) cpus mine.fit)
+    ok_weaker {P = λ h. AreAll c.self.inside.cpus h.entries cpus} c.close.result c.close.ensures.all (λ h all.
+    All-weaker (IsFit h.entries) (λ (m : Maker). take (length m.seen) h.entries ≡ m.seen) (λ m fit. fit.0) cpus all.fit)
 
 pub returns-clause-calls : goal.returns-clause-calls
 returns-clause-calls g c =
     let cpus : List Maker = c.args.cpus.items in
-    ok_weaker c.close.result c.close.ensures.all (λ h all.
-    let mine = subst (AreAll c.self.inside.cpus h.entries.items) c.as_slice.ensures.value all in
-    All-weaker (IsFit h.entries.items) (λ (m : Maker). calls_of m.number h.entries.items ≡ calls_of m.number m.seen) (λ m fit. fit.1) cpus mine.fit)
+    ok_weaker {P = λ h. AreAll c.self.inside.cpus h.entries cpus} c.close.result c.close.ensures.all (λ h all.
+    All-weaker (IsFit h.entries) (λ (m : Maker). calls_of m.number h.entries ≡ calls_of m.number m.seen) (λ m fit. fit.1) cpus all.fit)
 
 pub returns-clause-all : goal.returns-clause-all
 unfolding IsOneOf
 returns-clause-all g c =
     ok_weaker c.close.result c.close.ensures.all (λ h all.
-    let mine = subst (AreAll c.self.inside.cpus h.entries.items) c.as_slice.ensures.value all in
-    mine.known)
+    all.known)
+
+-- the moments that were added to the kernel's history
+pub returns-clause-left : goal.returns-clause-left
+returns-clause-left g c =
+    ok_weaker c.close.result c.close.ensures.left (λ h left. (c.into_inner.result.moments, left))
