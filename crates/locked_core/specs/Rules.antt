@@ -1,19 +1,38 @@
--- The rule of the history, and the result of the step that adds to it.
-use Rattle.std.specs.Prelude.{ℕ, ◌≡◌, ◌==◌, true, List, [], ◌∷◌, ◌++◌, length, MatchBool}
-use Rattle.logbook.specs.Pages.{Cell, Step, View, Book, Named}
+-- The rule of the history, and the result of each of its steps.
+use Rattle.std.specs.Prelude.{ℕ, ◌≡◌, ◌==◌, ◌+◌, ◌<◌, ◌≤◌, true, List, [], ◌∷◌, ◌++◌, length, MatchBool}
+use Rattle.logbook.specs.Pages.{Cell, Step, View, Book, Named, cell, nib, may_make}
 use Rattle.locked_core.specs.declared.moment.Moment.{Moment}
 
--- the first word is the length of the history. A book has two words, of which the second stays at 0
+-- The first word is the length of the history, and the second is how many turns were taken. Each turn has a cell, after
+-- those of the two words. An entry is added with a turn, whose cell is at home from then on. At most one turn is out.
 pub record CellsHold (cells : List Cell) (log : List Moment) : Type 0 where
-  pub words : cells ≡ (length log, true) ∷ (0, true) ∷ []
+  pub head : cell cells 0 ≡ (length log, true)
+  pub turns : ℕ
+  pub taken : cell cells 1 ≡ (turns, true)
+  pub each : length cells ≡ turns + 2
+  pub used : length log ≤ turns
+  pub one : turns ≤ length log + 1
+  pub home : (key : ℕ) → key < length log + 2 → (cell cells key).1 ≡ true
 
 -- the book's first word
 abbrev pub head_of : Book → Named
 head_of b = record { tracked = true; key = 0; book = b }
 
--- where the length was the one expected, the entry was added to all that had been seen; else that length was found
+-- the book's second word
+abbrev pub turns_of : Book → Named
+turns_of b = record { tracked = true; key = 1; book = b }
+
+-- the cell of the turn that follows this history
+abbrev pub turn_after : List Moment → ℕ
+turn_after log = length log + 2
+
+-- the entry was added to all that had been seen, which was all of the history
 abbrev pub Adds : Step Moment → View Moment ℕ → ℕ → View Moment ℕ → Type 0
-Adds s v found w = MatchBool (found == s.old) (w.0 ≡ v.0 ++ s.ask ∷ []) (length w.0 ≡ found)
+Adds s v found w = w.0 ≡ v.0 ++ s.ask ∷ []
+
+-- where as many turns were found as were expected, the next one was taken
+abbrev pub Claims : Step Moment → View Moment ℕ → ℕ → View Moment ℕ → Type 0
+Claims s v found w = MatchBool (found == s.old) ((w.0 ≡ v.0) × (w.1.0 ≡ nib may_make (turn_after v.0) 0)) (Unit {0})
 
 -- the length of the history was found, of which all that had been seen is a prefix
 abbrev pub LooksUp : Step Moment → View Moment ℕ → ℕ → View Moment ℕ → Type 0

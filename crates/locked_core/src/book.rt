@@ -3,7 +3,7 @@
 ghost use Rattle.std.specs.Prelude.{◌≡◌, ◌<◌, [], length, MatchBool};
 ghost use Rattle.memory_report.specs.Histories.{Legal, StartsWith};
 ghost use Rattle.locked_core.specs.Moments.{Begins, entries_in};
-ghost use Rattle.locked_core.specs.Rules.{head_of};
+ghost use Rattle.locked_core.specs.Rules.{head_of, turns_of};
 
 use crate::moment::Moment;
 use kernel_calls::{Call, Core, Reply};
@@ -73,6 +73,15 @@ impl Play<Moment, u64> for Add {
     ghost then = { Adds };
 }
 
+/// A step that takes the turn to add the next entry.
+pub struct Claim;
+
+impl Play<Moment, u64> for Claim {
+    ghost use Rattle.locked_core.specs.Rules.{Claims};
+
+    ghost then = { Claims };
+}
+
 impl Plain<LogEntry, Moment, u64> for Look {
     ghost use Rattle.std.specs.Prelude.{None};
     ghost use Rattle.locked_core.specs.Moments.{moment};
@@ -136,9 +145,11 @@ pub type Beginning = Seen<Moment, u64, Law>;
 #[derive(Drop)]
 pub struct Opened {
     head: Word<Moment, u64, Law>,
+    turns: Word<Moment, u64, Law>,
     pub seen: Beginning,
     pub ghost empty: { seen.log ≡ [] },
     pub ghost head_is: { head ≡ head_of seen.book },
+    pub ghost turns_is: { turns ≡ turns_of seen.book },
 }
 
 impl Opened {
@@ -146,19 +157,24 @@ impl Opened {
     pub fn new() -> Opened
         ensures { result.seen.log ≡ [] }
     {
-        let (seen, mut first, _second) = Seen::open(Start::alone(), 0, 0);
+        let (seen, mut first, mut second) = Seen::open(Start::alone(), 0, 0);
         Opened {
             head: Word::tracked(0, &mut first),
+            turns: Word::tracked(0, &mut second),
             seen,
         }
     }
 
-    /// The word that has the history's length.
-    pub(crate) fn into_head(self) -> Word<Moment, u64, Law>
-        ensures { result ≡ head_of self.seen.book }
+    /// The word that has the history's length, and the one that counts turns.
+    pub(crate) fn into_words(self) -> (Word<Moment, u64, Law>, Word<Moment, u64, Law>)
+        ensures { (result.0 ≡ head_of self.seen.book) × (result.1 ≡ turns_of self.seen.book) }
     {
-        let Opened { head, seen: _seen } = self;
-        head
+        let Opened {
+            head,
+            turns,
+            seen: _seen,
+        } = self;
+        (head, turns)
     }
 }
 

@@ -64,7 +64,8 @@ impl CallLog {
 
     /// How many entries it has.
     pub fn len(&self) -> usize
-        ensures { result ≡ length self.now.entries }
+        ensures length { result ≡ length self.now.entries }
+        ensures small { result < 2 ^ 63 }
     {
         self.entries.len()
     }

@@ -1,38 +1,40 @@
 //! The length of the history, which is stored once.
 
-ghost use Rattle.std.specs.Prelude.{◌≡◌, ◌<◌, ◌+◌, ◌^◌, ◌++◌, [], ◌∷◌, List, length, true, false};
-ghost use Rattle.locked_core.specs.Rules.{head_of};
+ghost use Rattle.std.specs.Prelude.{◌≡◌, ◌<◌, ◌+◌, ◌^◌, ◌++◌, [], ◌∷◌, IfSome, List, length};
+ghost use Rattle.locked_core.specs.Rules.{head_of, turn_after};
 ghost use Rattle.locked_core.specs.Moments.{Begins, entries_in, moment};
 ghost use Rattle.locked_core.specs.declared.moment.Moment.{Moment};
 
 use crate::book::{Add, Beginning, Done, Law, Look, Name, Nothing, Opened, no_entry};
 use crate::call_log::CallLog;
 use crate::moment::Moment;
+use crate::turn::Turn;
 use kernel_calls::Core;
 use logbook::{Offer, Word};
 use memory_report::LogEntry;
-use std::marker::{Model, PhantomData};
-use std::sync::Wait;
+use std::marker::Model;
 
-/// The length of the history. Only a call that is carried out adds to it. Contracts see the history as it was added
-/// to, of which nothing is stored but the length.
+/// The length of the history. Only a call that is carried out adds to it, with its turn. Contracts see the history as
+/// it was added to, of which nothing is stored but the length.
 #[derive(Drop)]
 pub struct Head<N: Name> {
     word: Word<Moment, u64, Law>,
+    turns: Word<Moment, u64, Law>,
     seen: Beginning,
-    of: PhantomData<N>,
+    /// A turn that was taken and not used, for want of memory.
+    unused: Option<Turn<N>>,
 }
 
 impl<N: Name> Model for Head<N> {
-    ghost use Rattle.std.specs.Prelude.{◌≡◌, List};
-    ghost use Rattle.locked_core.specs.Rules.{head_of};
+    ghost use Rattle.std.specs.Prelude.{◌≡◌, IfSome, List};
+    ghost use Rattle.locked_core.specs.Rules.{head_of, turn_after, turns_of};
     ghost use Rattle.locked_core.specs.declared.moment.Moment.{Moment};
 
     ghost Value = { List Moment };
 
     ghost view = { λ h. h.seen.log };
 
-    ghost invariant = { λ h. (h.word ≡ head_of N.book.history) × (h.seen.book ≡ N.book.history) };
+    ghost invariant = { λ h. (h.word ≡ head_of N.book.history) × (h.turns ≡ turns_of N.book.history) × (h.seen.book ≡ N.book.history) × IfSome h.unused (λ t. t ≡ turn_after h.seen.log) };
 }
 
 impl<N: Name> Head<N> {
@@ -42,10 +44,12 @@ impl<N: Name> Head<N> {
         ensures { result ≡ [] }
     {
         let seen = opened.seen.again();
+        let (word, turns) = opened.into_words();
         Head {
-            word: opened.into_head(),
+            word,
+            turns,
             seen,
-            of: PhantomData,
+            unused: None,
         }
     }
 
@@ -60,20 +64,38 @@ impl<N: Name> Head<N> {
         self.word.load::<Look, Nothing>(&mut seen, &mut offer)
     }
 
-    /// Adds the entry of a completed call and the core that it left. If the history were longer than the log, this
-    /// would wait forever. The caller read its length under the same lock, so it is not.
-    pub fn add<R: Wait>(&mut self, rt: &R, log: &CallLog, entry: &LogEntry, core: &Core)
+    /// Takes the turn to add the next entry, or returns the one that was not used. `None` if the history is longer
+    /// than the log, or if the turn is out.
+    pub fn take_turn(&mut self, log: &CallLog) -> Option<Turn<N>>
+        requires { entries_in self.old ≡ log.now.entries }
+        ensures turn { IfSome result (λ t. t ≡ turn_after self.old) }
+        ensures same { self.new ≡ self.old }
+    {
+        let unused = self.unused.take();
+        if unused.is_some() {
+            return unused;
+        }
+        Turn::take(&self.turns, log.len(), &self.seen)
+    }
+
+    /// Keeps a turn that was not used, for the next call.
+    pub fn give_back(&mut self, turn: Turn<N>)
+        requires { turn ≡ turn_after self.old }
+        ensures { self.new ≡ self.old }
+    {
+        self.unused = Some(turn);
+    }
+
+    /// Adds the entry of a completed call and the core that it left, in its turn. It never waits.
+    pub fn add(&mut self, turn: Turn<N>, log: &CallLog, entry: &LogEntry, core: &Core)
         requires all { entries_in self.old ≡ log.now.entries }
-        requires room { length log.now.entries < log.now.capacity }
-        requires small { length log.now.entries + 1 < 2 ^ 64 }
+        requires turn { turn ≡ turn_after self.old }
         ensures { self.new ≡ self.old ++ moment entry.now core.now ∷ [] }
     {
         let mut seen = self.seen.again();
         let done = Done { entry, core };
-        if !exchange::<N>(&self.word, log.len(), &mut seen, &done) {
-            for _ in rt.forever() {}
-            unreachable!()
-        }
+        exchange::<N>(&self.word, log.len(), turn, &mut seen, &done);
+        self.unused = None;
         self.seen = seen;
     }
 
@@ -85,27 +107,27 @@ impl<N: Name> Head<N> {
     }
 }
 
-/// Adds the moment of a call that is done to all that was seen, and returns whether it did. It did not if the history
-/// is longer.
+/// Adds the moment of a call that is done to all that was seen, in its turn.
 fn exchange<N: Name>(
     word: &Word<Moment, u64, Law>,
     count: usize,
+    turn: Turn<N>,
     seen: &mut Beginning,
     done: &Done,
-) -> bool
+)
     requires word { word.now ≡ head_of N.book.history }
     requires room { count + 1 < 2 ^ 64 }
     requires seen { (count ≡ length (entries_in seen.old.log)) × (seen.old.book ≡ N.book.history) }
-    ensures { result ≡ true → (seen.new.book ≡ N.book.history) × (seen.new.log ≡ seen.old.log ++ moment done.now.entry.now done.now.core.now ∷ []) }
+    requires turn { turn ≡ turn_after seen.old.log }
+    ensures { (seen.new.book ≡ N.book.history) × (seen.new.log ≡ seen.old.log ++ moment done.now.entry.now done.now.core.now ∷ []) }
 {
     let mut offer: Offer<Moment, u64, Law, Nothing> = seen.plain::<Nothing, Done, Add>(done);
-    let mut pen = seen.no_pen();
-    let found = word.compare_exchange::<Add, Nothing>(
+    let mut pen = turn.into_pen();
+    word.compare_exchange::<Add, Nothing>(
         count as u64,
         count as u64 + 1,
         seen,
         &mut offer,
         &mut pen,
     );
-    found == count as u64
 }

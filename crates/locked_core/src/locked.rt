@@ -10,7 +10,7 @@ ghost use Rattle.locked_core.specs.Published.{view_of};
 ghost use Rattle.memory_image.specs.Machine.{IsImageOf};
 ghost use Rattle.memory_image.specs.Sound.{StandsFor};
 ghost use Rattle.memory_report.specs.Histories.{Legal, StartsWith, state_after, calls_of, entry_after};
-ghost use Rattle.locked_core.specs.Rules.{head_of};
+ghost use Rattle.locked_core.specs.Rules.{head_of, turn_after};
 ghost use Rattle.memory_report.specs.declared.entries.LogEntry.{LogEntry};
 ghost use Rattle.process_table.specs.State.{open_with};
 
@@ -22,6 +22,7 @@ use crate::faults::Fault;
 use crate::head::Head;
 use crate::publish::keep_up;
 use crate::rule::LogWriter;
+use crate::turn::Turn;
 use kernel_calls::{Call, Core, Ended, Event, Reply};
 use memory_image::Image;
 use page_words::Pid;
@@ -29,12 +30,13 @@ use std::marker::Model;
 use std::sync::Wait;
 use std::sync::ledger::Book;
 
-/// A call that was checked under the lock: how many entries its CPU had then, and its event. It can be carried out only
-/// on the log that it was checked on.
+/// A call that was checked under the lock: how many entries its CPU had then, its event, and its turn to add the next
+/// entry to the history. It can be carried out only on the log that it was checked on.
 #[derive(Drop)]
-pub struct Ready {
+pub struct Ready<N: Name> {
     nth: usize,
     event: Event,
+    turn: Turn<N>,
 }
 
 /// The core, the log of all calls, the history that it is, and what publishes it. Contracts see the core and the log,
@@ -135,30 +137,35 @@ impl<N: Name> Locked<N> {
         }
     }
 
-    /// Checks a call of this CPU. Nothing changes.
+    /// Checks a call of this CPU, and takes its turn to add the next entry. Nothing changes that contracts see.
     ///
     /// Unread where the kernel's history is longer than the log; Stale where the log is shorter than what
-    /// the CPU has seen, or has another number of its entries.
-    pub(crate) fn judge(&self, cpu: &Cpu<N>, pid: Pid, call: Call) -> Result<Ready, Fault>
-        ensures legal { IfOk result (λ _. Legal N.frames self.now.log) }
-        ensures nth { IfOk result (λ r. (cpu.now.number < 8) × (r.nth ≡ calls_of cpu.now.number self.now.log)) }
+    /// the CPU has seen, or has another number of its entries. Unread too where the turn can't be taken.
+    pub(crate) fn judge(&mut self, cpu: &Cpu<N>, pid: Pid, call: Call) -> Result<Ready<N>, Fault>
+        ensures legal { IfOk result (λ _. Legal N.frames self.old.log) }
+        ensures nth { IfOk result (λ r. (cpu.now.number < 8) × (r.nth ≡ calls_of cpu.now.number self.old.log)) }
         ensures event { IfOk result (λ r. r.event ≡ record { cpu = cpu.now.number; pid = pid; call = call }) }
-        ensures fits { IfOk result (λ _. StartsWith self.now.log cpu.now.seen × (calls_of cpu.now.number self.now.log ≡ calls_of cpu.now.number cpu.now.seen)) }
-        ensures begins { IfOk result (λ _. Begins self.now.moments cpu.now.moments) }
-        ensures refused { IfErr result (IsRefused N.frames self.now.log cpu.now) }
+        ensures turn { IfOk result (λ r. r.turn ≡ turn_after self.old.moments) }
+        ensures fits { IfOk result (λ _. StartsWith self.old.log cpu.now.seen × (calls_of cpu.now.number self.old.log ≡ calls_of cpu.now.number cpu.now.seen)) }
+        ensures begins { IfOk result (λ _. Begins self.old.moments cpu.now.moments) }
+        ensures refused { IfErr result (IsRefused N.frames self.old.log cpu.now) }
+        ensures same { self.new ≡ self.old }
     {
         self.fit(cpu)?;
+        let Some(turn) = self.head.take_turn(&self.log) else {
+            return Err(Fault::Unread);
+        };
         let event = Event {
             cpu: cpu.number(),
             pid,
             call,
         };
         let nth = self.log.calls_of(event.cpu);
-        Ok(Ready { nth, event })
+        Ok(Ready { nth, event, turn })
     }
 
     /// Returns which translations a call that was checked will end, on the memory as it is.
-    pub(crate) fn ends(&self, ready: &Ready) -> Ended
+    pub(crate) fn ends(&self, ready: &Ready<N>) -> Ended
         ensures ended { result ≡ ended_by self.now.core ready.now.event }
         ensures state { self.now.core.state ≡ state_after N.frames self.now.log }
     {
@@ -167,16 +174,18 @@ impl<N: Name> Locked<N> {
 
     /// Carries out a call of this CPU that was checked on this very log. It reserves space in the log, decides and
     /// carries the call out in one step, and adds its entry and the core that it left to the history. Then it logs,
-    /// counts and publishes it. Returns its reply; the CPU has then seen the log with its entry.
+    /// counts and publishes it. Returns its reply; the CPU has then seen the log with its entry. It may wait only to
+    /// publish.
     ///
     /// NoMemory where the log can't grow; nothing has changed then.
     pub(crate) fn carry_out<R: Wait>(
         &mut self,
         rt: &R,
-        ready: Ready,
+        ready: Ready<N>,
         cpu: &mut Cpu<N>,
     ) -> Result<Reply, Fault>
         requires nth { (ready.event.cpu < 8) × (ready.nth ≡ calls_of ready.event.cpu self.old.log) }
+        requires turn { ready.turn ≡ turn_after self.old.moments }
         requires own { (ready.event.cpu ≡ cpu.old.number) × (calls_of cpu.old.number self.old.log ≡ calls_of cpu.old.number cpu.old.seen) }
         ensures log { IfOk result (λ _. self.new.log ≡ self.old.log ++ entry_after N.frames self.old.log ready.event.cpu ready.event.pid ready.event.call ∷ []) }
         ensures reply { IfOk result (λ r. r ≡ (entry_after N.frames self.old.log ready.event.cpu ready.event.pid ready.event.call).reply) }
@@ -201,13 +210,14 @@ impl<N: Name> Locked<N> {
             is_watched,
             counted,
         } = self;
-        let Ready { nth, event } = ready;
+        let Ready { nth, event, turn } = ready;
         if log.reserve().is_err() {
+            head.give_back(turn);
             return Err(Fault::NoMemory);
         }
         let outcome = core.perform(&event);
         let entry = entry_of(&event, nth, &outcome);
-        head.add(rt, log, &entry, core);
+        head.add(turn, log, &entry, core);
         log.push(&entry);
         keep_up(rt, writer, *is_watched, log.entries(), &head.all());
         cpu.made(front_of(log, head), counted);

@@ -18,11 +18,11 @@ use Rattle.memory_report.specs.Histories.{AreGuarded, AreIsolated, Legal, Starts
 pub returns-in-Err-carry_out-clause-refused : goal.returns-in-Err-carry_out-clause-refused
 returns-in-Err-carry_out-clause-refused g c =
     let before = c.args.self.now in
-    let same : c.deref.result.now ≡ c.deref_mut.result.now = search rules in
-    let judged : Legal g.N.Name.frames c.deref_mut.result.now.log × (StartsWith c.deref_mut.result.now.log before.seen × (calls_of before.number c.deref_mut.result.now.log ≡ calls_of before.number before.seen)) =
+    let same : c.deref_mut.result.now ≡ c.deref_mut-2.result.now = search rules in
+    let judged : Legal g.N.Name.frames c.deref_mut-2.result.now.log × (StartsWith c.deref_mut-2.result.now.log before.seen × (calls_of before.number c.deref_mut-2.result.now.log ≡ calls_of before.number before.seen)) =
     subst (λ (h : UnderLock). Legal g.N.Name.frames h.log × (StartsWith h.log before.seen × (calls_of before.number h.log ≡ calls_of before.number before.seen))) same (c.in-Ok.ensures.legal, c.in-Ok.ensures.fits) in (
-      c.deref_mut.result.now.log,
-      prevents_refuses g.N.Name.frames c.deref_mut.result.now.log before c.in-Err-carry_out.fault judged.0 judged.1 c.in-Err-carry_out.ensures.prevented,
+      c.deref_mut-2.result.now.log,
+      prevents_refuses g.N.Name.frames c.deref_mut-2.result.now.log before c.in-Err-carry_out.fault judged.0 judged.1 c.in-Err-carry_out.ensures.prevented,
     )
 
 -- the core and the log are those that the call was judged on
@@ -30,19 +30,19 @@ pub returns-clause-made : goal.returns-clause-made
 returns-clause-made g c =
     let before = c.args.self.now in
     let done = c.in-Ok-carry_out.ensures in
-    let same : c.deref.result.now ≡ c.deref_mut.result.now = search rules in
-    let fits : StartsWith c.deref_mut.result.now.log before.seen × (calls_of before.number c.deref_mut.result.now.log ≡ calls_of before.number before.seen) =
+    let same : c.deref_mut.result.now ≡ c.deref_mut-2.result.now = search rules in
+    let fits : StartsWith c.deref_mut-2.result.now.log before.seen × (calls_of before.number c.deref_mut-2.result.now.log ≡ calls_of before.number before.seen) =
     subst (λ (h : UnderLock). StartsWith h.log before.seen × (calls_of before.number h.log ≡ calls_of before.number before.seen)) same c.in-Ok.ensures.fits in
-    makes g.N.Name.frames before c.carry_out.new.cpu c.args.pid c.args.call c.in-Ok-carry_out.reply c.in-Ok.ready.event c.deref_mut.result.now.log c.carry_out.new.self.log
+    makes g.N.Name.frames before c.carry_out.new.cpu c.args.pid c.args.call c.in-Ok-carry_out.reply c.in-Ok.ready.event c.deref_mut-2.result.now.log c.carry_out.new.self.log
     c.in-Ok.ensures.event fits done.legal done.log done.reply (ap (λ (m : Maker). m.seen) done.made ∙ done.told.1)
 
 -- what was asked of the core under the lock is what the call ended in that very core
 pub returns-clause-ended : goal.returns-clause-ended
 returns-clause-ended g c =
     let done = c.in-Ok-carry_out.ensures in
-    let held : UnderLock = c.deref_mut.result.now in
+    let held : UnderLock = c.deref_mut-2.result.now in
     let event : Event = c.in-Ok.ready.event in
-    let asked : c.deref-2.result.now ≡ c.deref_mut.result.now = search rules in
+    let asked : c.deref.result.now ≡ c.deref_mut-2.result.now = search rules in
     let seen : c.carry_out.new.cpu.seen ≡ c.carry_out.new.self.log = ap (λ (m : Maker). m.seen) done.made ∙ done.told.1 in
     let told : c.ends-ended.result ≡ ended_by held.core event = c.ends-ended.ensures.ended ∙ ap (λ (h : UnderLock). ended_by h.core event) asked in
     let opening : View = g.N.Name.book.opening in
@@ -64,12 +64,12 @@ pub returns-clause-followed : goal.returns-clause-followed
 returns-clause-followed g c =
     let done = c.in-Ok-carry_out.ensures in
     let before = c.args.self.now in
-    let same : c.deref.result.now ≡ c.deref_mut.result.now = search rules in
+    let same : c.deref_mut.result.now ≡ c.deref_mut-2.result.now = search rules in
     let moments : c.carry_out.new.cpu.moments ≡ c.carry_out.new.self.moments = ap (λ (m : Maker). m.moments) done.made in
-    let began : Begins c.deref_mut.result.now.moments before.moments = subst (λ (h : UnderLock). Begins h.moments before.moments) same c.in-Ok.ensures.begins in
+    let began : Begins c.deref_mut-2.result.now.moments before.moments = subst (λ (h : UnderLock). Begins h.moments before.moments) same c.in-Ok.ensures.begins in
     record {
       entries = subst (λ (m : Maker). entries_in m.moments ≡ m.seen) (sym done.made) refl;
-      begins = subst (λ (l : List Moment). Begins l before.moments) (sym (moments ∙ done.moments)) (begins_push c.deref_mut.result.now.moments before.moments _ began);
+      begins = subst (λ (l : List Moment). Begins l before.moments) (sym (moments ∙ done.moments)) (begins_push c.deref_mut-2.result.now.moments before.moments _ began);
       follows = subst (Follows g.N.Name.book.opening) (sym moments) done.follows;
     }
 

@@ -9,4 +9,4 @@ pub returns-then-not-agrees-clause-refused : goal.returns-then-not-agrees-clause
 returns-then-not-agrees-clause-refused g c =
     let differs = c.agrees-2.ensures.differs c.if-not-agrees.true in
     subst (λ (k : UnderLock). (c.len-count.result ≡ length k.log) × BeginOne g.N.Name.frames k.log c.args.cpu.now.seen × ((length k.log < length c.args.cpu.now.seen) ⊎ (calls_of c.args.cpu.now.number k.log ≢ calls_of c.args.cpu.now.number c.args.cpu.now.seen)))
-    c.self.view_is (c.len-count.ensures, differs.0, differs.1)
+    c.self.view_is (c.len-count.ensures.length, differs.0, differs.1)
