@@ -4,11 +4,12 @@ use Rattle.std.specs.Prelude.{MatchBool}
 use lib.Dec.{leb}
 use Rattle.std.proofs.lemmas.Bool.Decides.{nat_tests}
 use Rattle.kernel_calls.specs.Translations.{ended_by, Ends}
-use Rattle.memory_report.specs.Histories.{StartsWith, event_of}
+use Rattle.memory_report.specs.Histories.{StartsWith, event_of, events_of}
+use Rattle.process_table.specs.State.{State, open_with}
 use Rattle.process_table.specs.View.{View}
-use Rattle.kernel_calls.specs.Machine.{next}
-use Rattle.locked_core.specs.Endings.{ToldOnce}
-use Rattle.locked_core.specs.Moments.{EndsAlong, FollowsFrom, Begins, Follows, core_after, entries_in}
+use Rattle.kernel_calls.specs.Machine.{end_of, next}
+use Rattle.locked_core.specs.Endings.{ToldOnce, ToldToAll}
+use Rattle.locked_core.specs.Moments.{EndsAlong, FollowsFrom, StatesFollow, Begins, Follows, core_after, ended_along, entries_in}
 use Rattle.locked_core.specs.declared.moment.Moment.{Moment}
 
 pub entries_long : (log : List Moment) → length (entries_in log) ≡ length log
@@ -138,3 +139,42 @@ told_once frames opening cpu a b h k =
           let more : length h.before ≡ length (k.before ++ k.last ∷ t.0) = ap length t.1 in
           omega (arith, length-append h.before (h.last ∷ []), length-append k.before (k.last ∷ []), length-append k.before (k.last ∷ t.0)))
     ]
+
+-- what the calls of two lists ended, in sequence
+along_append : (opening : View) (before later : List Moment) → ended_along opening (before ++ later) ≡ ended_along opening before ++ ended_along (core_after opening before) later
+along_append opening [] later = refl
+along_append opening (m ∷ before) later = ap (λ l. ended_by opening (event_of m.entry) ∷ l) (along_append m.core before later)
+
+along_long : (opening : View) (log : List Moment) → length (ended_along opening log) ≡ length log
+along_long opening [] = refl
+along_long opening (m ∷ log) = let more = along_long m.core log in omega arith
+
+pub told_to_all : ToldToAll
+told_to_all frames opening cpu ended log h begins =
+    let rest : List Moment = begins.0 in
+    let split : log ≡ h.before ++ h.last ∷ rest = begins.1 ∙ (ap (λ l. l ++ rest) h.grown ∙ append_assoc h.before (h.last ∷ []) rest) in
+    record {
+      earlier = ended_along opening h.before;
+      later = ended_along h.last.core rest;
+      all = ap (ended_along opening) split ∙ (along_append opening h.before (h.last ∷ rest) ∙ ap (λ x. ended_along opening h.before ++ x ∷ ended_along h.last.core rest) (sym h.told));
+      here =
+          (let long : length (ended_along opening h.before) ≡ length h.before = along_long opening h.before in
+          let whole : length cpu.moments ≡ length (h.before ++ h.last ∷ []) = ap length h.grown in
+          omega (arith, length-append h.before (h.last ∷ [])));
+    }
+
+-- a beginning of moments that follow one another
+follows_part : (opening : View) (before later : List Moment) → Follows opening (before ++ later) → Follows opening before
+follows_part opening before later h = record {
+  moved = λ b m rest is. h.moved b m (rest ++ later) (ap (λ l. l ++ later) is ∙ append_assoc b (m ∷ rest) later);
+  ends = λ b m rest is. h.ends b m (rest ++ later) (ap (λ l. l ++ later) is ∙ append_assoc b (m ∷ rest) later);
+}
+
+-- from a core in some state on, each event leads to the next state
+states_from : (core : View) (from : State) (log : List Moment) → core.state ≡ from → Follows core log → (core_after core log).state ≡ end_of from (events_of (entries_in log))
+states_from core from [] is h = is
+states_from core from (m ∷ log) is h =
+    states_from m.core (next from (event_of m.entry)) log (h.moved [] m log refl ∙ ap (λ s. next s (event_of m.entry)) is) (follows_from core (m ∷ []) log h)
+
+pub states_follow : StatesFollow
+states_follow frames opening before later is h = states_from opening (open_with frames) before is (follows_part opening before later h)

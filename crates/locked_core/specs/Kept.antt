@@ -21,6 +21,7 @@ pub record IsUnderLock (frames : ℕ) (book : Book) (opening core : View) (log :
   -- the core is the one that the last call left, and each call left its own to the next
   pub left : core_after opening added ≡ core
   pub follows : Follows opening added
+  pub opened : opening.state ≡ open_with frames
   -- each entry is a call that one CPU counts as its own
   pub counted : total ≡ length log
   pub mine : seat ≡ view_of frames book

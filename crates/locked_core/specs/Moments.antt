@@ -1,10 +1,11 @@
 -- The moments of a kernel's history: each entry, with the core as its call left it.
-use Rattle.std.specs.Prelude.{◌≡◌, List, [], ◌∷◌, ◌++◌, map}
+use Rattle.std.specs.Prelude.{◌≡◌, ℕ, List, [], ◌∷◌, ◌++◌, map}
 use Rattle.kernel_calls.specs.Machine.{next}
 use Rattle.kernel_calls.specs.Translations.{EndAlong, ended_by, Ends}
 use Rattle.kernel_calls.specs.declared.translations.Ended.{Ended}
-use Rattle.memory_report.specs.Histories.{event_of, events_of}
+use Rattle.memory_report.specs.Histories.{event_of, events_of, state_after}
 use Rattle.memory_report.specs.declared.entries.LogEntry.{LogEntry}
+use Rattle.process_table.specs.State.{open_with}
 use Rattle.process_table.specs.View.{View}
 use Rattle.locked_core.specs.declared.moment.Moment.{Moment}
 
@@ -47,3 +48,9 @@ FollowsFrom = (opening : View) (before later : List Moment) → Follows opening 
 abbrev pub EndsAlong : Type 0
 EndsAlong = (opening : View) (log : List Moment) → Follows opening log
     → EndAlong (events_of (entries_in log)) (ended_along opening log) opening (core_after opening log)
+
+-- if the kernel opened as a machine of that many frames, the core at each place is in the state after the entries
+-- before it
+abbrev pub StatesFollow : Type 0
+StatesFollow = (frames : ℕ) (opening : View) (before later : List Moment) → opening.state ≡ open_with frames → Follows opening (before ++ later)
+    → (core_after opening before).state ≡ state_after frames (entries_in before)

@@ -1,12 +1,13 @@
 //! The CPUs, and what each has seen.
 
-ghost use Rattle.std.specs.Prelude.{◌≡◌, ◌≢◌, ◌+◌, ◌<◌, ◌^◌, ◌⊎◌, ◌↔◌, [], false, IfOk, IfErr, OnErr, IsTrue, length, List};
+ghost use Rattle.std.specs.Prelude.{◌≡◌, ◌≢◌, ◌+◌, ◌<◌, ◌^◌, ◌⊎◌, ◌↔◌, [], false, IfOk, IfErr, OnErr, IsTrue, MatchBool, length, List};
 ghost use Rattle.locked_core.specs.Endings.{EndsAtLast};
 ghost use Rattle.locked_core.specs.Makers.{Maker, maker, maker_of, Makes, BeginOne, IsFit, IsFollowed, IsRefused};
 ghost use Rattle.locked_core.specs.Moments.{Begins, entries_in};
 ghost use Rattle.memory_report.specs.Histories.{AreIsolated, StartsWith, calls_of};
 ghost use Rattle.memory_report.specs.Histories.{AreGuarded};
 ghost use Rattle.memory_report.specs.declared.entries.LogEntry.{LogEntry};
+ghost use Rattle.process_table.specs.State.{open_with};
 
 use crate::book::{Calls, Front, Name};
 use crate::call_log::CallLog;
@@ -102,6 +103,15 @@ impl<N: Name> Cpu<N> {
         }
     }
 
+    /// Returns whether it has seen no more than another CPU of its kernel. What it has seen is then a prefix of what the
+    /// other has seen. Otherwise the other has seen less, and that is a prefix of what it has seen.
+    pub fn begins(&self, other: &Cpu<N>) -> bool
+        ensures seen { MatchBool result (StartsWith other.now.seen self.now.seen) (StartsWith self.now.seen other.now.seen × (length other.now.seen < length self.now.seen)) }
+        ensures moments { MatchBool result (Begins other.now.moments self.now.moments) (Begins self.now.moments other.now.moments) }
+    {
+        self.seen.begins(&other.seen)
+    }
+
     #[tactic(auto, using(crate::proofs::Moments::entries_none))]
     pub(crate) fn new(number: u8, seen: Front<N>, share: Share<Calls<N>>) -> Cpu<N>
         requires number { number < 8 }
@@ -174,6 +184,7 @@ impl<N: Name> Cpu<N> {
     ) -> Result<Reply, Fault>
         ensures made { IfOk result (Makes N.frames self.old pid call self.new) }
         ensures followed { IfOk result (λ _. IsFollowed N.book.opening self.old self.new) }
+        ensures stood { N.book.opening.state ≡ open_with N.frames }
         ensures isolated { IfOk result (λ _. AreIsolated N.frames self.new.seen) }
         ensures guarded { IfOk result (λ _. AreGuarded N.frames self.new.seen) }
         ensures number { self.new.number ≡ self.old.number }
@@ -218,6 +229,7 @@ impl<N: Name> Cpu<N> {
         ensures made { IfOk result (λ r. Makes N.frames self.old pid call self.new r.0) }
         ensures ended { IfOk result (λ r. EndsAtLast N.frames N.book.opening self.new r.1) }
         ensures followed { IfOk result (λ _. IsFollowed N.book.opening self.old self.new) }
+        ensures stood { N.book.opening.state ≡ open_with N.frames }
         ensures isolated { IfOk result (λ _. AreIsolated N.frames self.new.seen) }
         ensures guarded { IfOk result (λ _. AreGuarded N.frames self.new.seen) }
         ensures number { self.new.number ≡ self.old.number }

@@ -148,6 +148,7 @@ impl<N: Name> Locked<N> {
         ensures turn { IfOk result (λ r. r.turn ≡ turn_after self.old.moments) }
         ensures fits { IfOk result (λ _. StartsWith self.old.log cpu.now.seen × (calls_of cpu.now.number self.old.log ≡ calls_of cpu.now.number cpu.now.seen)) }
         ensures begins { IfOk result (λ _. Begins self.old.moments cpu.now.moments) }
+        ensures opened { N.book.opening.state ≡ open_with N.frames }
         ensures refused { IfErr result (IsRefused N.frames self.old.log cpu.now) }
         ensures same { self.new ≡ self.old }
     {

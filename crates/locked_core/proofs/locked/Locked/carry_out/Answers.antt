@@ -67,6 +67,7 @@ invariant_of-self-2 g c =
       told = told;
       left = ap (core_after g.N.Name.book.opening) c.add.ensures ∙ core_push g.N.Name.book.opening had (moment e core);
       follows = follows;
+      opened = c.self.invariant.opened;
       counted =
           (let one_more = c.made.ensures.counted in let had = c.self.invariant.counted in let more : length new ≡ length (c.self.inside.log.entries ++ e ∷ []) = ap length longer in
           omega (arith, length-append c.self.inside.log.entries (e ∷ [])));

@@ -17,6 +17,7 @@ invariant_of-result g c =
       told = ap entries_in c.new.ensures ∙ sym none;
       left = ap (core_after g.N.Name.book.opening) c.new.ensures ∙ sym c.requires.opening;
       follows = subst (Follows g.N.Name.book.opening) (sym c.new.ensures) (follows_none g.N.Name.book.opening);
+      opened = sym (ap (λ v. v.state) c.requires.opening) ∙ c.requires.core;
       counted = c.requires.counted ∙ ap length (sym none);
       mine = w.1;
       shown = λ watched. w.0 ∙ ap (page g.N.Name.frames g.N.Name.book.history) (sym none);
