@@ -224,10 +224,12 @@ impl<N: Name> Cpu<N> {
         kernel: &Kernel<N, G>,
         pid: Pid,
         call: Call,
-        processors: &I,
+        processors: &mut I,
     ) -> Result<(Reply, Ended), Fault>
         ensures made { IfOk result (λ r. Makes N.frames self.old pid call self.new r.0) }
         ensures ended { IfOk result (λ r. EndsAtLast N.frames N.book.opening self.new r.1) }
+        ensures told { IfOk result (λ r. I.told processors.old r.1 processors.new) }
+        ensures untold { OnErr result (processors.new ≡ processors.old) }
         ensures followed { IfOk result (λ _. IsFollowed N.book.opening self.old self.new) }
         ensures stood { N.book.opening.state ≡ open_with N.frames }
         ensures isolated { IfOk result (λ _. AreIsolated N.frames self.new.seen) }

@@ -2,7 +2,7 @@
 //!
 //! The side that no reader reads is brought up to the log, in place, and is shown then. So no page is copied, and the
 //! writer's queue of operations stays empty.
-ghost use Rattle.std.specs.Prelude.{◌≡◌, ◌<◌, ◌≤◌, ◌^◌, [], true, IfOk, IfSome};
+ghost use Rattle.std.specs.Prelude.{◌≡◌, ◌<◌, ◌≤◌, ◌^◌, [], true, false, IfOk, IfSome};
 ghost use Rattle.crossbeam_utils.specs.Register.{TurnsAt};
 ghost use Rattle.left_right.specs.Sides.{view};
 ghost use Rattle.locked_core.specs.Moments.{entries_in};
@@ -121,6 +121,7 @@ pub fn keep_up<R: Wait>(
     requires shown { LagsBehind writer.old.desk.shown.value (page writer.old.desk.spare.value.frames seen.now.book log.now) }
     requires legal { Legal writer.old.desk.spare.value.frames log.now }
     ensures view { view writer.new.desk.place ≡ view writer.old.desk.place }
+    ensures unwatched { is_watched ≡ false → writer.new ≡ writer.old }
     ensures watched { is_watched ≡ true → writer.new.desk.shown.value ≡ page writer.old.desk.spare.value.frames seen.now.book log.now }
     ensures shown { LagsBehind writer.new.desk.shown.value (page writer.old.desk.spare.value.frames seen.now.book log.now) }
     ensures spare { LagsBehind writer.new.desk.spare.value (page writer.old.desk.spare.value.frames seen.now.book log.now) }

@@ -9,7 +9,6 @@ use page_words::{Page, Pid};
 use std::marker::Brand;
 use std::process::Abort;
 use std::sync::Wait;
-use std::sync::atomic::{AtomicU64, Ordering};
 use std::test::Fail;
 
 /// The report of a call as a number: 0 for nothing, otherwise a kind, a process and its pages.
@@ -27,14 +26,18 @@ fn number_of(ended: &Ended) -> u64 {
 /// Keeps the last report, and how many there were.
 #[derive(Drop)]
 struct Listener {
-    last: AtomicU64,
-    count: AtomicU64,
+    last: u64,
+    count: u64,
 }
 
 impl Invalidate for Listener {
-    fn invalidate(&self, ended: &Ended) {
-        self.last.store(number_of(ended), Ordering::SeqCst);
-        self.count.fetch_add(1, Ordering::SeqCst);
+    ghost use Rattle.std.specs.Prelude.{⊤};
+
+    ghost told = { λ before ended after. ⊤ };
+
+    fn invalidate(&mut self, ended: &Ended) {
+        self.last = number_of(ended);
+        self.count = self.count.wrapping_add(1);
     }
 }
 
@@ -43,17 +46,17 @@ fn check_ends<N: Name, R: Wait + Abort>(
     rt: &R,
     kernel: &Kernel<N, OpenGate>,
     cpu: &mut Cpu<N>,
-    listener: &Listener,
+    listener: &mut Listener,
     call: Call,
     ended: &Ended,
 ) {
     let told = cpu.call_ending(rt, kernel, process(rt, 0), call, listener);
     assert_eq!(rt; told.map(|told| told.1), Ok(*ended));
-    assert_eq!(rt; listener.last.load(Ordering::SeqCst), number_of(ended));
+    assert_eq!(rt; listener.last, number_of(ended));
 }
 
 /// A store fills a mapped page, and an Unmap unmaps it: both make its translation stale.
-fn told<N: Name, R: Wait + Abort>(rt: &R, blank: Blank<OpenGate>, listener: &Listener)
+fn told<N: Name, R: Wait + Abort>(rt: &R, blank: Blank<OpenGate>, listener: &mut Listener)
     requires { (blank.frames ≡ N.frames) × (blank.book ≡ N.book) }
 {
     let Boot {
@@ -70,16 +73,13 @@ fn told<N: Name, R: Wait + Abort>(rt: &R, blank: Blank<OpenGate>, listener: &Lis
     check_ends(rt, &kernel, &mut cpu, listener, store(8), &none);
     let unmap = Call::Unmap { page };
     check_ends(rt, &kernel, &mut cpu, listener, unmap, &own);
-    assert_eq!(rt; listener.count.load(Ordering::SeqCst), 4);
+    assert_eq!(rt; listener.count, 4);
     check_length(rt, &closed(rt, kernel, put(rt, cpus, cpu)), 4);
 }
 
 #[test]
 fn a_call_tells_the_processors_what_it_ended(rt: HostRuntime) -> Result<(), Fail> {
-    let listener = Listener {
-        last: AtomicU64::new(9),
-        count: AtomicU64::new(0),
-    };
-    told::<Brand, HostRuntime>(&rt, booted(&rt, 16, 1, 0, OpenGate), &listener);
+    let mut listener = Listener { last: 9, count: 0 };
+    told::<Brand, HostRuntime>(&rt, booted(&rt, 16, 1, 0, OpenGate), &mut listener);
     Ok(())
 }

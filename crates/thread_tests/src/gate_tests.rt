@@ -102,7 +102,11 @@ struct HeldProcessors {
 }
 
 impl Invalidate for HeldProcessors {
-    fn invalidate(&self, _ended: &Ended) {
+    ghost use Rattle.std.specs.Prelude.{⊤};
+
+    ghost told = { λ before ended after. ⊤ };
+
+    fn invalidate(&mut self, _ended: &Ended) {
         self.flags.hold();
     }
 }
@@ -323,9 +327,9 @@ fn call_ending<N: Name, R: Wait>(
     kernel: &Kernel<N, HeldGate>,
     mut cpu: Cpu<N>,
     pid: Pid,
-    processors: &HeldProcessors,
+    mut processors: HeldProcessors,
 ) -> (Cpu<N>, bool) {
-    let told = cpu.call_ending(rt, kernel, pid, Call::Quota, processors);
+    let told = cpu.call_ending(rt, kernel, pid, Call::Quota, &mut processors);
     (cpu, told.is_ok())
 }
 
@@ -335,10 +339,10 @@ fn ended_both<N: Name + Send + Sync, R: Threads + Wait + Abort + Sync>(
     kernel: &Kernel<N, HeldGate>,
     first: Cpu<N>,
     second: Cpu<N>,
-    processors: &HeldProcessors,
+    processors: HeldProcessors,
+    flags: &Flags,
 ) -> (Cpu<N>, Cpu<N>) {
     let root = process(rt, 0);
-    let flags = &*processors.flags;
     let ((first, answered), second) = thread::join(
         rt,
         move || call_ending(rt, kernel, first, root, processors),
@@ -352,7 +356,8 @@ fn ended_both<N: Name + Send + Sync, R: Threads + Wait + Abort + Sync>(
 fn ended<N: Name + Send + Sync, R: Threads + Wait + Abort + Sync>(
     rt: &R,
     blank: Blank<HeldGate>,
-    processors: &HeldProcessors,
+    processors: HeldProcessors,
+    flags: &Flags,
 )
     requires { (blank.frames ≡ N.frames) × (blank.book ≡ N.book) }
 {
@@ -363,8 +368,8 @@ fn ended<N: Name + Send + Sync, R: Threads + Wait + Abort + Sync>(
     } = opened::<N, HeldGate, R>(rt, blank);
     let second = taken(rt, &mut cpus);
     let first = taken(rt, &mut cpus);
-    processors.flags.armed.store(1, Ordering::SeqCst);
-    let (first, second) = ended_both(rt, &kernel, first, second, processors);
+    flags.armed.store(1, Ordering::SeqCst);
+    let (first, second) = ended_both(rt, &kernel, first, second, processors, flags);
     let back = put(rt, put(rt, cpus, first), second);
     check_length(rt, &closed(rt, kernel, back), 2);
 }
@@ -372,7 +377,9 @@ fn ended<N: Name + Send + Sync, R: Threads + Wait + Abort + Sync>(
 #[test]
 fn a_second_cpu_waits_while_a_call_invalidates(rt: HostRuntime) -> Result<(), Fail> {
     let (flags, gate) = gate_at(rt.alloc(), Point::Published)?;
-    let processors = HeldProcessors { flags };
-    ended::<Brand, HostRuntime>(&rt, booted(&rt, 16, 2, 0, gate), &processors);
+    let processors = HeldProcessors {
+        flags: Arc::try_clone(&flags)?,
+    };
+    ended::<Brand, HostRuntime>(&rt, booted(&rt, 16, 2, 0, gate), processors, &flags);
     Ok(())
 }
