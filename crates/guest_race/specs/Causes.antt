@@ -30,7 +30,6 @@ boot_cause boot.BadCount = Failed
 -- the fault of a round whose kernel refuses a call
 abbrev pub kernel_cause : Fault → RoundFault
 kernel_cause kernel.NoMemory = NoMemory
-kernel_cause (kernel.Stale front) = Failed
 kernel_cause kernel.Unread = Failed
 kernel_cause kernel.Disagree = Failed
 

@@ -1,4 +1,4 @@
--- The steps that take a turn and that add an entry keep the rule.
+-- The steps that take a turn, confirm it and add an entry keep the rule.
 use Rattle.std.proofs.Common.{◌≡◌, ◌≢◌, ℕ, ◌+◌, ◌<◌, ◌≤◌, ◌==◌, Bool, true, false, List, [], ◌∷◌, ◌++◌, length, refl, ap, sym, subst, arith, inl, length-append, None, ◌∙◌, true≢false, slice_set}
 use Rattle.std.proofs.Math.ListN.{length-set, get_or, set}
 use Rattle.std.proofs.lemmas.List.{append-nil, get_or-set_same, get_or-set_other, get_or_append_left}
@@ -9,7 +9,7 @@ use native.Mathlib.Decide.{dec_le, ℕ_discrete}
 use prog.Atomic.{either}
 use Rattle.logbook.specs.Pages.{Cell, Nib, cell, keeps, gives, adds, nib, may_write, may_make, no_nib, step, Moves, Goes, Away}
 use Rattle.locked_core.specs.declared.moment.Moment.{Moment}
-use Rattle.locked_core.specs.Rules.{CellsHold, Adds, Claims}
+use Rattle.locked_core.specs.Rules.{CellsHold, Adds, Claims, Confirms}
 use Rattle.locked_core.proofs.Moments.{begins_whole}
 
 abbrev pub shows_nothing : List Moment → List Moment
@@ -63,7 +63,7 @@ one_turn_more cs log h free =
     }
 
 -- the turn is taken that follows all that was seen, or another has been taken
-pub claims_goes : (cs : List Cell) (log v : List Moment) (e : Moment) (n : ℕ) → n ≡ length v → IsPrefix v log → (h : CellsHold cs log) → (b : Bool) → (h.turns == n) ≡ b
+pub claims_goes : (cs : List Cell) (log v : List Moment) (e : Moment) (n : ℕ) → n ≤ length v → IsPrefix v log → (h : CellsHold cs log) → (b : Bool) → (h.turns == n) ≡ b
     → Goes CellsHold shows_nothing moved 1 (v, (no_nib, None)) (λ m. either (m == n) (n + 1) m) (Claims (step 1 n (n + 1) e) (v, (no_nib, None))) cs log
 claims_goes cs log v e n len pre h true is =
     let now : (cell cs 1).0 ≡ h.turns = ap (λ (c : Cell). c.0) h.taken in
@@ -72,7 +72,6 @@ claims_goes cs log v e n len pre h true is =
     let each = h.each in
     let longer : length v ≤ length log = prefix_length log v pre in
     let free : h.turns ≡ length log = omega arith in
-    let whole : log ≡ v = begins_whole log v (pre.0, sym pre.1) (omega arith) in
     let found : ((cell cs 1).0 == n) ≡ true = ap (λ m. m == n) now ∙ is in
     let value : either ((cell cs 1).0 == n) (n + 1) (cell cs 1).0 ≡ h.turns + 1 = rw found (omega arith) in
     let all : log ++ [] ≡ log = append-nil log in (
@@ -82,7 +81,7 @@ claims_goes cs log v e n len pre h true is =
       tt,
       subst (λ (t : List Cell × List Moment). CellsHold t.0 t.1) (λ i. (slice_set cs 1 (sym value i, true) ++ (0, false) ∷ [], sym all i)) (one_turn_more cs log h free),
       inl (refl, refl),
-      rw found (all ∙ whole, ap (λ k. nib may_make k 0) (omega arith)),
+      rw found (omega arith, ap (λ k. nib may_make k 0) (omega arith)),
     )
 claims_goes cs log v e n len pre h false is =
     let now : (cell cs 1).0 ≡ h.turns = ap (λ (c : Cell). c.0) h.taken in
@@ -98,7 +97,7 @@ claims_goes cs log v e n len pre h false is =
       rw found tt,
     )
 
-pub claims_moves : (v : List Moment) (e : Moment) (n : ℕ) → n ≡ length v
+pub claims_moves : (v : List Moment) (e : Moment) (n : ℕ) → n ≤ length v
     → Moves CellsHold shows_nothing moved 1 (v, (no_nib, None)) (λ m. either (m == n) (n + 1) m) (Claims (step 1 n (n + 1) e) (v, (no_nib, None)))
 claims_moves v e n len cs log h pre away =
     let each = h.each in (omega arith, ap (λ (c : Cell). c.1) h.taken, claims_goes cs log v e n len pre h (h.turns == n) refl)
@@ -160,3 +159,42 @@ adds_moves v e n x len cs log h pre away =
       ap (λ (c : Cell). c.1) h.head,
       adds_goes cs log v e n x len pre h (omega arith) (omega arith),
     )
+
+-- the length is written anew as it was
+same_length : (cs : List Cell) (log : List Moment) (h : CellsHold cs log) → CellsHold (slice_set cs 0 (length log, true)) log
+same_length cs log h = record {
+  head = here cs 0 (length log, true) (let each = h.each in omega arith);
+  turns = h.turns;
+  taken = elsewhere cs 0 1 (length log, true) (λ e. omega (arith, e)) ∙ h.taken;
+  each = length-set cs 0 (length log, true) ∙ h.each;
+  used = h.used;
+  one = h.one;
+  home = λ key inside. at_home cs 0 key (length log) (let each = h.each in omega arith) (h.home key inside);
+}
+
+-- with the turn in hand nothing was added since it was taken, so no more had been seen
+pub confirms_moves : (v : List Moment) (e : Moment) (n x : ℕ)
+    → Moves CellsHold shows_nothing moved 0 (v, (nib may_write (n + 2) x, None)) (λ m. either (m == n) n m) (Confirms (step 0 n n e) (v, (nib may_write (n + 2) x, None)))
+confirms_moves v e n x cs log h pre away =
+    let each = h.each in
+    let used = h.used in
+    let one = h.one in
+    let out : (n + 2 < length cs) × ((cell cs (n + 2)).1 ≡ false) = away refl in
+    let inside : n + 2 < length cs = out.0 in
+    let last : length log ≤ n = last_turn cs log n h out.0 out.1 in
+    let longer : length v ≤ length log = prefix_length log v pre in
+    let same : length log ≡ n = omega arith in
+    let now : (cell cs 0).0 ≡ n = ap (λ (c : Cell). c.0) h.head ∙ same in
+    let found : ((cell cs 0).0 == n) ≡ true = grind (arith, nat_tests, now) in
+    let value : either ((cell cs 0).0 == n) n (cell cs 0).0 ≡ length log = rw found (omega arith) in
+    let all : log ++ [] ≡ log = append-nil log in
+    let goes : Goes CellsHold shows_nothing moved 0 (v, (nib may_write (n + 2) x, None)) (λ m. either (m == n) n m) (Confirms (step 0 n n e) (v, (nib may_write (n + 2) x, None))) cs log = (
+      keeps,
+      [],
+      None,
+      tt,
+      subst (λ (t : List Cell × List Moment). CellsHold t.0 t.1) (λ i. (slice_set cs 0 (sym value i, true), sym all i)) (same_length cs log h),
+      inl (refl, refl),
+      (omega arith, refl),
+    ) in
+    (omega arith, ap (λ (c : Cell). c.1) h.head, goes)

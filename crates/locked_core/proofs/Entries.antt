@@ -15,7 +15,7 @@ use Rattle.locked_core.proofs.Prefixes.{same_entries}
 use Rattle.locked_core.specs.Held.{UnderLock}
 use Rattle.locked_core.specs.Makers.{Maker, Makes, IsRefused, Prevents}
 use Rattle.locked_core.specs.declared.faults.Fault.{Fault}
-use Rattle.locked_core.specs.declared.faults.Fault.TheVariants.{NoMemory, Stale, Unread, Disagree}
+use Rattle.locked_core.specs.declared.faults.Fault.TheVariants.{NoMemory, Unread, Disagree}
 use Rattle.memory_report.specs.Histories.{StartsWith}
 
 -- no call was made yet
@@ -95,7 +95,6 @@ pub prevents_refuses : (frames : ℕ) (log : List LogEntry) (cpu : Maker) (f : F
     → IsRefused frames log cpu f
 prevents_refuses frames log cpu NoMemory legal fits h = (legal, fits.0, fits.1)
 prevents_refuses frames log cpu Unread legal fits h = absurd h
-prevents_refuses frames log cpu (Stale front) legal fits h = absurd h
 prevents_refuses frames log cpu Disagree legal fits h = absurd h
 
 -- the core is in the state after the log, which is a legal history

@@ -14,7 +14,6 @@ use Rattle.locked_core.specs.declared.faults.Fault.TheVariants as fault
 -- no fault of a CPU has the number of another CPU's event
 not_another : (f : Fault) → fault_number f ≢ another_cpu
 not_another fault.NoMemory = λ is. omega (arith, is)
-not_another (fault.Stale front) = λ is. omega (arith, is)
 not_another fault.Unread = λ is. omega (arith, is)
 not_another fault.Disagree = λ is. omega (arith, is)
 

@@ -6,7 +6,6 @@ use Rattle.locked_core.specs.declared.faults.Fault.TheVariants as fault
 -- the number of a fault
 abbrev pub fault_number : Fault → ℕ
 fault_number fault.NoMemory = 1
-fault_number (fault.Stale front) = 2
 fault_number fault.Unread = 3
 fault_number fault.Disagree = 5
 

@@ -5,6 +5,7 @@ use Rattle.memory_report.specs.Histories.{Legal, state_after}
 use Rattle.memory_report.specs.declared.entries.LogEntry.{LogEntry}
 use Rattle.process_table.specs.State.{State, open_with}
 use Rattle.process_table.specs.View.{View}
+use Rattle.locked_core.specs.Counts.{counts_of}
 use Rattle.locked_core.specs.Moments.{Follows, core_after, entries_in}
 use Rattle.locked_core.specs.declared.moment.Moment.{Moment}
 use Rattle.locked_core.specs.Pages.{Page, LagsBehind, page}
@@ -12,9 +13,9 @@ use Rattle.locked_core.specs.Published.{view_of}
 use Rattle.locked_core.specs.declared.rule.WhichKernel.{WhichKernel}
 
 -- What a kernel with so many frames and this book has under its lock: the core, its log and what it adds to the
--- history. Also the total of the calls that its CPUs count as theirs, and the two sides of what is published, of which
+-- history. Also the total of the calls that its CPUs count as theirs, the number of each CPU's, and the two sides of what is published, of which
 -- readers see one.
-pub record IsUnderLock (frames : ℕ) (book : Book) (opening core : View) (log : List LogEntry) (added : List Moment) (total : ℕ) (is_watched : Bool) (side other : Page) (seat : WhichKernel) : Type 0 where
+pub record IsUnderLock (frames : ℕ) (book : Book) (opening core : View) (log : List LogEntry) (added : List Moment) (total : ℕ) (tally : List ℕ) (is_watched : Bool) (side other : Page) (seat : WhichKernel) : Type 0 where
   pub legal : Legal frames log
   pub stands : core.state ≡ state_after frames log
   pub told : entries_in added ≡ log
@@ -24,6 +25,8 @@ pub record IsUnderLock (frames : ℕ) (book : Book) (opening core : View) (log :
   pub opened : opening.state ≡ open_with frames
   -- each entry is a call that one CPU counts as its own
   pub counted : total ≡ length log
+  -- and of each CPU there are as many as it counts
+  pub tallied : tally ≡ counts_of log
   pub mine : seat ≡ view_of frames book
   -- where there is a monitor, what is published reports on the whole log
   pub shown : is_watched ≡ true → side ≡ page frames book log

@@ -10,3 +10,4 @@ pub mod Pages
 pub mod Ports
 pub mod Published
 pub mod Rules
+pub mod Tallies

@@ -1,9 +1,9 @@
 -- What a contract sees of a CPU, what a call that is made leaves, and when one is refused.
-use Rattle.std.specs.Prelude.{◌≡◌, ◌≢◌, ◌⊎◌, ◌↔◌, ℕ, zero, suc, ◌<◌, List, [], ◌∷◌, ◌++◌, length, take, sum_by, All, Any, Result, IsOk, IfErr}
+use Rattle.std.specs.Prelude.{◌≡◌, ◌↔◌, ℕ, zero, suc, List, [], ◌∷◌, ◌++◌, length, take, sum_by, All, Any, Result, IsOk, IfErr}
 use Rattle.kernel_calls.specs.declared.calls.Call.{Call}
 use Rattle.kernel_calls.specs.declared.calls.Reply.{Reply}
 use Rattle.locked_core.specs.declared.faults.Fault.{Fault}
-use Rattle.locked_core.specs.declared.faults.Fault.TheVariants.{NoMemory, Stale, Unread, Disagree}
+use Rattle.locked_core.specs.declared.faults.Fault.TheVariants.{NoMemory, Unread, Disagree}
 use Rattle.memory_image.specs.Image.{Image}
 use Rattle.memory_image.specs.Sound.{StandsFor}
 use Rattle.memory_report.specs.Histories.{Legal, StartsWith, calls_of, entries_of, state_after}
@@ -54,17 +54,10 @@ pub record IsMade (frames : ℕ) (before : Maker) (pid : ℕ) (call : Call) (rep
 abbrev pub Makes : ℕ → Maker → ℕ → Call → Maker → Reply → Type 0
 Makes frames before pid call after reply = (between : List LogEntry) × (e : LogEntry) × IsMade frames before pid call reply after between e
 
--- two lists are beginnings of one legal history
-abbrev pub BeginOne : ℕ → List LogEntry → List LogEntry → Type 0
-BeginOne frames log seen = (history : List LogEntry) × Legal frames history × StartsWith history log × StartsWith history seen
-
--- Why a CPU is refused on the log that was found, in the order of the tests. Of Unread nothing is said. Stale has the
--- log's length: the log and what was seen are prefixes of one legal history, and the log is shorter or has another
--- number of this CPU's entries. NoMemory comes only if the log is legal, begins with what was seen and has as many of
--- this CPU's entries. Nothing else refuses it.
+-- Why a CPU is refused on the log that was found. Of Unread nothing is said. NoMemory comes only if the log is legal,
+-- begins with what was seen and has as many of this CPU's entries. Nothing else refuses it.
 abbrev pub IsRefused : ℕ → List LogEntry → Maker → Fault → Type 0
 IsRefused frames log cpu Unread = Unit {0}
-IsRefused frames log cpu (Stale front) = (front ≡ length log) × BeginOne frames log cpu.seen × ((length log < length cpu.seen) ⊎ (calls_of cpu.number log ≢ calls_of cpu.number cpu.seen))
 IsRefused frames log cpu NoMemory = Legal frames log × StartsWith log cpu.seen × (calls_of cpu.number log ≡ calls_of cpu.number cpu.seen)
 IsRefused frames log cpu Disagree = ⊥
 
@@ -72,7 +65,6 @@ IsRefused frames log cpu Disagree = ⊥
 abbrev pub Prevents : Fault → Type 0
 Prevents NoMemory = Unit {0}
 Prevents Unread = ⊥
-Prevents (Stale front) = ⊥
 Prevents Disagree = ⊥
 
 -- An image that was taken for a CPU. It represents the state after a legal history, which begins with what the CPU has

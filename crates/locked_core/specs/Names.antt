@@ -1,15 +1,16 @@
 -- The names of a kernel: which history and which count of calls are its own.
-use Rattle.std.specs.Prelude.{ℕ, []}
+use Rattle.std.specs.Prelude.{ℕ, List, []}
 use Rattle.logbook.specs.Pages.{Book}
 use Rattle.process_table.specs.State.{open_with}
 use Rattle.process_table.specs.View.{View}
 
--- the book of the history, the ledger of the calls that its CPUs made, with the number of the ledger's parts, and the
--- core that it opens with
+-- The book of the history, and the core that the kernel opens with. Also the ledger of the calls that its CPUs made,
+-- with the number of its parts, and the ledgers of the calls of each CPU.
 pub record Names : Type 0 where
   pub history : Book
   pub ledger : ℕ
   pub parts : ℕ
+  pub ledgers : List ℕ
   pub opening : View
 
 -- a core that holds nothing
@@ -18,4 +19,4 @@ no_core = record { state = open_with 0; directories = []; bytes = []; roles = []
 
 -- the names of no kernel
 abbrev pub no_names : Names
-no_names = record { history = record { number = 0; log_name = 0; cells_name = 0 }; ledger = 0; parts = 0; opening = no_core }
+no_names = record { history = record { number = 0; log_name = 0; cells_name = 0 }; ledger = 0; parts = 0; ledgers = []; opening = no_core }

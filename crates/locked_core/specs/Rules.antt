@@ -30,10 +30,10 @@ turn_after log = length log + 2
 abbrev pub Adds : Step Moment → View Moment ℕ → ℕ → View Moment ℕ → Type 0
 Adds s v found w = w.0 ≡ v.0 ++ s.ask ∷ []
 
--- where as many turns were found as were expected, the next one was taken
+-- where as many turns were found as were expected, the next one was taken, and no more entries than that had been seen
 abbrev pub Claims : Step Moment → View Moment ℕ → ℕ → View Moment ℕ → Type 0
-Claims s v found w = MatchBool (found == s.old) ((w.0 ≡ v.0) × (w.1.0 ≡ nib may_make (turn_after v.0) 0)) (Unit {0})
+Claims s v found w = MatchBool (found == s.old) ((length v.0 ≤ s.old) × (w.1.0 ≡ nib may_make (s.old + 2) 0)) (Unit {0})
 
--- the length of the history was found, of which all that had been seen is a prefix
-abbrev pub LooksUp : Step Moment → View Moment ℕ → ℕ → View Moment ℕ → Type 0
-LooksUp s v found w = length w.0 ≡ found
+-- the turn is still the next one, and no more entries had been seen than were expected
+abbrev pub Confirms : Step Moment → View Moment ℕ → ℕ → View Moment ℕ → Type 0
+Confirms s v found w = (length v.0 ≤ s.old) × (w.1.0 ≡ v.1.0)

@@ -55,15 +55,6 @@ impl Gain<Moment, u64> for Nothing {
     ghost after = { λ names about answer. ftrue };
 }
 
-/// A step that reads the length of the history.
-pub struct Look;
-
-impl Play<Moment, u64> for Look {
-    ghost use Rattle.locked_core.specs.Rules.{LooksUp};
-
-    ghost then = { LooksUp };
-}
-
 /// A step that adds an entry.
 pub struct Add;
 
@@ -82,7 +73,16 @@ impl Play<Moment, u64> for Claim {
     ghost then = { Claims };
 }
 
-impl Plain<LogEntry, Moment, u64> for Look {
+/// A step that confirms a turn.
+pub struct Confirm;
+
+impl Play<Moment, u64> for Confirm {
+    ghost use Rattle.locked_core.specs.Rules.{Confirms};
+
+    ghost then = { Confirms };
+}
+
+impl Plain<LogEntry, Moment, u64> for Claim {
     ghost use Rattle.std.specs.Prelude.{None};
     ghost use Rattle.locked_core.specs.Moments.{moment};
     ghost use Rattle.locked_core.specs.Names.{no_core};
@@ -228,6 +228,15 @@ impl<N: Name> Front<N> {
             seen: self.seen.again(),
             of: PhantomData,
         }
+    }
+
+    /// Adds what it has to another prefix of the same history.
+    pub(crate) fn teach(&self, seen: &mut Beginning)
+        requires { seen.old.book ≡ N.book.history }
+        ensures book { seen.new.book ≡ N.book.history }
+        ensures both { Begins seen.new.log seen.old.log × Begins seen.new.log self.now }
+    {
+        seen.learn(&self.seen);
     }
 
     /// Whether it is no longer than the other front. The shorter of both begins the longer one.

@@ -1,8 +1,8 @@
 //! The CPUs, and what each has seen.
 
-ghost use Rattle.std.specs.Prelude.{◌≡◌, ◌≢◌, ◌+◌, ◌<◌, ◌^◌, ◌⊎◌, ◌↔◌, [], false, IfOk, IfErr, OnErr, IsTrue, MatchBool, length, List};
+ghost use Rattle.std.specs.Prelude.{◌≡◌, ◌≢◌, ◌+◌, ◌<◌, ◌^◌, ◌⊎◌, ◌↔◌, [], false, IfOk, IfErr, OnErr, IsTrue, MatchBool, length, slice_index_or, slice_set, List};
 ghost use Rattle.locked_core.specs.Endings.{EndsAtLast};
-ghost use Rattle.locked_core.specs.Makers.{Maker, maker, maker_of, Makes, BeginOne, IsFit, IsFollowed, IsRefused};
+ghost use Rattle.locked_core.specs.Makers.{Maker, maker, maker_of, Makes, IsFit, IsFollowed, IsRefused};
 ghost use Rattle.locked_core.specs.Moments.{Begins, entries_in};
 ghost use Rattle.memory_report.specs.Histories.{AreIsolated, StartsWith, calls_of};
 ghost use Rattle.memory_report.specs.Histories.{AreGuarded};
@@ -15,6 +15,7 @@ use crate::faults::Fault;
 use crate::gate::{Gate, Point};
 use crate::invalidate::Invalidate;
 use crate::kernel::Kernel;
+use crate::tally::{Own, Tally};
 use kernel_calls::{Call, Ended, Reply};
 use page_words::Pid;
 use std::marker::Model;
@@ -61,8 +62,10 @@ pub struct Cpu<N: Name> {
     pub(crate) number: u8,
     pub(crate) calls: usize,
     pub(crate) seen: Front<N>,
-    /// The calls that it made, counted.
+    /// The calls that it made, counted among those of all CPUs.
     pub(crate) share: Share<Calls<N>>,
+    /// The calls that it made, counted apart.
+    own: Own<N>,
 }
 
 impl<N: Name> Model for Cpu<N> {
@@ -75,7 +78,7 @@ impl<N: Name> Model for Cpu<N> {
 
     ghost view = { λ c. maker_of c.number c.seen };
 
-    ghost invariant = { λ c. (c.calls ≡ calls_of c.number (entries_in c.seen)) × (c.number < 8) × (c.share.parts ≡ 1) × (c.share.amount ≡ calls_of c.number (entries_in c.seen)) };
+    ghost invariant = { λ c. (c.calls ≡ calls_of c.number (entries_in c.seen)) × (c.number < 8) × (c.share.parts ≡ 1) × (c.share.amount ≡ calls_of c.number (entries_in c.seen)) × (c.own ≡ record { number = c.number; calls = calls_of c.number (entries_in c.seen) }) };
 }
 
 impl<N: Name> Cpu<N> {
@@ -113,10 +116,11 @@ impl<N: Name> Cpu<N> {
     }
 
     #[tactic(auto, using(crate::proofs::Moments::entries_none))]
-    pub(crate) fn new(number: u8, seen: Front<N>, share: Share<Calls<N>>) -> Cpu<N>
+    pub(crate) fn new(number: u8, seen: Front<N>, share: Share<Calls<N>>, own: Own<N>) -> Cpu<N>
         requires number { number < 8 }
         requires seen { entries_in seen ≡ [] }
         requires share { (share.parts ≡ 1) × (share.amount ≡ 0) }
+        requires own { own ≡ record { number = number; calls = 0 } }
         ensures { result ≡ maker number [] }
     {
         Cpu {
@@ -124,6 +128,7 @@ impl<N: Name> Cpu<N> {
             calls: 0,
             seen,
             share,
+            own,
         }
     }
 
@@ -136,8 +141,17 @@ impl<N: Name> Cpu<N> {
             calls: _,
             seen: _,
             share,
+            own: _,
         } = self;
         share
+    }
+
+    /// Compares its count with the one of its calls under the lock, which are equal. Nothing changes.
+    pub(crate) fn audit(&mut self, tally: &mut Tally<N>)
+        ensures calls { slice_index_or tally.old self.old.number 0 ≡ calls_of self.old.number self.old.seen }
+        ensures same { (self.new ≡ self.old) × (tally.new ≡ tally.old) }
+    {
+        tally.audit(&mut self.own);
     }
 
     /// Whether it made the calls that the log has of it, and has seen no more than the log. What it has
@@ -147,34 +161,41 @@ impl<N: Name> Cpu<N> {
         ensures fit { IsTrue result ↔ IsFit log.now.entries self.now }
         ensures begins { IsTrue result → StartsWith log.now.entries self.now.seen }
         ensures moments { IsTrue result → Begins front.now self.now.moments }
-        ensures differs { result ≡ false → BeginOne N.frames log.now.entries self.now.seen × ((length log.now.entries < length self.now.seen) ⊎ (calls_of self.now.number log.now.entries ≢ calls_of self.now.number self.now.seen)) }
     {
         self.seen.begins(front) && self.calls == log.calls_of(self.number)
     }
 
     /// Takes in one more call of its own, which ends what it has seen now, and counts it.
-    pub(crate) fn made(&mut self, grown: Front<N>, counted: &mut Book<Calls<N>>)
+    pub(crate) fn made(
+        &mut self,
+        grown: Front<N>,
+        counted: &mut Book<Calls<N>>,
+        tally: &mut Tally<N>,
+    )
         requires calls { calls_of self.old.number (entries_in grown) ≡ calls_of self.old.number self.old.seen + 1 }
         requires small { length (entries_in grown) < 2 ^ 64 }
         ensures made { self.new ≡ maker_of self.old.number grown }
         ensures counted { counted.new.total ≡ counted.old.total + 1 }
+        ensures tallied { tally.new ≡ slice_set tally.old self.old.number (slice_index_or tally.old self.old.number 0 + 1) }
     {
         let Cpu {
             number: _,
             calls,
             seen,
             share,
+            own,
         } = self;
         *calls += 1;
         *seen = grown;
         counted.add(share, 1);
+        tally.add(own);
     }
 
     /// Makes a call of a process: waits for the lock, decides, carries out, logs and publishes it.
     ///
-    /// The faults come in this order. Unread: the kernel's history is longer than the log. Stale: the log is shorter
-    /// than what this CPU has seen, or has another number of its entries. NoMemory: the log can't grow. After each of
-    /// them nothing has changed: the call added no entry to the history.
+    /// The faults come in this order. Unread: the turn to add the next entry can't be taken, since the kernel's history
+    /// is longer than the log or another has this turn. NoMemory: the log can't grow. After each of them nothing has
+    /// changed: the call added no entry to the history.
     pub fn call<G: Gate + Drop, R: Wait>(
         &mut self,
         rt: &R,

@@ -25,14 +25,8 @@ pub enum Fault {
     /// There was no memory for the log to grow.
     #[error("out of memory")]
     NoMemory,
-    /// The log is shorter than what the CPU has seen, or its number of the CPU's entries is another than
-    /// the CPU's number of calls.
-    #[error("the log of {front} entries is not what the CPU has seen")]
-    Stale {
-        /// How many entries the log has.
-        front: usize,
-    },
-    /// The kernel's history, as it was read under the lock, is longer than the log.
+    /// The turn to add the next entry could not be taken: the kernel's history is longer than the log, or another has
+    /// this turn.
     #[error("the history is longer than the log")]
     Unread,
     /// Not every CPU was handed back once, or what they say is not what the log says.
@@ -41,13 +35,12 @@ pub enum Fault {
 }
 
 impl Fault {
-    /// The fault's number: 1, 2, 3 or 5.
+    /// The fault's number: 1, 3 or 5.
     pub fn number(self) -> u8
         ensures { result ≡ fault_number self }
     {
         match self {
             Fault::NoMemory => 1,
-            Fault::Stale { .. } => 2,
             Fault::Unread => 3,
             Fault::Disagree => 5,
         }

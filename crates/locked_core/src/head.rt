@@ -5,7 +5,7 @@ ghost use Rattle.locked_core.specs.Rules.{head_of, turn_after};
 ghost use Rattle.locked_core.specs.Moments.{Begins, entries_in, moment};
 ghost use Rattle.locked_core.specs.declared.moment.Moment.{Moment};
 
-use crate::book::{Add, Beginning, Done, Law, Look, Name, Nothing, Opened, no_entry};
+use crate::book::{Add, Beginning, Done, Front, Law, Name, Nothing, Opened};
 use crate::call_log::CallLog;
 use crate::moment::Moment;
 use crate::turn::Turn;
@@ -21,7 +21,7 @@ pub struct Head<N: Name> {
     word: Word<Moment, u64, Law>,
     turns: Word<Moment, u64, Law>,
     seen: Beginning,
-    /// A turn that was taken and not used, for want of memory.
+    /// A turn that was taken and not used, since there was no memory.
     unused: Option<Turn<N>>,
 }
 
@@ -53,29 +53,30 @@ impl<N: Name> Head<N> {
         }
     }
 
-    /// Returns how long the history is now: no shorter than what was added here.
-    pub fn length(&self) -> u64
-        ensures { (history : List Moment) × Begins history self.now × (length history ≡ result) }
+    /// All that was added here, and all that a CPU has seen.
+    fn with(&self, front: &Front<N>) -> Beginning
+        ensures book { result.book ≡ N.book.history }
+        ensures both { Begins result.log self.now × Begins result.log front.now }
     {
-        let mut seen = self.seen.again();
-        let mut offer: Offer<Moment, u64, Law, Nothing> = seen.plain::<Nothing, LogEntry, Look>(
-            &no_entry(),
-        );
-        self.word.load::<Look, Nothing>(&mut seen, &mut offer)
+        let mut both = self.seen.again();
+        front.teach(&mut both);
+        both
     }
 
-    /// Takes the turn to add the next entry, or returns the one that was not used. `None` if the history is longer
-    /// than the log, or if the turn is out.
-    pub fn take_turn(&mut self, log: &CallLog) -> Option<Turn<N>>
+    /// Takes the turn to add the next entry, or returns the one that was not used. What this CPU has seen is then a
+    /// prefix of what was added here. `None` if the history is longer than the log, or if another has the turn.
+    pub fn take_turn(&mut self, log: &CallLog, front: &Front<N>) -> Option<Turn<N>>
         requires { entries_in self.old ≡ log.now.entries }
         ensures turn { IfSome result (λ t. t ≡ turn_after self.old) }
+        ensures begins { IfSome result (λ _. Begins self.old front.now) }
         ensures same { self.new ≡ self.old }
     {
-        let unused = self.unused.take();
-        if unused.is_some() {
-            return unused;
-        }
-        Turn::take(&self.turns, log.len(), &self.seen)
+        let both = self.with(front);
+        let Some(mut turn) = self.unused.take() else {
+            return Turn::take(&self.turns, log.len(), &both);
+        };
+        turn.confirm(&self.word, log.len(), &both);
+        Some(turn)
     }
 
     /// Keeps a turn that was not used, for the next call.

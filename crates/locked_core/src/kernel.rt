@@ -19,6 +19,7 @@ use crate::locked::Locked;
 use crate::monitor::Monitor;
 use crate::publish::{reader_of, writer_of};
 use crate::rule::LogWriter;
+use crate::tally::{Blanks, Rest};
 use crossbeam_utils::Backoff;
 use kernel_calls::Core;
 use memory_image::Image;
@@ -43,6 +44,7 @@ pub struct Blank<G: Gate + Drop> {
     opened: Opened,
     writer: LogWriter,
     calls: ledger::Blank,
+    tallies: Blanks,
 }
 
 impl<G: Gate + Drop> Model for Blank<G> {
@@ -51,7 +53,7 @@ impl<G: Gate + Drop> Model for Blank<G> {
 
     ghost Value = { Unnamed };
 
-    ghost view = { λ b. record { frames = b.frames; cpus = b.cpus; monitors = b.monitors; book = record { history = b.opened.seen.book; ledger = b.calls.name; parts = b.calls.parts; opening = b.core } } };
+    ghost view = { λ b. record { frames = b.frames; cpus = b.cpus; monitors = b.monitors; book = record { history = b.opened.seen.book; ledger = b.calls.name; parts = b.calls.parts; ledgers = b.tallies; opening = b.core } } };
 
     ghost invariant = { λ b. IsMade b.frames b.cpus b.opened.seen.book b.calls.parts b.core.state b.writer.desk.shown.value b.writer.desk.spare.value b.writer.desk.place.me.0.client };
 }
@@ -125,6 +127,7 @@ impl<N: Name, G: Gate + Drop> Kernel<N, G> {
             opened,
             writer,
             calls: ledger::Blank::new(u64::from(cpus)),
+            tallies: Blanks::new(),
         })
     }
 
@@ -144,15 +147,15 @@ impl<N: Name, G: Gate + Drop> Kernel<N, G> {
     /// Takes the image of the kernel's memory, of one moment between calls: waits for the lock. The CPU has
     /// the calls and has seen what it had.
     ///
-    /// The faults come in this order. Unread: the kernel's history is longer than the log. Stale: the log is shorter
-    /// than what this CPU has seen, or has another number of its entries. NoMemory: there is no memory for the image.
+    /// The faults come in this order. Unread: the turn to add the next entry can't be taken, since the kernel's history
+    /// is longer than the log or another has this turn. NoMemory: there is no memory for the image.
     pub fn snapshot<R: Wait>(&self, rt: &R, cpu: &mut Cpu<N>) -> Result<Image, Fault>
         ensures taken { IfOk result (λ image. (history : List LogEntry) × IsSnapshot N.frames cpu.old image history) }
         ensures shows { IfOk result (λ image. (moments : List Moment) × IsShown N.book.opening cpu.old image moments) }
         ensures kept { cpu.new ≡ cpu.old }
         ensures refused { IfErr result (λ f. (log : List LogEntry) × IsRefused N.frames log cpu.old f) }
     {
-        let guard = self.taken(rt);
+        let mut guard = self.taken(rt);
         let image = guard.snapshot(cpu);
         MutexGuard::unlock(guard);
         image
@@ -203,9 +206,12 @@ impl<G: Gate + Drop> Blank<G> {
             opened,
             mut writer,
             calls,
+            tallies,
         } = self;
-        let (counted, mut shares) = calls.open::<Calls<N>>();
-        let Ok((cpus, monitors)) = seats(alloc, &mut writer, count, watchers, &mut shares) else {
+        let (counted, shares) = calls.open::<Calls<N>>();
+        let (tally, rest) = tallies.open::<N>();
+        let mut uncut = Uncut { shares, rest };
+        let Ok((cpus, monitors)) = seats(alloc, &mut writer, count, watchers, &mut uncut) else {
             writer.take(rt);
             return Err(BootFault::NoMemory);
         };
@@ -216,6 +222,7 @@ impl<G: Gate + Drop> Blank<G> {
             writer,
             watchers > 0,
             counted,
+            tally,
         );
         Ok(Boot {
             kernel: Kernel {
@@ -229,16 +236,24 @@ impl<G: Gate + Drop> Blank<G> {
     }
 }
 
+/// What is cut into a part for each CPU: the shares of the ledger of all calls, and of those of each CPU's own.
+#[derive(Drop)]
+struct Uncut<N: Name> {
+    shares: Share<Calls<N>>,
+    rest: Rest<N>,
+}
+
 /// The CPUs, numbered from 0, each with one part of the shares, and the monitors.
 fn seats<N: Name>(
     alloc: Global,
     writer: &mut LogWriter,
     count: u8,
     watchers: u8,
-    shares: &mut Share<Calls<N>>,
+    uncut: &mut Uncut<N>,
 ) -> Result<(Vec<Cpu<N>>, Vec<Monitor<N>>), AllocError>
     requires few { count ≤ 8 }
-    requires shares { (shares.old.parts ≡ count) × (shares.old.amount ≡ 0) }
+    requires shares { (uncut.old.shares.parts ≡ count) × (uncut.old.shares.amount ≡ 0) }
+    requires rest { (uncut.old.rest.parts ≡ replicate 8 1) × (uncut.old.rest.amounts ≡ replicate 8 0) }
     requires writer { (writer.old.desk.shown.value ≡ page N.frames N.book.history []) × (view writer.old.desk.place ≡ view_of N.frames N.book.history) }
     ensures writer { (view writer.new.desk.place ≡ view writer.old.desk.place) × (writer.new.desk.shown ≡ writer.old.desk.shown) × (writer.new.desk.spare ≡ writer.old.desk.spare) }
     ensures cpus { IfOk result (λ t. t.0.items ≡ new_makers count) }
@@ -246,8 +261,10 @@ fn seats<N: Name>(
 {
     let mut cpus = Vec::new(alloc);
     for number in 0..count {
-        let share = shares.split_off(1, 0);
-        cpus.push(Cpu::new(number, writer.published().front::<N>(), share))?;
+        let share = uncut.shares.split_off(1, 0);
+        let own = uncut.rest.take(number);
+        let front = writer.published().front::<N>();
+        cpus.push(Cpu::new(number, front, share, own))?;
     }
     let mut monitors = Vec::new(alloc);
     for seat in 0..watchers {

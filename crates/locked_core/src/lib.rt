@@ -23,6 +23,7 @@ mod port;
 mod publish;
 mod published_report;
 mod rule;
+mod tally;
 mod turn;
 
 pub use book::Name;

@@ -1,6 +1,6 @@
 //! The value under the lock.
 
-ghost use Rattle.std.specs.Prelude.{◌≡◌, ◌≤◌, ◌<◌, ◌+◌, ◌==◌, ◌^◌, ◌++◌, [], ◌∷◌, IfOk, IfErr, OnErr, List, length, true};
+ghost use Rattle.std.specs.Prelude.{◌≡◌, ◌≤◌, ◌<◌, ◌+◌, ◌==◌, ◌^◌, ◌++◌, [], ◌∷◌, replicate, IfOk, IfErr, IfSome, OnErr, List, length, true};
 ghost use Rattle.kernel_calls.specs.Translations.{ended_by, Ends};
 ghost use Rattle.left_right.specs.Sides.{view};
 ghost use Rattle.locked_core.specs.Makers.{AreAll, Closes, IsLeft, IsRefused, Prevents, calls_of_all, maker_of};
@@ -22,6 +22,7 @@ use crate::faults::Fault;
 use crate::head::Head;
 use crate::publish::keep_up;
 use crate::rule::LogWriter;
+use crate::tally::Tally;
 use crate::turn::Turn;
 use kernel_calls::{Call, Core, Ended, Event, Reply};
 use memory_image::Image;
@@ -52,6 +53,8 @@ pub struct Locked<N: Name> {
     is_watched: bool,
     /// The total of the calls that the CPUs made.
     counted: Book<Calls<N>>,
+    /// How many calls each CPU made.
+    tally: Tally<N>,
 }
 
 impl<N: Name> Model for Locked<N> {
@@ -62,7 +65,7 @@ impl<N: Name> Model for Locked<N> {
 
     ghost view = { λ l. record { core = l.core; log = l.log.entries; moments = l.head } };
 
-    ghost invariant = { λ l. IsUnderLock N.frames N.book.history N.book.opening l.core l.log.entries l.head l.counted.total l.is_watched l.writer.desk.shown.value l.writer.desk.spare.value l.writer.desk.place.me.0.client };
+    ghost invariant = { λ l. IsUnderLock N.frames N.book.history N.book.opening l.core l.log.entries l.head l.counted.total l.tally l.is_watched l.writer.desk.shown.value l.writer.desk.spare.value l.writer.desk.place.me.0.client };
 }
 
 impl<N: Name> Locked<N> {
@@ -74,10 +77,11 @@ impl<N: Name> Locked<N> {
         writer: LogWriter,
         is_watched: bool,
         counted: Book<Calls<N>>,
+        tally: Tally<N>,
     ) -> Locked<N>
         requires size { (16 ≤ N.frames) × (N.frames ≤ 4096) }
         requires log { log.entries ≡ [] }
-        requires counted { counted.total ≡ 0 }
+        requires counted { (counted.total ≡ 0) × (tally ≡ replicate 8 0) }
         requires core { core.state ≡ open_with N.frames }
         requires opening { core ≡ N.book.opening }
         requires book { opened.seen.book ≡ N.book.history }
@@ -93,67 +97,69 @@ impl<N: Name> Locked<N> {
             writer,
             is_watched,
             counted,
+            tally,
         }
     }
 
-    /// Whether this CPU fits the log: it has as many calls as the log has of it, and what it has seen begins
-    /// the log.
-    ///
-    /// Unread where the kernel's history is longer than the log; Stale where the log is shorter than what
-    /// the CPU has seen, or has another number of its entries.
-    fn fit(&self, cpu: &Cpu<N>) -> Result<(), Fault>
-        ensures fits { IfOk result (λ _. StartsWith self.now.log cpu.now.seen × (calls_of cpu.now.number self.now.log ≡ calls_of cpu.now.number cpu.now.seen)) }
-        ensures begins { IfOk result (λ _. Begins self.now.moments cpu.now.moments) }
-        ensures refused { IfErr result (IsRefused N.frames self.now.log cpu.now) }
+    /// Takes the turn to add the next entry, with which this CPU fits the log: it has as many calls as the log has of
+    /// it, and what it has seen begins the log. None where the turn can't be taken. Nothing changes that contracts see.
+    fn fit(&mut self, cpu: &mut Cpu<N>) -> Option<Turn<N>>
+        ensures turn { IfSome result (λ t. t ≡ turn_after self.old.moments) }
+        ensures legal { Legal N.frames self.old.log }
+        ensures opened { N.book.opening.state ≡ open_with N.frames }
+        ensures follows { Follows N.book.opening self.old.moments }
+        ensures fits { IfSome result (λ _. StartsWith self.old.log cpu.old.seen × (calls_of cpu.old.number self.old.log ≡ calls_of cpu.old.number cpu.old.seen)) }
+        ensures begins { IfSome result (λ _. Begins self.old.moments cpu.old.moments) }
+        ensures same { (self.new ≡ self.old) × (cpu.new ≡ cpu.old) }
     {
-        let count = self.log.len();
-        if self.head.length() != count as u64 {
+        let turn = self.head.take_turn(&self.log, &cpu.seen)?;
+        cpu.audit(&mut self.tally);
+        Some(turn)
+    }
+
+    /// The image of the core, for this CPU.
+    ///
+    /// Unread as for a call; NoMemory where there is no memory for the image.
+    pub(crate) fn snapshot(&mut self, cpu: &mut Cpu<N>) -> Result<Image, Fault>
+        ensures legal { IfOk result (λ _. Legal N.frames self.old.log) }
+        ensures stands { IfOk result (λ image. StandsFor image (state_after N.frames self.old.log)) }
+        ensures shows { IfOk result (λ image. IsImageOf (core_after N.book.opening self.old.moments) image) }
+        ensures follows { Follows N.book.opening self.old.moments }
+        ensures begins { IfOk result (λ _. Begins self.old.moments cpu.old.moments) }
+        ensures fits { IfOk result (λ _. StartsWith self.old.log cpu.old.seen × (calls_of cpu.old.number self.old.log ≡ calls_of cpu.old.number cpu.old.seen)) }
+        ensures refused { IfErr result (IsRefused N.frames self.old.log cpu.old) }
+        ensures same { (self.new ≡ self.old) × (cpu.new ≡ cpu.old) }
+    {
+        let Some(turn) = self.fit(cpu) else {
             return Err(Fault::Unread);
-        }
-        if !cpu.agrees(&self.log, &front_of(&self.log, &self.head)) {
-            return Err(Fault::Stale { front: count });
-        }
-        Ok(())
-    }
-
-    /// The image of the core, where this CPU fits the log.
-    ///
-    /// Unread and Stale as for a call; NoMemory where there is no memory for the image.
-    pub(crate) fn snapshot(&self, cpu: &Cpu<N>) -> Result<Image, Fault>
-        ensures legal { IfOk result (λ _. Legal N.frames self.now.log) }
-        ensures stands { IfOk result (λ image. StandsFor image (state_after N.frames self.now.log)) }
-        ensures shows { IfOk result (λ image. IsImageOf (core_after N.book.opening self.now.moments) image) }
-        ensures follows { Follows N.book.opening self.now.moments }
-        ensures begins { IfOk result (λ _. Begins self.now.moments cpu.now.moments) }
-        ensures fits { IfOk result (λ _. StartsWith self.now.log cpu.now.seen × (calls_of cpu.now.number self.now.log ≡ calls_of cpu.now.number cpu.now.seen)) }
-        ensures refused { IfErr result (IsRefused N.frames self.now.log cpu.now) }
-    {
-        match self.fit(cpu) {
-            Ok(_) => match Image::of(*self.log.entries.allocator(), &self.core) {
-                Ok(image) => Ok(image),
-                Err(_) => Err(Fault::NoMemory),
-            },
-            Err(fault) => Err(fault),
+        };
+        self.head.give_back(turn);
+        match Image::of(*self.log.entries.allocator(), &self.core) {
+            Ok(image) => Ok(image),
+            Err(_) => Err(Fault::NoMemory),
         }
     }
 
     /// Checks a call of this CPU, and takes its turn to add the next entry. Nothing changes that contracts see.
     ///
-    /// Unread where the kernel's history is longer than the log; Stale where the log is shorter than what
-    /// the CPU has seen, or has another number of its entries. Unread too where the turn can't be taken.
-    pub(crate) fn judge(&mut self, cpu: &Cpu<N>, pid: Pid, call: Call) -> Result<Ready<N>, Fault>
+    /// Unread where the turn can't be taken.
+    pub(crate) fn judge(
+        &mut self,
+        cpu: &mut Cpu<N>,
+        pid: Pid,
+        call: Call,
+    ) -> Result<Ready<N>, Fault>
         ensures legal { IfOk result (λ _. Legal N.frames self.old.log) }
-        ensures nth { IfOk result (λ r. (cpu.now.number < 8) × (r.nth ≡ calls_of cpu.now.number self.old.log)) }
-        ensures event { IfOk result (λ r. r.event ≡ record { cpu = cpu.now.number; pid = pid; call = call }) }
+        ensures nth { IfOk result (λ r. (cpu.old.number < 8) × (r.nth ≡ calls_of cpu.old.number self.old.log)) }
+        ensures event { IfOk result (λ r. r.event ≡ record { cpu = cpu.old.number; pid = pid; call = call }) }
         ensures turn { IfOk result (λ r. r.turn ≡ turn_after self.old.moments) }
-        ensures fits { IfOk result (λ _. StartsWith self.old.log cpu.now.seen × (calls_of cpu.now.number self.old.log ≡ calls_of cpu.now.number cpu.now.seen)) }
-        ensures begins { IfOk result (λ _. Begins self.old.moments cpu.now.moments) }
+        ensures fits { IfOk result (λ _. StartsWith self.old.log cpu.old.seen × (calls_of cpu.old.number self.old.log ≡ calls_of cpu.old.number cpu.old.seen)) }
+        ensures begins { IfOk result (λ _. Begins self.old.moments cpu.old.moments) }
         ensures opened { N.book.opening.state ≡ open_with N.frames }
-        ensures refused { IfErr result (IsRefused N.frames self.old.log cpu.now) }
-        ensures same { self.new ≡ self.old }
+        ensures refused { IfErr result (IsRefused N.frames self.old.log cpu.old) }
+        ensures same { (self.new ≡ self.old) × (cpu.new ≡ cpu.old) }
     {
-        self.fit(cpu)?;
-        let Some(turn) = self.head.take_turn(&self.log) else {
+        let Some(turn) = self.fit(cpu) else {
             return Err(Fault::Unread);
         };
         let event = Event {
@@ -210,6 +216,7 @@ impl<N: Name> Locked<N> {
             writer,
             is_watched,
             counted,
+            tally,
         } = self;
         let Ready { nth, event, turn } = ready;
         if log.reserve().is_err() {
@@ -221,7 +228,7 @@ impl<N: Name> Locked<N> {
         head.add(turn, log, &entry, core);
         log.push(&entry);
         keep_up(rt, writer, *is_watched, log.entries(), &head.all());
-        cpu.made(front_of(log, head), counted);
+        cpu.made(front_of(log, head), counted, tally);
         Ok(entry.reply)
     }
 
@@ -250,6 +257,7 @@ impl<N: Name> Locked<N> {
             writer,
             is_watched: _,
             mut counted,
+            tally: _,
         } = self;
         let front = front_of(&log, &head);
         writer.take(rt);

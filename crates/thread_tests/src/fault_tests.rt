@@ -21,9 +21,7 @@ fn faults_of_a_boot_have_texts(rt: HostRuntime) {
 
 #[test]
 fn faults_of_a_call_have_texts(rt: HostRuntime) {
-    let stale = "the log of 3 entries is not what the CPU has seen";
     check_text(&rt, &Fault::NoMemory, "out of memory");
-    check_text(&rt, &Fault::Stale { front: 3 }, stale);
     check_text(&rt, &Fault::Unread, "the history is longer than the log");
     check_text(&rt, &Fault::Disagree, "the CPUs do not agree with the log");
 }

@@ -1,9 +1,11 @@
 -- What a call that was judged leaves under the lock.
-use Rattle.std.proofs.Common.{◌≡◌, List, [], ◌∷◌, ◌++◌, length, length-append, arith, sym, ap, ◌∙◌, subst}
+use Rattle.std.proofs.Common.{◌≡◌, ◌+◌, ◌<◌, ℕ, List, [], ◌∷◌, ◌++◌, length, length-append, arith, sym, ap, ◌∙◌, subst}
+use Rattle.std.proofs.Math.ListN.{get_or, set}
 use Rattle.kernel_calls.specs.Decisions.{charge_after}
 use Rattle.kernel_calls.specs.Machine.{answer, next}
 use Rattle.kernel_calls.specs.declared.calls.Event.{Event}
 use Rattle.locked_core.proofs.CatchingUp.{lags_more}
+use Rattle.locked_core.proofs.Counting.{counted_push}
 use Rattle.locked_core.proofs.Entries.{Stands, judged, logged}
 use Rattle.locked_core.proofs.Moments.{core_push, entries_append, follows_push}
 use Rattle.locked_core.specs.Held.{UnderLock}
@@ -68,6 +70,12 @@ invariant_of-self-2 g c =
       left = ap (core_after g.N.Name.book.opening) c.add.ensures ∙ core_push g.N.Name.book.opening had (moment e core);
       follows = follows;
       opened = c.self.invariant.opened;
+      tallied =
+          (let mine : event.cpu ≡ c.args.cpu.now.number = c.requires.own.0 in
+          let by : e.cpu ≡ event.cpu = ap (λ (x : LogEntry). x.cpu) c.entry_of-entry.ensures in
+          let counts : List ℕ = c.self.inside.tally in
+          let small : e.cpu < 8 = subst (λ n. n < 8) (sym by) c.requires.nth.0 in
+          c.made.ensures.tallied ∙ (ap (λ n. set counts n (get_or counts n 0 + 1)) (sym (by ∙ mine)) ∙ counted_push c.self.inside.log.entries new e counts c.self.invariant.tallied small longer));
       counted =
           (let one_more = c.made.ensures.counted in let had = c.self.invariant.counted in let more : length new ≡ length (c.self.inside.log.entries ++ e ∷ []) = ap length longer in
           omega (arith, length-append c.self.inside.log.entries (e ∷ [])));

@@ -1,12 +1,22 @@
--- A CPU that does not fit the log.
-use Rattle.std.proofs.Common.{◌≡◌, ◌<◌, ◌≢◌, ◌⊎◌, length, subst}
+use Rattle.std.proofs.Common.{rules, ◌≡◌, ◌∙◌, ◌<◌, ℕ, List, ap, sym, subst}
+use Rattle.std.proofs.Math.ListN.{get_or}
+use Rattle.locked_core.proofs.Counting.{at_counts}
+use Rattle.locked_core.proofs.Moments.{starts_of}
 use Rattle.locked_core.specs.Held.{UnderLock}
-use Rattle.locked_core.specs.Makers.{BeginOne}
-use Rattle.memory_report.specs.Histories.{calls_of}
+use Rattle.locked_core.specs.Makers.{Maker}
+use Rattle.locked_core.specs.Moments.{Begins, entries_in}
+use Rattle.memory_report.specs.Histories.{StartsWith, calls_of}
+use Rattle.memory_report.specs.declared.entries.LogEntry.{LogEntry}
 use Rattle.locked_core.proofs.locked.Locked.fit.Goals as goal
 
-pub returns-then-not-agrees-clause-refused : goal.returns-then-not-agrees-clause-refused
-returns-then-not-agrees-clause-refused g c =
-    let differs = c.agrees-2.ensures.differs c.if-not-agrees.true in
-    subst (λ (k : UnderLock). (c.len-count.result ≡ length k.log) × BeginOne g.N.Name.frames k.log c.args.cpu.now.seen × ((length k.log < length c.args.cpu.now.seen) ⊎ (calls_of c.args.cpu.now.number k.log ≢ calls_of c.args.cpu.now.number c.args.cpu.now.seen)))
-    c.self.view_is (c.len-count.ensures.length, differs.0, differs.1)
+-- the log is what was added to the history, and has as many entries of this CPU as are counted
+pub returns-clause-fits : goal.returns-clause-fits
+returns-clause-fits g c =
+    let log : List LogEntry = c.self.inside.log.entries in
+    let cpu : Maker = c.args.cpu.now in
+    let began : Begins c.self.inside.head c.cpu.inside.seen = c.in_ok-turn.ensures.begins in
+    let seen : entries_in c.cpu.inside.seen ≡ cpu.seen = ap (λ (m : Maker). m.seen) c.cpu.view_is in
+    let starts : StartsWith log cpu.seen = subst (λ (t : List LogEntry × List LogEntry). StartsWith t.0 t.1) (λ i. (c.self.invariant.told i, seen i)) (starts_of c.self.inside.head c.cpu.inside.seen began) in
+    let small : cpu.number < 8 = subst (λ (m : Maker). m.number < 8) c.cpu.view_is c.cpu.invariant.1 in
+    let counted : calls_of cpu.number log ≡ calls_of cpu.number cpu.seen = sym (at_counts log cpu.number small) ∙ (ap (λ (counts : List ℕ). get_or counts cpu.number 0) (sym c.self.invariant.tallied) ∙ c.audit.ensures.calls) in
+    subst (λ (k : UnderLock). StartsWith k.log cpu.seen × (calls_of cpu.number k.log ≡ calls_of cpu.number cpu.seen)) c.self.view_is (starts, counted)

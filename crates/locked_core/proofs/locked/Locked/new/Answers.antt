@@ -1,6 +1,8 @@
 use Rattle.std.proofs.Common.{[], length, refl, sym, ap, ◌∙◌, subst}
 use Rattle.locked_core.proofs.Entries.{legal_opening}
+use Rattle.locked_core.proofs.Counting.{counted_none}
 use Rattle.locked_core.proofs.Moments.{follows_none}
+use Rattle.locked_core.specs.Counts.{counts_of}
 use Rattle.locked_core.specs.Moments.{Follows, core_after, entries_in}
 use Rattle.locked_core.specs.Pages.{Page, LagsBehind, page}
 use Rattle.locked_core.proofs.locked.Locked.new.Goals as goal
@@ -18,7 +20,8 @@ invariant_of-result g c =
       left = ap (core_after g.N.Name.book.opening) c.new.ensures ∙ sym c.requires.opening;
       follows = subst (Follows g.N.Name.book.opening) (sym c.new.ensures) (follows_none g.N.Name.book.opening);
       opened = sym (ap (λ v. v.state) c.requires.opening) ∙ c.requires.core;
-      counted = c.requires.counted ∙ ap length (sym none);
+      counted = c.requires.counted.0 ∙ ap length (sym none);
+      tallied = c.requires.counted.1 ∙ sym (ap counts_of none ∙ counted_none);
       mine = w.1;
       shown = λ watched. w.0 ∙ ap (page g.N.Name.frames g.N.Name.book.history) (sym none);
       lags = subst (λ (p : Page). LagsBehind p whole) (sym w.0) empty;

@@ -1,4 +1,4 @@
-use Rattle.std.proofs.Common.{sym, ◌∙◌, ap, length}
+use Rattle.std.proofs.Common.{◌≤◌, sym, ◌∙◌, ap, length, subst}
 use Rattle.locked_core.proofs.Adding.{claims_moves}
 use Rattle.locked_core.proofs.turn.Turn.take.Goals as goal
 use Rattle.locked_core.specs.Moments.{moment}
@@ -15,5 +15,5 @@ compare_exchange-found-requires g c =
       here,
       pen.0 ∙ here,
       offer.0,
-      rw (ap (λ w. w.key) h, pen.1, offer.3) (claims_moves c.again-seen.result.log (moment c.no_entry.result no_core) c.args.count (c.requires.seen.0 ∙ sym (ap (λ s. length s.log) c.again-seen.ensures))),
+      rw (ap (λ w. w.key) h, pen.1, offer.3) (claims_moves c.again-seen.result.log (moment c.no_entry.result no_core) c.args.count (subst (λ n. c.args.count ≤ n) (sym (ap (λ s. length s.log) c.again-seen.ensures)) c.requires.seen.0)),
     )
