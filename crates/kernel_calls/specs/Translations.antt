@@ -12,7 +12,7 @@ use Rattle.table_walk.specs.Walk.{walk_of}
 use Rattle.address_space.specs.Image as memory
 use Rattle.address_space.specs.Image.{directory_at, table_at, is_lazy_at, takes_stores}
 use Rattle.address_space.specs.Spaces.{Slot, Cell, at_page, slot_at, is_slot, is_of}
-use Rattle.process_table.specs.Image.{memory_of}
+use Rattle.process_table.specs.Image.{memory_of, image_of, StandsFor}
 use Rattle.process_table.specs.State.{State}
 use Rattle.process_table.specs.View.{View}
 use Rattle.fault_handler.specs.Plans.{plan_at}
@@ -231,9 +231,12 @@ EndAlong (e ∷ events) (x ∷ ended) v w = (u : View) × (x ≡ ended_by v e) �
 EndAlong [] (x ∷ ended) v w = ⊥
 EndAlong (e ∷ events) [] v w = ⊥
 
--- each of these events ended what `ended_by` says, and nothing else
-abbrev pub EndsAlong : List Event → View → View → Type 0
-EndsAlong events v w = (ended : List Ended) × EndAlong events ended v w
+-- each of these events, one after another, ended what `ended_by` says, and nothing else; memory stood for the state
+-- after each
+abbrev pub EndsInOrder : List Event → View → View → Type 0
+EndsInOrder [] v w = v ≡ w
+EndsInOrder (e ∷ events) v w = (u : View) × StandsFor (image_of u) u.state × (u.state ≡ next v.state e) × Ends (ended_by v e) v u
+    × EndsInOrder events u w
 
 -- what was read before a run, and was ended by none of its events, is read after it
 abbrev pub KeptThroughRuns : Type 0

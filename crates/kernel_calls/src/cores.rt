@@ -29,7 +29,7 @@ ghost use Rattle.kernel_calls.specs.Machine.{answer, after, next, answers, end_o
 ghost use Rattle.kernel_calls.specs.Decisions.{decision_of, charge_in, charge_after, plan_of_event};
 ghost use Rattle.kernel_calls.specs.declared.translations.Ended.TheVariants as end;
 ghost use Rattle.kernel_calls.specs.Gone.{gone_of_call, gone_by};
-ghost use Rattle.kernel_calls.specs.Translations.{EndsAlong, ended_by, EndAlong, Ends};
+ghost use Rattle.kernel_calls.specs.Translations.{EndsInOrder, ended_by, EndAlong, Ends};
 ghost use Rattle.kernel_calls.specs.Walked.{finds_event, reply_found, bytes_accessed};
 ghost use Rattle.kernel_calls.specs.Kept.{ServesEvent, StoresMarked, bytes_kept};
 ghost use Rattle.kernel_calls.specs.declared.calls.Call.TheVariants as call;
@@ -374,7 +374,7 @@ impl Core {
         ensures borders { KeepsBorders self.old.state events.now self.new.state }
         ensures unreached { IsUnreached self.old.state events.now replies.new }
         ensures served { IsServed self.old.state events.now replies.new }
-        ensures ends { EndsAlong events.now self.old self.new }
+        ensures ends { EndsInOrder events.now self.old self.new }
         ensures kept { none_completes replies.new ≡ true → self.new ≡ self.old }
     {
         self.stands();
@@ -386,7 +386,7 @@ impl Core {
         requires { length events.now ≡ length replies.old }
         ensures replies { replies.new ≡ answers self.old.state events.now }
         ensures state { self.new.state ≡ end_of self.old.state events.now }
-        ensures ends { EndsAlong events.now self.old self.new }
+        ensures ends { EndsInOrder events.now self.old self.new }
         ensures kept { none_completes replies.new ≡ true → self.new ≡ self.old }
     {
         for (i, event) in events.iter().enumerate() {

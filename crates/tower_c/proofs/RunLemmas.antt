@@ -7,6 +7,7 @@ use Rattle.kernel_calls.specs.declared.calls.Reply.{Reply}
 use Rattle.kernel_calls.specs.declared.calls.Reply.TheVariants as reply
 use Rattle.std.proofs.lemmas.List.{append-nil, length-take-le, take-append-drop, take_more_set, take_all, drop_all}
 use Rattle.process_table.specs.State.{State}
+use Rattle.process_table.specs.Image.{StandsFor, image_of}
 use Rattle.process_table.specs.View.{View}
 use Rattle.kernel_calls.specs.Translations.{Ends}
 use Rattle.tower_c.specs.Border.{EndInOrder, event_in, ends_in, reply_in, reply_numbers, state_after, is_carried_out, replies_in, end_after}
@@ -60,9 +61,10 @@ begins (x ∷ xs) (suc i) d less = let n : suc i + 1 ≡ suc (i + 1) = omega ari
 
 -- one event more ended what it ends
 pub ends_on : (events : List TowerEvent) (v u w : View) (e : TowerEvent) → EndInOrder events v u
-    → w.state ≡ state_after u.state (event_in e) → Ends (ends_in u (event_in e)) u w → EndInOrder (events ++ (e ∷ [])) v w
-ends_on [] v u w e same state ends = subst (λ (x : View). EndInOrder (e ∷ []) x w) (sym same) (w, state, ends, refl)
-ends_on (x ∷ events) v u w e h state ends = (h.0, h.1, h.2, ends_on events h.0 u w e h.3 state ends)
+    → StandsFor (image_of w) w.state → w.state ≡ state_after u.state (event_in e) → Ends (ends_in u (event_in e)) u w
+    → EndInOrder (events ++ (e ∷ [])) v w
+ends_on [] v u w e same stands state ends = subst (λ (x : View). EndInOrder (e ∷ []) x w) (sym same) (w, stands, state, ends, refl)
+ends_on (x ∷ events) v u w e h stands state ends = (h.0, h.1, h.2, h.3, ends_on events h.0 u w e h.4 stands state ends)
 
 -- ---- As far as a run came
 

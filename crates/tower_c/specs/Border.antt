@@ -11,6 +11,7 @@ use Rattle.table_walk.specs.declared.WalkEnd.{WalkEnd}
 use Rattle.table_walk.specs.declared.WalkEnd.TheVariants.{Fault, Outside}
 use Rattle.address_space.specs.View.{directory_of}
 use Rattle.process_table.specs.State.{State, container_of}
+use Rattle.process_table.specs.Image.{StandsFor, image_of}
 use Rattle.process_table.specs.View.{View}
 use Rattle.process_table.specs.declared.causes.Cause.{Cause}
 use Rattle.process_table.specs.declared.causes.Cause.TheVariants as cause
@@ -267,11 +268,11 @@ abbrev pub ends_in : View → Option Event → Ended
 ends_in core (Some event) = ended_by core event
 ends_in core None = end.Nothing
 
--- each event, one after the other, ended what `ends_in` says, and nothing else
+-- each event, one after the other, ended what `ends_in` says, and nothing else; memory stood for the state after each
 abbrev pub EndInOrder : List TowerEvent → View → View → Type 0
 EndInOrder [] v w = v ≡ w
-EndInOrder (e ∷ events) v w = (u : View) × (u.state ≡ state_after v.state (event_in e)) × Ends (ends_in v (event_in e)) v u
-    × EndInOrder events u w
+EndInOrder (e ∷ events) v w = (u : View) × StandsFor (image_of u) u.state × (u.state ≡ state_after v.state (event_in e))
+    × Ends (ends_in v (event_in e)) v u × EndInOrder events u w
 
 -- ---- The version
 

@@ -123,6 +123,7 @@ pub extern "C" fn tower_restore(
     ensures frame { result ≡ 4 → SpellsOne bytes.now (FailsFrame verdict.new) }
     ensures refused { result ≡ 5 → IsNoImage verdict.new bytes.now }
     ensures words { result ≡ 6 → SpellsOne bytes.now HasOldWords }
+    ensures old { SpellsOne bytes.now HasOldWords → tower.old.live ≡ false → (result ≡ 2) ⊎ (result ≡ 6) }
     ensures none { (result < 3) ⊎ (result ≡ 6) → verdict.new ≡ verdict.old }
     ensures otherwise { result ≢ 0 → tower.new ≡ tower.old }
 {

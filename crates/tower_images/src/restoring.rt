@@ -1,6 +1,6 @@
 //! A core of the image in bytes.
 
-ghost use Rattle.std.specs.Prelude.{◌≡◌, ◌≢◌, ◌≤◌, ◌⊎◌, IfOk, IfErr};
+ghost use Rattle.std.specs.Prelude.{◌≡◌, ◌≢◌, ◌≤◌, ◌⊎◌, Err, IfOk, IfErr};
 ghost use Rattle.memory_image.specs.Sound.{IsSound};
 ghost use Rattle.process_table.specs.Image.{StandsFor, image_of};
 ghost use Rattle.tower_images.specs.Audits.{FailsFrame, FailsProcess, IsNoImage, SpellsOne};
@@ -23,6 +23,7 @@ pub fn restore_bytes(alloc: Global, bytes: &[u8], told: &mut TowerVerdict) -> Re
     ensures frame { IfErr result (λ status. status ≡ 4 → SpellsOne bytes.now (FailsFrame told.new)) }
     ensures refused { IfErr result (λ status. status ≡ 5 → IsNoImage told.new bytes.now) }
     ensures words { IfErr result (λ status. status ≡ 6 → SpellsOne bytes.now HasOldWords) }
+    ensures old { SpellsOne bytes.now HasOldWords → (result ≡ Err 2) ⊎ (result ≡ Err 6) }
     ensures done { IfOk result (λ _. told.new ≡ told.old) }
     ensures untold { IfErr result (λ status. (status ≡ 2) ⊎ (status ≡ 6) → told.new ≡ told.old) }
 {

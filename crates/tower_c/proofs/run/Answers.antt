@@ -39,7 +39,7 @@ loop-i-preserved c =
           (sym nothing_here ∙ c.loop-i.invariant.refused nothing) in
           step.refused (not-true (is_carried_out s (event_in e)) parts.0) ∙ c.loop-i.invariant.still nothing;
       along = subst (λ (es : List TowerEvent). EndInOrder es c.args.core.now c.step.new.core) (sym (take_one events i e rest here).0)
-          (ends_on (take i events) c.args.core.now c.loop-i.core c.step.new.core e c.loop-i.invariant.along step.state step.ends);
+          (ends_on (take i events) c.args.core.now c.loop-i.core c.step.new.core e c.loop-i.invariant.along step.stands step.state step.ends);
       refused = λ nothing.
           (and_parts (not (is_carried_out s (event_in e))) (none_is_carried_out t rest)
           (sym nothing_here ∙ c.loop-i.invariant.refused nothing)).1;

@@ -28,7 +28,7 @@ loop-i-preserved c =
           (on s t events old replies i e (drop (i + 1) events) c.loop-i.invariant.so_far (begins events i none c.loop-i-test.true) (c.requires ∙ sym c.loop-i.auto.replies) goes));
       along = subst (λ (es : List TowerEvent). EndInOrder es c.args.core.now c.step_with_outcome-told.new.core)
           (sym (take_one events i e (drop (i + 1) events) (begins events i none c.loop-i-test.true)).0)
-          (ends_on (take i events) c.args.core.now c.loop-i.core c.step_with_outcome-told.new.core e c.loop-i.invariant.along told.state told.ends);
+          (ends_on (take i events) c.args.core.now c.loop-i.core c.step_with_outcome-told.new.core e c.loop-i.invariant.along told.stands told.state told.ends);
       still = λ nothing. absurd (omega (arith, nothing));
     }
 

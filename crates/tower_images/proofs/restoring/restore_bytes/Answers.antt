@@ -1,10 +1,11 @@
 use Rattle.image_restore.specs.Failing.{NamesClause}
 use Rattle.image_restore.proofs.FailLemmas.{unsound}
 use Rattle.std.proofs.Common.{subst}
+use Rattle.memory_image.specs.Sound.{IsSound}
 use Rattle.tower_images.proofs.TellLemmas.{is_alone}
 use Rattle.tower_images.proofs.restoring.restore_bytes.Goals as goal
 
 pub returns-in-Err-NotSound-clause-passes : goal.returns-in-Err-NotSound-clause-passes
 returns-in-Err-NotSound-clause-passes c one =
     absurd (unsound c.in-Ok.image c.in-Err-NotSound.failed c.in-Ok.ensures.spelled.fits
-    (subst (NamesClause c.in-Ok.image) c.in-Err-NotSound.field-0-is c.in-Err-NotSound.ensures.failed) (is_alone c.args.bytes.now c.in-Ok.image c.in-Ok.ensures.spelled one))
+    (subst (NamesClause c.in-Ok.image) c.in-Err-NotSound.field-0-is c.in-Err-NotSound.ensures.failed) (is_alone IsSound c.args.bytes.now c.in-Ok.image c.in-Ok.ensures.spelled one))

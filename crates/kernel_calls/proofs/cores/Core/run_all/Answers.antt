@@ -4,7 +4,7 @@ use Rattle.std.proofs.lemmas.List.{take_more_set, drop_more, drop_all}
 use Rattle.process_table.specs.State.{State}
 use Rattle.process_table.specs.View.{View}
 use Rattle.kernel_calls.specs.Machine.{answers, end_of, completes, none_completes}
-use Rattle.kernel_calls.specs.Translations.{ended_by, EndAlong}
+use Rattle.kernel_calls.specs.Translations.{EndsInOrder}
 use Rattle.kernel_calls.specs.declared.calls.Event.{Event}
 use Rattle.kernel_calls.specs.declared.calls.Reply.{Reply}
 use Rattle.kernel_calls.proofs.cores.Core.run_all.Goals as goal
@@ -35,9 +35,8 @@ loop-i-preserved c =
           let parts = and_parts (not (completes r)) (none_completes (answers s rest))
           (ap none_completes (sym replies_here) ∙ c.loop-i.invariant.refused none) in
           step.kept (not-true (completes r) parts.0) ∙ c.loop-i.invariant.still none;
-      along = λ later w more. c.loop-i.invariant.along (ended_by v e ∷ later) w
-          (subst (λ (es : List Event). EndAlong es (ended_by v e ∷ later) v w) (sym here)
-          (c.step.new.self, refl, step.state, step.ends, more));
+      along = λ w more. c.loop-i.invariant.along w
+          (subst (λ (es : List Event). EndsInOrder es v w) (sym here) (c.step.new.self, step.stands, step.state, step.ends, more));
       refused = λ none.
           (and_parts (not (completes r)) (none_completes (answers s rest))
           (ap none_completes (sym replies_here) ∙ c.loop-i.invariant.refused none)).1;
@@ -47,5 +46,5 @@ pub returns-clause-ends : goal.returns-clause-ends
 returns-clause-ends c =
     let past : length c.args.events.now ≤ c.loop-i.i = search rules in
     let none : drop c.loop-i.i c.args.events.now ≡ [] = drop_all c.loop-i.i c.args.events.now past in
-    c.loop-i.invariant.along [] c.loop-i.self
-    (subst (λ (es : List Event). EndAlong es [] c.loop-i.self c.loop-i.self) (sym none) refl)
+    c.loop-i.invariant.along c.loop-i.self
+    (subst (λ (es : List Event). EndsInOrder es c.loop-i.self c.loop-i.self) (sym none) refl)

@@ -1,8 +1,7 @@
-use Rattle.std.proofs.Common.{◌≡◌, ◌++◌, List, take, drop, true}
+use Rattle.std.proofs.Common.{◌≡◌, ◌++◌, take, drop, true}
 use Rattle.process_table.specs.View.{View}
 use Rattle.kernel_calls.specs.Machine.{answers, end_of, none_completes}
-use Rattle.kernel_calls.specs.Translations.{EndAlong, EndsAlong}
-use Rattle.kernel_calls.specs.declared.translations.Ended.{Ended}
+use Rattle.kernel_calls.specs.Translations.{EndsInOrder}
 use Rattle.kernel_calls.proofs.cores.Core.run_all.Given as goal
 
 -- the replies so far and those to what is left are those to all
@@ -11,6 +10,6 @@ invariant-loop-i l = record {
   told : take l.i l.replies ++ answers l.self.state (drop l.i l.events) ≡ answers l.fn.self.state l.events;
   rest : end_of l.self.state (drop l.i l.events) ≡ end_of l.fn.self.state l.events;
   still : none_completes (answers l.fn.self.state l.events) ≡ true → l.self ≡ l.fn.self;
-  along : (later : List Ended) (w : View) → EndAlong (drop l.i l.events) later l.self w → EndsAlong l.events l.fn.self w;
+  along : (w : View) → EndsInOrder (drop l.i l.events) l.self w → EndsInOrder l.events l.fn.self w;
   refused : none_completes (answers l.fn.self.state l.events) ≡ true → none_completes (answers l.self.state (drop l.i l.events)) ≡ true;
 }
