@@ -35,6 +35,12 @@ begins_whole log seen h le =
     let none : h.0 ≡ [] = none_left h.0 (omega arith) in
     h.1 ∙ (ap (λ l. seen ++ l) none ∙ append-nil seen)
 
+pub begins_itself : (xs : List Moment) → Begins xs xs
+begins_itself xs = ([], sym (append-nil xs))
+
+pub begins_trans : (xs ys zs : List Moment) → Begins xs ys → Begins ys zs → Begins xs zs
+begins_trans xs ys zs h k = (k.0 ++ h.0, h.1 ∙ (ap (λ l. l ++ h.0) k.1 ∙ append_assoc zs k.0 h.0))
+
 -- a beginning of moments has a beginning of their entries
 pub starts_of : (log seen : List Moment) → Begins log seen → StartsWith (entries_in log) (entries_in seen)
 starts_of log seen h = (entries_in h.0, ap entries_in h.1 ∙ entries_append seen h.0)

@@ -13,19 +13,25 @@ use Rattle.memory_image.specs.Machine.{IsImageOf}
 use Rattle.locked_core.specs.Moments.{Begins, Follows, core_after, entries_in}
 use Rattle.locked_core.specs.declared.moment.Moment.{Moment}
 
--- its number, the entries that it has seen, and these entries each with the core after it
+-- Its number, the entries that it has seen, and these entries each with the core after it. Also the moments that it has
+-- seen or received from other CPUs, whichever are more.
 pub record Maker : Type 0 where
   pub number : ℕ
   pub seen : List LogEntry
   pub moments : List Moment
+  pub told : List Moment
 
 -- a CPU that has seen these entries, and no core
 abbrev pub maker : ℕ → List LogEntry → Maker
-maker number seen = record { number = number; seen = seen; moments = [] }
+maker number seen = record { number = number; seen = seen; moments = []; told = [] }
 
--- a CPU that has seen these moments
+-- a CPU that has seen these moments, and received those
+abbrev pub maker_told : ℕ → List Moment → List Moment → Maker
+maker_told number moments told = record { number = number; seen = entries_in moments; moments = moments; told = told }
+
+-- a CPU that has seen these moments, and received no more
 abbrev pub maker_of : ℕ → List Moment → Maker
-maker_of number moments = record { number = number; seen = entries_in moments; moments = moments }
+maker_of number moments = maker_told number moments moments
 
 -- What a CPU that made a call has seen. Its moments have the entries that it has seen, begin with those that it had
 -- seen, and follow one another from the core that the kernel opened with.

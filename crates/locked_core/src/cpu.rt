@@ -22,7 +22,7 @@ use std::marker::Model;
 use std::sync::ledger::{Book, Share};
 use std::sync::{MutexGuard, Wait};
 
-/// What a CPU has seen, for a monitor. Contracts see it as the list of entries.
+/// What a CPU has seen, for a monitor or another CPU. Contracts see it as the list of moments.
 #[derive(Drop)]
 pub struct Told<N: Name> {
     seen: Front<N>,
@@ -30,16 +30,16 @@ pub struct Told<N: Name> {
 
 impl<N: Name> Model for Told<N> {
     ghost use Rattle.std.specs.Prelude.{List};
-    ghost use Rattle.locked_core.specs.Moments.{entries_in};
-    ghost use Rattle.memory_report.specs.declared.entries.LogEntry.{LogEntry};
+    ghost use Rattle.locked_core.specs.declared.moment.Moment.{Moment};
 
-    ghost Value = { List LogEntry };
+    ghost Value = { List Moment };
 
-    ghost view = { λ t. entries_in t.seen };
+    ghost view = { λ t. t.seen };
 }
 
 impl<N: Name> Told<N> {
     /// Returns how many entries it has.
+    #[tactic(auto, using(crate::proofs::Moments::entries_long))]
     pub fn front(&self) -> usize
         ensures { result ≡ length self.now }
     {
@@ -47,14 +47,15 @@ impl<N: Name> Told<N> {
     }
 
     pub(crate) fn into_seen(self) -> Front<N>
-        ensures { entries_in result ≡ self }
+        ensures { result ≡ self }
     {
         let Told { seen } = self;
         seen
     }
 }
 
-/// One CPU of a kernel. Contracts see its number and the entries that it has seen, with the core after each entry.
+/// One CPU of a kernel. Contracts see its number and the entries that it has seen, with the core after each entry, and
+/// what it received.
 /// Its own entries among them are the calls that it made, and its share counts them. The total under the lock counts
 /// all entries, and grows only with the share of a CPU. Therefore each entry of the history is one call of one CPU.
 #[derive(Drop)]
@@ -62,6 +63,8 @@ pub struct Cpu<N: Name> {
     pub(crate) number: u8,
     pub(crate) calls: usize,
     pub(crate) seen: Front<N>,
+    /// What it has seen or received, whichever is longer.
+    pub(crate) told: Front<N>,
     /// The calls that it made, counted among those of all CPUs.
     pub(crate) share: Share<Calls<N>>,
     /// The calls that it made, counted apart.
@@ -71,14 +74,14 @@ pub struct Cpu<N: Name> {
 impl<N: Name> Model for Cpu<N> {
     ghost use Rattle.std.specs.Prelude.{◌≡◌, ◌<◌};
     ghost use Rattle.memory_report.specs.Histories.{calls_of};
-    ghost use Rattle.locked_core.specs.Makers.{Maker, maker_of};
-    ghost use Rattle.locked_core.specs.Moments.{entries_in};
+    ghost use Rattle.locked_core.specs.Makers.{Maker, maker_told};
+    ghost use Rattle.locked_core.specs.Moments.{Begins, entries_in};
 
     ghost Value = { Maker };
 
-    ghost view = { λ c. maker_of c.number c.seen };
+    ghost view = { λ c. maker_told c.number c.seen c.told };
 
-    ghost invariant = { λ c. (c.calls ≡ calls_of c.number (entries_in c.seen)) × (c.number < 8) × (c.share.parts ≡ 1) × (c.share.amount ≡ calls_of c.number (entries_in c.seen)) × (c.own ≡ record { number = c.number; calls = calls_of c.number (entries_in c.seen) }) };
+    ghost invariant = { λ c. Begins c.told c.seen × (c.calls ≡ calls_of c.number (entries_in c.seen)) × (c.number < 8) × (c.share.parts ≡ 1) × (c.share.amount ≡ calls_of c.number (entries_in c.seen)) × (c.own ≡ record { number = c.number; calls = calls_of c.number (entries_in c.seen) }) };
 }
 
 impl<N: Name> Cpu<N> {
@@ -97,12 +100,28 @@ impl<N: Name> Cpu<N> {
         self.calls
     }
 
-    /// Returns what it has seen, for a monitor.
+    /// Returns what it has seen, for a monitor or another CPU.
     pub fn tell(&self) -> Told<N>
-        ensures { result ≡ self.now.seen }
+        ensures entries { entries_in result ≡ self.now.seen }
+        ensures moments { result ≡ self.now.moments }
     {
         Told {
             seen: self.seen.again(),
+        }
+    }
+
+    /// Takes in what another CPU has seen. It keeps the longer list, of which the other is a prefix. What this CPU has
+    /// seen changes with its next call, and then begins with this list.
+    #[tactic(auto, using(crate::proofs::Moments::begins_itself, crate::proofs::Moments::begins_trans))]
+    pub fn learn(&mut self, told: Told<N>)
+        ensures kept { (self.new.number ≡ self.old.number) × (self.new.seen ≡ self.old.seen) × (self.new.moments ≡ self.old.moments) }
+        ensures one { (self.new.told ≡ self.old.told) ⊎ (self.new.told ≡ told) }
+        ensures old { Begins self.new.told self.old.told }
+        ensures told { Begins self.new.told told }
+    {
+        let told = told.into_seen();
+        if !told.begins(&self.told) {
+            self.told = told;
         }
     }
 
@@ -126,6 +145,7 @@ impl<N: Name> Cpu<N> {
         Cpu {
             number,
             calls: 0,
+            told: seen.again(),
             seen,
             share,
             own,
@@ -140,6 +160,7 @@ impl<N: Name> Cpu<N> {
             number: _,
             calls: _,
             seen: _,
+            told: _,
             share,
             own: _,
         } = self;
@@ -182,10 +203,12 @@ impl<N: Name> Cpu<N> {
             number: _,
             calls,
             seen,
+            told,
             share,
             own,
         } = self;
         *calls += 1;
+        *told = grown.again();
         *seen = grown;
         counted.add(share, 1);
         tally.add(own);
@@ -205,6 +228,7 @@ impl<N: Name> Cpu<N> {
     ) -> Result<Reply, Fault>
         ensures made { IfOk result (Makes N.frames self.old pid call self.new) }
         ensures followed { IfOk result (λ _. IsFollowed N.book.opening self.old self.new) }
+        ensures learned { IfOk result (λ _. Begins self.new.moments self.old.told) }
         ensures stood { N.book.opening.state ≡ open_with N.frames }
         ensures isolated { IfOk result (λ _. AreIsolated N.frames self.new.seen) }
         ensures guarded { IfOk result (λ _. AreGuarded N.frames self.new.seen) }
@@ -252,6 +276,7 @@ impl<N: Name> Cpu<N> {
         ensures told { IfOk result (λ r. I.told processors.old r.1 processors.new) }
         ensures untold { OnErr result (processors.new ≡ processors.old) }
         ensures followed { IfOk result (λ _. IsFollowed N.book.opening self.old self.new) }
+        ensures learned { IfOk result (λ _. Begins self.new.moments self.old.told) }
         ensures stood { N.book.opening.state ≡ open_with N.frames }
         ensures isolated { IfOk result (λ _. AreIsolated N.frames self.new.seen) }
         ensures guarded { IfOk result (λ _. AreGuarded N.frames self.new.seen) }

@@ -110,9 +110,10 @@ impl<N: Name> Locked<N> {
         ensures follows { Follows N.book.opening self.old.moments }
         ensures fits { IfSome result (λ _. StartsWith self.old.log cpu.old.seen × (calls_of cpu.old.number self.old.log ≡ calls_of cpu.old.number cpu.old.seen)) }
         ensures begins { IfSome result (λ _. Begins self.old.moments cpu.old.moments) }
+        ensures told { IfSome result (λ _. Begins self.old.moments cpu.old.told) }
         ensures same { (self.new ≡ self.old) × (cpu.new ≡ cpu.old) }
     {
-        let turn = self.head.take_turn(&self.log, &cpu.seen)?;
+        let turn = self.head.take_turn(&self.log, &cpu.told)?;
         cpu.audit(&mut self.tally);
         Some(turn)
     }
@@ -155,6 +156,7 @@ impl<N: Name> Locked<N> {
         ensures turn { IfOk result (λ r. r.turn ≡ turn_after self.old.moments) }
         ensures fits { IfOk result (λ _. StartsWith self.old.log cpu.old.seen × (calls_of cpu.old.number self.old.log ≡ calls_of cpu.old.number cpu.old.seen)) }
         ensures begins { IfOk result (λ _. Begins self.old.moments cpu.old.moments) }
+        ensures told { IfOk result (λ _. Begins self.old.moments cpu.old.told) }
         ensures opened { N.book.opening.state ≡ open_with N.frames }
         ensures refused { IfErr result (IsRefused N.frames self.old.log cpu.old) }
         ensures same { (self.new ≡ self.old) × (cpu.new ≡ cpu.old) }

@@ -72,9 +72,9 @@ impl<N: Name> Monitor<N> {
     /// Takes in what was received. It keeps the longer list, of which the other is a prefix.
     #[tactic(auto, using(crate::proofs::Prefixes::starts_itself))]
     pub fn learn(&mut self, told: Told<N>)
-        ensures longer { self.new ≡ longer self.old told }
+        ensures longer { self.new ≡ longer self.old (entries_in told) }
         ensures seen { StartsWith self.new self.old }
-        ensures told { StartsWith self.new told }
+        ensures told { StartsWith self.new (entries_in told) }
     {
         let told = told.into_seen();
         if !told.begins(&self.seen) {

@@ -395,3 +395,36 @@ fn one_missing<N: Name, R: Wait + Abort>(rt: &R, blank: Blank<OpenGate>)
 fn does_not_close_with_one_of_two_cpus(rt: HostRuntime) {
     one_missing::<Brand, HostRuntime>(&rt, booted(&rt, 16, 2, 0, OpenGate));
 }
+
+/// Which of two CPUs has seen no more than the other.
+fn check_begins<N: Name, R: Abort>(rt: &R, one: &Cpu<N>, other: &Cpu<N>, begins: (bool, bool)) {
+    same(rt, &(one.begins(other), other.begins(one)), &begins);
+}
+
+/// CPU 0 makes two calls. CPU 1 receives what CPU 0 has seen, and makes one.
+fn told_and_called<N: Name, R: Wait + Abort>(rt: &R, blank: Blank<OpenGate>)
+    requires { (blank.frames ≡ N.frames) × (blank.book ≡ N.book) }
+{
+    let Boot {
+        kernel,
+        mut cpus,
+        monitors: _,
+    } = opened::<N, OpenGate, R>(rt, blank);
+    let mut second = taken(rt, &mut cpus);
+    let mut first = taken(rt, &mut cpus);
+    let root = process(rt, 0);
+    check_begins(rt, &first, &second, (true, true));
+    answered(rt, &kernel, &mut first, root, store(7), Reply::Done);
+    answered(rt, &kernel, &mut first, root, load(), Reply::Value(7));
+    second.learn(first.tell());
+    check_begins(rt, &first, &second, (false, true));
+    answered(rt, &kernel, &mut second, root, load(), Reply::Value(7));
+    check_begins(rt, &first, &second, (true, false));
+    let back = put(rt, put(rt, cpus, first), second);
+    check_length(rt, &closed(rt, kernel, back), 3);
+}
+
+#[test]
+fn a_cpu_that_received_a_list_sees_it(rt: HostRuntime) {
+    told_and_called::<Brand, HostRuntime>(&rt, booted(&rt, 16, 2, 0, OpenGate));
+}

@@ -58,3 +58,13 @@ returns-clause-guarded g c =
     let done = c.in-Ok-carry_out.ensures in
     let seen : c.carry_out.new.cpu.seen ≡ c.carry_out.new.self.log = ap (λ (m : Maker). m.seen) done.made ∙ done.told.1 in
     subst (AreGuarded g.N.Name.frames) (sym seen) (histories_guarded g.N.Name.frames c.carry_out.new.self.log done.legal)
+
+-- the log began with what it had received
+pub returns-clause-learned : goal.returns-clause-learned
+returns-clause-learned g c =
+    let done = c.in-Ok-carry_out.ensures in
+    let before = c.args.self.now in
+    let same : c.deref_mut.result.now ≡ c.deref_mut-2.result.now = search rules in
+    let moments : c.carry_out.new.cpu.moments ≡ c.carry_out.new.self.moments = ap (λ (m : Maker). m.moments) done.made in
+    let began : Begins c.deref_mut-2.result.now.moments before.told = subst (λ (h : UnderLock). Begins h.moments before.told) same c.in-Ok.ensures.told in
+    subst (λ (l : List Moment). Begins l before.told) (sym (moments ∙ done.moments)) (begins_push c.deref_mut-2.result.now.moments before.told _ began)
