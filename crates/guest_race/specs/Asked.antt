@@ -4,8 +4,7 @@
 use Rattle.std.specs.Prelude.{◌≡◌, ℕ, ◌+◌, Bool, true, List, Option}
 use Rattle.image_check.specs.Told.{Told, fails_nothing}
 use Rattle.integrity_checker.specs.Steps.{IsOf}
-use Rattle.integrity_checker.specs.declared.parts.Audit.{Audit}
-use Rattle.integrity_checker.specs.declared.parts.Helper.{Helper}
+use Rattle.integrity_checker.specs.Held.{Audited, Helping}
 use Rattle.memory_report.specs.declared.rows.Row.{Row}
 
 -- A referee questioned a monitor, which gave these rows, and then an audit, by whose verdict nothing fails.
@@ -21,7 +20,7 @@ abbrev pub Judges : {S : Type 0} → (S → Told → S → Type 0) → S → Boo
 Judges {S} judged before sound after = (verdict : Told) × judged before verdict after × (sound ≡ fails_nothing verdict)
 
 -- a helper of this audit that has answered that no number is left
-abbrev pub IsDone : Audit → Helper → Type 0
+abbrev pub IsDone : Audited → Helping → Type 0
 IsDone audit helper = IsOf audit helper × (helper.done ≡ true)
 
 -- That many steps in sequence, and the result of the last.

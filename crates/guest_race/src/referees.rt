@@ -30,7 +30,7 @@ pub trait Referee {
         requires own { All (λ h. IsOf audit h) helpers.items }
         requires done { All (λ h. h.done ≡ true) helpers.items }
         ensures asked { IfOk result (λ v. judged self.old v self.new) }
-        ensures verdict { IfOk result (λ v. v ≡ verdict_on audit.about.image) };
+        ensures verdict { IfOk result (λ v. v ≡ verdict_on audit.image) };
 }
 
 /// The referee of a race: it asks, and keeps nothing.

@@ -1,3 +1,4 @@
 pub mod Drawn
 pub mod Found
+pub mod Held
 pub mod Steps

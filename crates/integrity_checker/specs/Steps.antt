@@ -5,20 +5,15 @@ use Rattle.memory_image.specs.Image.{Image}
 use Rattle.image_check.specs.Draws.{times}
 use Rattle.image_check.specs.Verdict.{process_clause}
 use Rattle.integrity_checker.specs.Drawn.{once_below}
-use Rattle.integrity_checker.specs.declared.parts.Audit.{Audit}
-use Rattle.integrity_checker.specs.declared.parts.Helper.{Helper}
+use Rattle.integrity_checker.specs.Held.{Audited, Helping}
 use Rattle.integrity_checker.specs.declared.parts.Step.{Step}
 use Rattle.integrity_checker.specs.declared.parts.Step.TheVariants.{Checked, NoneLeft}
 use Rattle.integrity_checker.specs.declared.faults.AuditFault.{AuditFault}
 use Rattle.integrity_checker.specs.declared.faults.AuditFault.TheVariants.{BadCount, Missing, NoMemory}
 
--- the numbers that a helper has answered, in their order
-abbrev pub numbers_answered : Helper → List ℕ
-numbers_answered helper = helper.seat.me.0.drawn
-
 -- a helper of this audit
-abbrev pub IsOf : Audit → Helper → Type 0
-IsOf audit helper = (helper.seat.table_id ≡ audit.table.shared.table_id) × (helper.seat.me.0.image ≡ audit.about.image)
+abbrev pub IsOf : Audited → Helping → Type 0
+IsOf audit helper = (helper.table ≡ audit.table) × (helper.image ≡ audit.image)
 
 -- a number that was not there is added, and its clause is that of its process; or none is added
 abbrev pub Stepped : Image → List ℕ → List ℕ → Step → Type 0
@@ -26,12 +21,12 @@ Stepped image before after (Checked p clause) = (after ≡ before ++ p ∷ []) �
 Stepped image before after NoneLeft = after ≡ before
 
 -- together they have answered each number below 64 once, and no other
-abbrev pub AnsweredAll : List Helper → Type 0
-AnsweredAll helpers = (x : ℕ) → sum_by (λ h. times x (numbers_answered h)) helpers ≡ once_below x 64
+abbrev pub AnsweredAll : List Helping → Type 0
+AnsweredAll helpers = (x : ℕ) → sum_by (λ h. times x h.answered) helpers ≡ once_below x 64
 
 -- a helper is not among them, or one of them has not answered that none is left
-abbrev pub AreMissing : Audit → List Helper → Type 0
-AreMissing audit helpers = (length helpers ≢ audit.about.helpers) ⊎ (list_all (λ h. h.done) helpers ≡ false)
+abbrev pub AreMissing : Audited → List Helping → Type 0
+AreMissing audit helpers = (length helpers ≢ audit.helpers) ⊎ (list_all (λ h. h.done) helpers ≡ false)
 
 -- why an audit by so many helpers is not made
 abbrev pub IsRefused : ℕ → AuditFault → Type 0

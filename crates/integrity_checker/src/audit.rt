@@ -9,7 +9,7 @@ ghost use Rattle.image_check.specs.Told.{verdict_on};
 ghost use Rattle.image_check.specs.Verdict.{process_clause};
 ghost use Rattle.image_check.specs.Draws.{times};
 ghost use Rattle.integrity_checker.specs.Drawn.{IsIdle, drawer, once_below};
-ghost use Rattle.integrity_checker.specs.Steps.{AnsweredAll, AreMissing, IsOf, IsRefused, numbers_answered};
+ghost use Rattle.integrity_checker.specs.Steps.{AnsweredAll, AreMissing, IsOf, IsRefused};
 
 use crate::draw::{About, CutOne, Drawer, Gather, Total};
 use crate::faults::AuditFault;
@@ -32,10 +32,10 @@ impl Audit {
     ) -> Result<(Audit, Vec<Helper>), AuditFault>
         ensures refused { IfErr result (λ fault. IsRefused helpers fault) }
         ensures few { IfOk result (λ _. (1 ≤ helpers) × (helpers ≤ 8)) }
-        ensures count { IfOk result (λ r. (r.0.about.helpers ≡ helpers) × (vec_len r.1 ≡ helpers)) }
-        ensures image { IfOk result (λ r. r.0.about.image ≡ image) }
+        ensures count { IfOk result (λ r. (r.0.helpers ≡ helpers) × (vec_len r.1 ≡ helpers)) }
+        ensures image { IfOk result (λ r. r.0.image ≡ image) }
         ensures own { IfOk result (λ r. All (λ h. IsOf r.0 h) r.1.items) }
-        ensures empty { IfOk result (λ r. All (λ h. numbers_answered h ≡ []) r.1.items) }
+        ensures empty { IfOk result (λ r. All (λ h. h.answered ≡ []) r.1.items) }
     {
         if helpers < 1 || helpers > 8 {
             return Err(AuditFault::BadCount);
@@ -52,7 +52,7 @@ impl Audit {
     pub fn finish(self, helpers: Vec<Helper>) -> Result<Verdict, AuditFault>
         requires { All (λ h. IsOf self h) helpers.items }
         ensures all { IfOk result (λ _. AnsweredAll helpers.items) }
-        ensures verdict { IfOk result (λ v. v ≡ verdict_on self.about.image) }
+        ensures verdict { IfOk result (λ v. v ≡ verdict_on self.image) }
         ensures missing { IfErr result (λ fault. (fault ≡ AuditFault.Missing) × AreMissing self helpers.items) }
     {
         if helpers.len() as u64 != self.about.helpers {
@@ -81,10 +81,10 @@ impl Audit {
 /// An audit by so many helpers; None where there is no memory for it.
 fn made(alloc: Global, image: Image, helpers: u64) -> Option<(Audit, Vec<Helper>)>
     requires { (0 < helpers) × (helpers ≤ 8) }
-    ensures count { IfSome result (λ r. (r.0.about.helpers ≡ helpers) × (vec_len r.1 ≡ helpers)) }
-    ensures image { IfSome result (λ r. r.0.about.image ≡ image) }
+    ensures count { IfSome result (λ r. (r.0.helpers ≡ helpers) × (vec_len r.1 ≡ helpers)) }
+    ensures image { IfSome result (λ r. r.0.image ≡ image) }
     ensures own { IfSome result (λ r. All (λ h. IsOf r.0 h) r.1.items) }
-    ensures empty { IfSome result (λ r. All (λ h. numbers_answered h ≡ []) r.1.items) }
+    ensures empty { IfSome result (λ r. All (λ h. h.answered ≡ []) r.1.items) }
 {
     let about = About { helpers, image };
     let Ok(room) = vec![in alloc; None; about.image.frames() as usize] else {
@@ -158,11 +158,11 @@ fn push(seats: &mut Vec<Helper>, helper: Helper) -> Option<()>
 fn join_all(audit: &Audit, first: Helper, mut others: Vec<Helper>) -> Findings
     requires own { IsOf audit.now first × All (λ h. IsOf audit.now h) others.items }
     requires ended { (first.done ≡ true) × All (λ h. h.done ≡ true) others.items }
-    requires count { vec_len others + 1 ≡ audit.now.about.helpers }
-    ensures all { (x : ℕ) → times x (numbers_answered first) + sum_by (λ h. times x (numbers_answered h)) others.items ≡ once_below x 64 }
-    ensures processes { result.clauses ≡ map (process_clause audit.now.about.image) (range_with_len 0 64) }
-    ensures names { Counts result.names.items (frames audit.now.about.image) (λ f. counts.names audit.now.about.image f) }
-    ensures maps { Counts result.maps.items (frames audit.now.about.image) (λ f. counts.maps audit.now.about.image f) }
+    requires count { vec_len others + 1 ≡ audit.now.helpers }
+    ensures all { (x : ℕ) → times x first.answered + sum_by (λ h. times x h.answered) others.items ≡ once_below x 64 }
+    ensures processes { result.clauses ≡ map (process_clause audit.now.image) (range_with_len 0 64) }
+    ensures names { Counts result.names.items (frames audit.now.image) (λ f. counts.names audit.now.image f) }
+    ensures maps { Counts result.maps.items (frames audit.now.image) (λ f. counts.maps audit.now.image f) }
 {
     let Helper {
         mut seat,

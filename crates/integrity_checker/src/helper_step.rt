@@ -3,7 +3,7 @@
 ghost use Rattle.std.specs.Prelude.{◌≡◌, ◌↔◌, [], true, false};
 ghost use Rattle.integrity_checker.specs.Drawn.{drawer};
 ghost use Rattle.integrity_checker.specs.Found.{IsFound};
-ghost use Rattle.integrity_checker.specs.Steps.{IsOf, Stepped, numbers_answered};
+ghost use Rattle.integrity_checker.specs.Steps.{IsOf, Stepped};
 
 use crate::draw::{Draw, Drawer};
 use crate::findings::Findings;
@@ -16,7 +16,7 @@ impl Helper {
     pub(crate) fn new(seat: Seat<u8, Drawer>, findings: Findings) -> Helper
         requires seat { (seat.me.0 ≡ drawer seat.me.0.image 1 [] false) × (seat.me.1 ≡ []) }
         requires found { IsFound seat.me.0.image [] findings.clauses findings.names.items findings.maps.items }
-        ensures { result.seat ≡ seat }
+        ensures { result ≡ record { table = seat.table_id; image = seat.me.0.image; answered = []; done = false } }
     {
         Helper {
             seat,
@@ -30,8 +30,8 @@ impl Helper {
     pub fn step(&mut self, audit: &Audit) -> Step
         requires { IsOf audit.now self.old }
         ensures own { IsOf audit.now self.new }
-        ensures step { Stepped audit.now.about.image (numbers_answered self.old) (numbers_answered self.new) result }
-        ensures done { (result ≡ Step.NoneLeft) ↔ (self.new.seat.me.0.done ≡ true) }
+        ensures step { Stepped audit.now.image self.old.answered self.new.answered result }
+        ensures done { (result ≡ Step.NoneLeft) ↔ (self.new.done ≡ true) }
     {
         if self.done {
             return Step::NoneLeft;

@@ -1,16 +1,12 @@
 //! What an audit and its helpers keep.
 
-ghost use Rattle.std.specs.Prelude.{◌≡◌, ◌<◌, ◌≤◌, [], length};
-ghost use Rattle.memory_image.specs.Image.{frames};
-ghost use Rattle.image_check.specs.Draws.{AreSomeDrawn};
-ghost use Rattle.integrity_checker.specs.Found.{IsFound};
-
 use crate::draw::{About, Drawer, Draws};
 use crate::findings::Findings;
 use atomic_table::{Seat, Table};
 use image_check::{FrameClause, ProcessClause};
 use page_words::Pid;
 use std::alloc::Global;
+use std::marker::Model;
 
 /// The word from which the helpers draw.
 pub type DrawTable = Table<u8, Drawer, About, Draws, Global>;
@@ -27,30 +23,47 @@ pub enum Step {
     NoneLeft,
 }
 
-/// An image that helpers check. End it with `finish`.
+/// An image that helpers check. Contracts see the table from which they draw, how many they are, and the image. End it
+/// with `finish`.
 #[derive(Drop)]
 pub struct Audit {
-    pub table: DrawTable,
+    pub(crate) table: DrawTable,
     /// How many helpers it has, and the image.
-    pub about: About,
+    pub(crate) about: About,
     pub(crate) room: Vec<Option<FrameClause>>,
-    ghost key: { table.shared.key ≡ about },
-    ghost word: { table.shared.table_id.words ≡ 1 },
-    ghost some: { 0 < about.helpers },
-    ghost few: { about.helpers ≤ 8 },
-    ghost frames: { length room.items ≡ frames about.image },
 }
 
-/// A helper that checks processes of an audit. Its seat carries the numbers that it has answered.
+impl Model for Audit {
+    ghost use Rattle.std.specs.Prelude.{◌≡◌, ◌<◌, ◌≤◌, length};
+    ghost use Rattle.memory_image.specs.Image.{frames};
+    ghost use Rattle.integrity_checker.specs.Held.{Audited};
+
+    ghost Value = { Audited };
+
+    ghost view = { λ a. record { table = a.table.shared.table_id; helpers = a.about.helpers; image = a.about.image } };
+
+    ghost invariant = { λ a. (a.table.shared.key ≡ a.about) × (a.table.shared.table_id.words ≡ 1) × (0 < a.about.helpers) × (a.about.helpers ≤ 8) × (length a.room.items ≡ frames a.about.image) };
+}
+
+/// A helper that checks processes of an audit. Contracts see the table from which it draws, the image, the numbers that
+/// it has answered, and whether it has answered that none is left.
 #[derive(Drop)]
 pub struct Helper {
-    pub seat: Seat<u8, Drawer>,
+    pub(crate) seat: Seat<u8, Drawer>,
     /// Whether it has answered that no number is left.
-    pub done: bool,
+    pub(crate) done: bool,
     pub(crate) findings: Findings,
-    ghost one: { seat.me.0.share ≡ 1 },
-    ghost empty: { seat.me.1 ≡ [] },
-    ghost ended: { seat.me.0.done ≡ done },
-    ghost drawn: { AreSomeDrawn seat.me.0.drawn 64 },
-    ghost found: { IsFound seat.me.0.image seat.me.0.drawn findings.clauses findings.names.items findings.maps.items },
+}
+
+impl Model for Helper {
+    ghost use Rattle.std.specs.Prelude.{◌≡◌, []};
+    ghost use Rattle.image_check.specs.Draws.{AreSomeDrawn};
+    ghost use Rattle.integrity_checker.specs.Found.{IsFound};
+    ghost use Rattle.integrity_checker.specs.Held.{Helping};
+
+    ghost Value = { Helping };
+
+    ghost view = { λ h. record { table = h.seat.table_id; image = h.seat.me.0.image; answered = h.seat.me.0.drawn; done = h.done } };
+
+    ghost invariant = { λ h. (h.seat.me.0.share ≡ 1) × (h.seat.me.1 ≡ []) × (h.seat.me.0.done ≡ h.done) × AreSomeDrawn h.seat.me.0.drawn 64 × IsFound h.seat.me.0.image h.seat.me.0.drawn h.findings.clauses h.findings.names.items h.findings.maps.items };
 }

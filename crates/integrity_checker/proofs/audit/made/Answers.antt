@@ -1,8 +1,7 @@
 use Rattle.std.proofs.Common.{◌≡◌, ℕ, ◌+◌, ◌-◌, [], ◌∷◌, ◌++◌, List, All, length, length-append, false, ap, ◌∙◌, sym, subst, arith}
 use Rattle.integrity_checker.specs.declared.draw.Drawer.{Drawer}
-use Rattle.integrity_checker.specs.declared.parts.Helper.{Helper}
+use Rattle.integrity_checker.specs.Held.{Helping}
 use Rattle.integrity_checker.specs.Drawn.{drawer}
-use Rattle.integrity_checker.specs.Steps.{numbers_answered}
 use Rattle.integrity_checker.proofs.Sums.{every_push}
 use Rattle.integrity_checker.proofs.Drawing.{begins}
 use Rattle.integrity_checker.proofs.audit.made.Goals as goal
@@ -24,8 +23,8 @@ pub loop-number-preserved : goal.loop-number-preserved
 loop-number-preserved c =
     let kept = c.loop-number.invariant in
     let cut = c.cut_one-seat.ensures in
-    let P : Helper → Type 0 = λ h. (h.seat.table_id ≡ c.in-Ok-opened.table.shared.table_id) × (h.seat.me.0.image ≡ c.args.image) in
-    let Q : Helper → Type 0 = λ h. numbers_answered h ≡ [] in
+    let P : Helping → Type 0 = λ h. (h.table ≡ c.in-Ok-opened.table.shared.table_id) × (h.image ≡ c.args.image) in
+    let Q : Helping → Type 0 = λ h. h.answered ≡ [] in
     let helper = c.new-in-loop-number.result in
     let seat = c.new-in-loop-number.ensures in
     let grown : c.push.new.seats.items ≡ c.loop-number.seats.items ++ helper ∷ [] = c.in_ok-push.ensures in
@@ -37,20 +36,20 @@ loop-number-preserved c =
       ap (λ m. m.0) cut.left ∙ (λ i. drawer (image i) (less i) [] false),
       ap (λ m. m.1) cut.left ∙ kept.2,
       (let k = kept.3 in omega (arith, k, long)),
-      subst (λ (hs : List Helper). All P hs) (sym grown) (every_push P c.loop-number.seats.items helper kept.4 (ap (λ s. s.table_id) seat ∙ cut.own.1 ∙ kept.0, ap (λ s. s.me.0.image) seat ∙ ap (λ m. m.0.image) cut.right ∙ image)),
-      subst (λ (hs : List Helper). All Q hs) (sym grown) (every_push Q c.loop-number.seats.items helper kept.5 (ap (λ s. s.me.0.drawn) seat ∙ ap (λ m. m.0.drawn) cut.right)),
+      subst (λ (hs : List Helping). All P hs) (sym grown) (every_push P c.loop-number.seats.items helper kept.4 (ap (λ (h : Helping). h.table) seat ∙ cut.own.1 ∙ kept.0, ap (λ (h : Helping). h.image) seat ∙ ap (λ m. m.0.image) cut.right ∙ image)),
+      subst (λ (hs : List Helping). All Q hs) (sym grown) (every_push Q c.loop-number.seats.items helper kept.5 (ap (λ (h : Helping). h.answered) seat)),
     )
 
 pub returns-clause-own : goal.returns-clause-own
 returns-clause-own c =
     let kept = c.loop-number.invariant in
-    let P : Helper → Type 0 = λ h. (h.seat.table_id ≡ c.in-Ok-opened.table.shared.table_id) × (h.seat.me.0.image ≡ c.args.image) in
+    let P : Helping → Type 0 = λ h. (h.table ≡ c.in-Ok-opened.table.shared.table_id) × (h.image ≡ c.args.image) in
     let grown : c.push-2.new.seats.items ≡ c.loop-number.seats.items ++ c.new-3.result ∷ [] = c.in_ok-push-2.ensures in
-    subst (λ (hs : List Helper). All P hs) (sym grown) (every_push P c.loop-number.seats.items c.new-3.result kept.4 (ap (λ s. s.table_id) c.new-3.ensures ∙ kept.0, ap (λ s. s.me.0.image) c.new-3.ensures ∙ ap (λ (v : Drawer). v.image) kept.1))
+    subst (λ (hs : List Helping). All P hs) (sym grown) (every_push P c.loop-number.seats.items c.new-3.result kept.4 (ap (λ (h : Helping). h.table) c.new-3.ensures ∙ kept.0, ap (λ (h : Helping). h.image) c.new-3.ensures ∙ ap (λ (v : Drawer). v.image) kept.1))
 
 pub returns-clause-empty : goal.returns-clause-empty
 returns-clause-empty c =
     let kept = c.loop-number.invariant in
-    let Q : Helper → Type 0 = λ h. numbers_answered h ≡ [] in
+    let Q : Helping → Type 0 = λ h. h.answered ≡ [] in
     let grown : c.push-2.new.seats.items ≡ c.loop-number.seats.items ++ c.new-3.result ∷ [] = c.in_ok-push-2.ensures in
-    subst (λ (hs : List Helper). All Q hs) (sym grown) (every_push Q c.loop-number.seats.items c.new-3.result kept.5 (ap (λ s. s.me.0.drawn) c.new-3.ensures ∙ ap (λ (v : Drawer). v.drawn) kept.1))
+    subst (λ (hs : List Helping). All Q hs) (sym grown) (every_push Q c.loop-number.seats.items c.new-3.result kept.5 (ap (λ (h : Helping). h.answered) c.new-3.ensures))
