@@ -1,1 +1,2 @@
 mod ListSteps
+mod FirstOffers

@@ -213,7 +213,7 @@ find-filter q t b says (o ∷ offers) = one (find-filter q t b says offers) (q o
     one rest false true is stays = ap (λ x. cond x (Some o) (find q (filter t offers))) is ∙ rest
     one rest false false is goes = rest
 
-of_one : (page target : ℕ) (o : Offer) → is_of page target o ≡ true → (o.page ≡ page) × (o.target ≡ target)
+pub of_one : (page target : ℕ) (o : Offer) → is_of page target o ≡ true → (o.page ≡ page) × (o.target ≡ target)
 of_one page target o is = (eqb-true o.page page (first (o.page == page) (o.target == target) is), eqb-true o.target target (second (o.page == page) (o.target == target) is))
   where
     first : (a b : Bool) → (a && b) ≡ true → a ≡ true

@@ -1,9 +1,10 @@
 -- The lists of offers, one for each process, as a finite map, and what they keep.
-use Rattle.std.specs.Prelude.{◌≡◌, ℕ, ◌+◌, ◌≤◌, ◌==◌, ◌&&◌, Bool, List, [], ◌∷◌, None, find, length, sum_by, slice_index_or, slice_set}
+use Rattle.std.specs.Prelude.{◌≡◌, ℕ, ◌+◌, ◌<◌, ◌≤◌, ◌==◌, ◌&&◌, Bool, List, [], ◌∷◌, Option, None, Some, find, length, sum_by, slice_index_or, slice_set}
+use Rattle.std.specs.List.{All, Contains}
 use Rattle.arrayvec.specs.ArrayVec.{ArrayVec}
 use Rattle.page_words.specs.FiniteMap as map
 use Rattle.page_sharing.specs.declared.Offer.{Offer}
-use Rattle.page_sharing.specs.Offers.{Offers, offer_key}
+use Rattle.page_sharing.specs.Offers.{Offers, offer_key, offer_number}
 
 -- whether an offer is of that page to that target
 abbrev pub is_of : ℕ → ℕ → Offer → Bool
@@ -51,3 +52,13 @@ pub record IsOffers (lists : List (ArrayVec Offer)) : Type 0 where
 pub record IsCounted (lists : List (ArrayVec Offer)) (count : ℕ) : Type 0 where
   pub bounds : IsOffers lists
   pub counted : count ≡ all_pending lists
+
+-- the place of an offer in a list
+abbrev pub number_in : Offer → ℕ
+number_in offer = offer_number offer.page offer.target
+
+-- the first offer of a list whose place is this one or a later one
+abbrev pub IsFirstFrom : ℕ → List Offer → Option Offer → Type 0
+IsFirstFrom from offers None = All (λ (o : Offer). number_in o < from) offers
+IsFirstFrom from offers (Some first) = Contains offers first × (from ≤ number_in first)
+    × All (λ (o : Offer). from ≤ number_in o → number_in first ≤ number_in o) offers

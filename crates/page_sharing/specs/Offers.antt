@@ -1,5 +1,5 @@
 -- The pending offers: a finite map from who offers which page to whom, to the right that goes with it.
-use Rattle.std.proofs.Common.{◌≡◌, ℕ, Bool, ◌&&◌, ◌||◌, not, ◌==◌, nat_le, if◌then◌else◌, refl}
+use Rattle.std.proofs.Common.{◌≡◌, ℕ, ◌+◌, ◌*◌, Bool, ◌&&◌, ◌||◌, not, ◌==◌, nat_le, if◌then◌else◌, refl}
 use Rattle.std.specs.Prelude.{Result, Ok, Err}
 use Rattle.std.specs.declared.cmp.Ordering.{Ordering}
 use Rattle.std.specs.declared.cmp.Ordering.TheVariants.{Less, Equal, Greater}
@@ -22,6 +22,10 @@ pub record OfferKey : Type 0 where
 -- the offer of a page by a process to another
 abbrev pub offer_key : ℕ → ℕ → ℕ → OfferKey
 offer_key offerer page target = record { offerer = offerer; page = page; target = target }
+
+-- the place of an offer among those of its offerer, which come by page and then by target
+abbrev pub offer_number : ℕ → ℕ → ℕ
+offer_number page target = 64 * page + target
 
 -- by offerer, then by page, then by target
 abbrev pub offer_cmp : OfferKey → OfferKey → Ordering

@@ -4,11 +4,12 @@
 //! process has at most 32 offers pending, in a list of its own.
 #![tactic(auto)]
 
-ghost use Rattle.std.specs.Prelude.{◌≡◌, ℕ, ◌+◌, ◌<◌, ◌≤◌, ◌==◌, ◌&&◌, ◌↔◌, not, false, [], ◌∷◌, ◌++◌, IsErrOf, IfErr, IfOk, IsOk, OnOk, OnErr, Some, filter, find, position, remove, slice_get, length, nat_le};
+ghost use Rattle.std.specs.Prelude.{◌≡◌, if◌then◌else◌, ℕ, ◌+◌, ◌<◌, ◌≤◌, ◌==◌, ◌&&◌, ◌↔◌, not, false, [], ◌∷◌, ◌++◌, IsErrOf, IfErr, IfOk, IfSome, IfNone, IsOk, OnOk, OnErr, Some, List, filter, find, position, remove, slice_get, length, nat_le};
 ghost use Rattle.std.specs.Option.{option_map};
 ghost use Rattle.page_words.specs.FiniteMap as map;
-ghost use Rattle.page_sharing.specs.Offers.{offer_key, offer_answer, pending, without_page, without_process};
-ghost use Rattle.page_sharing.specs.Listed.{is_of, offers_by, with_list, all_pending};
+ghost use Rattle.page_sharing.specs.Offers.{offer_key, offer_number, offer_answer, pending, without_page, without_process};
+ghost use Rattle.page_sharing.specs.declared.Offer.{Offer};
+ghost use Rattle.page_sharing.specs.Listed.{is_of, number_in, IsFirstFrom, offers_by, with_list, all_pending};
 
 use arrayvec::ArrayVec;
 use page_words::{Page, Pid};
@@ -32,12 +33,13 @@ pub enum OfferFault {
     NoOffer,
 }
 
-/// An offer, in the list of its offerer.
+/// A pending offer of a process, which its offerer's list holds.
 #[derive(Clone, Copy, Debug)]
-struct Offer {
-    page: Page,
-    target: Pid,
-    write: bool,
+pub struct Offer {
+    pub page: Page,
+    pub target: Pid,
+    /// Whether the target may write to the page.
+    pub write: bool,
 }
 
 impl Default for Offer {
@@ -79,7 +81,8 @@ impl Model for Offers {
 
     ghost coded = { offers_code };
 
-    ghost use Rattle.page_sharing.specs.Listed.{offers_in, IsCounted};
+    ghost use Rattle.page_sharing.specs.declared.Offer.{Offer};
+ghost use Rattle.page_sharing.specs.Listed.{offers_in, IsCounted};
 
     ghost view = { λ offers. offers_in offers.lists };
 
@@ -100,6 +103,48 @@ fn place_of(offers: &[Offer], page: Page, target: Pid) -> Option<usize>
     ensures { result ≡ position (is_of page target) offers.now }
 {
     offers.iter().position(|offer| offer.is_of(page, target))
+}
+
+/// The place of an offer among those of its offerer, which come by page and then by target.
+fn number_of(page: Page, target: u32) -> u64
+    ensures { result ≡ offer_number page target }
+{
+    64 * u64::from(page.0) + u64::from(target)
+}
+
+impl Offer {
+    /// Its place among the offers of its offerer.
+    fn number(&self) -> u64
+        ensures { result ≡ number_in self.now }
+    {
+        number_of(self.page, u32::from(self.target.number()))
+    }
+}
+
+/// Whether an offer's place is `from` or later, and before that of the first one that was found.
+fn comes_first(offer: &Offer, first: &Option<Offer>, from: u64) -> bool
+    ensures { (offers : List Offer) → IsFirstFrom from offers first.now → IsFirstFrom from (offers ++ offer.now ∷ []) (if result then Some offer.now else first.now) }
+{
+    if offer.number() < from {
+        return false;
+    }
+    match first {
+        Some(found) => offer.number() < found.number(),
+        None => true,
+    }
+}
+
+/// The first offer of a list whose place is `from` or later.
+fn first_from(offers: &[Offer], from: u64) -> Option<Offer>
+    ensures { IsFirstFrom from offers.now result }
+{
+    let mut first = None;
+    for offer in offers {
+        if comes_first(offer, &first, from) {
+            first = Some(*offer);
+        }
+    }
+    first
 }
 
 /// Takes the offers of a page out of a list, and gives how many went.
@@ -282,6 +327,17 @@ impl Offers {
         ensures { result ≡ map.get self.now (offer_key giver page target) }
     {
         right_of(list_by(&self.lists, giver), page, target)
+    }
+
+    /// Returns a process's first pending offer from a page and a target on, in the order of pages, and of targets for one
+    /// page. `target` may be any number: past 63 it leads to the next page. None if no such offer is pending.
+    pub fn next(&self, giver: Pid, page: Page, target: u32) -> Option<Offer>
+        ensures pending { IfSome result (λ offer. map.get self.now (offer_key giver offer.page offer.target) ≡ Some offer.write) }
+        ensures from { IfSome result (λ offer. offer_number page target ≤ offer_number offer.page offer.target) }
+        ensures least { IfSome result (λ offer. (p t : ℕ) → offer_number page target ≤ offer_number p t → offer_number p t < offer_number offer.page offer.target → map.contains_key self.now (offer_key giver p t) ≡ false) }
+        ensures none { IfNone result ((p t : ℕ) → offer_number page target ≤ offer_number p t → map.contains_key self.now (offer_key giver p t) ≡ false) }
+    {
+        first_from(list_by(&self.lists, giver), number_of(page, target))
     }
 
     /// Takes a pending offer back. NoOffer where it isn't pending, and nothing changes then.
