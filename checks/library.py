@@ -58,6 +58,22 @@ class Page(ctypes.Structure):
                [(name, ctypes.c_bool) for name in ("write", "may", "accessed", "dirty", "lazy")]
 
 
+class Processes(ctypes.Structure):
+    """A list of processes."""
+    _fields_ = [("count", ctypes.c_uint32), ("pids", ctypes.c_uint32 * machine.PROCESSES)]
+
+    def listed(self):
+        return list(self.pids[:self.count])
+
+
+class Offer(ctypes.Structure):
+    _fields_ = [("page", ctypes.c_uint32), ("target", ctypes.c_uint32), ("write", ctypes.c_bool)]
+
+
+class Holder(ctypes.Structure):
+    _fields_ = [("pid", ctypes.c_uint32), ("page", ctypes.c_uint32)]
+
+
 class Block(ctypes.Structure):
     _fields_ = [("begins", ctypes.c_void_p), ("length", ctypes.c_size_t)]
 
@@ -69,7 +85,8 @@ def built(archive, folder):
                     "-Wl,--whole-archive", archive, "-Wl,--no-whole-archive"], check=True)
     library = ctypes.CDLL(made)
     for name in ("step", "step_ending", "ends", "run", "run_until", "read", "write", "next_page", "directory",
-                 "container", "role", "walk", "copy_frame", "memory"):
+                 "container", "role", "walk", "copy_frame", "memory", "children", "next_offer", "next_holder",
+                 "next_dirty", "peek", "clean", "end", "take_back"):
         getattr(library, "tower_" + name).restype = ctypes.c_bool
     return library
 
@@ -226,6 +243,61 @@ class Core:
         while self.library.tower_next_page(ctypes.byref(self.handle), ctypes.c_uint32(number), page, *asked):
             yield page.value, found.write, found.may, found.accessed, found.dirty, found.holders, found.lazy
             page.value += 1
+
+    def acts(self, name, *asked):
+        """The result of a function for a kernel's acts. A number is passed as one of 32 bits."""
+        given = (ctypes.c_uint32(it) if isinstance(it, int) else it for it in asked)
+        return getattr(self.library, f"tower_{name}")(ctypes.byref(self.handle), *given)
+
+    def children_of(self, number):
+        """A process's children, or None if the number is no process."""
+        found = Processes()
+        return found.listed() if self.acts("children", number, ctypes.byref(found)) else None
+
+    def offers(self, number):
+        """Each pending offer of a process, as the library returns one after the other."""
+        offer, page, target = Offer(), 0, 0
+        while self.acts("next_offer", number, page, target, ctypes.byref(offer)):
+            yield offer.page, offer.target, offer.write
+            page, target = offer.page, offer.target + 1
+
+    def holders(self, number, page):
+        """The other slots that share a page, as the library returns one after the other."""
+        found = ctypes.c_uint32(0)
+        for holder in range(machine.PROCESSES):
+            at = 0
+            while self.acts("next_holder", number, page, holder, at, ctypes.byref(found)):
+                yield holder, found.value
+                at = found.value + 1
+
+    def dirty_pages(self, number):
+        page = ctypes.c_uint32(0)
+        while self.acts("next_dirty", number, page.value, ctypes.byref(page)):
+            yield page.value
+            page.value += 1
+
+    def peek(self, number, address, count):
+        held, moved = (ctypes.c_uint8 * max(1, count))(), ctypes.c_size_t(99)
+        self.acts("peek", number, address, held, ctypes.c_size_t(count), ctypes.byref(moved))
+        return bytes(held[:moved.value])
+
+    def clean(self, number, page):
+        """Whether a page that was cleaned was dirty, or None if it is not mapped."""
+        dirty = ctypes.c_bool(False)
+        return dirty.value if self.acts("clean", number, page, ctypes.byref(dirty)) else None
+
+    def end(self, number):
+        """The reply to the end of a family, and the processes in the order in which they exited."""
+        exited, told = Processes(), Answer(99, 99, 99, 99, True, True, True, True)
+        self.acts("end", number, ctypes.byref(exited), ctypes.byref(told))
+        return reply_of(told), exited.listed()
+
+    def take_back(self, number, page, places):
+        """The reply to taking a page back, and the slots that lost it."""
+        lost, count = (Holder * max(1, places))(), ctypes.c_size_t(99)
+        told = Answer(99, 99, 99, 99, True, True, True, True)
+        self.acts("take_back", number, page, lost, ctypes.c_size_t(places), ctypes.byref(count), ctypes.byref(told))
+        return reply_of(told), [(it.pid, it.page) for it in lost[:count.value]]
 
     def walk(self, number, address, write):
         """The library's walk of a process, or None if it returns none."""

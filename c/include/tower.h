@@ -459,6 +459,78 @@ struct tower_page {
 TOWER_NODISCARD bool tower_next_page(const struct tower *tower, uint32_t pid, uint32_t from, uint32_t *page,
                                      struct tower_page *found);
 
+/* Up to TOWER_PROCESSES processes: the first `count` places of `pids`. */
+struct tower_processes {
+    uint32_t count;
+    uint32_t pids[TOWER_PROCESSES];
+};
+
+/* Lists a process's children in order of their numbers. It changes nothing of the core. A process that is not live has
+ * none. False if there is no core or pid is no process's number; then nothing is written. */
+TOWER_NODISCARD bool tower_children(const struct tower *tower, uint32_t pid, struct tower_processes *found);
+
+/* A pending offer of a page. */
+struct tower_offer {
+    uint32_t page;
+    uint32_t target;
+    bool write;        /* the target may write to it */
+};
+
+/* Finds a process's first pending offer from a page and a target on, in the order of pages, and of targets for one page.
+ * It changes nothing of the core. False if there is no core, pid is no process's number, or no such offer is pending;
+ * then nothing is written. To iterate over all offers, begin with 0 and 0, and continue with the page of the one
+ * returned and the target after its own. A target past 63 leads to the next page. */
+TOWER_NODISCARD bool tower_next_offer(const struct tower *tower, uint32_t pid, uint32_t page, uint32_t target,
+                                      struct tower_offer *offer);
+
+/* A page of a process. */
+struct tower_holder {
+    uint32_t pid;
+    uint32_t page;
+};
+
+/* Finds the lowest page from `from` on at which process `holder` also has page `page` of process pid: both share it. The
+ * page itself is none of them. It changes nothing of the core, and looks up each page that the holder has mapped from
+ * there on. False if there is no core, pid or holder is no process's number, or there is no such page; then nothing is
+ * written. */
+TOWER_NODISCARD bool tower_next_holder(const struct tower *tower, uint32_t pid, uint32_t page, uint32_t holder,
+                                       uint32_t from, uint32_t *found);
+
+/* Finds the lowest page from `from` on that a process has mapped and that is dirty. It changes nothing of the core, and
+ * looks up each mapped page from there on. False if there is no core, pid is no process's number, or there is no such
+ * page; then nothing is written. */
+TOWER_NODISCARD bool tower_next_dirty(const struct tower *tower, uint32_t pid, uint32_t from, uint32_t *page);
+
+/* Copies bytes of a process's memory out as they are, up to the first that is not mapped. `moved` becomes the number of
+ * bytes copied; the other bytes are unchanged. It changes nothing of the core: no page is mapped, and no flag is set. If
+ * pid is no process's number, no byte is copied. False if the handle has no core; then nothing is written. */
+TOWER_NODISCARD bool tower_peek(const struct tower *tower, uint32_t pid, uint32_t address, uint8_t *bytes,
+                                size_t byte_count, size_t *moved);
+
+/* Clears accessed and dirty of a mapped page, and reports whether it was dirty. It is no event: an Info of the page shows
+ * it, and a log of events doesn't have it. A kernel whose processors cache translations invalidates the page's before
+ * the next access or event. False if there is no core, pid is no process's number, or the process has not mapped the
+ * page; then nothing changes, and nothing is written. */
+TOWER_NODISCARD bool tower_clean(struct tower *tower, uint32_t pid, uint32_t page, bool *dirty);
+
+/* Ends a process with all that descend from it, children first: it is the run of their Exits. `exited` lists them in that
+ * order. A kernel whose processors cache translations invalidates all of each of these processes before the next access
+ * or event. `told` becomes TOWER_DONE. It becomes TOWER_REFUSED with TOWER_ROOT_EXIT for process 0 and with
+ * TOWER_NO_PROCESS for a process that is not live, and TOWER_NO_EVENT if pid is no process's number; then nothing
+ * changes, and `exited` stays. False if the handle has no core; then nothing is written. */
+TOWER_NODISCARD bool tower_end(struct tower *tower, uint32_t pid, struct tower_processes *exited,
+                               struct tower_reply *told);
+
+/* Takes a page of a process back from all others that share it: it is the run of the Unmaps of their pages. `lost` gets
+ * the pages that were unmapped, in that order, and `count` becomes their number; the other places are unchanged. A kernel
+ * whose processors cache translations invalidates those of these pages before the next access or event. If `count` is
+ * less than lost_count, the process has the page alone. Otherwise others may still have it, so call again. `told` becomes
+ * TOWER_DONE. It becomes TOWER_REFUSED with the cause for which an Info of the page is refused, and TOWER_NO_EVENT if pid
+ * is no process's number; then nothing changes, and `count` becomes 0. False if the handle has no core; then nothing is
+ * written. */
+TOWER_NODISCARD bool tower_take_back(struct tower *tower, uint32_t pid, uint32_t page, struct tower_holder *lost,
+                                     size_t lost_count, size_t *count, struct tower_reply *told);
+
 /* Where the core's memory lies, from the boot until tower_free: frame f is the 4,096 bytes from place
  * 4,096 f on. It begins where rattle_alloc put the block. Between two calls only a processor that walks the
  * core's directories may write there, as docs/C-LIBRARY.md says. False if the handle has no core; then
@@ -560,6 +632,21 @@ TOWER_NODISCARD static inline bool tower_copy_frame_inline(const struct tower *t
     return tower_copy_frame(tower, frame, byte_count || bytes ? bytes : &byte, byte_count);
 }
 
+TOWER_NODISCARD static inline bool tower_peek_inline(const struct tower *tower, uint32_t pid, uint32_t address,
+                                                     uint8_t *bytes, size_t byte_count, size_t *moved) {
+    uint8_t byte = 0;
+    return tower_peek(tower, pid, address, byte_count || bytes ? bytes : &byte, byte_count, moved);
+}
+
+TOWER_NODISCARD static inline bool tower_take_back_inline(struct tower *tower, uint32_t pid, uint32_t page,
+                                                          struct tower_holder *lost, size_t lost_count, size_t *count,
+                                                          struct tower_reply *told) {
+    struct tower_holder holder = {0, 0};
+    return tower_take_back(tower, pid, page, lost_count || lost ? lost : &holder, lost_count, count, told);
+}
+
+#define tower_peek tower_peek_inline
+#define tower_take_back tower_take_back_inline
 #define tower_run tower_run_inline
 #define tower_run_until tower_run_until_inline
 #define tower_read tower_read_inline

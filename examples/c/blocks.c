@@ -81,6 +81,22 @@ static void queries(struct tower *tower) {
     SAYS(tower_memory(tower, &memory));
 }
 
+static void acts(struct tower *tower) {
+    struct tower_processes processes = {0};
+    struct tower_holder holder = {0, 0};
+    struct tower_reply told = {0};
+    uint32_t number = 0;
+    size_t count = 0;
+    bool dirty = false;
+    SAYS(tower_children(tower, 0, &processes));
+    SAYS(tower_peek(tower, 0, 0x40000ffe, data, sizeof data, &count));
+    SAYS(tower_next_dirty(tower, 0, 0, &number));
+    SAYS(tower_clean(tower, 0, TOWER_FIRST_PAGE, &dirty));
+    SAYS(tower_take_back(tower, 0, TOWER_FIRST_PAGE, &holder, 1, &count, &told));
+    SAYS(tower_end(tower, 1, &processes, &told));
+    need(!tower_next_holder(tower, 0, TOWER_FIRST_PAGE, 1, 0, &number), "a page of process 0 alone");
+}
+
 static void images(struct tower *tower) {
     struct tower_verdict verdict = {0};
     size_t size = 0;
@@ -96,7 +112,8 @@ static void images(struct tower *tower) {
 static const struct trial {
     const char *name;
     void (*on)(struct tower *);
-} trials[] = {{"steps and runs", steps}, {"reads and writes", transfers}, {"queries", queries}, {"images and checks", images}};
+} trials[] = {{"steps and runs", steps}, {"reads and writes", transfers}, {"queries", queries},
+              {"acts for processes", acts}, {"images and checks", images}};
 
 static void expect(size_t expected, const char *what) {
     printf("%zu blocks: %s\n", blocks, what);

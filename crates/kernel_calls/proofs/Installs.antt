@@ -1,24 +1,32 @@
 -- Bytes that are put into one page: the right for the time, the stores, and the right taken back.
-use Rattle.std.proofs.Common.{◌≡◌, ℕ, ◌+◌, ◌<◌, ◌≤◌, ◌&&◌, Bool, true, false, not, length, List, [], ◌∷◌, ◌++◌, refl, sym, ap, ◌∙◌, is_some, Option, Some, None, unwrap_or}
+use Rattle.std.proofs.Common.{◌≡◌, ℕ, ◌+◌, ◌<◌, ◌≤◌, ◌&&◌, Bool, true, false, not, length, List, [], ◌∷◌, ◌++◌, refl, sym, ap, subst, ◌∙◌, is_some, Option, Some, None, unwrap_or, inl, inr}
 use Rattle.std.specs.Prelude.{if◌then◌else◌}
 use Rattle.std.specs.Option.{option_map}
 use Rattle.std.proofs.lemmas.List.{append-nil}
 use Rattle.page_words.specs.FiniteMap as map
 use Rattle.page_words.specs.Addresses.{page_number, offset_number}
-use Rattle.page_words.proofs.OptionLemmas.{some_value}
-use Rattle.address_space.specs.Spaces.{Slot, Cell, fresh, cell_or_fresh, at_page, slot_at, set_bytes, write_at}
+use Rattle.page_words.proofs.MapLemmas.{same_map}
+use Rattle.page_words.proofs.OptionLemmas.{some_value, no_value}
+use Rattle.page_words.proofs.SetLemmas.{same_cases}
+use Rattle.address_space.specs.Spaces.{Slot, slot_order, Cell, fresh, cell_or_fresh, is_slot, at_page, slot_at, set_bytes, write_at}
+use Rattle.address_space.specs.Image.{takes_stores}
+use Rattle.process_table.specs.Image.{memory_of}
 use Rattle.process_table.specs.Parts.{after_stores}
 use Rattle.process_table.specs.State.{State, is_live, is_mapped}
-use Rattle.process_table.specs.Calls.{after_map, after_protect}
+use Rattle.process_table.specs.View.{View}
+use Rattle.process_table.specs.Calls.{after_protect}
 use Rattle.process_table.specs.WellFormed.{IsWellFormed}
 use Rattle.process_table.specs.declared.causes.Cause.TheVariants as cause
-use Rattle.process_table.proofs.CellLaws.{get-inserted}
+use Rattle.process_table.proofs.CellLaws.{get-inserted, get-inserted_other}
 use Rattle.process_table.proofs.Placed.{page_is_user}
-use Rattle.kernel_calls.specs.Installed.{map_of, protect_of, is_writable_at, install_run, Installs, StoresAndCloses}
+use Rattle.kernel_calls.specs.Installed.{map_of, protect_of, is_writable_at, opening, store_run, IsRunTo, IsOpening, IsOpened}
 use Rattle.kernel_calls.specs.Machine.{answer, next, end_of, completes, refused_or}
 use Rattle.kernel_calls.specs.Transfers.{stores, carried, AreStored}
+use Rattle.kernel_calls.specs.Translations.{ended_by, is_ended, is_all_of}
 use Rattle.kernel_calls.specs.declared.calls.Event.{Event}
 use Rattle.kernel_calls.specs.declared.calls.Reply.TheVariants as reply
+use Rattle.kernel_calls.specs.declared.translations.Ended.{Ended}
+use Rattle.kernel_calls.specs.declared.translations.Ended.TheVariants as end
 use Rattle.kernel_calls.proofs.Decided.{next-goes}
 use Rattle.kernel_calls.proofs.Runs.{end_of-append}
 use Rattle.kernel_calls.proofs.TransferLemmas.{carried-append}
@@ -58,45 +66,57 @@ stored_there s p a bytes =
 pub one_carried : (s : State) (e : Event) → completes (answer s e) ≡ true → carried s (e ∷ []) ≡ e ∷ []
 one_carried s e h = ap (λ b. if b then e ∷ [] else []) h
 
-pub stores_closed : (s t u : State) (p a : ℕ) (bytes : List ℕ) → AreStored s p a bytes t → answer t (protect_of p (page_number a) false) ≡ reply.Done
-    → u ≡ next t (protect_of p (page_number a) false) → StoresAndCloses s p a bytes u
-stores_closed s t u p a bytes stored done after =
-    let e = protect_of p (page_number a) false in
-    record {
-      all = carried-append s (stores p a bytes) (e ∷ []) stored.all ∙ ap (λ x. stores p a bytes ++ carried x (e ∷ [])) stored.after
-          ∙ ap (λ es. stores p a bytes ++ es) (one_carried t e (ap completes done));
-      after = end_of-append s (stores p a bytes) (e ∷ []) ∙ ap (λ x. next x e) stored.after ∙ sym after;
-    }
+-- a run of one event
+pub run_one : (s t : State) (e : Event) → completes (answer s e) ≡ true → t ≡ next s e → IsRunTo s (e ∷ []) t
+run_one s t e done after = record { all = one_carried s e done; after = sym after }
+
+pub run_none : (s : State) → IsRunTo s [] s
+run_none s = record { all = refl; after = refl }
+
+-- one run after another
+pub run_then : (s t u : State) (first second : List Event) → IsRunTo s first t → IsRunTo t second u → IsRunTo s (first ++ second) u
+run_then s t u first second a b = record {
+  all = carried-append s first second a.all ∙ ap (λ x. first ++ carried x second) a.after ∙ ap (λ es. first ++ es) b.all;
+  after = end_of-append s first second ∙ ap (λ x. end_of x second) a.after ∙ b.after;
+}
 
 -- ---- The page that is made writable
 
-pub mapped_writes : (s : State) (p page : ℕ) → completes (answer s (map_of p page true)) ≡ true
-    → (is_mapped (next s (map_of p page true)) (at_page p page) ≡ true) × (is_writable_at (next s (map_of p page true)) (at_page p page) ≡ true)
-mapped_writes s p page h =
-    let goes : next s (map_of p page true) ≡ after_map s p page true = next-goes s (map_of p page true) h in
-    let get = get-inserted s.spaces (at_page p page) (fresh (at_page p page) true) in (
-      ap (λ (t : State). is_mapped t (at_page p page)) goes ∙ ap is_some get,
-      ap (λ (t : State). is_writable_at t (at_page p page)) goes ∙ ap (λ (x : Option Cell). unwrap_or (option_map (λ (c : Cell). c.write) x) false) get,
-    )
+-- a page that was given the right to write
+pub open_there : (s : State) (p page : ℕ) → is_mapped (after_protect s p page true) (at_page p page) ≡ true
+open_there s p page = ap is_some (get-inserted s.spaces (at_page p page) (record (cell_or_fresh s.spaces (at_page p page)) { write = true }))
 
-pub protected_writes : (s : State) (p page : ℕ) → completes (answer s (protect_of p page true)) ≡ true
-    → (is_mapped (next s (protect_of p page true)) (at_page p page) ≡ true) × (is_writable_at (next s (protect_of p page true)) (at_page p page) ≡ true)
-protected_writes s p page h =
-    let goes : next s (protect_of p page true) ≡ after_protect s p page true = next-goes s (protect_of p page true) h in
-    let get = get-inserted s.spaces (at_page p page) (record (cell_or_fresh s.spaces (at_page p page)) { write = true }) in (
-      ap (λ (t : State). is_mapped t (at_page p page)) goes ∙ ap is_some get,
-      ap (λ (t : State). is_writable_at t (at_page p page)) goes ∙ ap (λ (x : Option Cell). unwrap_or (option_map (λ (c : Cell). c.write) x) false) get,
-    )
+pub open_writes : (s : State) (p page : ℕ) → is_writable_at (after_protect s p page true) (at_page p page) ≡ true
+open_writes s p page =
+    ap (λ (x : Option Cell). unwrap_or (option_map (λ (c : Cell). c.write) x) false)
+    (get-inserted s.spaces (at_page p page) (record (cell_or_fresh s.spaces (at_page p page)) { write = true }))
 
--- ---- All of it
+fresh_there : (s : State) (slot : Slot) → is_mapped s slot ≡ false → cell_or_fresh s.spaces slot ≡ fresh slot true
+fresh_there s slot none = ap (λ (x : Option Cell). unwrap_or x (fresh slot true)) (no_value (map.get s.spaces slot) none)
 
--- the page is made writable by an event, and then the rest goes
-pub installs_then : (s t u : State) (p a : ℕ) (bytes : List ℕ) (write : Bool) (e : Event) (rest : List Event) → install_run s p a bytes write ≡ e ∷ rest
-    → completes (answer s e) ≡ true → t ≡ next s e → carried t rest ≡ rest → end_of t rest ≡ u → Installs s p a bytes write u
-installs_then s t u p a bytes write e rest run done moved all after = record {
-  all = ap (carried s) run ∙ ap (λ b. if b then e ∷ carried (next s e) rest else []) done ∙ ap (λ x. e ∷ carried x rest) (sym moved) ∙ ap (λ es. e ∷ es) all ∙ sym run;
-  after = ap (end_of s) run ∙ ap (λ x. end_of x rest) (sym moved) ∙ after;
-}
+with_right : (c : Cell) → c.write ≡ true → c ≡ record c { write = true }
+with_right c h = λ i. record c { write = h i }
+
+-- one that has it already is as it was
+open_before : (s : State) (p page : ℕ) → is_mapped s (at_page p page) ≡ true → is_writable_at s (at_page p page) ≡ true → s ≡ after_protect s p page true
+open_before s p page there right =
+    let slot = at_page p page in
+    let c = some_value (map.get s.spaces slot) there in
+    let cell : cell_or_fresh s.spaces slot ≡ c.0 = ap (λ (x : Option Cell). unwrap_or x (fresh slot true)) c.1 in
+    let writes : c.0.write ≡ true = sym (ap (λ (x : Option Cell). unwrap_or (option_map (λ (c : Cell). c.write) x) false) c.1) ∙ right in
+    let same : Some c.0 ≡ Some (record (cell_or_fresh s.spaces slot) { write = true }) =
+    ap Some (with_right c.0 writes ∙ ap (λ (x : Cell). record x { write = true }) (sym cell))
+    in
+    λ i. record s {
+      spaces = same_map s.spaces (map.insert s.spaces slot (record (cell_or_fresh s.spaces slot) { write = true })) (λ q. elim (same_cases slot_order q slot) [
+        | inl is ↦ ap (map.get s.spaces) is.0 ∙ c.1 ∙ same
+            ∙ sym (get-inserted s.spaces slot (record (cell_or_fresh s.spaces slot) { write = true }))
+            ∙ ap (map.get (map.insert s.spaces slot (record (cell_or_fresh s.spaces slot) { write = true }))) (sym is.0)
+        | inr other ↦ sym (get-inserted_other s.spaces slot (record (cell_or_fresh s.spaces slot) { write = true }) q other.0)
+      ]) i;
+    }
+
+-- ---- What opens it
 
 unmapped_right : (s : State) (slot : Slot) → is_mapped s slot ≡ false → is_writable_at s slot ≡ false
 unmapped_right s slot none = by (map.get s.spaces slot) none
@@ -105,27 +125,78 @@ unmapped_right s slot none = by (map.get s.spaces slot) none
     by None h = refl
     by (Some c) h = cc
 
-pub run_mapped : (s : State) (p a : ℕ) (bytes : List ℕ) (write : Bool) → is_mapped s (slot_at p a) ≡ false
-    → install_run s p a bytes write ≡ map_of p (page_number a) true ∷ (stores p a bytes ++ (if write then [] else protect_of p (page_number a) false ∷ []))
-run_mapped s p a bytes write none =
-    let right = unmapped_right s (slot_at p a) none in
-    λ i. (if right i then [] else if none i then protect_of p (page_number a) true ∷ [] else map_of p (page_number a) true ∷ [])
-    ++ (stores p a bytes ++ (if right i then [] else if not (none i) && write then [] else protect_of p (page_number a) false ∷ []))
+pub opens_nothing : (s : State) (p page : ℕ) → is_writable_at s (at_page p page) ≡ true → opening s p page ≡ []
+opens_nothing s p page right = ap (λ b. if b then [] else if is_mapped s (at_page p page) then protect_of p page true ∷ [] else map_of p page true ∷ []) right
 
--- a page that was mapped first, and keeps the right
-pub map_then_stores : (s t u : State) (p a : ℕ) (bytes : List ℕ) (write : Bool) → is_mapped s (slot_at p a) ≡ false → write ≡ true
-    → completes (answer s (map_of p (page_number a) true)) ≡ true → t ≡ next s (map_of p (page_number a) true) → AreStored t p a bytes u → Installs s p a bytes write u
-map_then_stores s t u p a bytes write none asked done moved stored =
-    let e = map_of p (page_number a) true in
-    let end = append-nil (stores p a bytes) in
-    installs_then s t u p a bytes write e (stores p a bytes ++ []) (run_mapped s p a bytes write none ∙ ap (λ b. e ∷ (stores p a bytes ++ (if b then [] else protect_of p (page_number a) false ∷ []))) asked)
-    done moved (ap (carried t) end ∙ stored.all ∙ sym end) (ap (end_of t) end ∙ stored.after)
+pub opens_right : (s : State) (p page : ℕ) → is_mapped s (at_page p page) ≡ true → is_writable_at s (at_page p page) ≡ false → opening s p page ≡ protect_of p page true ∷ []
+opens_right s p page there right = λ i. if right i then [] else if there i then protect_of p page true ∷ [] else map_of p page true ∷ []
 
--- or loses it again
-pub map_then_closes : (s t u : State) (p a : ℕ) (bytes : List ℕ) (write : Bool) → is_mapped s (slot_at p a) ≡ false → write ≡ false
-    → completes (answer s (map_of p (page_number a) true)) ≡ true → t ≡ next s (map_of p (page_number a) true) → StoresAndCloses t p a bytes u → Installs s p a bytes write u
-map_then_closes s t u p a bytes write none asked done moved stored =
-    let e = map_of p (page_number a) true in
-    installs_then s t u p a bytes write e (stores p a bytes ++ protect_of p (page_number a) false ∷ [])
-    (run_mapped s p a bytes write none ∙ ap (λ b. e ∷ (stores p a bytes ++ (if b then [] else protect_of p (page_number a) false ∷ []))) asked)
-    done moved stored.all stored.after
+pub opens_page : (s : State) (p page : ℕ) → is_mapped s (at_page p page) ≡ false → opening s p page ≡ map_of p page true ∷ []
+opens_page s p page none =
+    let right = unmapped_right s (at_page p page) none in
+    λ i. if right i then [] else if none i then protect_of p page true ∷ [] else map_of p page true ∷ []
+
+none_either : (b : Bool) → ◌≡◌ {A = Ended} (if b then end.Nothing else end.Nothing) end.Nothing
+none_either true = refl
+none_either false = refl
+
+pub opening_right : (s : State) (p page : ℕ) → is_mapped s (at_page p page) ≡ true → is_writable_at s (at_page p page) ≡ false → IsOpening s p page (protect_of p page true)
+opening_right s p page there right = record {
+  first = opens_right s p page there right;
+  after = λ done. next-goes s (protect_of p page true) done;
+  ends = λ v. none_either (completes (answer v.state (protect_of p page true)));
+}
+
+pub opening_page : (s : State) (p page : ℕ) → is_mapped s (at_page p page) ≡ false → IsOpening s p page (map_of p page true)
+opening_page s p page none = record {
+  first = opens_page s p page none;
+  after = λ done. next-goes s (map_of p page true) done
+      ∙ (λ i. record s { spaces = map.insert s.spaces (at_page p page) (record (sym (fresh_there s (at_page p page) none) i) { write = true }) });
+  ends = λ v. none_either (completes (answer v.state (map_of p page true)));
+}
+
+pub opened_by : (s t : State) (p page : ℕ) (e : Event) → IsOpening s p page e → completes (answer s e) ≡ true → t ≡ next s e → IsOpened s p page t
+opened_by s t p page e o done after = record {
+  run = subst (λ (es : List Event). IsRunTo s es t) (sym o.first) (run_one s t e done after);
+  state = after ∙ o.after done;
+}
+
+pub opened_before : (s : State) (p page : ℕ) → is_mapped s (at_page p page) ≡ true → is_writable_at s (at_page p page) ≡ true → IsOpened s p page s
+opened_before s p page there right = record {
+  run = subst (λ (es : List Event). IsRunTo s es s) (sym (opens_nothing s p page right)) (run_none s);
+  state = open_before s p page there right;
+}
+
+-- ---- What stores and closes it
+
+pub store_run_kept : (s t : State) (p a : ℕ) (bytes : List ℕ) (write : Bool) → write ≡ true → AreStored s p a bytes t → IsRunTo s (store_run p a bytes write) t
+store_run_kept s t p a bytes write is stored =
+    let run : store_run p a bytes write ≡ stores p a bytes =
+    ap (λ b. stores p a bytes ++ (if b then [] else protect_of p (page_number a) false ∷ [])) is ∙ append-nil (stores p a bytes)
+    in
+    subst (λ (es : List Event). IsRunTo s es t) (sym run) (record { all = stored.all; after = stored.after })
+
+pub store_run_closed : (s t u : State) (p a : ℕ) (bytes : List ℕ) (write : Bool) → write ≡ false → AreStored s p a bytes t
+    → completes (answer t (protect_of p (page_number a) false)) ≡ true → u ≡ next t (protect_of p (page_number a) false) → IsRunTo s (store_run p a bytes write) u
+store_run_closed s t u p a bytes write is stored done after =
+    let e = protect_of p (page_number a) false in
+    let run : store_run p a bytes write ≡ stores p a bytes ++ e ∷ [] = ap (λ b. stores p a bytes ++ (if b then [] else e ∷ [])) is in
+    subst (λ (es : List Event). IsRunTo s es u) (sym run)
+    (run_then s t u (stores p a bytes) (e ∷ []) (record { all = stored.all; after = stored.after }) (run_one t u e done after))
+
+-- the Protect that takes the right ends the page's translation, or none
+pub closing_spares : (v : View) (p page : ℕ) (slot : Slot) → is_slot p page slot ≡ false → is_ended (ended_by v (protect_of p page false)) slot ≡ false
+closing_spares v p page slot spared = by (completes (answer v.state (protect_of p page false))) (takes_stores v.state.spaces (memory_of v) (at_page p page))
+  where
+    by : (x y : Bool) → is_ended (if x then (if true && y then end.Page p page else end.Nothing) else end.Nothing) slot ≡ false
+    by false y = refl
+    by true true = spared
+    by true false = refl
+
+pub closing_ends_no_space : (v : View) (p page q : ℕ) → is_all_of (ended_by v (protect_of p page false)) q ≡ false
+closing_ends_no_space v p page q = by (completes (answer v.state (protect_of p page false))) (takes_stores v.state.spaces (memory_of v) (at_page p page))
+  where
+    by : (x y : Bool) → is_all_of (if x then (if true && y then end.Page p page else end.Nothing) else end.Nothing) q ≡ false
+    by false y = refl
+    by true true = refl
+    by true false = refl

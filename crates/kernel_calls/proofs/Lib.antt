@@ -57,3 +57,6 @@ pub mod UntouchedSlots
 pub mod Views
 pub mod WalkedReplies
 pub mod Writings
+pub mod Lists
+pub mod StoresEnd
+pub mod TakenTwice

@@ -29,7 +29,7 @@ one_turn v w (turn.Store e) None x core h =
     is_none v w nobody (ap (λ (u : View). u.state) h.1.1) (subst IsCore (sym h.1.1) core) (λ i. tt)
 one_turn v w (turn.Mark pid page walked) (Some r) x core h = absurd h
 one_turn v w (turn.Mark pid page walked) None x core h =
-    let o = all_steps (h.1 nobody) core (λ i. tt) in
+    let o = all_steps (h.1.step nobody) core (λ i. tt) in
     is_none v w nobody o.state o.core (λ i. tt)
 
 pub turns_answered : (turns : List Turn) (told : List (Option Reply)) (ended : List Ended) (v w : View) → IsCore v

@@ -1,5 +1,5 @@
 -- What each turn has to show for its step.
-use Rattle.std.proofs.Common.{◌≡◌, ℕ, true, refl, sym, ◌∙◌, subst, List, [], ◌∷◌, Some}
+use Rattle.std.proofs.Common.{◌≡◌, ℕ, true, false, refl, sym, ap, ◌∙◌, subst, List, [], ◌∷◌, Some}
 use Rattle.std.specs.Prelude.{is_some}
 use Rattle.page_words.specs.FiniteMap as map
 use Rattle.page_words.proofs.OptionLemmas.{some_value, is_some-map}
@@ -63,6 +63,14 @@ home_live v core p live = some_value (directory_at (memory_of v) p)
 
 pub contained_live : (s : State) (p : ℕ) → is_some (container_of s p) ≡ true → is_live s p ≡ true
 contained_live s p h = sym (is_some-map (as_container s p) (map.get s.book p)) ∙ h
+
+-- a process that is not live has none
+pub dead_no_home : (v : View) → StandsFor (image_of v) v.state → (p : ℕ) → is_some (container_of v.state p) ≡ false → (d : ℕ)
+    → directory_at (memory_of v) p ≡ Some d → ⊥
+dead_no_home v image p none d live =
+    let k : true ≡ false = sym (ap is_some live) ∙ sym (image.sound.live p) ∙ is_some-map (as_account v.state p) (map.get v.state.book p)
+    ∙ sym (is_some-map (as_container v.state p) (map.get v.state.book p)) ∙ none in
+    cc
 
 -- what is marked for a store is one, which is answered with Done
 pub marked_store : (s : State) (p : ℕ) (c : Call) → StoresMarked s p c → IsStore c

@@ -1,7 +1,7 @@
 -- What the kernel does for its processes: runs of their own events.
-use Rattle.std.proofs.Common.{◌≡◌, ℕ, ◌+◌, Bool, true, false, not, ◌||◌, ◌==◌, List, [], ◌∷◌, map, Some}
+use Rattle.std.proofs.Common.{◌≡◌, ℕ, ◌+◌, Bool, true, false, not, ◌||◌, ◌==◌, List, [], ◌∷◌, map, filter, Some}
 use Rattle.std.specs.Prelude.{◌↔◌}
-use Rattle.std.specs.List.{list_any}
+use Rattle.std.specs.List.{list_any, range_with_len}
 use Rattle.std.specs.Option.{option_map}
 use Rattle.page_words.specs.FiniteMap as map
 use Rattle.page_words.specs.FiniteSet as set
@@ -22,6 +22,10 @@ abbrev pub all_done : List Event → List Reply
 all_done events = map (λ _. reply.Done) events
 
 -- ---- Families: a process, its children, their children, and so on
+
+-- the children of a process, in order
+abbrev pub children_in : State → ℕ → List ℕ
+children_in s p = filter (is_child_of s p) (range_with_len 0 64)
 
 -- the Exit of a process
 abbrev pub exit_of : ℕ → Event

@@ -1,6 +1,10 @@
 -- Turns that a core takes with its processors: each is a step, whatever the processors keep then.
 use Rattle.std.specs.Option.{option_to_list}
-use Rattle.std.specs.Prelude.{◌≡◌, ℕ, false, List, [], ◌∷◌, ◌++◌, Option, Some, None}
+use Rattle.std.specs.Prelude.{◌≡◌, ◌⊎◌, ℕ, Bool, false, List, [], ◌∷◌, ◌++◌, Option, Some, None}
+use Rattle.page_words.specs.Addresses.{IsUserPage}
+use Rattle.address_space.specs.ByWalk.{with_walked}
+use Rattle.address_space.specs.Image.{directory_at}
+use Rattle.process_table.specs.Image.{memory_of}
 use Rattle.process_table.specs.State.{State}
 use Rattle.process_table.specs.View.{View}
 use Rattle.kernel_calls.specs.Kept.{ServesEvent, IsStore}
@@ -39,9 +43,12 @@ abbrev pub IsStoreKept : View → Event → Option Reply → View → Type 0
 IsStoreKept v e (Some r) w = IsMade v e r w
 IsStoreKept v e None w = (IsStore e.call → (frames : ℕ → ℕ) → ServesEvent v frames e → ⊥) × (w ≡ v)
 
--- accessed of a directory word is set or cleared, or nothing is done
-abbrev pub IsMark : View → View → Type 0
-IsMark v w = (keeps : Processors) → Steps v keeps [] [] w keeps
+-- accessed is set or cleared in the directory word that leads to a page of a process; nothing is done where the page is
+-- not of the user range or the process is not live
+pub record IsMark (v : View) (p page : ℕ) (walked : Bool) (w : View) : Type 0 where
+  pub step : (keeps : Processors) → Steps v keeps [] [] w keeps
+  pub bytes : (directory : ℕ) → IsUserPage page → directory_at (memory_of v) p ≡ Some directory → w.bytes ≡ with_walked v.bytes directory page walked
+  pub none : ((IsUserPage page → ⊥) ⊎ (directory_at (memory_of v) p ≡ None)) → w ≡ v
 
 -- A turn: its reply or value, and what was ended. A call always gives a reply, a mark none.
 abbrev pub IsTurn : View → Turn → Option Reply → Ended → View → Type 0
@@ -50,7 +57,7 @@ IsTurn v (turn.Call e) None ended w = ⊥
 IsTurn v (turn.Walk e) told ended w = (ended ≡ end.Nothing) × IsWalk v e told w
 IsTurn v (turn.Store e) told ended w = (ended ≡ end.Nothing) × IsStoreKept v e told w
 IsTurn v (turn.Mark pid page walked) (Some r) ended w = ⊥
-IsTurn v (turn.Mark pid page walked) None ended w = (ended ≡ end.Nothing) × IsMark v w
+IsTurn v (turn.Mark pid page walked) None ended w = (ended ≡ end.Nothing) × IsMark v pid page walked w
 
 -- turns, one after another
 abbrev pub AreTurns : List Turn → List (Option Reply) → List Ended → View → View → Type 0

@@ -1,10 +1,10 @@
 //! What the kernel does for its processes: runs of their own events, as a kernel needs them that ends or reclaims what
 //! others have.
 
-ghost use Rattle.std.specs.Prelude.{◌≡◌, ◌≢◌, ◌↔◌, ℕ, ◌<◌, ◌≤◌, true, false, Ok, Err, IfSome, IfNone, IsOk, IfOk, IsErr, take};
+ghost use Rattle.std.specs.Prelude.{◌≡◌, ◌≢◌, ◌↔◌, ℕ, ◌+◌, ◌<◌, ◌≤◌, ◌++◌, ◌∷◌, [], if◌then◌else◌, true, false, Ok, Err, IfSome, IfNone, IsOk, IfOk, IsErr, take, drop};
 ghost use Rattle.process_table.specs.Image.{StandsFor, image_of};
 ghost use Rattle.process_table.specs.State.{is_live};
-ghost use Rattle.kernel_calls.specs.Acts.{exit_of, exits, spaces_of_all, Descends, EndsFamily};
+ghost use Rattle.kernel_calls.specs.Acts.{children_in, exit_of, exits, spaces_of_all, Descends, EndsFamily};
 ghost use Rattle.kernel_calls.specs.Authority.{is_child_of};
 ghost use Rattle.kernel_calls.specs.Machine.{answer, next};
 ghost use Rattle.kernel_calls.specs.Translations.{ended_by, EndAlong, Ends};
@@ -27,6 +27,20 @@ fn exit_of(pid: Pid) -> Event
         pid,
         call: Call::Exit,
     }
+}
+
+/// Writes a process at the next place of a list, if it belongs there. Returns how many places are used then.
+fn note_if(is_one: bool, pid: Pid, pids: &mut [Pid; 64], count: usize) -> usize
+    requires { count < 64 }
+    ensures count { result ≡ count + (if is_one then 1 else 0) }
+    ensures noted { take result pids.new ≡ take count pids.old ++ (if is_one then pid ∷ [] else []) }
+    ensures rest { drop result pids.new ≡ drop result pids.old }
+{
+    if is_one {
+        pids[count] = pid;
+        return count + 1;
+    }
+    count
 }
 
 impl Core {
@@ -66,6 +80,21 @@ impl Core {
             }
         }
         None
+    }
+
+    /// Writes a process's children in order of their numbers, and returns how many there are. The other places stay. A
+    /// process that is not live has none.
+    pub fn children(&self, pid: Pid, children: &mut [Pid; 64]) -> usize
+        ensures children { take result children.new ≡ children_in self.now.state pid }
+        ensures rest { drop result children.new ≡ drop result children.old }
+        ensures few { result ≤ 64 }
+    {
+        let mut count = 0;
+        for number in 0..64u8 {
+            let child = Pid::new(number).unwrap();
+            count = note_if(self.is_child(pid, child), child, children, count);
+        }
+        count
     }
 
     /// A process without children that descends from a live one.
@@ -109,6 +138,7 @@ impl Core {
         ensures family { EndsFamily self.old.state pid (take result exited.new) self.new.state }
         ensures ended { EndAlong (exits (take result exited.new)) (spaces_of_all (take result exited.new)) self.old self.new }
         ensures few { result ≤ 64 }
+        ensures rest { drop result exited.new ≡ drop result exited.old }
     {
         self.stands();
         let (mut at, mut count) = (pid, 0);
@@ -128,8 +158,8 @@ impl Core {
 
     /// Ends a process with all that descend from it, children first: the run of their Exits, each of which is done. It
     /// leaves the state without them. Their quotas are back with the parent, and all others have their pages as they
-    /// were. `exited` gets the processes that exited, in that order, and the result is how many did. Each processor
-    /// that cached translations invalidates all of each of these.
+    /// were. `exited` gets the processes that exited, in that order, and the result is how many did; its other places
+    /// stay. Each processor that cached translations invalidates all of each of these.
     ///
     /// RootExit for process 0, NoProcess where the process is not live; then nothing changes.
     pub fn end_family(&mut self, pid: Pid, exited: &mut [Pid; 64]) -> Result<usize, Cause>
@@ -140,6 +170,7 @@ impl Core {
         ensures family { IfOk result (λ count. EndsFamily self.old.state pid (take count exited.new) self.new.state) }
         ensures ended { IfOk result (λ count. EndAlong (exits (take count exited.new)) (spaces_of_all (take count exited.new)) self.old self.new) }
         ensures few { IfOk result (λ count. count ≤ 64) }
+        ensures rest { IfOk result (λ count. drop count exited.new ≡ drop count exited.old) }
         ensures stands { StandsFor (image_of self.new) self.new.state }
     {
         self.stands();

@@ -11,6 +11,7 @@ ghost use Rattle.process_table.specs.State.{open_with, container_of, is_live, is
 ghost use Rattle.process_table.specs.Parts.{after_loads, after_stores};
 ghost use Rattle.fault_handler.specs.declared.plans.Plan.TheVariants as plan;
 ghost use Rattle.page_words.specs.FiniteMap as finite_map;
+ghost use Rattle.page_sharing.specs.Offers.{offer_key, offer_number};
 ghost use Rattle.process_table.specs.Restored.{image_in, RootIsItsParent};
 ghost use Rattle.process_table.specs.Image.{StandsFor, IsSoundImage, image_of, memory_of};
 ghost use Rattle.process_table.specs.WellFormed.{IsWellFormed, total};
@@ -44,6 +45,7 @@ use crate::translations::{self, Ended};
 use crate::{BootFault, walked};
 use alloc_table::Role;
 use fault_handler::{Plan, settle_at};
+use page_sharing::Offer;
 use page_words::{Frame, Page, Pid, Vaddr, in_user_range, page_of};
 use phys_memory::Memory;
 use process_table::{Places, Processes};
@@ -624,6 +626,17 @@ impl Core {
         ensures { result ≡ page_in self.now pid page }
     {
         pages::state_of(&self.processes, pid, page)
+    }
+
+    /// Returns a process's first pending offer from a page and a target on, in the order of pages, and of targets for one
+    /// page. `target` may be any number: past 63 it leads to the next page. None if no such offer is pending.
+    pub fn next_offer(&self, pid: Pid, page: Page, target: u32) -> Option<Offer>
+        ensures pending { IfSome result (λ offer. finite_map.get self.now.state.offers (offer_key pid offer.page offer.target) ≡ Some offer.write) }
+        ensures from { IfSome result (λ offer. offer_number page target ≤ offer_number offer.page offer.target) }
+        ensures least { IfSome result (λ offer. (p t : ℕ) → offer_number page target ≤ offer_number p t → offer_number p t < offer_number offer.page offer.target → finite_map.contains_key self.now.state.offers (offer_key pid p t) ≡ false) }
+        ensures none { IfNone result ((p t : ℕ) → offer_number page target ≤ offer_number p t → finite_map.contains_key self.now.state.offers (offer_key pid p t) ≡ false) }
+    {
+        self.processes.offers().next(pid, page, target)
     }
 
     /// What a process may use, uses and gives; None where it is not live.

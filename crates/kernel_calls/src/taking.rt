@@ -1,6 +1,6 @@
 //! Who else has a page, and taking it back: the Unmaps of all other slots of its group.
 
-ghost use Rattle.std.specs.Prelude.{◌≡◌, ℕ, ◌+◌, ◌*◌, ◌<◌, ◌≤◌, ◌==◌, ◌&&◌, not, true, false, Some, Ok, Err, IsOk, IfSome, IfNone, IfOk, IfErr, IsErr, length, take};
+ghost use Rattle.std.specs.Prelude.{◌≡◌, ℕ, ◌+◌, ◌*◌, ◌<◌, ◌≤◌, ◌==◌, ◌&&◌, not, true, false, Some, Ok, Err, IsOk, IfSome, IfNone, IfOk, IfErr, IsErr, length, take, drop};
 ghost use Rattle.page_words.specs.Addresses.{IsUserPage};
 ghost use Rattle.phys_memory.specs.Bytes.{frame_bytes};
 ghost use Rattle.address_space.specs.Spaces.{Slot, cell_or_fresh, is_slot, at_page};
@@ -150,6 +150,8 @@ impl Core {
         ensures clear { result < length lost.old → (other : ℕ) → is_beside self.new.state (at_page pid page) (at_page holder other) ≡ false }
         ensures others { (slot : Slot) → is_beside self.old.state (at_page pid page) slot ≡ false → is_beside self.new.state (at_page pid page) slot ≡ false }
         ensures room { result ≤ length lost.old }
+        ensures more { start ≤ result }
+        ensures rest { drop result lost.new ≡ drop result lost.old }
     {
         let (mut at, mut count) = (Page(0), start);
         while let Some(found) = self.next_beside(pid, page, holder, at) {
@@ -174,6 +176,7 @@ impl Core {
         ensures taking { Taking self.old self.new (at_page pid page) (take result lost.new) }
         ensures alone { result < length lost.old → IsAlone self.new.state (at_page pid page) }
         ensures most { result ≤ length lost.old }
+        ensures rest { drop result lost.new ≡ drop result lost.old }
     {
         let mut count = 0;
         for number in 0..64u8 {
@@ -205,7 +208,7 @@ impl Core {
 
     /// Takes a page back from all others that have it: the run of the Unmaps of every other slot of its group, each of
     /// which is done. Then the group has only this slot. `lost` gets the slots that lost it, in that order, and the
-    /// result is how many did. Each processor that cached their translations invalidates them. If `lost` is full,
+    /// result is how many did; its other places stay. Each processor that cached their translations invalidates them. If `lost` is full,
     /// others may still have the page: call again. A group has fewer slots than memory has frames, and `page` returns
     /// how many.
     ///
@@ -220,6 +223,7 @@ impl Core {
         ensures ended { IfOk result (λ count. EndAlong (unmaps (take count lost.new)) (pages_of_all (take count lost.new)) self.old self.new) }
         ensures alone { IfOk result (λ count. count < length lost.old → IsAlone self.new.state (at_page pid page)) }
         ensures most { IfOk result (λ count. count ≤ length lost.old) }
+        ensures rest { IfOk result (λ count. drop count lost.new ≡ drop count lost.old) }
         ensures stands { StandsFor (image_of self.new) self.new.state }
     {
         self.stands();

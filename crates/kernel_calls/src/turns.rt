@@ -53,15 +53,15 @@ impl Core {
     }
 
     fn marked(&mut self, pid: Pid, page: Page, walked: bool)
-        ensures { IsMark self.old self.new }
+        ensures { IsMark self.old pid page walked self.new }
     {
+        self.stands();
         if !in_user_range(page) {
             return;
         }
         if self.container(pid).is_none() {
             return;
         }
-        self.stands();
         self.set_walked(pid, page, walked);
         self.stands();
     }

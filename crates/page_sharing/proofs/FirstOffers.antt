@@ -20,16 +20,18 @@ module _ (from : ℕ) (offers : List Offer) (offer : Offer) where
 
   pub first_of_all : from ≤ number_in offer → IsFirstFrom from offers None → IsFirstFrom from (offers ++ offer ∷ []) (Some offer)
   first_of_all later none = (
-    Contains-push offers offer, later,
+    Contains-push offers offer,
+    later,
     All-push (λ o. from ≤ number_in o → number_in offer ≤ number_in o) offers offer
-      (All-weaker (λ o. number_in o < from) (λ o. from ≤ number_in o → number_in offer ≤ number_in o) (λ o h k. absurd (omega arith)) offers none) (λ _. omega arith),
+        (All-weaker (λ o. number_in o < from) (λ o. from ≤ number_in o → number_in offer ≤ number_in o) (λ o h k. absurd (omega arith)) offers none) (λ _. omega arith),
   )
 
   pub comes_earlier : (f : Offer) → from ≤ number_in offer → number_in offer < number_in f → IsFirstFrom from offers (Some f) → IsFirstFrom from (offers ++ offer ∷ []) (Some offer)
   comes_earlier f later before (at, _, least) = (
-    Contains-push offers offer, later,
+    Contains-push offers offer,
+    later,
     All-push (λ o. from ≤ number_in o → number_in offer ≤ number_in o) offers offer
-      (All-weaker (λ o. from ≤ number_in o → number_in f ≤ number_in o) (λ o. from ≤ number_in o → number_in offer ≤ number_in o) (λ o h k. (let n = h k in omega arith)) offers least) (λ _. omega arith),
+        (All-weaker (λ o. from ≤ number_in o → number_in f ≤ number_in o) (λ o. from ≤ number_in o → number_in offer ≤ number_in o) (λ o h k. (let n = h k in omega arith)) offers least) (λ _. omega arith),
   )
 
   pub comes_later : (f : Offer) → number_in f ≤ number_in offer → IsFirstFrom from offers (Some f) → IsFirstFrom from (offers ++ offer ∷ []) (Some f)

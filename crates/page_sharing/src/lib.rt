@@ -82,7 +82,7 @@ impl Model for Offers {
     ghost coded = { offers_code };
 
     ghost use Rattle.page_sharing.specs.declared.Offer.{Offer};
-ghost use Rattle.page_sharing.specs.Listed.{offers_in, IsCounted};
+    ghost use Rattle.page_sharing.specs.Listed.{offers_in, IsCounted};
 
     ghost view = { λ offers. offers_in offers.lists };
 

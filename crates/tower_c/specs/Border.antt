@@ -146,6 +146,10 @@ reply_numbers (reply.Quota quota used given) = numbers 4 quota used given
 reply_numbers (reply.Fault addr code) = numbers 5 addr code 0
 reply_numbers (reply.Refused cause) = numbers 6 (cause_number cause) 0 0
 
+-- a refusal's numbers
+abbrev pub refused_numbers : Cause → TowerReply
+refused_numbers cause = numbers 6 (cause_number cause) 0 0
+
 -- numbers that are no event
 abbrev pub no_event : TowerReply
 no_event = numbers 7 0 0 0

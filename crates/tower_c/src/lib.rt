@@ -13,14 +13,21 @@ ghost use Rattle.tower_c.specs.Border.{EndInOrder, event_in, reply_in, state_aft
 ghost use Rattle.c_handle.specs.Handle.{IsTower};
 ghost use Rattle.kernel_calls.specs.Translations.{Ends};
 
+mod cleaning;
+mod families;
+mod holders;
 mod memory;
 mod numbers;
 mod pages;
+mod pending;
 mod runs;
 mod transfers;
 
 pub use c_handle::{Passes, Tower};
 use c_handle::{put, take};
+pub use cleaning::{tower_clean, tower_next_dirty, tower_peek};
+pub use families::{TowerProcesses, tower_children, tower_end};
+pub use holders::{TowerHolder, tower_next_holder, tower_take_back};
 use kernel_calls::{BootFault, Core, Ended};
 pub use memory::{TowerMemory, tower_memory};
 use numbers::{
@@ -30,6 +37,7 @@ use numbers::{
 pub use numbers::{TowerContainer, TowerEnded, TowerEvent, TowerReply, TowerRole, TowerWalk};
 use page_words::{Frame, Vaddr, is_frame_count};
 pub use pages::{TowerPage, tower_next_page};
+pub use pending::{TowerOffer, tower_next_offer};
 pub use runs::tower_run_until;
 use std::alloc::Global;
 use table_walk::walk;

@@ -1,7 +1,7 @@
 //! Events and replies as the numbers that cross to C.
 
 ghost use Rattle.std.specs.Prelude.{◌≡◌};
-ghost use Rattle.tower_c.specs.Border.{size_of, right_of, pid_of, call_of, event_in, cause_number, numbers, no_event, reply_numbers, role_numbers, container_numbers, access_of, walk_numbers, ended_numbers};
+ghost use Rattle.tower_c.specs.Border.{size_of, right_of, pid_of, call_of, event_in, cause_number, numbers, refused_numbers, no_event, reply_numbers, role_numbers, container_numbers, access_of, walk_numbers, ended_numbers};
 
 use alloc_table::Role;
 use kernel_calls::{Call, Cause, Ended, Event, Reply};
@@ -199,6 +199,13 @@ pub fn no_event() -> TowerReply
     ensures { result ≡ no_event }
 {
     numbers_from(7, 0, 0, 0)
+}
+
+/// Returns a refusal as numbers.
+pub fn refused_for(cause: Cause) -> TowerReply
+    ensures { result ≡ refused_numbers cause }
+{
+    numbers_from(6, number_from(cause), 0, 0)
 }
 
 /// A reply as numbers.

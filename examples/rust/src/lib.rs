@@ -3,7 +3,7 @@
 //! [`Core`] has all calls and queries of the library that `crates/tower_c` builds. What they do is proved up
 //! to that library's exports (docs/C-LIBRARY.md). This crate turns types into the library's numbers and back. It is not
 //! proved; `cargo test` tests it. The feature `images` adds the image and the checks of `crates/tower_images`. The
-//! crate's `unsafe` blocks are those of `src/core.rs`, `src/memory.rs`, `src/images.rs` and `src/heap.rs`.
+//! crate's `unsafe` blocks are those of `src/acts.rs`, `src/core.rs`, `src/memory.rs`, `src/images.rs` and `src/heap.rs`.
 //!
 //! ```
 //! use tower::{Call, Core, Event, Page, Pid, Reply, Size, Vaddr};
@@ -24,6 +24,7 @@
 #![no_std]
 #![warn(missing_docs)]
 
+mod acts;
 mod calls;
 mod core;
 #[cfg(feature = "heap")]
@@ -35,6 +36,7 @@ mod raw;
 mod text;
 mod words;
 
+pub use acts::{DirtyPages, Holder, Offer, Offers, Processes};
 pub use calls::{Info, Usage};
 pub use core::{BootFault, Core, UnequalLengths, version};
 #[cfg(feature = "images")]

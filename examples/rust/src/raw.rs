@@ -82,6 +82,37 @@ pub struct Page {
     pub lazy: bool,
 }
 
+#[repr(C)]
+#[derive(Clone, Copy)]
+pub struct Processes {
+    pub count: u32,
+    pub pids: [u32; 64],
+}
+
+impl Default for Processes {
+    fn default() -> Processes {
+        Processes {
+            count: 0,
+            pids: [0; 64],
+        }
+    }
+}
+
+#[repr(C)]
+#[derive(Clone, Copy, Default)]
+pub struct Offer {
+    pub page: u32,
+    pub target: u32,
+    pub write: bool,
+}
+
+#[repr(C)]
+#[derive(Clone, Copy, Default)]
+pub struct Holder {
+    pub pid: u32,
+    pub page: u32,
+}
+
 #[cfg(feature = "images")]
 #[repr(C)]
 #[derive(Clone, Copy, Default)]
@@ -101,6 +132,7 @@ const _: () = {
     assert!(size_of::<Tower>() == 16 && size_of::<Event>() == 16 && size_of::<Reply>() == 20);
     assert!(size_of::<Role>() == 16 && size_of::<Container>() == 20 && size_of::<Walk>() == 12);
     assert!(size_of::<Ended>() == 16 && size_of::<Memory>() == 16 && size_of::<Page>() == 12);
+    assert!(size_of::<Processes>() == 260 && size_of::<Offer>() == 12 && size_of::<Holder>() == 8);
 };
 
 unsafe extern "C" {
@@ -146,6 +178,47 @@ unsafe extern "C" {
         from: u32,
         page: *mut u32,
         found: *mut Page,
+    ) -> bool;
+    pub fn tower_children(tower: *const Tower, pid: u32, found: *mut Processes) -> bool;
+    pub fn tower_next_offer(
+        tower: *const Tower,
+        pid: u32,
+        page: u32,
+        target: u32,
+        offer: *mut Offer,
+    ) -> bool;
+    pub fn tower_next_holder(
+        tower: *const Tower,
+        pid: u32,
+        page: u32,
+        holder: u32,
+        from: u32,
+        found: *mut u32,
+    ) -> bool;
+    pub fn tower_next_dirty(tower: *const Tower, pid: u32, from: u32, page: *mut u32) -> bool;
+    pub fn tower_peek(
+        tower: *const Tower,
+        pid: u32,
+        address: u32,
+        bytes: *mut u8,
+        byte_count: usize,
+        moved: *mut usize,
+    ) -> bool;
+    pub fn tower_clean(tower: *mut Tower, pid: u32, page: u32, dirty: *mut bool) -> bool;
+    pub fn tower_end(
+        tower: *mut Tower,
+        pid: u32,
+        exited: *mut Processes,
+        told: *mut Reply,
+    ) -> bool;
+    pub fn tower_take_back(
+        tower: *mut Tower,
+        pid: u32,
+        page: u32,
+        lost: *mut Holder,
+        lost_count: usize,
+        count: *mut usize,
+        told: *mut Reply,
     ) -> bool;
     pub fn tower_ends(tower: *const Tower, event: *const Event, ended: *mut Ended) -> bool;
     pub fn tower_step_ending(

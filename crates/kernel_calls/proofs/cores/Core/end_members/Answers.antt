@@ -5,6 +5,7 @@ use Rattle.page_words.proofs.OptionLemmas.{some_value}
 use Rattle.kernel_calls.specs.Acts.{itself}
 use Rattle.kernel_calls.proofs.FamilyEnds.{ending_none, descends_then, descends_live, descends_not_root}
 use Rattle.kernel_calls.proofs.FamilySteps.{Going, Leaves, going_room, going_on, going_out, going_down}
+use Rattle.kernel_calls.proofs.Lists.{set_rest}
 use Rattle.kernel_calls.proofs.Members.{few_live}
 use Rattle.kernel_calls.proofs.cores.Core.end_members.Goals as goal
 use borrow.Author.Tests.{eqb-true}
@@ -13,28 +14,31 @@ pub leaves-init : goal.leaves-init
 leaves-init c =
     let few = few_live c.args.self.now.state c.stands.ensures.well_formed in
     record {
-      ending = ending_none c.args.self.now.state c.args.pid c.requires.live;
-      here = itself;
-      along = refl;
-      room = omega (arith, few);
+      going = record {
+        ending = ending_none c.args.self.now.state c.args.pid c.requires.live;
+        here = itself;
+        along = refl;
+        room = omega (arith, few);
+      };
+      rest = refl;
     }
 
 pub parent_of-parent-requires : goal.parent_of-parent-requires
 parent_of-parent-requires c =
-    descends_live c.leaves.invariant.ending.live (descends_then c.leaves.invariant.here c.leaf_below-leaf.ensures.below)
+    descends_live c.leaves.invariant.going.ending.live (descends_then c.leaves.invariant.going.here c.leaf_below-leaf.ensures.below)
 
 pub exit_leaf-requires-clause-live : goal.exit_leaf-requires-clause-live
 exit_leaf-requires-clause-live c =
-    descends_live c.leaves.invariant.ending.live (descends_then c.leaves.invariant.here c.leaf_below-leaf.ensures.below)
+    descends_live c.leaves.invariant.going.ending.live (descends_then c.leaves.invariant.going.here c.leaf_below-leaf.ensures.below)
 
 pub exit_leaf-requires-clause-not_root : goal.exit_leaf-requires-clause-not_root
 exit_leaf-requires-clause-not_root c =
-    descends_not_root c.requires.not_root (descends_then c.leaves.invariant.here c.leaf_below-leaf.ensures.below)
+    descends_not_root c.requires.not_root (descends_then c.leaves.invariant.going.here c.leaf_below-leaf.ensures.below)
 
 pub returns-then-eq-clause-family : goal.returns-then-eq-clause-family
 returns-then-eq-clause-family c =
     let w = c.leaves.self in
-    let g = c.leaves.invariant in
+    let g = c.leaves.invariant.going in
     let few : c.leaves.count < 64 = going_room c.args.self.now w c.args.pid c.leaves.at c.leaves.count c.leaves.exited g in
     let within : c.leaves.count < length c.leaves.exited = search rules in
     let l : Leaves w c.exit_leaf.new.self c.leaves.at c.leaf_below-leaf.result = record {
@@ -52,7 +56,7 @@ returns-then-eq-clause-family c =
 pub returns-then-eq-clause-ended : goal.returns-then-eq-clause-ended
 returns-then-eq-clause-ended c =
     let w = c.leaves.self in
-    let g = c.leaves.invariant in
+    let g = c.leaves.invariant.going in
     let few : c.leaves.count < 64 = going_room c.args.self.now w c.args.pid c.leaves.at c.leaves.count c.leaves.exited g in
     let within : c.leaves.count < length c.leaves.exited = search rules in
     let l : Leaves w c.exit_leaf.new.self c.leaves.at c.leaf_below-leaf.result = record {
@@ -69,7 +73,7 @@ returns-then-eq-clause-ended c =
 
 pub leaves-smaller : goal.leaves-smaller
 leaves-smaller c =
-    let g = c.leaves.invariant in
+    let g = c.leaves.invariant.going in
     going_down c.leaves.self c.exit_leaf.new.self c.args.pid c.leaf_below-leaf.result
     (descends_live g.ending.live (descends_then g.here c.leaf_below-leaf.ensures.below)) c.exit_leaf.ensures.state c.exit_leaf.ensures.done
 
@@ -79,7 +83,7 @@ leaves-preserved c =
     let w = c.leaves.self in
     let u = c.exit_leaf.new.self in
     let leaf : ℕ = c.leaf_below-leaf.result in
-    let g = c.leaves.invariant in
+    let g = c.leaves.invariant.going in
     let few : c.leaves.count < 64 = going_room c.args.self.now w c.args.pid c.leaves.at c.leaves.count c.leaves.exited g in
     let within : c.leaves.count < length c.leaves.exited = search rules in
     let l : Leaves w u c.leaves.at leaf = record {
@@ -92,5 +96,11 @@ leaves-preserved c =
     } in
     let m = some_value (map.get w.state.book leaf) (descends_live g.ending.live (descends_then g.here c.leaf_below-leaf.ensures.below)) in
     let apart : leaf ≢ c.args.pid = eqb-false leaf c.args.pid (sym c.eq.ensures ∙ c.if-eq.false) in
-    subst (λ (n : ℕ). Going v u c.args.pid n (c.leaves.count + 1) (slice_set c.leaves.exited c.leaves.count leaf)) (sym (c.parent_of-parent.ensures m.0 m.1))
-    (going_on v w u c.args.pid c.leaves.at c.leaves.count leaf c.leaves.exited c.requires.not_root c.stands.ensures.well_formed c.stands-in-leaves.ensures.well_formed g l within apart m.0 m.1)
+    record {
+      rest = set_rest c.leaves.exited c.args.exited.now c.leaves.count leaf c.leaves.invariant.rest;
+      going = subst (λ (n : ℕ). Going v u c.args.pid n (c.leaves.count + 1) (slice_set c.leaves.exited c.leaves.count leaf)) (sym (c.parent_of-parent.ensures m.0 m.1))
+          (going_on v w u c.args.pid c.leaves.at c.leaves.count leaf c.leaves.exited c.requires.not_root c.stands.ensures.well_formed c.stands-in-leaves.ensures.well_formed g l within apart m.0 m.1);
+    }
+
+pub returns-then-eq-clause-rest : goal.returns-then-eq-clause-rest
+returns-then-eq-clause-rest c = set_rest c.leaves.exited c.args.exited.now c.leaves.count c.leaf_below-leaf.result c.leaves.invariant.rest

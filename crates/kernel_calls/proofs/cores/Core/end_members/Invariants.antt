@@ -1,9 +1,13 @@
+use Rattle.std.proofs.Common.{◌≡◌, drop}
 use Rattle.page_words.specs.FiniteMap as map
 use Rattle.kernel_calls.proofs.FamilySteps.{Going}
 use Rattle.kernel_calls.proofs.cores.Core.end_members.Given as goal
 
 abbrev pub invariant-leaves : goal.invariant-leaves
-invariant-leaves l = Going l.fn.self l.self l.pid l.at l.count l.exited
+invariant-leaves l = record {
+  going : Going l.fn.self l.self l.pid l.at l.count l.exited;
+  rest : drop l.count l.exited ≡ drop l.count l.fn.exited;
+}
 
 abbrev pub decreases-leaves : goal.decreases-leaves
 decreases-leaves l = map.len l.self.state.book

@@ -1,80 +1,43 @@
-use Rattle.std.proofs.Common.{◌≡◌, ◌∙◌, ap, sym, subst, true}
+use Rattle.std.proofs.Common.{◌≡◌, ◌∙◌, ℕ, ap, subst, refl}
 use Rattle.page_words.specs.Addresses.{page_number}
-use Rattle.address_space.specs.Spaces.{at_page}
+use Rattle.address_space.specs.Spaces.{slot_at}
+use Rattle.process_table.specs.Parts.{after_stores}
 use Rattle.process_table.specs.State.{State, is_mapped}
-use Rattle.process_table.specs.View.{View}
-use Rattle.kernel_calls.specs.Installed.{map_of, protect_of, is_writable_at, Installs}
-use Rattle.kernel_calls.specs.Machine.{answer, next, completes}
-use Rattle.kernel_calls.proofs.Installs.{protected_writes, mapped_writes, map_then_stores, map_then_closes}
+use Rattle.kernel_calls.specs.Cleaned.{EndsMarks}
+use Rattle.kernel_calls.specs.Installed.{is_writable_at, opening, store_run, closed, IsOpened}
+use Rattle.kernel_calls.specs.declared.translations.Ended.TheVariants as end
+use Rattle.kernel_calls.proofs.Installs.{open_there, open_writes, run_then}
+use Rattle.kernel_calls.proofs.StoresEnd.{marks_then}
 use Rattle.kernel_calls.proofs.cores.Core.install.Goals as goal
-use Rattle.kernel_calls.proofs.cores.Core.install.Goals.{then-write, else-write}
 
-pub store_and_close-requires-clause-write : goal.store_and_close-requires-clause-write
-store_and_close-requires-clause-write c =
-    let s = c.args.self.now.state in
-    let p = c.args.pid in
-    let page = page_number c.args.address in
-    let e = c.protect_of.ensures ∙ ap (λ n. protect_of p n true) c.page_of-page.ensures.value in
-    let told = c.step-reply.ensures.reply ∙ ap (answer s) e in
-    let done : completes (answer s (protect_of p page true)) ≡ true = sym (ap completes told) ∙ sym c.completes.ensures ∙ c.if-not-completes.false in
-    ap (λ (x : State). is_writable_at x (at_page p page)) (c.step-reply.ensures.state ∙ ap (next s) e) ∙ (protected_writes s p page done).1
+-- the page is open
+is_open : (s t : State) (p n a : ℕ) → n ≡ page_number a → IsOpened s p n t → IsOpened s p (page_number a) t
+is_open s t p n a same opened = subst (λ (m : ℕ). IsOpened s p m t) same opened
 
-pub store_all-requires-then-write-clause-mapped : goal.store_all-requires-then-write-clause-mapped
-store_all-requires-then-write-clause-mapped c =
-    let s = c.args.self.now.state in
-    let p = c.args.pid in
-    let page = page_number c.args.address in
-    let e = c.map_of.ensures ∙ ap (λ n. map_of p n true) c.page_of-page.ensures.value in
-    let told = c.step-reply-in-None.ensures.reply ∙ ap (answer s) e in
-    let done : completes (answer s (map_of p page true)) ≡ true = sym (ap completes told) ∙ sym c.completes-in-None.ensures ∙ c.if-not-completes-2.false in
-    ap (λ (x : State). is_mapped x (at_page p page)) (c.step-reply-in-None.ensures.state ∙ ap (next s) e) ∙ (mapped_writes s p page done).0
+pub store_and_close-requires-clause-mapped : goal.store_and_close-requires-clause-mapped
+store_and_close-requires-clause-mapped c =
+    ap (λ (x : State). is_mapped x (slot_at c.args.pid c.args.address)) (is_open c.args.self.now.state c.open.new.self.state c.args.pid c.page_of.result c.args.address c.page_of.ensures.value (c.in_ok-open.ensures.opened refl)).state ∙ open_there c.args.self.now.state c.args.pid (page_number c.args.address)
 
-pub store_all-requires-then-write-clause-write : goal.store_all-requires-then-write-clause-write
-store_all-requires-then-write-clause-write c =
-    let s = c.args.self.now.state in
-    let p = c.args.pid in
-    let page = page_number c.args.address in
-    let e = c.map_of.ensures ∙ ap (λ n. map_of p n true) c.page_of-page.ensures.value in
-    let told = c.step-reply-in-None.ensures.reply ∙ ap (answer s) e in
-    let done : completes (answer s (map_of p page true)) ≡ true = sym (ap completes told) ∙ sym c.completes-in-None.ensures ∙ c.if-not-completes-2.false in
-    ap (λ (x : State). is_writable_at x (at_page p page)) (c.step-reply-in-None.ensures.state ∙ ap (next s) e) ∙ (mapped_writes s p page done).1
+pub store_and_close-requires-clause-right : goal.store_and_close-requires-clause-right
+store_and_close-requires-clause-right c =
+    ap (λ (x : State). is_writable_at x (slot_at c.args.pid c.args.address)) (is_open c.args.self.now.state c.open.new.self.state c.args.pid c.page_of.result c.args.address c.page_of.ensures.value (c.in_ok-open.ensures.opened refl)).state ∙ open_writes c.args.self.now.state c.args.pid (page_number c.args.address)
 
-pub store_and_close-requires-else-write-clause-mapped : goal.store_and_close-requires-else-write-clause-mapped
-store_and_close-requires-else-write-clause-mapped c =
+pub returns-clause-installed : goal.returns-clause-installed
+returns-clause-installed c = λ _.
     let s = c.args.self.now.state in
-    let p = c.args.pid in
-    let page = page_number c.args.address in
-    let e = c.map_of.ensures ∙ ap (λ n. map_of p n true) c.page_of-page.ensures.value in
-    let told = c.step-reply-in-None.ensures.reply ∙ ap (answer s) e in
-    let done : completes (answer s (map_of p page true)) ≡ true = sym (ap completes told) ∙ sym c.completes-in-None.ensures ∙ c.if-not-completes-2.false in
-    ap (λ (x : State). is_mapped x (at_page p page)) (c.step-reply-in-None.ensures.state ∙ ap (next s) e) ∙ (mapped_writes s p page done).0
-
-pub store_and_close-requires-else-write-clause-write : goal.store_and_close-requires-else-write-clause-write
-store_and_close-requires-else-write-clause-write c =
-    let s = c.args.self.now.state in
-    let p = c.args.pid in
-    let page = page_number c.args.address in
-    let e = c.map_of.ensures ∙ ap (λ n. map_of p n true) c.page_of-page.ensures.value in
-    let told = c.step-reply-in-None.ensures.reply ∙ ap (answer s) e in
-    let done : completes (answer s (map_of p page true)) ≡ true = sym (ap completes told) ∙ sym c.completes-in-None.ensures ∙ c.if-not-completes-2.false in
-    ap (λ (x : State). is_writable_at x (at_page p page)) (c.step-reply-in-None.ensures.state ∙ ap (next s) e) ∙ (mapped_writes s p page done).1
-
-pub returns-after-write-clause-installed : goal.returns-after-write-clause-installed
-returns-after-write-clause-installed c = λ _.
-    let s = c.args.self.now.state in
-    let t = c.step-reply-in-None.new.self.state in
     let p = c.args.pid in
     let a = c.args.address in
-    let page = page_number a in
-    let part = c.args.part.now in
-    let e = c.map_of.ensures ∙ ap (λ n. map_of p n true) c.page_of-page.ensures.value in
-    let told = c.step-reply-in-None.ensures.reply ∙ ap (answer s) e in
-    let done : completes (answer s (map_of p page true)) ≡ true = sym (ap completes told) ∙ sym c.completes-in-None.ensures ∙ c.if-not-completes-2.false in
-    let moved : t ≡ next s (map_of p page true) = c.step-reply-in-None.ensures.state ∙ ap (next s) e in
-    let none = sym (ap (λ n. is_mapped s (at_page p n)) c.page_of-page.ensures.value) ∙ c.in-None.ensures in
-    elim c.if-write.branch [
-      | then-write w ↦ subst (λ (v : View). Installs s p a part c.args.write v.state) (sym w.self-is)
-          (map_then_stores s t w.store_all-then-write.new.self.state p a part c.args.write none w.if-write.true done moved w.store_all-then-write.ensures.stored)
-      | else-write w ↦ subst (λ (v : View). Installs s p a part c.args.write v.state) (sym w.self-is)
-          (map_then_closes s t w.store_and_close-else-write.new.self.state p a part c.args.write none w.if-write.false done moved w.store_and_close-else-write.ensures)
-    ]
+    run_then s c.open.new.self.state c.store_and_close.new.self.state (opening s p (page_number a)) (store_run p a c.args.part.now c.args.write)
+    (is_open c.args.self.now.state c.open.new.self.state c.args.pid c.page_of.result c.args.address c.page_of.ensures.value (c.in_ok-open.ensures.opened refl)).run c.store_and_close.ensures.run
+
+pub returns-clause-state : goal.returns-clause-state
+returns-clause-state c = λ _.
+    c.store_and_close.ensures.state
+    ∙ ap (λ (x : State). closed (after_stores x c.args.pid c.args.address c.args.part.now) c.args.pid (page_number c.args.address) c.args.write) (is_open c.args.self.now.state c.open.new.self.state c.args.pid c.page_of.result c.args.address c.page_of.ensures.value (c.in_ok-open.ensures.opened refl)).state
+
+pub returns-clause-marks : goal.returns-clause-marks
+returns-clause-marks c =
+    let v = c.args.self.now in
+    let u = c.open.new.self in
+    marks_then (end.Page c.args.pid (page_number c.args.address)) v u c.store_and_close.new.self
+    (subst (λ (n : ℕ). EndsMarks (end.Page c.args.pid n) v u) c.page_of.ensures.value c.in_ok-open.ensures.marks) c.store_and_close.ensures.marks

@@ -1,8 +1,8 @@
-use Rattle.std.proofs.Common.{rules, ◌≡◌, true, not, ap, sym, ◌∙◌, is_some}
+use Rattle.std.proofs.Common.{rules, ◌≡◌, true, not, refl, ap, sym, ◌∙◌, is_some, Some, None, inl, inr}
 use Rattle.page_words.specs.Addresses.{IsUserPage}
 use Rattle.process_table.specs.State.{is_live}
 use Rattle.kernel_calls.specs.Processors.{marked, first, none}
-use Rattle.kernel_calls.proofs.TurnSteps.{is_core, home_live, contained_live}
+use Rattle.kernel_calls.proofs.TurnSteps.{is_core, home_live, dead_no_home, contained_live}
 use Rattle.kernel_calls.proofs.cores.Core.marked.Goals as goal
 
 pub set_walked-requires-clause-live : goal.set_walked-requires-clause-live
@@ -10,13 +10,25 @@ set_walked-requires-clause-live c =
     contained_live c.args.self.now.state c.args.pid (sym (ap is_some c.container.ensures) ∙ c.is_none.ensures ∙ ap not c.if-is_none.false)
 
 pub returns-then-not-in_user_range : goal.returns-then-not-in_user_range
-returns-then-not-in_user_range c = λ keeps. none
+returns-then-not-in_user_range c = record {
+  step = λ keeps. none;
+  bytes = λ d user live. absurd (outside user);
+  none = λ _. refl;
+}
+  where
+    outside : IsUserPage c.args.page → ⊥
+    outside user = let t = c.in_user_range.ensures.1 user in search rules
 
 pub returns-then-is_none : goal.returns-then-is_none
-returns-then-is_none c = λ keeps. none
+returns-then-is_none c = record {
+  step = λ keeps. none;
+  bytes = λ d user live. absurd (dead_no_home c.args.self.now c.stands.ensures.image c.args.pid
+      (sym (ap is_some c.container.ensures) ∙ c.is_none.ensures ∙ ap not c.if-is_none.true) d live);
+  none = λ _. refl;
+}
 
 pub returns : goal.returns
-returns c = λ keeps.
+returns c =
     let was = c.stands.ensures in
     let now = c.stands-2.ensures in
     let told = c.set_walked.ensures in
@@ -24,19 +36,26 @@ returns c = λ keeps.
     let live : is_live v.state c.args.pid ≡ true = contained_live v.state c.args.pid (sym (ap is_some c.container.ensures) ∙ c.is_none.ensures ∙ ap not c.if-is_none.false) in
     let user : IsUserPage c.args.page = search rules in
     let d = home_live v (is_core was.image was.walks was.ways was.well_formed) c.args.pid live in
-    first (marked (record {
-      pid = c.args.pid;
-      page = c.args.page;
-      walked = c.args.walked;
-      user = user;
-      directory = d.0;
-      live = d.1;
-      left = λ _. record {
-        bytes = told.bytes d.0 d.1;
-        directories = told.directories;
-        roles = told.roles;
-        state = told.state;
-        ends = told.ends;
-        core = is_core now.image now.walks now.ways now.well_formed;
-      };
-    })) none
+    record {
+      step = λ keeps. first (marked (record {
+        pid = c.args.pid;
+        page = c.args.page;
+        walked = c.args.walked;
+        user = user;
+        directory = d.0;
+        live = d.1;
+        left = λ _. record {
+          bytes = told.bytes d.0 d.1;
+          directories = told.directories;
+          roles = told.roles;
+          state = told.state;
+          ends = told.ends;
+          core = is_core now.image now.walks now.ways now.well_formed;
+        };
+      })) none;
+      bytes = λ directory _ home. told.bytes directory home;
+      none = λ h. elim h [
+        | inl outside ↦ absurd (outside user)
+        | inr gone ↦ absurd (let k : Some d.0 ≡ None = sym d.1 ∙ gone in cc)
+      ];
+    }

@@ -2,6 +2,7 @@ use Rattle.std.proofs.Common.{rules, ◌≡◌, ◌<◌, ℕ, length, slice_set,
 use Rattle.std.proofs.Math.ListN.{length-set}
 use Rattle.address_space.specs.Spaces.{at_page}
 use Rattle.kernel_calls.specs.declared.taking.Holder.{Holder}
+use Rattle.kernel_calls.proofs.Lists.{set_rest}
 use Rattle.kernel_calls.proofs.Unmaps.{taking_on, clear_on, clear_up}
 use Rattle.kernel_calls.proofs.cores.Core.take_from.Goals as goal
 
@@ -22,6 +23,8 @@ loop-found-preserved c =
     let long : length (slice_set c.loop-found.lost c.loop-found.count h) ≡ length c.loop-found.lost = length-set c.loop-found.lost c.loop-found.count h in
     record {
       room = omega (arith, long, within);
+      more = (let m = i.more in omega (arith, m));
+      rest = set_rest lost c.args.lost.now count h i.rest;
       taking = λ v t. taking_on v w u own count lost h ww (i.taking v t) l within;
       clear = λ other down. clear_up w u own c.args.holder c.loop-found.at found ww l i.clear c.in-Some.ensures.least other (omega (arith, down, is));
       others = λ slot none. clear_on w u own h ww l slot (i.others slot none);

@@ -1,4 +1,4 @@
-use Rattle.std.proofs.Common.{◌≡◌, ◌-◌, ◌<◌, ◌≤◌, ℕ, false, length, take}
+use Rattle.std.proofs.Common.{◌≡◌, ◌-◌, ◌<◌, ◌≤◌, ℕ, false, length, take, drop}
 use Rattle.address_space.specs.Spaces.{Slot, at_page}
 use Rattle.process_table.specs.View.{View}
 use Rattle.kernel_calls.specs.TakenBack.{is_beside, Taking}
@@ -8,6 +8,8 @@ use Rattle.kernel_calls.proofs.cores.Core.take_from.Given as goal
 abbrev pub invariant-loop-found : goal.invariant-loop-found
 invariant-loop-found l = record {
   room : l.count ≤ length l.lost;
+  more : l.fn.start ≤ l.count;
+  rest : drop l.count l.lost ≡ drop l.count l.fn.lost;
   taking : (v : View) → Taking v l.fn.self (at_page l.pid l.page) (take l.fn.start l.fn.lost) → Taking v l.self (at_page l.pid l.page) (take l.count l.lost);
   clear : (other : ℕ) → other < l.at → is_beside l.self.state (at_page l.pid l.page) (at_page l.holder other) ≡ false;
   others : (slot : Slot) → is_beside l.fn.self.state (at_page l.pid l.page) slot ≡ false → is_beside l.self.state (at_page l.pid l.page) slot ≡ false;

@@ -2,12 +2,14 @@ use Rattle.std.proofs.Common.{rules, ◌≡◌, ◌<◌, ℕ, length, refl, ap, 
 use Rattle.std.proofs.lemmas.Bool.{cases_lt}
 use Rattle.address_space.specs.Spaces.{at_page}
 use Rattle.kernel_calls.specs.TakenBack.{is_beside}
+use Rattle.kernel_calls.proofs.Lists.{rest_later}
 use Rattle.kernel_calls.proofs.Unmaps.{takes_none, alone_by}
 use Rattle.kernel_calls.proofs.cores.Core.take_from_all.Goals as goal
 
 pub loop-number-init : goal.loop-number-init
 loop-number-init c = record {
   room = omega arith;
+  rest = refl;
   taking = record { taken = takes_none c.args.self.now.state (at_page c.args.pid c.args.page); along = refl };
   clear = λ few p page down. absurd (omega (arith, down));
 }
@@ -25,6 +27,7 @@ loop-number-preserved c =
     let within : c.loop-number.count < length c.loop-number.lost = search rules in
     record {
       room = omega (arith, long, room);
+      rest = e.rest ∙ rest_later c.loop-number.lost c.args.lost.now c.loop-number.count c.take_from-count.result e.more i.rest;
       taking = e.taking c.args.self.now i.taking;
       clear = λ few p page down. elim (cases_lt p number) [
         | inl below ↦ e.others (at_page p page) (i.clear within p page below)

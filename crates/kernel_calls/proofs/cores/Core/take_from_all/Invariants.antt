@@ -1,4 +1,4 @@
-use Rattle.std.proofs.Common.{◌≡◌, ◌<◌, ◌≤◌, ℕ, false, length, take}
+use Rattle.std.proofs.Common.{◌≡◌, ◌<◌, ◌≤◌, ℕ, false, length, take, drop}
 use Rattle.address_space.specs.Spaces.{at_page}
 use Rattle.kernel_calls.specs.TakenBack.{is_beside, Taking}
 use Rattle.kernel_calls.proofs.cores.Core.take_from_all.Given as goal
@@ -7,6 +7,7 @@ use Rattle.kernel_calls.proofs.cores.Core.take_from_all.Given as goal
 abbrev pub invariant-loop-number : goal.invariant-loop-number
 invariant-loop-number l = record {
   room : l.count ≤ length l.lost;
+  rest : drop l.count l.lost ≡ drop l.count l.fn.lost;
   taking : Taking l.fn.self l.self (at_page l.pid l.page) (take l.count l.lost);
   clear : l.count < length l.lost → (p page : ℕ) → p < l.number → is_beside l.self.state (at_page l.pid l.page) (at_page p page) ≡ false;
 }

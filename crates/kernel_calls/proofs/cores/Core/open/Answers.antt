@@ -1,0 +1,20 @@
+use Rattle.std.proofs.Common.{refl, subst}
+use Rattle.kernel_calls.specs.Cleaned.{EndsMarks}
+use Rattle.kernel_calls.specs.Translations.{ended_by}
+use Rattle.kernel_calls.specs.declared.translations.Ended.{Ended}
+use Rattle.kernel_calls.specs.declared.translations.Ended.TheVariants as end
+use Rattle.kernel_calls.proofs.Cleanings.{events_end_marks}
+use Rattle.kernel_calls.proofs.StoresEnd.{marks_same, marks_of_page}
+use Rattle.kernel_calls.proofs.cores.Core.open.Goals as goal
+
+pub returns-in_default-clause-marks : goal.returns-in_default-clause-marks
+returns-in_default-clause-marks c = marks_same (end.Page c.args.pid c.args.page) c.args.self.now c.stands.ensures.image
+
+pub returns-clause-marks : goal.returns-clause-marks
+returns-clause-marks c =
+    let v = c.args.self.now in
+    let w = c.step-reply.new.self in
+    let e = c.in-Some.event in
+    let told = events_end_marks (ended_by v e) v w c.step-reply.ensures.ends in
+    marks_of_page end.Nothing c.args.pid c.args.page v w (λ slot h. refl) (λ q. refl)
+    (subst (λ (x : Ended). EndsMarks x v w) (c.in-Some.ensures.event.ends v) told)
