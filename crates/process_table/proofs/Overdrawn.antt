@@ -12,7 +12,6 @@ rest_of a b n is = omega (arith, is)
 
 extra_is : (s : State) (p : ℕ) (pages : List ℕ) (n : ℕ) → cost (with_pages s.spaces p pages) p ≡ cost s.spaces p + n
     → extra_cost s p pages ≡ n
-unfolding extra_cost
 extra_is s p pages n is = rest_of (cost (with_pages s.spaces p pages) p) (cost s.spaces p) n is
 
 -- one page

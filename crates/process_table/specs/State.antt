@@ -30,7 +30,7 @@ abbrev pub room : State → ℕ → ℕ
 room s p = quota_of s.book p - cost s.spaces p - given s.book p
 
 -- what a process costs more once each of these pages is mapped
-unfoldable pub extra_cost : State → ℕ → List ℕ → ℕ
+abbrev pub extra_cost : State → ℕ → List ℕ → ℕ
 extra_cost s p pages = cost (with_pages s.spaces p pages) p - cost s.spaces p
 
 -- whether that is more than the process has room for
