@@ -7,12 +7,12 @@ use Rattle.address_space.specs.declared.place.Found.{Found}
 use Rattle.address_space.specs.Spaces.{Spaces}
 use Rattle.address_space.specs.Image.{Image, image_from}
 use Rattle.address_space.specs.View.{View, directory_of, table_in, spaces_in}
-use Rattle.address_space.specs.Counts.{IsKept}
+use Rattle.address_space.specs.Counts.{AreCountedSpaces}
 use Rattle.address_space.specs.Finds.{found_in}
 
 -- the type's invariant
-abbrev pub IsKeptInside : Inside → Type 0
-IsKeptInside inner = IsKept inner.directories inner.memory inner.frames inner.counts.items
+abbrev pub AreCountedInside : Inside → Type 0
+AreCountedInside inner = AreCountedSpaces inner.directories inner.memory inner.frames inner.counts.items
 
 abbrev pub spaces_at : Inside → Spaces
 spaces_at inner = spaces_in inner.directories inner.memory

@@ -103,6 +103,7 @@ pub record SpaceAdded (directories : List (Option ℕ)) (p : ℕ) (bytes : List 
   pub live : is_some (directory_of directories' p) ≡ true
   pub others : (q : ℕ) → q ≢ p → directory_of directories' q ≡ directory_of directories q
   pub stay : PlacesStay none_goes (directory_of directories) (frame_bytes bytes) (directory_of directories') (frame_bytes bytes')
+  pub entries : (slot : Slot) → entry_in (directory_of directories') (frame_bytes bytes') slot ≡ entry_in (directory_of directories) (frame_bytes bytes) slot
   pub length : length roles' ≡ length roles
 
 -- a table that was unlinked is free

@@ -47,7 +47,7 @@ pub record MapsOneMore (less : Spaces) (slot : Slot) (more : Spaces) : Type 0 wh
   pub present : map.contains_key more slot ≡ true
   pub others : (q : Slot) → q ≢ slot → map.contains_key more q ≡ map.contains_key less q
 
--- the type's invariant
-pub record IsKept (directories : List (Option ℕ)) (bytes : List ℕ) (roles : List Role) (counts : List ℕ) : Type 0 where
+-- the invariant of spaces: memory, directories and roles are spaces, and the counts are theirs
+pub record AreCountedSpaces (directories : List (Option ℕ)) (bytes : List ℕ) (roles : List Role) (counts : List ℕ) : Type 0 where
   pub spaces : IsSpaces directories bytes roles
   pub counted : IsCounted (spaces_in directories bytes) roles counts

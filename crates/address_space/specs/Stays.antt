@@ -4,7 +4,7 @@ use Rattle.std.specs.Option.{option_map, option_and_then}
 use Rattle.page_words.specs.Words.{frame_number, is_lazy, is_dirty}
 use Rattle.page_words.specs.FiniteMap as map
 use Rattle.page_map.specs.declared.PageEntry.{PageEntry}
-use Rattle.address_space.specs.Spaces.{Slot, slot_at, is_slot, is_of}
+use Rattle.address_space.specs.Spaces.{Slot, at_page, slot_at, is_slot, is_of}
 use Rattle.address_space.specs.Cells.{Entries}
 use Rattle.address_space.specs.Image.{Image, directory_at, table_at, page_word, is_lazy_at}
 use Rattle.address_space.specs.View.{Directories, entries_in, table_in}
@@ -38,11 +38,17 @@ of_process p slot frame = is_of p slot
 abbrev pub of_lazy : ℕ → ℕ → Gone
 of_lazy p page slot frame = is_slot p page slot && (frame == 0)
 
+-- a way that a process could have, of a mapped page or not, isn't gone
+pub record Spares (gone : Gone) (p : ℕ) : Type 0 where
+  pub page : ℕ
+  pub frame : ℕ
+  pub stays : gone (at_page p page) frame ≡ false
+
 -- the walks that a change leaves, except those that are gone
 pub record FramesStay (gone : Gone) (old new : Image) : Type 0 where
-  -- a process that has a way that stays, of a mapped page or not, keeps its directory
-  pub directories : (slot : Slot) (directory frame : ℕ) → gone slot frame ≡ false
-      → directory_at old slot.pid ≡ Some directory → directory_at new slot.pid ≡ Some directory
+  -- a process keeps its directory, unless it is gone as a whole
+  pub directories : (p directory : ℕ) → Spares gone p → directory_at old p ≡ Some directory
+      → directory_at new p ≡ Some directory
   -- each way leads through the same table afterwards
   pub tables : (slot : Slot) (directory frame table : ℕ) → gone slot frame ≡ false
       → way_of old slot ≡ Some (directory, frame) → table_at old slot.pid (slot_number slot.page) ≡ Some table

@@ -13,12 +13,15 @@ pub record FindsBytes (bytes : List ℕ) (directory address : ℕ) (access : Acc
   pub found : walk_of bytes directory address access ≡ Ok frame
   pub same : frame_bytes bytes frame ≡ cell.bytes
 
--- the walk ends as the cell says: a fault of an absent page, a fault of a missing right, which a lazy page
--- lacks too, or the cell's bytes
+-- whether an access lacks the right to its page: a write does without the cell's right to write, and to a lazy page
+abbrev pub lacks_right : Access → Bool → Cell → Bool
+lacks_right access lazy cell = is_write access && not (cell.write && not lazy)
+
+-- the walk ends as the cell says: a fault of an absent page, a fault of a missing right, or the cell's bytes
 abbrev pub WalkEndsBy : List ℕ → ℕ → ℕ → Access → Bool → Option Cell → Type 0
 WalkEndsBy bytes directory address access lazy None = walk_of bytes directory address access ≡ not_present address access
 WalkEndsBy bytes directory address access lazy (Some cell) =
-    MatchBool (is_write access && not (cell.write && not lazy))
+    MatchBool (lacks_right access lazy cell)
     (walk_of bytes directory address access ≡ not_allowed address access)
     (FindsBytes bytes directory address access cell)
 

@@ -51,7 +51,7 @@ pub struct Spaces {
 
 impl Model for Spaces {
     ghost use Rattle.address_space.specs.View.{View, view_code, spaces_in};
-    ghost use Rattle.address_space.specs.Counts.{IsKept};
+    ghost use Rattle.address_space.specs.Counts.{AreCountedSpaces};
 
     ghost Value = { View };
 
@@ -59,7 +59,7 @@ impl Model for Spaces {
 
     ghost view = { λ s. record { spaces = spaces_in s.directories s.memory; directories = s.directories; bytes = s.memory; roles = s.frames } };
 
-    ghost invariant = { λ s. IsKept s.directories s.memory s.frames s.counts.items };
+    ghost invariant = { λ s. AreCountedSpaces s.directories s.memory s.frames s.counts.items };
 }
 
 /// A frame for a role, where one is free.

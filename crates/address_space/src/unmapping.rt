@@ -3,14 +3,14 @@
 ghost use Rattle.std.specs.Prelude.{◌≡◌, ◌≢◌, ℕ, ◌+◌, ◌*◌, ◌<◌, ◌≤◌, Some, None, length, is_some, true, false, slice_set};
 ghost use Rattle.page_words.specs.Addresses.{IsUserPage};
 ghost use Rattle.alloc_table.specs.Roles.{IsInUse};
-ghost use Rattle.address_space.specs.Spaces.{without, is_slot, at_page, is_of};
+ghost use Rattle.address_space.specs.Spaces.{Slot, without, is_slot, at_page, is_of};
 ghost use Rattle.phys_memory.specs.Bytes.{frame_bytes};
 ghost use Rattle.page_map.specs.Entries.{table_of};
 ghost use Rattle.address_space.specs.Finds.{found_in};
 ghost use Rattle.address_space.specs.View.{View, directory_of, total_cost};
 ghost use Rattle.address_space.specs.Changes.{TableFreed, EntryLeft, IsEmptySpace, EntryGone, DroppedBelow};
 ghost use Rattle.address_space.specs.Stays.{FramesStay, none_goes, of_page, of_process};
-ghost use Rattle.address_space.specs.Image.{image_of};
+ghost use Rattle.address_space.specs.Image.{image_of, is_lazy_at};
 ghost use Rattle.address_space.specs.Places.{place_in};
 ghost use Rattle.page_words.specs.FiniteMap as map;
 
@@ -99,12 +99,13 @@ impl Spaces {
         self.unmap_at(pid, page, &place);
     }
 
-    /// Gives a process an empty space: a blank directory.
+    /// Gives a process an empty space: a blank directory. The lazy slots stay those that were lazy.
     pub fn fresh(&mut self, pid: Pid)
         requires none { directory_of self.old.directories pid ≡ None }
         requires room { 2 + total_cost self.old.directories self.old.spaces ≤ length self.old.roles }
         ensures spaces { self.new.spaces ≡ self.old.spaces }
         ensures stay { FramesStay none_goes (image_of self.old) (image_of self.new) }
+        ensures lazy { (slot : Slot) → is_lazy_at (image_of self.new) slot ≡ is_lazy_at (image_of self.old) slot }
         ensures costs { total_cost self.new.directories self.new.spaces ≡ total_cost self.old.directories self.old.spaces + 1 }
         ensures live { is_some (directory_of self.new.directories pid) ≡ true }
         ensures others { (other : ℕ) → other ≢ pid → directory_of self.new.directories other ≡ directory_of self.old.directories other }

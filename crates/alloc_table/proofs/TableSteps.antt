@@ -15,7 +15,7 @@ use Rattle.frame_ledger.specs.FreeFrames.{FreeFrames, opening, with_free, withou
 use Rattle.alloc_table.specs.declared.Role.{Role}
 use Rattle.alloc_table.specs.declared.Role.TheVariants.{Reserved, Free, Directory, Table, Page}
 use Rattle.alloc_table.specs.Roles.{is_free, is_in_use, free_frames, opening_roles, CanBeTaken, released}
-use Rattle.alloc_table.specs.Kept.{IsFrameTable}
+use Rattle.alloc_table.specs.Invariant.{IsFrameTable}
 use Rattle.alloc_table.specs.Weights.{EachPageHeld}
 use Rattle.alloc_table.proofs.RoleLemmas.{get-set_same, get-set_other, free_is}
 

@@ -1,4 +1,4 @@
 pub mod Roles
 pub mod Free
 pub mod Weights
-pub mod Kept
+pub mod Invariant

@@ -52,7 +52,7 @@ pub struct FrameTable {
 impl Model for FrameTable {
     ghost use Rattle.std.specs.Prelude.{List};
     ghost use Rattle.alloc_table.specs.declared.Role.{Role};
-    ghost use Rattle.alloc_table.specs.Kept.{IsFrameTable};
+    ghost use Rattle.alloc_table.specs.Invariant.{IsFrameTable};
 
     ghost Value = { List Role };
 

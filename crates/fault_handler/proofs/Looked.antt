@@ -2,7 +2,7 @@
 use Rattle.std.proofs.Common.{◌≡◌, ℕ, ◌+◌, ◌-◌, ◌==◌, nat_lt, arith, Bool, true, false, not, ◌&&◌, cond, refl, sym, ap, ◌∙◌, Option, Some, None, unwrap_or}
 use Rattle.std.specs.Prelude.{if◌then◌else◌}
 use Rattle.std.specs.Option.{option_map, option_and_then}
-use Rattle.page_words.specs.Addresses.{page_number, slot_number, start_number, second_page}
+use Rattle.page_words.specs.Addresses.{page_number, slot_number, start_number, second_page, touched}
 use Rattle.page_words.specs.declared.addresses.Size.{Size}
 use Rattle.page_words.specs.FiniteMap as map
 use Rattle.page_words.specs.FiniteSet as set
@@ -14,7 +14,8 @@ use Rattle.quota_tree.specs.declared.Container.{Container}
 use Rattle.table_walk.specs.declared.Access.{Access}
 use Rattle.table_walk.specs.declared.Access.TheVariants.{Read, Write}
 use Rattle.process_table.proofs.Charged.{used-container}
-use Rattle.process_table.specs.State.{State, room, as_container, container_of}
+use Rattle.process_table.proofs.Overdrawn.{extra_touched}
+use Rattle.process_table.specs.State.{State, room, extra_cost, as_container, container_of}
 use Rattle.process_table.specs.View.{View}
 use Rattle.process_table.specs.declared.causes.Cause.TheVariants.{Quota}
 use Rattle.fault_handler.specs.declared.plans.Plan.{Plan}
@@ -92,8 +93,8 @@ module _ (v : View) (p address : ℕ) (size : Size) (access : Access) where
   beside false false false true same = refl
   beside false false false false same = refl
 
-  need_is : need_by first (look_behind v p access address size) ≡ access_need S p address size
-  need_is = by (second_page address size) refl
+  need_is : need_by first (look_behind v p access address size) ≡ extra_cost s p (touched address size)
+  need_is = by (second_page address size) refl ∙ sym (extra_touched s p address size)
     where
       by : (x : Option ℕ) → second_page address size ≡ x → need_by first (behind x) ≡ access_need S p address size
       by None is = sym (need-in_one S p address size is)
@@ -118,9 +119,9 @@ module _ (v : View) (p address : ℕ) (size : Size) (access : Access) where
       → planned_by_looks access first (look_behind v p access address size) c ≡ planned_at v p address size access
   looked c has within =
       (λ i. fault_by (barred_is i) access true c (if nat_lt (room_is s p c has i) (need_is i) then record { plan = plan.Refused Quota; charge = c.used } else record { plan = steps_are i; charge = c.used + need_is i }))
-      ∙ joined (forbidden s p address size access) (nat_lt (room s p) (access_need S p address size)) ready c (access_need S p address size) refl
-      ∙ (λ i. let x : Plan = fault_or (sym within i) access false (fault_or (forbidden s p address size access) access true (if nat_lt (room s p) (access_need S p address size) then plan.Refused Quota else ready)) in
-      record { plan = x; charge = if goes_on x then used-container s p c has i + access_need S p address size else used-container s p c has i })
+      ∙ joined (forbidden s p address size access) (nat_lt (room s p) (extra_cost s p (touched address size))) ready c (extra_cost s p (touched address size)) refl
+      ∙ (λ i. let x : Plan = fault_or (sym within i) access false (fault_or (forbidden s p address size access) access true (if nat_lt (room s p) (extra_cost s p (touched address size)) then plan.Refused Quota else ready)) in
+      record { plan = x; charge = if goes_on x then used-container s p c has i + extra_cost s p (touched address size) else used-container s p c has i })
     where
       ready : Plan
       ready = plan.Ready (step_at v p access page) (option_map (step_at v p access) (second_page address size))
@@ -129,4 +130,5 @@ module _ (v : View) (p address : ℕ) (size : Size) (access : Access) where
   pub charge_goes : (x : Planned) → x ≡ planned_at v p address size access → goes_on x.plan ≡ true → x.charge ≡ cost S p + access_need S p address size
   charge_goes x is goes =
       ap (λ (y : Planned). y.charge) is
-      ∙ ap (λ b. if b then cost S p + access_need S p address size else cost S p) (sym (ap (λ (y : Planned). goes_on y.plan) is) ∙ goes)
+      ∙ ap (λ b. if b then cost S p + extra_cost s p (touched address size) else cost S p) (sym (ap (λ (y : Planned). goes_on y.plan) is) ∙ goes)
+      ∙ ap (λ n. cost S p + n) (extra_touched s p address size)

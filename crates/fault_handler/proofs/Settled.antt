@@ -1,24 +1,27 @@
 -- An access whose plan is Ready: what its plan says, and that its pages, mapped first, leave what the definition says.
-use Rattle.std.proofs.Common.{◌≡◌, ◌≢◌, ℕ, ◌≤◌, arith, Bool, true, false, not, ◌&&◌, cond, List, [], ◌∷◌, map as each, refl, sym, ap, ◌∙◌, inl, inr, Option, Some, None, is_some, unwrap_or}
-use Rattle.std.specs.Prelude.{if◌then◌else◌, IfSome, find, slice_index}
+use Rattle.std.proofs.Common.{◌≡◌, ◌≢◌, ℕ, ◌+◌, ◌≤◌, arith, Bool, true, false, not, ◌&&◌, cond, List, [], ◌∷◌, map as each, refl, sym, ap, ◌∙◌, inl, inr, Option, Some, None, is_some, unwrap_or}
+use Rattle.std.specs.Prelude.{if◌then◌else◌, nat_lt, IfSome, find, slice_index}
 use Rattle.std.specs.Option.{option_map, option_and_then}
-use Rattle.std.proofs.lemmas.Bool.{not-false}
-use Rattle.page_words.specs.Addresses.{page_number, offset_number, start_number, byte_count, covered, second_page, page_and, touched, EachTouched, IsUserPage, is_user_page}
+use Rattle.std.proofs.lemmas.Bool.{le-ltb, not-false}
+use Rattle.page_words.specs.Addresses.{page_number, slot_number, offset_number, start_number, byte_count, covered, second_page, page_and, touched, EachTouched, IsUserPage, is_user_page}
 use Rattle.page_words.specs.declared.addresses.Size.{Size}
 use Rattle.page_words.specs.FiniteMap as map
+use Rattle.page_words.specs.FiniteSet as set
 use Rattle.page_words.proofs.Accesses.{first_by_page}
 use Rattle.page_words.proofs.MapLemmas.{same_or_not, get-insert}
 use Rattle.page_words.proofs.OptionLemmas.{no_value}
-use Rattle.address_space.specs.Spaces.{Slot, Cell, Spaces, slot_order, at_page, slot_at, cell_or_fresh, fresh, bytes_of, value_of, page_need, access_need, with_page, with_pages, all_accessed, all_stored}
+use Rattle.address_space.specs.Spaces.{Slot, Cell, Spaces, slot_order, at_page, slot_at, cell_or_fresh, fresh, bytes_of, value_of, regions_of, pages_of, need, page_need, access_need, with_page, with_pages, all_accessed, all_stored}
 use Rattle.address_space.specs.Image.{is_lazy_at}
 use Rattle.page_words.proofs.SetLemmas.{same_apart}
 use Rattle.address_space.proofs.costs.AccessCosts.{key-insert}
-use Rattle.address_space.proofs.costs.AccessNeeds.{need-in_two, cost-with_page}
+use Rattle.address_space.proofs.costs.AccessNeeds.{need-in_one, need-in_two, cost-with_page}
 use Rattle.address_space.proofs.costs.MapFirst.{with_touched-same, touched-there}
 use Rattle.table_walk.specs.declared.Access.{Access}
 use Rattle.table_walk.specs.declared.Access.TheVariants.{Read, Write}
 use Rattle.table_walk.specs.Walk.{is_write}
-use Rattle.process_table.specs.State.{State, is_mapped, room, lacks_room}
+use Rattle.process_table.proofs.Overdrawn.{extra_page, extra_touched}
+use Rattle.process_table.specs.State.{State, is_live, is_mapped, room, overdrawn}
+use Rattle.quota_tree.specs.Book.{Member, quota_of}
 use Rattle.process_table.specs.View.{View}
 use Rattle.process_table.specs.Image.{memory_of}
 use Rattle.process_table.specs.Calls.{access_value, after_access}
@@ -65,12 +68,12 @@ all_user address size none =
 pub record Goes (steps : ℕ → PageStep) (s : State) (p address : ℕ) (size : Size) (access : Access) : Type 0 where
   pub outside : outside address size ≡ None
   pub allowed : forbidden s p address size access ≡ None
-  pub room : lacks_room s p address size ≡ false
+  pub room : overdrawn s p (touched address size) ≡ false
   pub is : planned_by steps s p address size access ≡ plan.Ready (steps (page_number address)) (option_map steps (second_page address size))
 
 pub ready : (steps : ℕ → PageStep) (s : State) (p address : ℕ) (size : Size) (access : Access) → goes_on (planned_by steps s p address size access) ≡ true → Goes steps s p address size access
 ready steps s p address size access g =
-    let k = by (outside address size) (forbidden s p address size access) (lacks_room s p address size) g in
+    let k = by (outside address size) (forbidden s p address size access) (overdrawn s p (touched address size)) g in
     record { outside = k.0; allowed = k.1; room = k.2; is = λ i. fault_or (k.0 i) access false (fault_or (k.1 i) access true (if k.2 i then plan.Refused Quota else full)) }
   where
     full : Plan
@@ -84,7 +87,7 @@ ready steps s p address size access g =
 
 -- where the state's plan goes on, the plan as memory stands does, and the other way round
 pub same_stops : (steps others : ℕ → PageStep) (s : State) (p address : ℕ) (size : Size) (access : Access) → goes_on (planned_by steps s p address size access) ≡ goes_on (planned_by others s p address size access)
-same_stops steps others s p address size access = by (outside address size) (forbidden s p address size access) (lacks_room s p address size)
+same_stops steps others s p address size access = by (outside address size) (forbidden s p address size access) (overdrawn s p (touched address size))
   where
     full : (ℕ → PageStep) → Plan
     full t = plan.Ready (t (page_number address)) (option_map t (second_page address size))
@@ -166,13 +169,51 @@ mapped_alone s p address size page is within =
 
 -- ---- Room for the pages
 
-pub second_room : (s : State) (p address : ℕ) (size : Size) (second : ℕ) → second_page address size ≡ Some second → lacks_room s p address size ≡ false
-    → page_need (with_page s.spaces p (page_number address)) p second ≤ room (record s { spaces = with_page s.spaces p (page_number address) }) p
-second_room s p address size second is enough =
-    let fits = not_less (room s p) (access_need s.spaces p address size) enough in
+enough : (s : State) (p address : ℕ) (size : Size) → overdrawn s p (touched address size) ≡ false
+    → access_need s.spaces p address size ≤ room s p
+enough s p address size fits = not_less (room s p) (access_need s.spaces p address size)
+    (ap (nat_lt (room s p)) (sym (extra_touched s p address size)) ∙ fits)
+
+fits_page : (s : State) (p page : ℕ) → page_need s.spaces p page ≤ room s p → overdrawn s p (page ∷ []) ≡ false
+fits_page s p page fits = ap (nat_lt (room s p)) (extra_page s p page) ∙ le-ltb (room s p) (page_need s.spaces p page) fits
+
+pub first_room : (s : State) (p address : ℕ) (size : Size) → overdrawn s p (touched address size) ≡ false
+    → overdrawn s p (page_number address ∷ []) ≡ false
+first_room s p address size fits = by (second_page address size) refl
+  where
+    by : (x : Option ℕ) → second_page address size ≡ x → overdrawn s p (page_number address ∷ []) ≡ false
+    by None is =
+        let n = need-in_one s.spaces p address size is in
+        let all = enough s p address size fits in
+        fits_page s p (page_number address) (omega (arith, n, all))
+    by (Some second) is =
+        let n = need-in_two s.spaces p address size second is in
+        let all = enough s p address size fits in
+        fits_page s p (page_number address) (omega (arith, n, all))
+
+pub second_room : (s : State) (p address : ℕ) (size : Size) (second : ℕ) → second_page address size ≡ Some second
+    → overdrawn s p (touched address size) ≡ false
+    → overdrawn (record s { spaces = with_page s.spaces p (page_number address) }) p (second ∷ []) ≡ false
+second_room s p address size second is fits =
+    let all = enough s p address size fits in
     let n = need-in_two s.spaces p address size second is in
     let paid = cost-with_page s.spaces p (page_number address) in
-    omega (arith, n, fits, paid)
+    fits_page (record s { spaces = with_page s.spaces p (page_number address) }) p second (omega (arith, n, all, paid))
+
+-- a process that has room for a page is live
+pub live_with_room : (s : State) (p page : ℕ) → need s.spaces p page ≤ room s p → is_live s p ≡ true
+live_with_room s p page fits = by (map.get s.book p) refl
+  where
+    some_need : (b : Bool) → 1 ≤ (if b then 1 else 2)
+    some_need true = omega arith
+    some_need false = omega arith
+
+    by : (x : Option Member) → map.get s.book p ≡ x → is_live s p ≡ true
+    by None is =
+        let none : quota_of s.book p ≡ 0 = ap (λ (x : Option Member). unwrap_or (option_map (λ (m : Member). m.quota) x) 0) is in
+        let one = some_need (set.contains (regions_of (pages_of s.spaces p)) (slot_number page)) in
+        absurd (omega (arith, none, one, fits))
+    by (Some m) is = ap is_some is
 
 -- ---- What the steps say of what is mapped
 

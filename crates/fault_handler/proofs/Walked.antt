@@ -1,25 +1,26 @@
 -- An access whose walks find a frame for each of its pages completes as memory stands.
-use Rattle.std.proofs.Common.{◌≡◌, ℕ, nat_lt, arith, Bool, true, false, not, ◌&&◌, cond, refl, ap, ◌∙◌, Option, Some, None}
+use Rattle.std.proofs.Common.{◌≡◌, ℕ, nat_lt, arith, Bool, true, false, not, ◌&&◌, cond, refl, ap, sym, subst, ◌∙◌, Option, Some, None}
 use Rattle.std.specs.Prelude.{if◌then◌else◌, IfSome, find}
 use Rattle.std.specs.Option.{option_map, option_and_then}
 use Rattle.std.proofs.lemmas.Bool.{not-true, le-ltb, and_parts}
-use Rattle.page_words.specs.Addresses.{page_number, start_number, covered, second_page, EachTouched, IsUserPage, is_user_page}
+use Rattle.page_words.specs.Addresses.{page_number, start_number, covered, second_page, touched, EachTouched, IsUserPage, is_user_page}
 use Rattle.page_words.specs.declared.addresses.Size.{Size}
 use Rattle.page_words.proofs.Accesses.{first_by_page}
-use Rattle.address_space.specs.Spaces.{Slot, at_page, cell_or_fresh, access_need, cost}
+use Rattle.address_space.specs.Spaces.{slot_at, Slot, at_page, cell_or_fresh, access_need, cost}
 use Rattle.address_space.specs.Image.{is_lazy_at, takes_stores}
 use Rattle.address_space.proofs.costs.AccessNeeds.{cost-with_touched}
 use Rattle.address_space.proofs.costs.MapFirst.{with_touched-same}
 use Rattle.table_walk.specs.declared.Access.{Access}
 use Rattle.table_walk.specs.declared.Access.TheVariants.{Read, Write}
-use Rattle.process_table.specs.State.{State, is_mapped, room, lacks_room}
+use Rattle.process_table.proofs.Overdrawn.{extra_touched}
+use Rattle.process_table.specs.State.{State, is_mapped, room, overdrawn}
 use Rattle.process_table.specs.View.{View}
 use Rattle.process_table.specs.Image.{memory_of}
 use Rattle.process_table.specs.declared.causes.Cause.TheVariants.{Quota}
 use Rattle.process_table.proofs.Placed.{page_is_user}
 use Rattle.fault_handler.specs.declared.plans.PageStep.TheVariants as step
 use Rattle.fault_handler.specs.declared.plans.Plan.TheVariants as plan
-use Rattle.fault_handler.specs.Plans.{outside, is_read_only, forbidden, fault_or, step_at, plan_at, takes_no_frame}
+use Rattle.fault_handler.specs.Plans.{outside, is_read_only, forbidden, fault_or, step_at, plan_at, at_once, takes_no_frame}
 use Rattle.fault_handler.proofs.Settled.{each_page}
 
 -- where no page passes the test, no byte is found
@@ -60,26 +61,39 @@ module _ (v : View) (p address : ℕ) (size : Size) where
       (each_page address size Takes (λ page. is_read_only s (at_page p page) ≡ false)
       (λ page h. let m = (and_parts (is_mapped s (at_page p page)) _ h).0 in let w = (parts page h).0 in λ i. m i && not (w i)) (takes refl))
 
-  pub walk_completes : (access : Access) → EachTouched address size IsUserPage → EachTouched address size (λ page. is_mapped s (at_page p page) ≡ true) → (access ≡ Write → EachTouched address size Takes)
-      → takes_no_frame (plan_at v p address size access) ≡ true
-  walk_completes access user mapped takes =
-      (λ i. takes_no_frame (fault_or (inside i) access false (fault_or (none_forbidden access takes i) access true (if roomy i then plan.Refused Quota else plan.Ready (steps.0 i) (option_map (step_at v p access) (second_page address size))))))
-      ∙ by (second_page address size) steps.1
+  -- what such an access plans
+  planned : (access : Access) → EachTouched address size IsUserPage → EachTouched address size (λ page. is_mapped s (at_page p page) ≡ true) → (access ≡ Write → EachTouched address size Takes)
+      → plan_at v p address size access ≡ plan.Ready step.Complete (option_map (step_at v p access) (second_page address size))
+  planned access user mapped takes =
+      (λ i. fault_or (inside i) access false (fault_or (none_forbidden access takes i) access true (if roomy i then plan.Refused Quota else plan.Ready ((all_steps access mapped takes).0 i) (option_map (step_at v p access) (second_page address size)))))
     where
-      steps : EachTouched address size (λ page. step_at v p access page ≡ step.Complete)
-      steps = all_steps access mapped takes
-
       inside : outside address size ≡ None
       inside = none_passes (λ page. not (is_user_page page)) address size
           (each_page address size IsUserPage (λ page. not (is_user_page page) ≡ false) (λ page u. ap not (page_is_user page u)) user)
 
-      roomy : lacks_room s p address size ≡ false
+      roomy : overdrawn s p (touched address size) ≡ false
       roomy =
           let paid = cost-with_touched s.spaces p address size in
           let same = ap (λ S. cost S p) (with_touched-same s.spaces p address size mapped) in
           let n : access_need s.spaces p address size ≡ 0 = omega (arith, paid, same) in
-          ap (nat_lt (room s p)) n ∙ le-ltb (room s p) 0 (omega arith)
+          ap (nat_lt (room s p)) (extra_touched s p address size ∙ n) ∙ le-ltb (room s p) 0 (omega arith)
 
+  pub walk_completes : (access : Access) → EachTouched address size IsUserPage → EachTouched address size (λ page. is_mapped s (at_page p page) ≡ true) → (access ≡ Write → EachTouched address size Takes)
+      → takes_no_frame (plan_at v p address size access) ≡ true
+  walk_completes access user mapped takes =
+      ap takes_no_frame (planned access user mapped takes) ∙ by (second_page address size) (all_steps access mapped takes).1
+    where
       by : (x : Option ℕ) → IfSome x (λ page. step_at v p access page ≡ step.Complete) → takes_no_frame (plan.Ready step.Complete (option_map (step_at v p access) x)) ≡ true
       by None h = refl
       by (Some page) h = ap (λ y. takes_no_frame (plan.Ready step.Complete (Some y))) h
+
+  -- in one page
+  pub completes_at_once : (access : Access) → second_page address size ≡ None → IsUserPage (page_number address)
+      → is_mapped s (slot_at p address) ≡ true → (access ≡ Write → Takes (page_number address))
+      → plan_at v p address size access ≡ at_once
+  completes_at_once access within user mapped takes =
+      planned access (alone IsUserPage user) (alone (λ page. is_mapped s (at_page p page) ≡ true) mapped) (λ h. alone Takes (takes h))
+      ∙ ap (λ x. plan.Ready step.Complete (option_map (step_at v p access) x)) within
+    where
+      alone : (P : ℕ → Type 0) → P (page_number address) → EachTouched address size P
+      alone P h = (h, subst (λ x. IfSome x P) (sym within) tt)

@@ -1,12 +1,13 @@
 -- What one lookup of each page of an access gives, and the plan that follows from it.
 use Rattle.std.proofs.Common.{ℕ, ◌+◌, ◌-◌, ◌==◌, nat_lt, Bool, true, ◌&&◌, if◌then◌else◌, Option, Some, None}
 use Rattle.std.specs.Option.{option_map}
-use Rattle.page_words.specs.Addresses.{page_number, slot_number, start_number, second_page}
+use Rattle.page_words.specs.Addresses.{page_number, slot_number, start_number, second_page, touched}
 use Rattle.page_words.specs.declared.addresses.Size.{Size}
-use Rattle.address_space.specs.Spaces.{cost, page_need, access_need, slot_at}
+use Rattle.address_space.specs.Spaces.{cost, page_need, slot_at}
 use Rattle.quota_tree.specs.declared.Container.{Container}
 use Rattle.table_walk.specs.declared.Access.{Access}
 use Rattle.table_walk.specs.Walk.{is_write, page_fault}
+use Rattle.process_table.specs.State.{extra_cost}
 use Rattle.process_table.specs.View.{View}
 use Rattle.process_table.specs.declared.causes.Cause.TheVariants.{Quota}
 use Rattle.fault_handler.specs.declared.plans.Look.{Look}
@@ -62,7 +63,7 @@ planned_by_looks access first second c = fault_by (barred access first second) a
 
 -- what a process is charged for after what is planned
 abbrev pub charge_by : View → ℕ → ℕ → Size → Plan → ℕ
-charge_by v p address size plan = if goes_on plan then cost v.state.spaces p + access_need v.state.spaces p address size else cost v.state.spaces p
+charge_by v p address size plan = if goes_on plan then cost v.state.spaces p + extra_cost v.state p (touched address size) else cost v.state.spaces p
 
 -- a plan with its charge
 abbrev pub planned_at : View → ℕ → ℕ → Size → Access → Planned

@@ -2,14 +2,14 @@
 use Rattle.std.proofs.Common.{ℕ, Bool, true, false, not, ◌&&◌, if◌then◌else◌, Option, Some, None, Result, Ok, Err}
 use Rattle.std.specs.Prelude.{find}
 use Rattle.std.specs.Option.{option_map}
-use Rattle.page_words.specs.Addresses.{page_number, covered, second_page, is_user_page}
+use Rattle.page_words.specs.Addresses.{page_number, covered, touched, second_page, is_user_page}
 use Rattle.page_words.specs.declared.addresses.Size.{Size}
 use Rattle.address_space.specs.Spaces.{Slot, cell_or_fresh, at_page, slot_at}
 use Rattle.table_walk.specs.declared.Access.{Access}
 use Rattle.table_walk.specs.Walk.{is_write, page_fault}
 use Rattle.address_space.specs.Image.{is_lazy_at}
 use Rattle.process_table.specs.Calls.{access_value}
-use Rattle.process_table.specs.State.{State, is_live, is_mapped, lacks_room}
+use Rattle.process_table.specs.State.{State, is_live, is_mapped, overdrawn}
 use Rattle.process_table.specs.View.{View}
 use Rattle.process_table.specs.Image.{memory_of}
 use Rattle.process_table.specs.declared.causes.Cause.TheVariants.{NoProcess, Quota}
@@ -46,7 +46,7 @@ abbrev pub planned_by : (ℕ → PageStep) → State → ℕ → ℕ → Size �
 planned_by steps s p address size access =
     fault_or (outside address size) access false
     (fault_or (forbidden s p address size access) access true
-    (if lacks_room s p address size then plan.Refused Quota else plan.Ready (steps (page_number address)) (option_map steps (second_page address size))))
+    (if overdrawn s p (touched address size) then plan.Refused Quota else plan.Ready (steps (page_number address)) (option_map steps (second_page address size))))
 
 -- the step of a page by the state alone
 abbrev pub step_of : State → ℕ → ℕ → PageStep

@@ -5,12 +5,12 @@
 //! mapped or filled.
 #![tactic(auto)]
 
-ghost use Rattle.std.specs.Prelude.{◌≡◌, ◌≤◌, ℕ, true, false, not, Some, None};
+ghost use Rattle.std.specs.Prelude.{◌≡◌, ℕ, true, false, not, [], ◌∷◌, Some, None};
 ghost use Rattle.std.specs.Option.{option_map};
 ghost use Rattle.page_words.specs.Addresses.{page_number, byte_count, second_page, touched, EachTouched, IsUserPage};
 ghost use Rattle.address_space.specs.Kept.{is_marked, written_at, LeadTo};
-ghost use Rattle.address_space.specs.Spaces.{at_page, bytes_of, page_need, with_page, with_pages};
-ghost use Rattle.process_table.specs.State.{container_of, is_live, is_mapped, lacks_room, room};
+ghost use Rattle.address_space.specs.Spaces.{at_page, bytes_of, with_page, with_pages};
+ghost use Rattle.process_table.specs.State.{container_of, is_live, is_mapped, overdrawn};
 ghost use Rattle.process_table.specs.Calls.{access_value, after_access};
 ghost use Rattle.address_space.specs.Image.{is_lazy_at};
 ghost use Rattle.address_space.specs.Spaces.{Slot};
@@ -62,7 +62,7 @@ fn map_by_step(
 ) -> Place
     requires user { IsUserPage page }
     requires how { is_mapped processes.old.state (at_page pid page) ≡ not (maps_page how) }
-    requires room { page_need processes.old.state.spaces pid page ≤ room processes.old.state pid }
+    requires room { overdrawn processes.old.state pid (page ∷ []) ≡ false }
     requires place { place.now ≡ place_in processes.old.directories processes.old.bytes pid page }
     ensures state { processes.new.state ≡ record processes.old.state { spaces = with_page processes.old.state.spaces pid page } }
     ensures stay { FramesStay none_goes (memory_of processes.old) (memory_of processes.new) }
@@ -86,7 +86,7 @@ fn map_behind(
 ) -> Places
     requires user { IsUserPage second }
     requires how { is_mapped processes.old.state (at_page pid second) ≡ not (maps_page how) }
-    requires room { page_need processes.old.state.spaces pid second ≤ room processes.old.state pid }
+    requires room { overdrawn processes.old.state pid (second ∷ []) ≡ false }
     ensures state { processes.new.state ≡ record processes.old.state { spaces = with_page processes.old.state.spaces pid second } }
     ensures stay { FramesStay none_goes (memory_of processes.old) (memory_of processes.new) }
     ensures places { result ≡ record { first = place_at processes.new pid page; second = place_at processes.new pid second } }
@@ -111,7 +111,7 @@ fn map_pages(
     place: &Place,
 ) -> Places
     requires user { EachTouched address size IsUserPage }
-    requires room { lacks_room processes.old.state pid address size ≡ false }
+    requires room { overdrawn processes.old.state pid (touched address size) ≡ false }
     requires first { is_mapped processes.old.state (at_page pid (page_number address)) ≡ not (maps_page first) }
     requires second { option_map (λ page. is_mapped processes.old.state (at_page pid page)) (second_page address size) ≡ option_map (λ how. not (maps_page how)) second }
     requires place { place.now ≡ place_in processes.old.directories processes.old.bytes pid (page_number address) }

@@ -3,7 +3,7 @@ use Rattle.std.proofs.Common.{◌≡◌, ℕ, zero, suc, Bool, true, false, List
 use Rattle.std.proofs.lemmas.Option.{same_Some}
 use Rattle.std.specs.Prelude.{map, slice_get}
 use Rattle.std.specs.Option.{option_map}
-use Rattle.kernel_calls.specs.Isolation.{Exchange, InvolvesNobody, calls_of, replies_of, quota_asked, pages_given}
+use Rattle.kernel_calls.specs.Isolation.{Exchange, InvolvesNobody, events_in, calls_of, replies_of, quota_asked, pages_given}
 use Rattle.kernel_calls.specs.Machine.{answer, answers, next, end_of}
 use Rattle.kernel_calls.specs.declared.calls.Call.{Call}
 use Rattle.kernel_calls.specs.declared.calls.Event.{Event}
@@ -16,7 +16,7 @@ use Rattle.guest_cpu.specs.declared.instructions.Instruction.TheVariants.{Set, A
 use Rattle.guest_cpu.specs.declared.runs.End.{End}
 use Rattle.guest_cpu.specs.declared.runs.End.TheVariants as end
 use Rattle.guest_cpu.specs.Guests.{GuestView, event_asked, value_of, after}
-use Rattle.guest_cpu.specs.Laws.{GuestsAreIsolated, alone, asked}
+use Rattle.guest_cpu.specs.Laws.{GuestsAreIsolated, alone}
 use Rattle.guest_cpu.specs.Laws as laws
 use Rattle.guest_cpu.specs.Ports.{Answer}
 use Rattle.guest_cpu.specs.Runs.{Executes, halts, moves, asks, stops, fails, Turns, none, turn, IsRun, leaves, runs_out, ends}
@@ -212,19 +212,19 @@ answered_is : (part : List Exchange) → laws.answered part ≡ map Ok (replies_
 answered_is [] = refl
 answered_is (x ∷ part) = ap (λ l. Ok x.1 ∷ l) (answered_is part)
 
-asked_is : (part : List Exchange) → map moved (asked part) ≡ map alone_event (calls_of part)
+asked_is : (part : List Exchange) → map moved (events_in part) ≡ map alone_event (calls_of part)
 asked_is [] = refl
 asked_is (x ∷ part) = ap (λ l. alone_event x.0.call ∷ l) (asked_is part)
 
 pub guests_isolated : GuestsAreIsolated
-guests_isolated s events k p e mine rest well at child part quiet program turns g h stop ran before final last stop_alone root state other =
-    let here : State = alone_with root (quota_asked e.call) (pages_given (end_of s (take k events)) e.pid e.call) in
+guests_isolated s events before later mine rest e p well is part quiet program turns g h stop ran start finish last stop_alone root state other =
+    let here : State = alone_with root (quota_asked e.call) (pages_given (end_of s (events_in before)) e.pid e.call) in
     let calls : List Event = map alone_event (calls_of mine) in
-    let all = runs_isolated s events well k p e at child (subst InvolvesNobody (sym part) quiet) root in
+    let all = runs_isolated s events well before later e p is (subst InvolvesNobody (sym part) quiet) root in
     let told_alone : replies_of mine ≡ answers here calls = begins here mine rest (subst (λ xs. replies_of xs ≡ answers here (map alone_event (calls_of xs))) part all) in
     let first : IsRun program turns (alone g) (told calls here) calls stop (alone h) =
     subst (λ es. IsRun program turns (alone g) (told calls here) es stop (alone h)) (asked_is mine)
-    (subst (λ rs. IsRun program turns (alone g) rs (map moved (asked mine)) stop (alone h)) (answered_is mine ∙ ap (map Ok) told_alone) (run_alone ran)) in
+    (subst (λ rs. IsRun program turns (alone g) rs (map moved (events_in mine)) stop (alone h)) (answered_is mine ∙ ap (map Ok) told_alone) (run_alone ran)) in
     let answers_are : other.answers ≡ told other.events here = (core_answers other.chain).0 ∙ ap (told other.events) state in
     let second : IsRun program turns (alone g) (told other.events here) other.events stop_alone last =
     subst (λ rs. IsRun program turns (alone g) rs other.events stop_alone last) answers_are other.run in

@@ -2,7 +2,7 @@
 use Rattle.std.proofs.Common.{◌≡◌, ℕ, zero, suc, ◌==◌, Bool, true, false, List, [], ◌∷◌, refl, sym, ap, subst, ◌∙◌, Option, Some, None}
 use Rattle.std.specs.Prelude.{slice_get}
 use Rattle.std.proofs.lemmas.Option.{same_Some}
-use Rattle.kernel_calls.specs.Authority.{AskAlike, heard}
+use Rattle.kernel_calls.specs.Authority.{AskAlike, Heard, heard}
 use Rattle.kernel_calls.specs.Isolation.{exchanges}
 use Rattle.kernel_calls.specs.declared.calls.Event.{Event}
 use Rattle.kernel_calls.specs.declared.calls.Reply.{Reply}
@@ -11,7 +11,7 @@ use Rattle.process_table.specs.State.{is_live}
 use Rattle.guest_cpu.specs.declared.instructions.Instruction.{Instruction}
 use Rattle.guest_cpu.specs.declared.runs.End.{End}
 use Rattle.guest_cpu.specs.Guests.{GuestView, event_asked, value_of, after}
-use Rattle.guest_cpu.specs.Laws.{Told, events_told, answers_told, founds, GuestsHearTheSame, GuestsAreUnreached}
+use Rattle.guest_cpu.specs.Laws.{events_told, answers_told, founds, GuestsHearTheSame, GuestsAreUnreached}
 use Rattle.guest_cpu.specs.Ports.{Answer}
 use Rattle.guest_cpu.specs.Runs.{IsRun}
 use Rattle.guest_cpu.proofs.RunLemmas.{Outcome, in_front, is_last, replied, answered, quiet, acted, stepped, stood, follow, followed, determined}
@@ -38,15 +38,15 @@ abbrev rest_of : List (Option ℕ) → List (Option ℕ)
 rest_of [] = []
 rest_of (n ∷ ns) = ns
 
-empty : (xs : List Told) → [] ≡ events_told xs → xs ≡ []
+empty : (xs : List Heard) → [] ≡ events_told xs → xs ≡ []
 empty [] h = refl
 empty (x ∷ xs) h = cc
 
 -- where nothing was asked, nothing is
-both_empty : (xs ys : List Told) → [] ≡ events_told xs → [] ≡ events_told ys → AskAlike xs ys
+both_empty : (xs ys : List Heard) → [] ≡ events_told xs → [] ≡ events_told ys → AskAlike xs ys
 both_empty xs ys h k = subst (λ zs. AskAlike zs ys) (sym (empty xs h)) (subst (λ zs. AskAlike [] zs) (sym (empty ys k)) tt)
 
-no_more : (xs : List Told) (x y : Ended) → ◌≡◌ {A = Outcome} (Some ([], x)) (Some (events_told xs, y)) → [] ≡ events_told xs
+no_more : (xs : List Heard) (x y : Ended) → ◌≡◌ {A = Outcome} (Some ([], x)) (Some (events_told xs, y)) → [] ≡ events_told xs
 no_more xs x y h = ap (λ (p : List Event × Ended). p.0) (same_Some ([], x) (events_told xs, y) h)
 
 -- what follows an event
@@ -58,7 +58,7 @@ behind event (Some p) events x h = (p.0, p.1, refl, ap (λ (q : List Event × En
 -- ---- A turn, where the turns after it ask alike
 
 module _ (rest : GuestView → List Answer → Outcome)
-    (law : (g : GuestView) (xs ys : List Told) (x y : Ended) → rest g (answers_told xs) ≡ Some (events_told xs, x) → rest g (answers_told ys) ≡ Some (events_told ys, y)
+    (law : (g : GuestView) (xs ys : List Heard) (x y : Ended) → rest g (answers_told xs) ≡ Some (events_told xs, x) → rest g (answers_told ys) ≡ Some (events_told ys, y)
     → founds xs ≡ founds ys → AskAlike xs ys) where
   -- the event that is asked
   first_event : (i : Instruction) (g : GuestView) (event : Event) (r : Reply) (more : List Answer) (v : Option ℕ) (e : Event) (es : List Event) (x : Ended)
@@ -67,7 +67,7 @@ module _ (rest : GuestView → List Answer → Outcome)
   first_event i g event r more (Some v) e es x h = let b = behind event (rest (after g i v) more) (e ∷ es) x h in ap (head_or e) b.3
 
   -- and what is behind it
-  later : (i : Instruction) (g : GuestView) (event : Event) (r : Reply) (v : Option ℕ) (e : Event) (xs ys : List Told) (x y : Ended)
+  later : (i : Instruction) (g : GuestView) (event : Event) (r : Reply) (v : Option ℕ) (e : Event) (xs ys : List Heard) (x y : Ended)
       → replied rest i g event r (answers_told xs) v ≡ Some (e ∷ events_told xs, x) → replied rest i g event r (answers_told ys) v ≡ Some (e ∷ events_told ys, y)
       → founds xs ≡ founds ys → AskAlike xs ys
   later i g event r None e xs ys x y h k f = both_empty xs ys
@@ -78,45 +78,45 @@ module _ (rest : GuestView → List Answer → Outcome)
       let b = behind event (rest (after g i v) (answers_told ys)) (e ∷ events_told ys) y k in
       law (after g i v) xs ys a.1 b.1 (a.2 ∙ ap (λ es. Some (tail_of es, a.1)) a.3) (b.2 ∙ ap (λ es. Some (tail_of es, b.1)) b.3) f
 
-  by_event : (i : Instruction) (g : GuestView) (event : Event) (xs ys : List Told) (x y : Ended)
+  by_event : (i : Instruction) (g : GuestView) (event : Event) (xs ys : List Heard) (x y : Ended)
       → answered rest i g event (answers_told xs) ≡ Some (events_told xs, x) → answered rest i g event (answers_told ys) ≡ Some (events_told ys, y)
       → founds xs ≡ founds ys → AskAlike xs ys
   by_event i g event [] ys x y h k f = cc
   by_event i g event (a ∷ xs) [] x y h k f = cc
   by_event i g event (a ∷ xs) (b ∷ ys) x y h k f = (
-    sym (first_event i g event a.0.1 (answers_told xs) (value_of a.0.1) a.0.0 (events_told xs) x h)
-        ∙ first_event i g event b.0.1 (answers_told ys) (value_of b.0.1) b.0.0 (events_told ys) y k,
-    ap (first_or a.1) f,
-    λ same. later i g event a.0.1 (value_of a.0.1) a.0.0 xs ys x y h
-        (subst (λ (c : Told). replied rest i g event c.0.1 (answers_told ys) (value_of c.0.1) ≡ Some (c.0.0 ∷ events_told ys, y)) (sym same) k)
+    sym (first_event i g event a.reply (answers_told xs) (value_of a.reply) a.event (events_told xs) x h)
+        ∙ first_event i g event b.reply (answers_told ys) (value_of b.reply) b.event (events_told ys) y k,
+    ap (first_or a.finds) f,
+    λ same. later i g event a.reply (value_of a.reply) a.event xs ys x y h
+        (subst (λ (c : Heard). replied rest i g event c.reply (answers_told ys) (value_of c.reply) ≡ Some (c.event ∷ events_told ys, y)) (sym same) k)
         (ap rest_of f),
   )
 
-  by_quiet : (i : Instruction) (g : GuestView) (b : Bool) (xs ys : List Told) (x y : Ended)
+  by_quiet : (i : Instruction) (g : GuestView) (b : Bool) (xs ys : List Heard) (x y : Ended)
       → quiet rest i g (answers_told xs) b ≡ Some (events_told xs, x) → quiet rest i g (answers_told ys) b ≡ Some (events_told ys, y)
       → founds xs ≡ founds ys → AskAlike xs ys
   by_quiet i g true xs ys x y h k f = both_empty xs ys (no_more xs _ x h) (no_more ys _ y k)
   by_quiet i g false xs ys x y h k f = law (after g i 0) xs ys x y h k f
 
-  by_act : (i : Instruction) (g : GuestView) (o : Option Event) (xs ys : List Told) (x y : Ended)
+  by_act : (i : Instruction) (g : GuestView) (o : Option Event) (xs ys : List Heard) (x y : Ended)
       → acted rest i g (answers_told xs) o ≡ Some (events_told xs, x) → acted rest i g (answers_told ys) o ≡ Some (events_told ys, y)
       → founds xs ≡ founds ys → AskAlike xs ys
   by_act i g None xs ys x y h k f = by_quiet i g (is_last i) xs ys x y h k f
   by_act i g (Some event) xs ys x y h k f = by_event i g event xs ys x y h k f
 
-  by_step : (g : GuestView) (o : Option Instruction) (xs ys : List Told) (x y : Ended)
+  by_step : (g : GuestView) (o : Option Instruction) (xs ys : List Heard) (x y : Ended)
       → stepped rest g (answers_told xs) o ≡ Some (events_told xs, x) → stepped rest g (answers_told ys) o ≡ Some (events_told ys, y)
       → founds xs ≡ founds ys → AskAlike xs ys
   by_step g None xs ys x y h k f = both_empty xs ys (no_more xs _ x h) (no_more ys _ y k)
   by_step g (Some i) xs ys x y h k f = by_act i g (event_asked g i) xs ys x y h k f
 
-by_stood : (g : GuestView) (o : Option Instruction) (xs ys : List Told) (x y : Ended) → stood g o ≡ Some (events_told xs, x) → stood g o ≡ Some (events_told ys, y) → AskAlike xs ys
+by_stood : (g : GuestView) (o : Option Instruction) (xs ys : List Heard) (x y : Ended) → stood g o ≡ Some (events_told xs, x) → stood g o ≡ Some (events_told ys, y) → AskAlike xs ys
 by_stood g None xs ys x y h k = both_empty xs ys (no_more xs _ x h) (no_more ys _ y k)
 by_stood g (Some i) xs ys x y h k = both_empty xs ys (no_more xs _ x h) (no_more ys _ y k)
 
 -- ---- All turns
 
-asks_alike : (program : List Instruction) (turns : ℕ) (g : GuestView) (xs ys : List Told) (x y : Ended) → follow program turns g (answers_told xs) ≡ Some (events_told xs, x)
+asks_alike : (program : List Instruction) (turns : ℕ) (g : GuestView) (xs ys : List Heard) (x y : Ended) → follow program turns g (answers_told xs) ≡ Some (events_told xs, x)
     → follow program turns g (answers_told ys) ≡ Some (events_told ys, y) → founds xs ≡ founds ys → AskAlike xs ys
 unfolding follow
 asks_alike program zero g xs ys x y h k f = by_stood g (slice_get program g.counter) xs ys x y h k
@@ -124,7 +124,7 @@ asks_alike program (suc turns) g xs ys x y h k f =
     by_step (λ h more. follow program turns h more) (asks_alike program turns) g (slice_get program g.counter) xs ys x y h k f
 
 -- where what is heard is the same, guests end the same
-module _ (program : List Instruction) (turns : ℕ) (g h k : GuestView) (e d : End) (mine theirs : List Told)
+module _ (program : List Instruction) (turns : ℕ) (g h k : GuestView) (e d : End) (mine theirs : List Heard)
     (first : IsRun program turns g (answers_told mine) (events_told mine) e h)
     (second : IsRun program turns g (answers_told theirs) (events_told theirs) d k) where
   ask_alike : founds mine ≡ founds theirs → AskAlike mine theirs
@@ -136,19 +136,17 @@ module _ (program : List Instruction) (turns : ℕ) (g h k : GuestView) (e d : E
       (same, ended.1, ended.2)
 
 pub guests_hear_the_same : GuestsHearTheSame
-guests_hear_the_same s t p events others w v live l quiet_s quiet_t mine theirs is_mine is_theirs f program turns g h k e d first second =
+guests_hear_the_same s t p events others w v live l quiet_s quiet_t f program turns g h k e d first second =
+    let mine = heard s (λ q. q == p) (exchanges s events) in
+    let theirs = heard t (λ q. q == p) (exchanges t others) in
     end_same program turns g h k e d mine theirs first second
-    (sym is_mine
-    ∙ members_hear_the_same s events w t (λ q. q == p) others v (λ q here. ap (is_live s) (eqb-true q p here) ∙ live) l quiet_s quiet_t
-    (subst (λ xs. AskAlike xs (heard t (λ q. q == p) (exchanges t others))) (sym is_mine)
-    (subst (λ ys. AskAlike mine ys) (sym is_theirs) (ask_alike program turns g h k e d mine theirs first second f)))
-    ∙ is_theirs)
+    (members_hear_the_same s events w t (λ q. q == p) others v (λ q here. ap (is_live s) (eqb-true q p here) ∙ live) l quiet_s quiet_t
+    (ask_alike program turns g h k e d mine theirs first second f))
 
 pub guests_are_unreached : GuestsAreUnreached
-guests_are_unreached s t p events others w v family family_t l within within_t mine theirs is_mine is_theirs f program turns g h k e d first second =
+guests_are_unreached s t p events others w v family family_t l within within_t f program turns g h k e d first second =
+    let mine = heard s (λ q. q == p) (exchanges s events) in
+    let theirs = heard t (λ q. q == p) (exchanges t others) in
     end_same program turns g h k e d mine theirs first second
-    (sym is_mine
-    ∙ families_hear_their_own s events w t (λ q. q == p) others v family family_t l within within_t
-    (subst (λ xs. AskAlike xs (heard t (λ q. q == p) (exchanges t others))) (sym is_mine)
-    (subst (λ ys. AskAlike mine ys) (sym is_theirs) (ask_alike program turns g h k e d mine theirs first second f)))
-    ∙ is_theirs)
+    (families_hear_their_own s events w t (λ q. q == p) others v family family_t l within within_t
+    (ask_alike program turns g h k e d mine theirs first second f))

@@ -1,9 +1,9 @@
 -- What a core answers to a guest, and laws of all runs.
-use Rattle.std.proofs.Common.{◌≡◌, ℕ, ◌+◌, ◌==◌, true, List, ◌++◌, take, drop, Option, Some, Ok}
-use Rattle.std.specs.Prelude.{map, slice_get}
-use Rattle.kernel_calls.specs.Authority.{HaveTheSame, LooksSame, IsQuiet, KeepsWithin, Along, heard}
+use Rattle.std.proofs.Common.{◌≡◌, ℕ, ◌+◌, ◌==◌, true, List, ◌∷◌, ◌++◌, Option, Ok}
+use Rattle.std.specs.Prelude.{map}
+use Rattle.kernel_calls.specs.Authority.{HaveTheSame, LooksSame, IsQuiet, KeepsWithin, Along, Heard, heard}
 use Rattle.kernel_calls.specs.Families.{IsFamily}
-use Rattle.kernel_calls.specs.Isolation.{Exchange, exchanges, own, InvolvesNobody, quota_asked, pages_given}
+use Rattle.kernel_calls.specs.Isolation.{Exchange, exchanges, own, events_in, InvolvesNobody, quota_asked, pages_given}
 use Rattle.kernel_calls.specs.Machine.{answers, end_of}
 use Rattle.kernel_calls.specs.declared.calls.Event.{Event}
 use Rattle.kernel_calls.specs.declared.calls.Reply.TheVariants.{Child}
@@ -37,10 +37,6 @@ RunsAreDetermined = (program : List Instruction) (turns : ℕ) (g h k : GuestVie
 abbrev pub alone : GuestView → GuestView
 alone g = record { cpu = 0; pid = 1; registers = g.registers; counter = g.counter }
 
--- what a guest asked, and what its port answered
-abbrev pub asked : List Exchange → List Event
-asked part = map (λ x. x.0) part
-
 -- the answers in a list of exchanges
 abbrev pub answered : List Exchange → List Answer
 answered part = map (λ x. Ok x.1) part
@@ -49,49 +45,44 @@ answered part = map (λ x. Ok x.1) part
 -- as it ends over any core in which process 1 is alone with the quota and the pages that the process was given, whatever
 -- the root's quota is. It ends in the same way, with the same registers and the same counter.
 abbrev pub GuestsAreIsolated : Type 0
-GuestsAreIsolated = (s : State) (events : List Event) (k p : ℕ) (e : Event) (mine rest : List Exchange) → IsWellFormed s → slice_get events k ≡ Some e
-    → slice_get (answers s events) k ≡ Some (Child p) → own p (drop (k + 1) (exchanges s events)) ≡ mine ++ rest → InvolvesNobody (mine ++ rest)
-    → (program : List Instruction) (turns : ℕ) (g h : GuestView) (ends : End) → IsRun program turns g (answered mine) (asked mine) ends h
-    → (before after : core.View) (last : GuestView) (ends_alone : End) (root : ℕ) → before.state ≡ alone_with root (quota_asked e.call) (pages_given (end_of s (take k events)) e.pid e.call)
-    → HasRun IsCoreStep program turns (alone g) before ends_alone last after → (ends_alone ≡ ends) × (last ≡ alone h)
+GuestsAreIsolated = (s : State) (events : List Event) (before later mine rest : List Exchange) (e : Event) (p : ℕ) → IsWellFormed s
+    → exchanges s events ≡ before ++ (e, Child p) ∷ later → own p later ≡ mine ++ rest → InvolvesNobody (mine ++ rest)
+    → (program : List Instruction) (turns : ℕ) (g h : GuestView) (ends : End) → IsRun program turns g (answered mine) (events_in mine) ends h
+    → (start finish : core.View) (last : GuestView) (ends_alone : End) (root : ℕ)
+    → start.state ≡ alone_with root (quota_asked e.call) (pages_given (end_of s (events_in before)) e.pid e.call)
+    → HasRun IsCoreStep program turns (alone g) start ends_alone last finish → (ends_alone ≡ ends) × (last ≡ alone h)
 
--- what an event shows its caller: its exchange, and what its call finds
-abbrev pub Told : Type 0
-Told = Exchange × Option ℕ
+-- the events that a process observes
+abbrev pub events_told : List Heard → List Event
+events_told xs = map (λ x. x.event) xs
 
--- the events in a list
-abbrev pub events_told : List Told → List Event
-events_told xs = map (λ (x : Told). x.0.0) xs
+-- the answers to them
+abbrev pub answers_told : List Heard → List Answer
+answers_told xs = map (λ x. Ok x.reply) xs
 
--- the answers in a list
-abbrev pub answers_told : List Told → List Answer
-answers_told xs = map (λ (x : Told). Ok x.0.1) xs
+-- what its calls find
+abbrev pub founds : List Heard → List (Option ℕ)
+founds xs = map (λ x. x.finds) xs
 
--- what the calls of a list find
-abbrev pub founds : List Told → List (Option ℕ)
-founds xs = map (λ (x : Told). x.1) xs
+-- Two guests of one program make all calls of a process, each in one of two runs, and find the same. Then they get the
+-- same replies, and end in the same way, with the same registers and the same counter.
+abbrev pub GuestsEndAlike : (mine theirs : List Heard) → Type 0
+GuestsEndAlike mine theirs = founds mine ≡ founds theirs
+    → (program : List Instruction) (turns : ℕ) (g h k : GuestView) (e f : End)
+    → IsRun program turns g (answers_told mine) (events_told mine) e h
+    → IsRun program turns g (answers_told theirs) (events_told theirs) f k → (mine ≡ theirs) × (e ≡ f) × (h ≡ k)
 
--- Two states look the same to a live process, and outsiders use no channel to it in a run from each. Two guests of one
--- program make all of its calls there, and find the same. Then they get the same replies, and end in the same way, with
--- the same registers and the same counter.
+-- so it is if two states look the same to a live process, and outsiders use no channel to it in a run from each
 abbrev pub GuestsHearTheSame : Type 0
 GuestsHearTheSame = (s t : State) (p : ℕ) (events others : List Event) → IsWellFormed s → IsWellFormed t
     → is_live s p ≡ true → LooksSame s t (λ q. q == p)
     → Along IsQuiet s (λ q. q == p) events → Along IsQuiet t (λ q. q == p) others
-    → (mine theirs : List Told) → heard s (λ q. q == p) (exchanges s events) ≡ mine
-    → heard t (λ q. q == p) (exchanges t others) ≡ theirs → founds mine ≡ founds theirs
-    → (program : List Instruction) (turns : ℕ) (g h k : GuestView) (e f : End)
-    → IsRun program turns g (answers_told mine) (events_told mine) e h
-    → IsRun program turns g (answers_told theirs) (events_told theirs) f k → (mine ≡ theirs) × (e ≡ f) × (h ≡ k)
+    → GuestsEndAlike (heard s (λ q. q == p) (exchanges s events)) (heard t (λ q. q == p) (exchanges t others))
 
--- two guests of one program get the same replies, whatever outsiders do, if their process is a family of its own, has
--- the same in both states, and keeps within itself in both runs
+-- and if their process is a family of its own, has the same in both states, and keeps within itself in both runs,
+-- whatever outsiders do
 abbrev pub GuestsAreUnreached : Type 0
 GuestsAreUnreached = (s t : State) (p : ℕ) (events others : List Event) → IsWellFormed s → IsWellFormed t
     → IsFamily s (λ q. q == p) → IsFamily t (λ q. q == p) → HaveTheSame s t (λ q. q == p)
     → Along (λ _. KeepsWithin) s (λ q. q == p) events → Along (λ _. KeepsWithin) t (λ q. q == p) others
-    → (mine theirs : List Told) → heard s (λ q. q == p) (exchanges s events) ≡ mine
-    → heard t (λ q. q == p) (exchanges t others) ≡ theirs → founds mine ≡ founds theirs
-    → (program : List Instruction) (turns : ℕ) (g h k : GuestView) (e f : End)
-    → IsRun program turns g (answers_told mine) (events_told mine) e h
-    → IsRun program turns g (answers_told theirs) (events_told theirs) f k → (mine ≡ theirs) × (e ≡ f) × (h ≡ k)
+    → GuestsEndAlike (heard s (λ q. q == p) (exchanges s events)) (heard t (λ q. q == p) (exchanges t others))

@@ -22,7 +22,8 @@ use Rattle.page_sharing.specs.Offers.{OfferKey, offer_order, offer_key, pending}
 use Rattle.table_walk.specs.declared.Access.{Access}
 use Rattle.table_walk.specs.declared.Access.TheVariants.{Read, Write}
 use Rattle.table_walk.specs.Walk.{is_write}
-use Rattle.process_table.specs.State.{State, is_live, is_mapped, room, has_no_room, lacks_room, child_of}
+use Rattle.process_table.proofs.Overdrawn.{extra_page, extra_touched}
+use Rattle.process_table.specs.State.{State, is_live, is_mapped, room, extra_cost, overdrawn, child_of}
 use Rattle.process_table.specs.Calls.{map_refusal, unmap_refusal, protect_refusal, offer_refusal, withdraw_refusal, accept_refusal, spawn_refusal, fork_refusal, exit_refusal}
 use Rattle.process_table.specs.WellFormed.{IsWellFormed}
 use Rattle.process_table.specs.declared.causes.Cause.{Cause}
@@ -247,8 +248,13 @@ module _ (s t : State) (p : ℕ) (l : Leaves s t p) where
       let b = more_room in
       not_below (room t p) m (omega (arith, a, b, is))
 
-  room_stays : (page : ℕ) → has_no_room s (at_page p page) ≡ false → has_no_room t (at_page p page) ≡ false
-  room_stays page h = fits (need s.spaces p page) (need t.spaces p page) (ap (λ (x : Set nat_order). if set.contains (regions_of x) (slot_number page) then 1 else 2) pages) h
+  room_stays : (page : ℕ) → overdrawn s p (page ∷ []) ≡ false → overdrawn t p (page ∷ []) ≡ false
+  room_stays page h = fits (extra_cost s p (page ∷ [])) (extra_cost t p (page ∷ [])) same h
+    where
+      same : extra_cost t p (page ∷ []) ≡ extra_cost s p (page ∷ [])
+      same = extra_page t p page
+          ∙ (λ i. if mapped page i then 0 else if set.contains (regions_of (pages i)) (slot_number page) then 1 else 2)
+          ∙ sym (extra_page s p page)
 
   need_same : (address : ℕ) (size : Size) → access_need t.spaces p address size ≡ access_need s.spaces p address size
   need_same address size = λ i.
@@ -262,8 +268,9 @@ module _ (s t : State) (p : ℕ) (l : Leaves s t p) where
       let k = ready (step_of s p) s p address size access g in
       let forbids : forbidden t p address size access ≡ None =
       (λ i. if is_write access then find (λ a. bars (page_number a) i) (covered address size) else None) ∙ k.allowed in
-      let enough : lacks_room t p address size ≡ false =
-      fits (access_need s.spaces p address size) (access_need t.spaces p address size) (need_same address size) k.room in
+      let enough : overdrawn t p (touched address size) ≡ false =
+      fits (extra_cost s p (touched address size)) (extra_cost t p (touched address size))
+      (extra_touched t p address size ∙ need_same address size ∙ sym (extra_touched s p address size)) k.room in
       ap (λ (x : Plan). completes (planned_or x r)) (λ i. fault_or (k.outside i) access false
       (fault_or (forbids i) access true (if enough i then plan.Refused cause.Quota else full))) ∙ done
     where
@@ -277,7 +284,7 @@ module _ (s t : State) (p : ℕ) (l : Leaves s t p) where
   map_stays page h =
       let a = choice (not (is_user_page page)) _ _ h in
       let b = choice (is_mapped s (at_page p page)) _ _ a.1 in
-      let c = choice (has_no_room s (at_page p page)) _ _ b.1 in
+      let c = choice (overdrawn s p (page ∷ [])) _ _ b.1 in
       λ i. if a.0 i then Some cause.BadPage else if (mapped page ∙ b.0) i then Some cause.Mapped else
       if room_stays page c.0 i then Some cause.Quota else None
 
@@ -357,9 +364,9 @@ module _ (s t : State) (p : ℕ) (l : Leaves s t p) where
   accept_stays giver giver_page page h = by (map.contains_key t.offers (offer_key giver giver_page p)) refl
     where
       a : (not (is_user_page page) ≡ false) × (not (map.contains_key s.offers (offer_key giver giver_page p)) ≡ false)
-          × (is_mapped s (at_page p page) ≡ false) × (has_no_room s (at_page p page) ≡ false)
+          × (is_mapped s (at_page p page) ≡ false) × (overdrawn s p (page ∷ []) ≡ false)
       a = four (not (is_user_page page)) (not (map.contains_key s.offers (offer_key giver giver_page p)))
-          (is_mapped s (at_page p page)) (has_no_room s (at_page p page)) _ _ _ _ h
+          (is_mapped s (at_page p page)) (overdrawn s p (page ∷ [])) _ _ _ _ h
 
       refusal : (x : Bool) → map.contains_key t.offers (offer_key giver giver_page p) ≡ x
           → accept_refusal t p giver giver_page page ≡ (if not x then Some cause.NoOffer else None)

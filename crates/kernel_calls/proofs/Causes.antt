@@ -15,7 +15,7 @@ use Rattle.page_sharing.specs.Offers.{offer_key, pending}
 use Rattle.table_walk.specs.declared.Access.{Access}
 use Rattle.table_walk.specs.declared.Access.TheVariants.{Read, Write}
 use Rattle.table_walk.specs.Walk.{error_code}
-use Rattle.process_table.specs.State.{State, is_live, is_mapped, room, has_no_room, child_of}
+use Rattle.process_table.specs.State.{State, is_live, is_mapped, room, extra_cost, overdrawn, child_of}
 use Rattle.process_table.specs.Calls.{map_refusal, unmap_refusal, protect_refusal, offer_refusal, withdraw_refusal, accept_refusal, spawn_refusal, fork_refusal, exit_refusal, loaded}
 use Rattle.process_table.specs.declared.causes.Cause.{Cause}
 use Rattle.process_table.specs.declared.causes.Cause.TheVariants as cause
@@ -25,7 +25,7 @@ use Rattle.fault_handler.specs.Plans.{outside, is_read_only, read_only, fault_or
 use Rattle.fault_handler.specs.declared.plans.PageStep.{PageStep}
 use Rattle.fault_handler.specs.declared.plans.Plan.TheVariants as plan
 use Rattle.kernel_calls.specs.Authority.{Flags, flags_of, flags_at}
-use Rattle.kernel_calls.specs.Causes.{frames_asked, causes_of, Applies, IsOutside, IsReadOnly, IsFirst, Faults, CompletesUnless, RefusedByTheFirst, FaultsAtTheFirstByte}
+use Rattle.kernel_calls.specs.Causes.{frames_asked, causes_of, Applies, IsOutside, IsReadOnly, IsLowest, Faults, CompletesUnless, RefusedByTheFirst, FaultsAtTheFirstByte}
 use Rattle.kernel_calls.specs.Effects.{IsCovered}
 use Rattle.kernel_calls.specs.Machine.{answer, completes, refused_or, planned_or, info_of}
 use Rattle.kernel_calls.specs.declared.calls.Call.{Call}
@@ -350,7 +350,7 @@ module _ (access : Access) (first : PageStep) (second : Option PageStep) (r : Re
 
 -- the first byte that a test finds is the first for which what it tells holds
 module _ (t : ℕ → Bool) (Q : ℕ → Type 0) (tells : (a : ℕ) → (t a ≡ true) ↔ Q a) (address : ℕ) (size : Size) where
-  first_is : (byte : ℕ) → find t (covered address size) ≡ Some byte → IsFirst address size Q byte
+  first_is : (byte : ℕ) → find t (covered address size) ≡ Some byte → IsLowest address size Q byte
   first_is byte h =
       let r = found_number t address (byte_count size) byte h in (
         (r.low, r.high),
@@ -361,7 +361,7 @@ module _ (t : ℕ → Bool) (Q : ℕ → Type 0) (tells : (a : ℕ) → (t a ≡
         ],
       )
 
-  is_first : (byte : ℕ) → IsFirst address size Q byte → find t (covered address size) ≡ Some byte
+  is_first : (byte : ℕ) → IsLowest address size Q byte → find t (covered address size) ≡ Some byte
   is_first byte h = by (find t (covered address size)) refl
     where
       by : (x : Option ℕ) → find t (covered address size) ≡ x → x ≡ Some byte
@@ -499,7 +499,7 @@ module _ (s : State) (e : Event) (access : Access) (o f : Option ℕ) (r : Reply
 
 -- the byte of an access that may not be read or written, by what the two tests find
 module _ (s : State) (p address : ℕ) (size : Size) where
-  load_faults : (byte code : ℕ) → (IsFirst address size IsOutside byte × (code ≡ 4))
+  load_faults : (byte code : ℕ) → (IsLowest address size IsOutside byte × (code ≡ 4))
       ↔ (((outside address size ≡ Some byte) × (code ≡ 4)) ⊎ ((outside address size ≡ None) × (None ≡ Some byte) × (code ≡ 5)))
   load_faults byte code = (
     λ h. inl (is_first (is_outside address size) IsOutside (outside_tells address size) address size byte h.0, h.1),
@@ -516,9 +516,9 @@ module _ (s : State) (p address : ℕ) (size : Size) where
   barred_tells byte = read_only_at s (slot_at p byte)
 
   abbrev StoreFaults : ℕ → ℕ → Type 0
-  StoreFaults byte code = (IsFirst address size IsOutside byte × (code ≡ 6))
+  StoreFaults byte code = (IsLowest address size IsOutside byte × (code ≡ 6))
       ⊎ (((other : ℕ) → IsCovered address size other → IsUserPage (page_number other))
-      × IsFirst address size (IsReadOnly s p) byte × (code ≡ 7))
+      × IsLowest address size (IsReadOnly s p) byte × (code ≡ 7))
 
   store_faults : (byte code : ℕ) → StoreFaults byte code
       ↔ (((outside address size ≡ Some byte) × (code ≡ 6)) ⊎ ((outside address size ≡ None) × (read_only s p address size ≡ Some byte) × (code ≡ 7)))
@@ -550,9 +550,9 @@ settle s cpu p (call.Store address size value) =
 settle s cpu p (call.Map page write) =
     settled s (event_of cpu p (call.Map page write))
     (test (not (is_live s p)) cause.NoProcess ∷ test (not (is_user_page page)) cause.BadPage ∷ test (is_mapped s (at_page p page)) cause.Mapped
-    ∷ test (has_no_room s (at_page p page)) cause.Quota ∷ [])
+    ∷ test (overdrawn s p (page ∷ [])) cause.Quota ∷ [])
     reply.Done (refused_as (is_live s p) (map_refusal s p page) reply.Done) refl
-    (and (turned (is_live s p)) (and (outside_user page) (and (itself (is_mapped s (at_page p page))) (and (less (room s p) (need s.spaces p page)) tt))))
+    (and (turned (is_live s p)) (and (outside_user page) (and (itself (is_mapped s (at_page p page))) (and (less (room s p) (extra_cost s p (page ∷ []))) tt))))
     refl (λ byte code h. h)
 settle s cpu p (call.Unmap page) =
     settled s (event_of cpu p (call.Unmap page))
@@ -597,10 +597,10 @@ settle s cpu p (call.Accept giver giver_page page) =
     settled s (event_of cpu p (call.Accept giver giver_page page))
     (test (not (is_live s p)) cause.NoProcess ∷ test (not (is_user_page page)) cause.BadPage
     ∷ test (not (map.contains_key s.offers (offer_key giver giver_page p))) cause.NoOffer
-    ∷ test (is_mapped s (at_page p page)) cause.Mapped ∷ test (has_no_room s (at_page p page)) cause.Quota ∷ [])
+    ∷ test (is_mapped s (at_page p page)) cause.Mapped ∷ test (overdrawn s p (page ∷ [])) cause.Quota ∷ [])
     reply.Done (refused_as (is_live s p) (accept_refusal s p giver giver_page page) reply.Done) refl
     (and (turned (is_live s p)) (and (outside_user page) (and (turned (map.contains_key s.offers (offer_key giver giver_page p)))
-    (and (itself (is_mapped s (at_page p page))) (and (less (room s p) (need s.spaces p page)) tt)))))
+    (and (itself (is_mapped s (at_page p page))) (and (less (room s p) (extra_cost s p (page ∷ []))) tt)))))
     refl (λ byte code h. h)
 settle s cpu p (call.Spawn quota) =
     settled s (event_of cpu p (call.Spawn quota))

@@ -22,7 +22,7 @@ use Rattle.process_table.proofs.CellLaws.{get-inserted, get-inserted_other}
 use Rattle.process_table.proofs.Placed.{page_is_user}
 use Rattle.process_table.proofs.SpaceLaws.{well_formed-cleaned}
 use Rattle.kernel_calls.specs.Authority.{flags_of, shown_of}
-use Rattle.kernel_calls.specs.Cleaned.{cleaned, CleaningKeepsStates, CleaningIsUnseen, EndsMarks, EventsEndMarks, KeptThroughMarks, KeepingMarks, nothing, change, walk, KeptAmongMarks, CleaningIsNoEvent, CleaningShows}
+use Rattle.kernel_calls.specs.Cleaned.{cleaned, CleaningKeepsStates, CleaningIsUnseen, EndsMarks, EventsEndMarks, KeptThroughMarks, KeptAmongMarks, CleaningIsNoEvent, CleaningShows}
 use Rattle.kernel_calls.specs.Machine.{answer, refused_or, info_of}
 use Rattle.kernel_calls.specs.TakenBack.{info_of_page}
 use Rattle.kernel_calls.specs.Translations.{is_ended, Translation, IsGiven, Kept, translation, directory_entry, IsRead, AreRead, is_invalidated, left_by}
@@ -31,7 +31,7 @@ use Rattle.kernel_calls.specs.declared.calls.Reply.TheVariants as reply
 use Rattle.kernel_calls.specs.declared.translations.Ended.{Ended}
 use Rattle.kernel_calls.specs.declared.translations.Ended.TheVariants as end
 use Rattle.kernel_calls.proofs.Flags.{has}
-use Rattle.kernel_calls.proofs.Leaving.{Standing, entry_left}
+use Rattle.kernel_calls.proofs.Leaving.{Standing, entry_left, through}
 use Rattle.kernel_calls.proofs.Linked.{mapped_way, tables_map}
 use Rattle.kernel_calls.proofs.Translated.{walk_takes, walk_finds, has_right}
 
@@ -59,10 +59,7 @@ cleaning_keeps_states = well_formed-cleaned
 
 pub cleaning_is_unseen : CleaningIsUnseen
 cleaning_is_unseen s slot Q mapped none = record {
-  live = λ q h. refl;
-  quota = λ q h. refl;
-  given = λ q h. refl;
-  children = λ q h. refl;
+  standing = λ q h. refl;
   families = λ p q h k n. refl;
   flags = λ q h. sym (ap (option_map flags_of) (get-inserted_other s.spaces slot (clean (cell_or_fresh s.spaces slot)) q (λ e. let f : Q q.pid ≡ false = ap (λ (x : Slot). Q x.pid) e ∙ none in cc)));
   offers = λ key h. refl;
@@ -116,9 +113,9 @@ given_left : (ended : Ended) (v w : View) (t : Translation) → EndsMarks ended 
 given_left ended v w t ends spared given = record {
   page = given.page;
   directory = given.directory;
-  live = (ends.translations t.slot.pid given.directory first t.frame Read given.live first_small (at first first_page) (given.read first first_small first_page)).0;
-  read = λ a small page. (ends.translations t.slot.pid given.directory a t.frame Read given.live small (at a page) (given.read a small page)).1;
-  written = λ w a small page. (ends.translations t.slot.pid given.directory a t.frame Write given.live small (at a page) (given.written w a small page)).1;
+  live = (ends.translations t.slot.pid given.directory first t.frame Read first_small (at first first_page) (given.live, given.read first first_small first_page)).0;
+  read = λ a small page. (ends.translations t.slot.pid given.directory a t.frame Read small (at a page) (given.live, given.read a small page)).1;
+  written = λ w a small page. (ends.translations t.slot.pid given.directory a t.frame Write small (at a page) (given.live, given.written w a small page)).1;
   cell = here.0;
   mapped = here.1;
   accessed = (ends.flags t.slot given.cell here.0 spared given.mapped here.1).0 given.accessed;
@@ -152,24 +149,21 @@ kept_through_marks ended v w (k ∷ kept) ends given = by (is_invalidated ended 
     by true is rest = rest
     by false is rest = (read_left ended v w k ends is given.0, rest)
 
-through : {v x : View} {kept last : List Kept} → KeepingMarks v kept x last → AreRead v kept → AreRead x last
-through nothing given = given
-through {v} {x} {kept} {last} (change {w = w} {ended = ended} ends more) given = through more (kept_through_marks ended v w kept ends given)
-through (walk gives more) given = through more (gives, given)
-
 pub kept_among_marks : KeptAmongMarks
-kept_among_marks v x kept last keeping given = through keeping given
+kept_among_marks v x kept last keeping given = through EndsMarks kept_through_marks keeping given
 
 -- ---- What the clearing itself ends
 
 pub cleaning_ends : (v w : View) (p page : ℕ) → Standing v → Standing w → is_mapped v.state (at_page p page) ≡ true
     → w.state ≡ cleaned v.state (at_page p page) → FramesStay none_goes (memory_of v) (memory_of w) → EndsMarks (end.Page p page) v w
 cleaning_ends v w p page now later mapped state stay = record {
-  translations = λ q d a f access live small spared walk.
+  translations = λ q d a f access small spared gives.
+      let live = gives.0 in
+      let walk = gives.1 in
       let slot = slot_at q a in
       let way = now.ways.lead q d a f access live small walk in
       let way' = stay.ways slot d f refl way in (
-        stay.directories slot d f refl live,
+        stay.directories q d (record { page = slot.page; frame = f; stays = refl }) live,
         walk_finds w later.image later.walks later.ways q d a f access small way' (λ is.
             let right = has_right v now.image now.walks now.ways slot (walk_takes v now.image now.walks now.ways q d a f live small (ap (walk_of v.bytes d a) (sym is) ∙ walk)) in
             (sym (writes slot) ∙ right.0, later.ways.lazy slot d f way' ∙ sym (now.ways.lazy slot d f way) ∙ right.1)),
@@ -181,7 +175,7 @@ cleaning_ends v w p page now later mapped state stay = record {
       ∙ get-inserted_other v.state.spaces (at_page p page) (clean (cell_or_fresh v.state.spaces (at_page p page))) slot (apart slot spared) in
       let one : c ≡ d = same_Some c d (sym was ∙ sym same ∙ is) in
       (λ h. ap (λ (x : Cell). x.accessed) (sym one) ∙ h, λ h. ap (λ (x : Cell). x.dirty) (sym one) ∙ h);
-  directories = λ q d some live. stay.directories (at_page q 0) d 1 refl live;
+  directories = λ q d some live. stay.directories q d (record { page = 0; frame = 1; stays = refl }) live;
   tables = λ slot t spared there linked.
       let way = mapped_way v now.image slot there in
       stay.tables slot way.0 way.1 t refl way.2 linked;

@@ -42,7 +42,7 @@ use Rattle.kernel_calls.specs.declared.calls.Reply.TheVariants as reply
 use Rattle.kernel_calls.proofs.Consent.{sharing_by_consent}
 use Rattle.kernel_calls.proofs.Decided.{next-stays, next-goes}
 use Rattle.kernel_calls.proofs.GivenUp.{exits_end, unmaps_end, offers_end}
-use Rattle.kernel_calls.proofs.KeptSlots.{marks_all_stored}
+use Rattle.kernel_calls.proofs.RightfulChanges.{marks_all_stored}
 use Rattle.kernel_calls.proofs.Runs.{not-refused, went-on}
 use Rattle.kernel_calls.proofs.Stays.{sharing_stays}
 use Rattle.kernel_calls.proofs.Tellings.{completes_by_kind}

@@ -42,10 +42,7 @@ use Rattle.kernel_calls.proofs.Views.{members_told_the_same}
 -- what looks the same to a process is the same of what it has
 looks_has : (s t : State) (p : ℕ) → LooksSame s t (only p) → HaveTheSame s t (only p)
 looks_has s t p l = record {
-  live = l.live;
-  quota = l.quota;
-  given = l.given;
-  children = l.children;
+  standing = l.standing;
   families = l.families;
   flags = l.flags;
   offers = λ key own. l.offers key (inl own);

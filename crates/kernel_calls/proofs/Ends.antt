@@ -425,5 +425,6 @@ pub ends_no_more : (v w : View) (e : Event) → StandsFor (image_of v) v.state �
     → WaysAgree (memory_of v) → IsWellFormed v.state
     → StandsFor (image_of w) w.state → WalksAgree (memory_of w) w.state.spaces → WaysAgree (memory_of w)
     → w.state ≡ next v.state e → EndsNoMore (ended_by v e) (memory_of v) (memory_of w)
-ends_no_more v w e stands walks ways well stands' walks' ways' state p d a f live small ended walk =
-    lost v w stands walks ways well stands' walks' ways' p d a f live small walk e state ended
+ends_no_more v w e stands walks ways well stands' walks' ways' state p d a f small ended gives =
+    let gone = lost v w stands walks ways well stands' walks' ways' p d a f gives.0 small gives.1 e state ended in
+    (gone.0, (gives.0, gone.1), λ d later. gone.2 d later.0 later.1)

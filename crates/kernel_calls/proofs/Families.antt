@@ -40,7 +40,7 @@ use Rattle.process_table.specs.State.{State, is_live}
 use Rattle.process_table.specs.WellFormed.{IsWellFormed}
 use Rattle.process_table.proofs.BookLaws.{retained, parents_in}
 use Rattle.process_table.proofs.Sizes.{len-retain}
-use Rattle.kernel_calls.specs.Authority.{flags_of, shown_of, is_offered, is_child_of, HaveTheSame, Sees, LooksSame, found, members_after, keeps_within, KeepsWithin, IsAsBefore}
+use Rattle.kernel_calls.specs.Authority.{Standing, flags_of, shown_of, is_offered, is_child_of, HaveTheSame, Sees, LooksSame, found, members_after, keeps_within, KeepsWithin, IsAsBefore}
 use Rattle.kernel_calls.specs.Families.{IsFamily}
 use Rattle.kernel_calls.specs.Machine.{answer, after, next, completes}
 use Rattle.kernel_calls.specs.declared.calls.Call.{Call}
@@ -134,11 +134,13 @@ module _ (s : State) (e : Event) (C : ℕ → Bool) (w : IsWellFormed s) (family
 
     pub others_leave : HaveTheSame s (next s e) C
     others_leave = record {
-      live = λ q h. sym (ap is_some (before q h).member);
-      quota = λ q h. sym (ap (λ (x : Option Member). unwrap_or (option_map (λ (m : Member). m.quota) x) 0)
-          (before q h).member);
-      given = λ q h. (gives_same q h).0;
-      children = λ q h. (gives_same q h).1;
+      standing = λ q h. λ i. record {
+        live = sym (ap is_some (before q h).member) i;
+        quota = sym (ap (λ (x : Option Member). unwrap_or (option_map (λ (m : Member). m.quota) x) 0)
+            (before q h).member) i;
+        given = (gives_same q h).0 i;
+        children = (gives_same q h).1 i;
+      };
       families = λ p q hp hq d. sym (ap (child_in p q) (before q hq).member);
       flags = λ slot h. sym (ap (option_map flags_of) ((before slot.pid h).pages slot.page));
       offers = λ key h. sym ((before key.offerer h).offers key.page key.target);
@@ -206,10 +208,7 @@ module _ (s t : State) (Q : ℕ → Bool) (l : HaveTheSame s t Q) where
 
   looks_within : LooksSame (within Q s) (within Q t) Q
   looks_within = record {
-    live = l.live;
-    quota = l.quota;
-    given = l.given;
-    children = l.children;
+    standing = l.standing;
     families = l.families;
     flags = l.flags;
     offers = λ key h. offers_within key;
@@ -218,6 +217,15 @@ module _ (s t : State) (Q : ℕ → Bool) (l : HaveTheSame s t Q) where
   }
 
 -- ---- A member's event does the same there
+
+-- how a process stands in a book
+abbrev standing_in : ℕ → Book → Standing
+standing_in q b = record {
+  live = map.contains_key b q;
+  quota = quota_of b q;
+  given = given b q;
+  children = number_of_children b q;
+}
 
 -- but for offers that differ before it
 record Follows (s u v : State) (Q : ℕ → Bool) : Type 0 where
@@ -353,14 +361,7 @@ module _ (s t : State) (e : Event) (Q : ℕ → Bool) (w : IsWellFormed s) (v : 
       (members_see_the_same (within Q s) (within Q t) e Q (well_within Q s w) (well_within Q t v)
       (looks_within s t Q l) mine finds) in
       record {
-        live = λ q h. sym (ap (λ (b : Book). map.contains_key b q) one.book) ∙ m.live q h
-            ∙ ap (λ (b : Book). map.contains_key b q) two.book;
-        quota = λ q h. sym (ap (λ (b : Book). quota_of b q) one.book) ∙ m.quota q h
-            ∙ ap (λ (b : Book). quota_of b q) two.book;
-        given = λ q h. sym (ap (λ (b : Book). given b q) one.book) ∙ m.given q h
-            ∙ ap (λ (b : Book). given b q) two.book;
-        children = λ q h. sym (ap (λ (b : Book). number_of_children b q) one.book) ∙ m.children q h
-            ∙ ap (λ (b : Book). number_of_children b q) two.book;
+        standing = λ q h. sym (ap (standing_in q) one.book) ∙ m.standing q h ∙ ap (standing_in q) two.book;
         families = λ p q hp hq d. sym (ap (λ (b : Book). child_in p q (map.get b q)) one.book) ∙ m.families p q hp hq d
             ∙ ap (λ (b : Book). child_in p q (map.get b q)) two.book;
         flags = λ slot h. sym (ap (λ S. option_map flags_of (map.get S slot)) one.spaces) ∙ m.flags slot h

@@ -33,6 +33,7 @@ use Rattle.kernel_calls.specs.Authority.{
   members_at_end,
   IsQuiet,
   Along,
+  Heard,
   heard,
   AskAlike,
   MembersHearTheSame,
@@ -44,6 +45,7 @@ use Rattle.kernel_calls.specs.Isolation.{Exchange, exchanges}
 use Rattle.kernel_calls.specs.Machine.{answer, next, end_of}
 use Rattle.kernel_calls.specs.declared.calls.Event.{Event}
 use Rattle.kernel_calls.proofs.Outsiders.{outsiders_unseen}
+use Rattle.kernel_calls.proofs.Standings.{live_in}
 use Rattle.kernel_calls.proofs.Runs.{kept-next}
 use Rattle.kernel_calls.proofs.Births.{child_dead, places_stay}
 use Rattle.kernel_calls.proofs.Families.{next_family, others_leave, family_told, family_sees}
@@ -69,10 +71,7 @@ sees_too s t Q l slot v = (
 
 looks_back : (s t : State) (Q : ℕ → Bool) → LooksSame s t Q → LooksSame t s Q
 looks_back s t Q l = record {
-  live = λ q h. sym (l.live q h);
-  quota = λ q h. sym (l.quota q h);
-  given = λ q h. sym (l.given q h);
-  children = λ q h. sym (l.children q h);
+  standing = λ q h. sym (l.standing q h);
   families = λ p q hp hq d. sym (l.families p q hp hq d);
   flags = λ slot h. sym (l.flags slot h);
   offers = λ key h. sym (l.offers key h);
@@ -82,10 +81,7 @@ looks_back s t Q l = record {
 
 looks_on : (s t u : State) (Q : ℕ → Bool) → LooksSame s t Q → LooksSame t u Q → LooksSame s u Q
 looks_on s t u Q l m = record {
-  live = λ q h. l.live q h ∙ m.live q h;
-  quota = λ q h. l.quota q h ∙ m.quota q h;
-  given = λ q h. l.given q h ∙ m.given q h;
-  children = λ q h. l.children q h ∙ m.children q h;
+  standing = λ q h. l.standing q h ∙ m.standing q h;
   families = λ p q hp hq d. l.families p q hp hq d ∙ m.families p q hp hq d;
   flags = λ slot h. l.flags slot h ∙ m.flags slot h;
   offers = λ key h. l.offers key h ∙ m.offers key h;
@@ -127,16 +123,13 @@ members_live s e Q p h = (second (is_live (next s e) p) (if is_live s p then Q p
 
 -- ---- Runs
 
-abbrev Told : Type 0
-Told = Exchange × Option ℕ
-
-nothing_heard : (xs : List Told) → AskAlike [] xs → [] ≡ xs
+nothing_heard : (xs : List Heard) → AskAlike [] xs → [] ≡ xs
 nothing_heard [] h = refl
 nothing_heard (x ∷ xs) h = absurd h
 
 -- what is told of an event at the head of a run
-abbrev first_of : State → Event → Told
-first_of s e = ((e, answer s e), found s e.call)
+abbrev first_of : State → Event → Heard
+first_of s e = record { event = e; reply = answer s e; finds = found s e.call }
 
 -- For a view of two states, a set that stands well in a state, and events that are good there: where views go there and
 -- back and on, a member's good event is told the same and keeps the view, and an outsider's leaves it.
@@ -226,7 +219,7 @@ module _ (View : State → State → (ℕ → Bool) → Type 0) (Stands : State 
   module _ (events : List Event) (law : Hear events) (s : State) (e : Event) (Q : ℕ → Bool) (w : Stands s Q)
       (mine : Q e.pid ≡ true) (good : IsGood s Q e) (good_s : Along IsGood (next s e) (members_after s Q e) events)
     where
-      abbrev first : List Told
+      abbrev first : List Heard
       first = first_of s e ∷ heard (next s e) (members_after s Q e) (exchanges (next s e) events)
 
       abbrev EndsWith : State → Type 0
@@ -255,7 +248,7 @@ module _ (View : State → State → (ℕ → Bool) → Type 0) (Stands : State 
           reply = told s t e Q l good mine finds ∙ ap (answer t) same_event
 
           same_first : first_of s e ≡ first_of t o
-          same_first = λ i. ((same_event i, reply i), same_found i)
+          same_first = λ i. record { event = same_event i; reply = reply i; finds = same_found i }
 
           after : View (next s e) (next t e) (members_after s Q e)
           after = sees s t e Q w v l good mine finds
@@ -346,20 +339,17 @@ IsWellSet s Q = IsWellFormed s × AreLive s Q
 pub members_hear_the_same : MembersHearTheSame
 members_hear_the_same s events w t Q others v members l quiet quiet_t alike =
     (hear_the_same LooksSame IsWellSet IsQuiet (λ s Q x. x.1)
-    (λ s Q e x good. ((kept-next s e x.0).0, members_live s e Q)) (λ s t Q l. l.live) looks_back looks_on
+    (λ s Q e x good. ((kept-next s e x.0).0, members_live s e Q)) (λ s t Q l q h. ap live_in (l.standing q h)) looks_back looks_on
     (λ s t e Q l good mine finds. told_same s t e Q l mine finds)
     (λ s t e Q x y l good mine finds. members_see_the_same s t e Q x.0 y.0 l mine finds)
     (λ s e Q x good out. outsiders_unseen s e Q x.0 out good)
-    events s t Q others (w, members) (v, λ q h. sym (l.live q h) ∙ members q h) l quiet quiet_t alike).0
+    events s t Q others (w, members) (v, λ q h. sym (ap live_in (l.standing q h)) ∙ members q h) l quiet quiet_t alike).0
 
 -- ---- What a family has, whatever outsiders do
 
 has_back : (s t : State) (Q : ℕ → Bool) → HaveTheSame s t Q → HaveTheSame t s Q
 has_back s t Q l = record {
-  live = λ q h. sym (l.live q h);
-  quota = λ q h. sym (l.quota q h);
-  given = λ q h. sym (l.given q h);
-  children = λ q h. sym (l.children q h);
+  standing = λ q h. sym (l.standing q h);
   families = λ p q hp hq d. sym (l.families p q hp hq d);
   flags = λ slot h. sym (l.flags slot h);
   offers = λ key h. sym (l.offers key h);
@@ -369,10 +359,7 @@ has_back s t Q l = record {
 
 has_on : (s t u : State) (Q : ℕ → Bool) → HaveTheSame s t Q → HaveTheSame t u Q → HaveTheSame s u Q
 has_on s t u Q l m = record {
-  live = λ q h. l.live q h ∙ m.live q h;
-  quota = λ q h. l.quota q h ∙ m.quota q h;
-  given = λ q h. l.given q h ∙ m.given q h;
-  children = λ q h. l.children q h ∙ m.children q h;
+  standing = λ q h. l.standing q h ∙ m.standing q h;
   families = λ p q hp hq d. l.families p q hp hq d ∙ m.families p q hp hq d;
   flags = λ slot h. l.flags slot h ∙ m.flags slot h;
   offers = λ key h. l.offers key h ∙ m.offers key h;
@@ -380,8 +367,8 @@ has_on s t u Q l m = record {
   same_page = λ slot other h k. l.same_page slot other h k ∙ m.same_page slot other h k;
 }
 
-abbrev IsWellKept : State → (ℕ → Bool) → Type 0
-IsWellKept s Q = IsWellFormed s × IsFamily s Q
+abbrev IsWellFamily : State → (ℕ → Bool) → Type 0
+IsWellFamily s Q = IsWellFormed s × IsFamily s Q
 
 -- what it hears, and what it has at the end
 pub families_hear : (s t : State) (C : ℕ → Bool) (events other : List Event) → IsWellFormed s → IsWellFormed t
@@ -391,8 +378,8 @@ pub families_hear : (s t : State) (C : ℕ → Bool) (events other : List Event)
     → (heard s C (exchanges s events) ≡ heard t C (exchanges t other))
     × HaveTheSame (end_of s events) (end_of t other) (members_at_end s C events)
 families_hear s t C events others w v family family_t l within within_t alike =
-    hear_the_same HaveTheSame IsWellKept (λ _. KeepsWithin) (λ s Q x. x.1.live)
-    (λ s Q e x keeps. ((kept-next s e x.0).0, next_family s e Q x.0 x.1 keeps)) (λ s t Q l. l.live) has_back has_on
+    hear_the_same HaveTheSame IsWellFamily (λ _. KeepsWithin) (λ s Q x. x.1.live)
+    (λ s Q e x keeps. ((kept-next s e x.0).0, next_family s e Q x.0 x.1 keeps)) (λ s t Q l q h. ap live_in (l.standing q h)) has_back has_on
     (λ s t e Q l keeps mine finds. family_told s t e Q l mine (keeps mine) finds)
     (λ s t e Q x y l keeps mine finds. family_sees s t e Q x.0 y.0 l mine (keeps mine) finds)
     (λ s e Q x keeps out. others_leave s e Q x.0 x.1 out)

@@ -26,7 +26,7 @@ use Rattle.fault_handler.specs.Plans.{plan_of, step_of, outside, fault_or}
 use Rattle.fault_handler.specs.declared.plans.PageStep.TheVariants as step
 use Rattle.fault_handler.specs.declared.plans.Plan.{Plan}
 use Rattle.fault_handler.specs.declared.plans.Plan.TheVariants as plan
-use Rattle.kernel_calls.specs.Isolation.{Exchange, exchanges, own, is_exit, involves_others, calls_of, replies_of, InvolvesNobody, solo, quota_asked, pages_given, RunsAreIsolated, OthersMakeNoDifference}
+use Rattle.kernel_calls.specs.Isolation.{Exchange, exchanges, own, is_exit, involves_others, events_in, calls_of, replies_of, InvolvesNobody, solo, quota_asked, pages_given, RunsAreIsolated, OthersMakeNoDifference}
 use Rattle.kernel_calls.specs.Machine.{answer, answer_of, answers, after, next, end_of, completes, refused_or, planned_or, info_of}
 use Rattle.kernel_calls.specs.declared.calls.Call.{Call}
 use Rattle.kernel_calls.specs.declared.calls.Call.TheVariants as call
@@ -282,13 +282,31 @@ child_alike root s e p w h =
 
 -- ---- The laws
 
--- at a place of a run, with what comes later
-later_of : (k : ℕ) (s : State) (events : List Event) (e : Event) → slice_get events k ≡ Some e
-    → drop (suc k) (exchanges s events) ≡ exchanges (next (end_of s (take k events)) e) (drop (suc k) events)
-later_of zero s [] e h = cc
-later_of (suc k) s [] e h = cc
-later_of zero s (f ∷ events) e h = ap (λ (x : Event). exchanges (next s x) events) (same_Some f e h)
-later_of (suc k) s (f ∷ events) e h = later_of k (next s f) events e h
+-- an exchange of a run: it is answered in the state that the events before it leave, and the later ones follow from there
+record IsExchange (s : State) (before : List Exchange) (x : Exchange) (later : List Exchange) : Type 0 where
+  answered : answer (end_of s (events_in before)) x.0 ≡ x.1
+  rest : List Event
+  follows : later ≡ exchanges (next (end_of s (events_in before)) x.0) rest
+
+exchange_in : (before : List Exchange) (s : State) (events : List Event) (x : Exchange) (later : List Exchange)
+    → exchanges s events ≡ before ++ x ∷ later → IsExchange s before x later
+exchange_in [] s [] x later h = cc
+exchange_in (b ∷ before) s [] x later h = cc
+exchange_in [] s (e ∷ events) x later h =
+    let head : (e, answer s e) ≡ x = cc in
+    let tail : exchanges (next s e) events ≡ later = cc in
+    let event : e ≡ x.0 = ap (λ (y : Exchange). y.0) head in
+    record {
+      answered = sym (ap (answer s) event) ∙ ap (λ (y : Exchange). y.1) head;
+      rest = events;
+      follows = sym tail ∙ ap (λ (y : Event). exchanges (next s y) events) event;
+    }
+exchange_in (b ∷ before) s (e ∷ events) x later h =
+    let head : (e, answer s e) ≡ b = cc in
+    let tail : exchanges (next s e) events ≡ before ++ x ∷ later = cc in
+    let at = subst (λ (y : Event). IsExchange (next s y) before x later) (ap (λ (y : Exchange). y.0) head)
+    (exchange_in before (next s e) events x later tail) in
+    record { answered = at.answered; rest = at.rest; follows = at.follows }
 
 pub answer_at : (k : ℕ) (s : State) (events : List Event) (e : Event) (r : Reply) → slice_get events k ≡ Some e → slice_get (answers s events) k ≡ Some r → answer (end_of s (take k events)) e ≡ r
 answer_at zero s [] e r h told = cc
@@ -297,14 +315,13 @@ answer_at zero s (f ∷ events) e r h told = ap (answer s) (sym (same_Some f e h
 answer_at (suc k) s (f ∷ events) e r h told = answer_at k (next s f) events e r h told
 
 pub runs_isolated : RunsAreIsolated
-runs_isolated s events w k p e at told alone root =
-    let here = end_of s (take k events) in
-    let well : IsWellFormed here = (kept-run s (take k events) w).0 in
-    let a = child_alike root here e p well (answer_at k s events e (reply.Child p) at told) in
-    let later = drop (suc k) events in
-    let part : drop (k + 1) (exchanges s events) ≡ exchanges (next here e) later = ap (λ n. drop n (exchanges s events)) (add-one k) ∙ later_of k s events e at in
-    subst (λ xs. InvolvesNobody (own p xs) → replies_of (own p xs) ≡ solo root (quota_asked e.call) (pages_given here e.pid e.call) (calls_of (own p xs))) (sym part)
-    (own_alike (next here e) (alone_with root (quota_asked e.call) (pages_given here e.pid e.call)) p later (kept-next here e well).0 a) alone
+runs_isolated s events w before later e p is alone root =
+    let here = end_of s (events_in before) in
+    let well : IsWellFormed here = (kept-run s (events_in before) w).0 in
+    let at = exchange_in before s events (e, reply.Child p) later is in
+    let a = child_alike root here e p well at.answered in
+    subst (λ xs. InvolvesNobody (own p xs) → replies_of (own p xs) ≡ solo root (quota_asked e.call) (pages_given here e.pid e.call) (calls_of (own p xs))) (sym at.follows)
+    (own_alike (next here e) (alone_with root (quota_asked e.call) (pages_given here e.pid e.call)) p at.rest (kept-next here e well).0 a) alone
 
 -- what comes behind an event of a run
 behind : (before : List Event) (s : State) (e : Event) (later : List Event) → drop (suc (length before)) (exchanges s (before ++ e ∷ later)) ≡ exchanges (next (end_of s before) e) later

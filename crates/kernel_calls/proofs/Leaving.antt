@@ -16,7 +16,7 @@ use Rattle.process_table.specs.View.{View}
 use Rattle.process_table.specs.WellFormed.{IsWellFormed}
 use Rattle.kernel_calls.specs.Gone.{gone_by}
 use Rattle.kernel_calls.specs.Machine.{answer, after, next, completes}
-use Rattle.kernel_calls.specs.Translations.{TablesMap, TablesStay, is_ended, ended_by, FlagsStay, Ends, Translation, IsGiven, Kept, translation, directory_entry, IsRead, AreRead, ends_in_region, is_invalidated, left_by, Keeping, nothing, event, walk, KeptAreGiven, KeptThroughRuns}
+use Rattle.kernel_calls.specs.Translations.{TablesMap, TablesStay, is_ended, ended_by, FlagsStay, Ends, Translation, IsGiven, Kept, translation, directory_entry, IsRead, AreRead, ends_in_region, is_invalidated, left_by, Keeps, change, walk, Keeping, nothing, onward, KeptAreGiven, KeptThroughRuns}
 use Rattle.kernel_calls.specs.declared.calls.Call.{Call}
 use Rattle.kernel_calls.specs.declared.calls.Call.TheVariants as call
 use Rattle.kernel_calls.specs.declared.calls.Event.{Event}
@@ -133,9 +133,9 @@ given_stays : (ended : Ended) (v w : View) (t : Translation) → Ends ended v w 
 given_stays ended v w t ends spared given = record {
   page = given.page;
   directory = given.directory;
-  live = (ends.translations t.slot.pid given.directory first t.frame Read given.live first_small (at first first_page) (given.read first first_small first_page)).0;
-  read = λ a small page. (ends.translations t.slot.pid given.directory a t.frame Read given.live small (at a page) (given.read a small page)).1;
-  written = λ w a small page. (ends.translations t.slot.pid given.directory a t.frame Write given.live small (at a page) (given.written w a small page)).1;
+  live = (ends.translations t.slot.pid given.directory first t.frame Read first_small (at first first_page) (given.live, given.read first first_small first_page)).0;
+  read = λ a small page. (ends.translations t.slot.pid given.directory a t.frame Read small (at a page) (given.live, given.read a small page)).1;
+  written = λ w a small page. (ends.translations t.slot.pid given.directory a t.frame Write small (at a page) (given.live, given.written w a small page)).1;
   cell = there.0;
   mapped = there.1;
   accessed = (ends.flags t.slot given.cell there.0 given.mapped there.1).0 given.accessed;
@@ -233,13 +233,19 @@ left_read ended v w (k ∷ kept) ends given = by (is_invalidated ended k) refl (
     by true is rest = rest
     by false is rest = (read_stays ended v w k ends is given.0, rest)
 
-through : {v x : View} {kept last : List Kept} → Keeping v kept x last → AreRead v kept → AreRead x last
-through nothing given = given
-through {v} {x} {kept} {last} (event {w = w} {ended = ended} ends more) given = through more (left_read ended v w kept ends given)
-through (walk gives more) given = through more (gives, given)
+-- steps keep what walks read, where each change does
+module _ (Leaves : Ended → View → View → Type 0)
+    (left : (ended : Ended) (v w : View) (kept : List Kept) → Leaves ended v w → AreRead v kept → AreRead w (left_by ended kept)) where
+  one : {v w : View} {kept between : List Kept} → Keeps Leaves v kept w between → AreRead v kept → AreRead w between
+  one {v} {w} {kept} (change {ended = ended} leaves) given = left ended v w kept leaves given
+  one (walk gives) given = (gives, given)
+
+  pub through : {v x : View} {kept last : List Kept} → Keeping Leaves v kept x last → AreRead v kept → AreRead x last
+  through nothing given = given
+  through (onward step more) given = through more (one step given)
 
 pub kept_given : KeptAreGiven
-kept_given v x kept last keeping given = through keeping given
+kept_given v x kept last keeping given = through Ends left_read keeping given
 
 pub kept_through_runs : KeptThroughRuns
 kept_through_runs v w [] [] kept along given = subst (λ x. AreRead x kept) along given

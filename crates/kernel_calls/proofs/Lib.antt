@@ -29,7 +29,7 @@ pub mod Installs
 pub mod Isolated
 pub mod KeptAccesses
 pub mod KeptEntries
-pub mod KeptSlots
+pub mod Lazies
 pub mod Leaving
 pub mod Linked
 pub mod Members
@@ -39,10 +39,12 @@ pub mod Outsiders
 pub mod OwnViews
 pub mod Planned
 pub mod PlayedTurns
+pub mod RightfulChanges
 pub mod Runs
 pub mod Seen
 pub mod SeenTogether
 pub mod Served
+pub mod Standings
 pub mod Stays
 pub mod Tellings
 pub mod TogetherSpaces

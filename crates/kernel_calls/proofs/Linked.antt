@@ -83,7 +83,7 @@ event_spares v e p some = by (completes (answer v.state e)) some
 pub directories_stay : (v w : View) (e : Event) → FramesStay (gone_by v.state e) (memory_of v) (memory_of w)
     → DirectoriesStay (ended_by v e) (memory_of v) (memory_of w)
 directories_stay v w e stay p d some live =
-    stay.directories (at_page p (spared_page e.call)) d 1 (event_spares v e p some) live
+    stay.directories p d (record { page = spared_page e.call; frame = 1; stays = event_spares v e p some }) live
 
 -- ---- Tables
 

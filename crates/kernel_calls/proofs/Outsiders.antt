@@ -314,10 +314,12 @@ module _ (s : State) (e : Event) (Q : ℕ → Bool) (w : IsWellFormed s) (out : 
 
   done_unseen : LooksSame s (next s e) Q
   done_unseen = record {
-    live = lives;
-    quota = λ q h. ap (λ (x : Option Member). unwrap_or (option_map (λ (m : Member). m.quota) x) 0) (place_same q h);
-    given = λ q h. (gives_same q h).0;
-    children = λ q h. (gives_same q h).1;
+    standing = λ q h. λ i. record {
+      live = lives q h i;
+      quota = ap (λ (x : Option Member). unwrap_or (option_map (λ (m : Member). m.quota) x) 0) (place_same q h) i;
+      given = (gives_same q h).0 i;
+      children = (gives_same q h).1 i;
+    };
     families = λ p q hp hq d.
         ap (λ (x : Option Member). unwrap_or (option_map (λ (m : Member). is_child p (q, m)) x) false)
         (place_same q hq);
@@ -329,10 +331,7 @@ module _ (s : State) (e : Event) (Q : ℕ → Bool) (w : IsWellFormed s) (out : 
 
 pub looks_refl : (s : State) (Q : ℕ → Bool) → LooksSame s s Q
 looks_refl s Q = record {
-  live = λ q h. refl;
-  quota = λ q h. refl;
-  given = λ q h. refl;
-  children = λ q h. refl;
+  standing = λ q h. refl;
   families = λ p q hp hq d. refl;
   flags = λ slot h. refl;
   offers = λ key h. refl;

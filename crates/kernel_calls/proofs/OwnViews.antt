@@ -69,7 +69,7 @@ use Rattle.process_table.specs.Calls.{
   after_exit,
 }
 use Rattle.process_table.proofs.ApartOthers.{child_free, fork_free, live_differ}
-use Rattle.kernel_calls.specs.Authority.{Flags, flags_of, shown_of, shares, HaveTheSame, found, OwnIsEnough}
+use Rattle.kernel_calls.specs.Authority.{Flags, flags_of, shown_of, shares, standing_of, HaveTheSame, found, OwnIsEnough}
 use Rattle.kernel_calls.specs.Machine.{answer, answer_of, after, next, completes}
 use Rattle.kernel_calls.specs.declared.calls.Call.{Call}
 use Rattle.kernel_calls.specs.declared.calls.Call.TheVariants as call
@@ -345,11 +345,8 @@ alone_has : (s t : State) (q : ℕ) → HasTheSame s t q → HaveTheSame s t (λ
 alone_has s t q l =
     let spaces = spaces_of s t q l in
     record {
-      live = λ p h. subst (λ n. is_live s n ≡ is_live t n) (sym (eqb-true p q h)) l.live;
-      quota = λ p h. subst (λ n. quota_of s.book n ≡ quota_of t.book n) (sym (eqb-true p q h)) l.quota;
-      given = λ p h. subst (λ n. given s.book n ≡ given t.book n) (sym (eqb-true p q h)) l.given;
-      children = λ p h. subst (λ n. number_of_children s.book n ≡ number_of_children t.book n) (sym (eqb-true p q h))
-          l.children;
+      standing = λ p h. subst (λ n. standing_of s n ≡ standing_of t n) (sym (eqb-true p q h))
+          (λ i. record { live = l.live i; quota = l.quota i; given = l.given i; children = l.children i });
       families = λ p r hp hr d. absurd (d (eqb-true p q hp ∙ sym (eqb-true r q hr)));
       flags = spaces.flags;
       offers = λ key h. ap (map.get s.offers) (here key h) ∙ l.made key.page key.target

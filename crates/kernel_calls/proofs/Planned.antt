@@ -2,10 +2,10 @@
 use Rattle.std.proofs.Common.{◌≡◌, ℕ, Bool, true, false, refl, ap, sym, ◌∙◌, Option, None, Some}
 use Rattle.std.specs.Prelude.{if◌then◌else◌}
 use Rattle.std.specs.Option.{option_map}
-use Rattle.page_words.specs.Addresses.{page_number, second_page}
+use Rattle.page_words.specs.Addresses.{page_number, second_page, touched}
 use Rattle.page_words.specs.declared.addresses.Size.{Size}
 use Rattle.address_space.specs.Spaces.{cost}
-use Rattle.process_table.specs.State.{State, is_live, lacks_room}
+use Rattle.process_table.specs.State.{State, is_live, overdrawn}
 use Rattle.process_table.specs.View.{View}
 use Rattle.process_table.specs.Calls.{loaded, after_load, after_store}
 use Rattle.process_table.specs.declared.causes.Cause.TheVariants as cause
@@ -25,7 +25,7 @@ use Rattle.kernel_calls.proofs.Decided.{next-stays, next-goes}
 
 -- the reply to an access doesn't tell the steps of its pages
 pub same_reply : (steps others : ℕ → PageStep) (s : State) (p address : ℕ) (size : Size) (access : Access) (r : Reply) → planned_or (planned_by steps s p address size access) r ≡ planned_or (planned_by others s p address size access) r
-same_reply steps others s p address size access r = by (outside address size) (forbidden s p address size access) (lacks_room s p address size)
+same_reply steps others s p address size access r = by (outside address size) (forbidden s p address size access) (overdrawn s p (touched address size))
   where
     full : (ℕ → PageStep) → Plan
     full t = plan.Ready (t (page_number address)) (option_map t (second_page address size))

@@ -40,7 +40,7 @@ use Rattle.page_words.proofs.OptionLemmas.{some_value, no_value}
 use Rattle.page_words.proofs.SetLemmas.{same_cases, get-remove}
 use Rattle.address_space.specs.Spaces.{Slot, slot_order, Cell, Spaces, fresh, bytes_of, without, is_slot, is_of, at_page, with_pages, all_accessed, all_stored, copied}
 use Rattle.address_space.proofs.costs.Copied.{copied-own, copied-other}
-use Rattle.quota_tree.specs.Book.{Member, is_child, given, number_of_children, next_number}
+use Rattle.quota_tree.specs.Book.{Member, is_child, quota_of, given, number_of_children, next_number}
 use Rattle.quota_tree.proofs.Sums.{given-insert, given-remove, given-none, number-insert, number-remove, number-none}
 use Rattle.page_sharing.specs.Offers.{OfferKey, Offers, offer_order, offer_key}
 use Rattle.process_table.specs.State.{State, is_live, child_of}
@@ -100,6 +100,7 @@ use Rattle.kernel_calls.proofs.Confined.{shared_live}
 use Rattle.kernel_calls.proofs.Decided.{next-stays, next-goes}
 use Rattle.kernel_calls.proofs.Runs.{not-refused}
 use Rattle.kernel_calls.proofs.Seen.{kept_offers, kept_key, no_children, exit_children, exit_given}
+use Rattle.kernel_calls.proofs.Standings.{live_in, quota_in, given_in, children_in}
 use Rattle.kernel_calls.proofs.Stays.{makes_child, next_live}
 use Rattle.kernel_calls.proofs.Untouched.{caller_live}
 use Rattle.kernel_calls.proofs.Views.{HasTheSame, sees, sees_own, child_is_same, process_told}
@@ -120,10 +121,7 @@ use Rattle.kernel_calls.proofs.TogetherSpaces.{
 
 pub weaken : (s t : State) (Q D : ℕ → Bool) → ((p : ℕ) → D p ≡ true → Q p ≡ true) → LooksSame s t Q → LooksSame s t D
 weaken s t Q D less l = record {
-  live = λ q h. l.live q (less q h);
-  quota = λ q h. l.quota q (less q h);
-  given = λ q h. l.given q (less q h);
-  children = λ q h. l.children q (less q h);
+  standing = λ q h. l.standing q (less q h);
   families = λ p q hp hq d. l.families p q (less p hp) (less q hq) d;
   flags = λ slot h. l.flags slot (less slot.pid h);
   offers = λ key h. elim h [
@@ -137,10 +135,10 @@ weaken s t Q D less l = record {
 -- so each member has the same
 pub single : (s t : State) (Q : ℕ → Bool) (q : ℕ) → Q q ≡ true → LooksSame s t Q → HasTheSame s t q
 single s t Q q mine l = record {
-  live = l.live q mine;
-  quota = l.quota q mine;
-  given = l.given q mine;
-  children = l.children q mine;
+  live = ap live_in (l.standing q mine);
+  quota = ap quota_in (l.standing q mine);
+  given = ap given_in (l.standing q mine);
+  children = ap children_in (l.standing q mine);
   flags = λ page. l.flags (at_page q page) mine;
   pages = λ page. l.pages (at_page q page) (q, mine, sees_own s q page);
   same_page = λ page other. l.same_page (at_page q page) (at_page q other) (q, mine, sees_own s q page)
@@ -172,10 +170,7 @@ looks : (s t : State) (Q : ℕ → Bool) (S T : Spaces) (O P : Offers) → Looks
     → SameSpaces Q (Sees s Q) S T
     → LooksSame (record { spaces = S; book = s.book; offers = O }) (record { spaces = T; book = t.book; offers = P }) Q
 looks s t Q S T O P l offers seen spaces = record {
-  live = l.live;
-  quota = l.quota;
-  given = l.given;
-  children = l.children;
+  standing = l.standing;
   families = l.families;
   flags = spaces.flags;
   offers = λ key h. offers key (l.offers key h);
@@ -304,14 +299,12 @@ module _ (s t : State) (Q : ℕ → Bool) (q : ℕ) (mine : Q q ≡ true) (l : L
       in
       let seen = fewer_seen s (after_exit s q) Q (kept_key s.offers stay) in
       record {
-        live = λ p h. ap is_some (get-remove s.book q p) ∙ by_live (same nat_order p q) p h
-            ∙ sym (ap is_some (get-remove t.book q p));
-        quota = λ r h. ap (λ (x : Option Member). unwrap_or (option_map (λ (m : Member). m.quota) x) 0)
-            (get-remove s.book q r) ∙ by_quota (same nat_order r q) r h
-            ∙ sym (ap (λ (x : Option Member). unwrap_or (option_map (λ (m : Member). m.quota) x) 0)
-            (get-remove t.book q r));
-        given = λ r h. given_same r h (cases_eq r q);
-        children = λ r h. children_same r h (cases_eq r q);
+        standing = λ r h. λ i. record {
+          live = live_same r h i;
+          quota = quota_same r h i;
+          given = given_same r h (cases_eq r q) i;
+          children = children_same r h (cases_eq r q) i;
+        };
         families = λ p r hp hr d.
             ap (λ (x : Option Member). unwrap_or (option_map (λ (m : Member). is_child p (r, m)) x) false)
             (get-remove s.book q r)
@@ -327,13 +320,23 @@ module _ (s t : State) (Q : ℕ → Bool) (q : ℕ) (mine : Q q ≡ true) (l : L
       by_live : (b : Bool) (p : ℕ) → Q p ≡ true
           → is_some (cond b None (map.get s.book p)) ≡ is_some (cond b None (map.get t.book p))
       by_live true p h = refl
-      by_live false p h = l.live p h
+      by_live false p h = ap live_in (l.standing p h)
 
       by_quota : (b : Bool) (r : ℕ) → Q r ≡ true → unwrap_or
           (option_map (λ (m : Member). m.quota) (cond b None (map.get s.book r))) 0 ≡ unwrap_or
           (option_map (λ (m : Member). m.quota) (cond b None (map.get t.book r))) 0
       by_quota true r h = refl
-      by_quota false r h = l.quota r h
+      by_quota false r h = ap quota_in (l.standing r h)
+
+      live_same : (p : ℕ) → Q p ≡ true → map.contains_key (map.remove s.book q) p ≡ map.contains_key (map.remove t.book q) p
+      live_same p h = ap is_some (get-remove s.book q p) ∙ by_live (same nat_order p q) p h
+          ∙ sym (ap is_some (get-remove t.book q p))
+
+      quota_same : (r : ℕ) → Q r ≡ true → quota_of (map.remove s.book q) r ≡ quota_of (map.remove t.book q) r
+      quota_same r h = ap (λ (x : Option Member). unwrap_or (option_map (λ (m : Member). m.quota) x) 0)
+          (get-remove s.book q r) ∙ by_quota (same nat_order r q) r h
+          ∙ sym (ap (λ (x : Option Member). unwrap_or (option_map (λ (m : Member). m.quota) x) 0)
+          (get-remove t.book q r))
 
       by_family : (b : Bool) (p r : ℕ) → Q p ≡ true → Q r ≡ true → p ≢ r → unwrap_or
           (option_map (λ (m : Member). is_child p (r, m)) (cond b None (map.get s.book r))) false ≡ unwrap_or
@@ -342,13 +345,13 @@ module _ (s t : State) (Q : ℕ → Bool) (q : ℕ) (mine : Q q ≡ true) (l : L
       by_family false p r hp hr d = l.families p r hp hr d
 
       live_t : is_live t q ≡ true
-      live_t = sym (l.live q mine) ∙ live
+      live_t = sym (ap live_in (l.standing q mine)) ∙ live
 
       childless : number_of_children s.book q ≡ 0
       childless = no_children s q allowed
 
       childless_t : number_of_children t.book q ≡ 0
-      childless_t = sym (l.children q mine) ∙ childless
+      childless_t = sym (ap children_in (l.standing q mine)) ∙ childless
 
       -- q's entries in both books
       m : (m : Member) × (map.get s.book q ≡ Some m)
@@ -359,7 +362,7 @@ module _ (s t : State) (Q : ℕ → Bool) (q : ℕ) (mine : Q q ≡ true) (l : L
 
       same_quota : m.0.quota ≡ n.0.quota
       same_quota = sym (ap (λ (x : Option Member). unwrap_or (option_map (λ (m : Member). m.quota) x) 0) m.1)
-          ∙ l.quota q mine ∙ ap (λ (x : Option Member). unwrap_or (option_map (λ (m : Member). m.quota) x) 0) n.1
+          ∙ ap quota_in (l.standing q mine) ∙ ap (λ (x : Option Member). unwrap_or (option_map (λ (m : Member). m.quota) x) 0) n.1
 
       same_parent : (r : ℕ) → Q r ≡ true → r ≢ q → is_child r (q, m.0) ≡ is_child r (q, n.0)
       same_parent r h d =
@@ -374,7 +377,7 @@ module _ (s t : State) (Q : ℕ → Bool) (q : ℕ) (mine : Q q ≡ true) (l : L
       given_same r h (inr d) =
           let a = given-remove s.book q m.0 m.1 r in
           let b = given-remove t.book q n.0 n.1 r in
-          let g = l.given r h in
+          let g = ap given_in (l.standing r h) in
           let x : ◌≡◌ {A = ℕ} (cond (is_child r (q, m.0)) m.0.quota 0) (cond (is_child r (q, n.0)) n.0.quota 0) =
           (λ i. cond (same_parent r h d i) (same_quota i) 0) in
           omega (arith, a, b, g, x)
@@ -386,7 +389,7 @@ module _ (s t : State) (Q : ℕ → Bool) (q : ℕ) (mine : Q q ≡ true) (l : L
       children_same r h (inr d) =
           let a = number-remove s.book q m.0 m.1 r in
           let b = number-remove t.book q n.0 n.1 r in
-          let g = l.children r h in
+          let g = ap children_in (l.standing r h) in
           let x : ◌≡◌ {A = ℕ} (cond (is_child r (q, m.0)) 1 0) (cond (is_child r (q, n.0)) 1 0) =
           (λ i. cond (same_parent r h d i) 1 0) in
           omega (arith, a, b, g, x)
@@ -477,17 +480,18 @@ module _ (s t : State) (Q : ℕ → Bool) (q k quota : ℕ) (w : IsWellFormed s)
 
   child_together : LooksSame (with_child s q k quota S) (with_child t q k quota T) (grown Q k)
   child_together = record {
-    live = λ p h. ap is_some (get-insert s.book k child p) ∙ by_live p h (same_cases nat_order p k)
-        ∙ sym (ap is_some (get-insert t.book k child p));
-    quota = λ r h.
-        ap (λ (x : Option Member). unwrap_or (option_map (λ (m : Member). m.quota) x) 0) (get-insert s.book k child r)
-        ∙ by_quota r h (same_cases nat_order r k)
-        ∙ sym (ap (λ (x : Option Member). unwrap_or (option_map (λ (m : Member). m.quota) x) 0)
-        (get-insert t.book k child r));
-    given = λ r h. given-insert s.book k child none r ∙ ap (λ n. cond (is_child r (k, child)) quota 0 + n)
-        (given_same r h (cases_eq r k)) ∙ sym (given-insert t.book k child none_t r);
-    children = λ r h. number-insert s.book k child none r ∙ ap (λ n. cond (is_child r (k, child)) 1 0 + n)
-        (children_same r h (cases_eq r k)) ∙ sym (number-insert t.book k child none_t r);
+    standing = λ r h. λ i. record {
+      live = (ap is_some (get-insert s.book k child r) ∙ by_live r h (same_cases nat_order r k)
+          ∙ sym (ap is_some (get-insert t.book k child r))) i;
+      quota = (ap (λ (x : Option Member). unwrap_or (option_map (λ (m : Member). m.quota) x) 0) (get-insert s.book k child r)
+          ∙ by_quota r h (same_cases nat_order r k)
+          ∙ sym (ap (λ (x : Option Member). unwrap_or (option_map (λ (m : Member). m.quota) x) 0)
+          (get-insert t.book k child r))) i;
+      given = (given-insert s.book k child none r ∙ ap (λ n. cond (is_child r (k, child)) quota 0 + n)
+          (given_same r h (cases_eq r k)) ∙ sym (given-insert t.book k child none_t r)) i;
+      children = (number-insert s.book k child none r ∙ ap (λ n. cond (is_child r (k, child)) 1 0 + n)
+          (children_same r h (cases_eq r k)) ∙ sym (number-insert t.book k child none_t r)) i;
+    };
     families = λ p r hp hr d.
         ap (λ (x : Option Member). unwrap_or (option_map (λ (m : Member). is_child p (r, m)) x) false)
         (get-insert s.book k child r)
@@ -535,7 +539,7 @@ module _ (s t : State) (Q : ℕ → Bool) (q k quota : ℕ) (w : IsWellFormed s)
       by_live p h (inl is) = ap (λ b. is_some (cond b (Some child) (map.get s.book p))) is.1
           ∙ sym (ap (λ b. is_some (cond b (Some child) (map.get t.book p))) is.1)
       by_live p h (inr other) = ap (λ b. is_some (cond b (Some child) (map.get s.book p))) other.1
-          ∙ l.live p (was p h other.0)
+          ∙ ap live_in (l.standing p (was p h other.0))
           ∙ sym (ap (λ b. is_some (cond b (Some child) (map.get t.book p))) other.1)
 
       by_family : (p r : ℕ) → grown Q k p ≡ true → grown Q k r ≡ true → p ≢ r
@@ -571,20 +575,20 @@ module _ (s t : State) (Q : ℕ → Bool) (q k quota : ℕ) (w : IsWellFormed s)
           is.1)
       by_quota r h (inr other) =
           ap (λ b. unwrap_or (option_map (λ (m : Member). m.quota) (cond b (Some child) (map.get s.book r))) 0) other.1
-          ∙ l.quota r (was r h other.0)
+          ∙ ap quota_in (l.standing r (was r h other.0))
           ∙ sym (ap (λ b. unwrap_or (option_map (λ (m : Member). m.quota) (cond b (Some child) (map.get t.book r))) 0)
           other.1)
 
       given_same : (r : ℕ) → grown Q k r ≡ true → (r ≡ k) ⊎ (r ≢ k) → given s.book r ≡ given t.book r
       given_same r h (inl is) = ap (given s.book) is ∙ given-none s.book k none (parents_in s w)
           ∙ sym (ap (given t.book) is ∙ given-none t.book k none_t (parents_in t v))
-      given_same r h (inr d) = l.given r (was r h d)
+      given_same r h (inr d) = ap given_in (l.standing r (was r h d))
 
       children_same : (r : ℕ) → grown Q k r ≡ true → (r ≡ k) ⊎ (r ≢ k)
           → number_of_children s.book r ≡ number_of_children t.book r
       children_same r h (inl is) = ap (number_of_children s.book) is ∙ number-none s.book k none (parents_in s w)
           ∙ sym (ap (number_of_children t.book) is ∙ number-none t.book k none_t (parents_in t v))
-      children_same r h (inr d) = l.children r (was r h d)
+      children_same r h (inr d) = ap children_in (l.standing r (was r h d))
 
       offers_same : (key : OfferKey) → (grown Q k key.offerer ≡ true) ⊎ (grown Q k key.target ≡ true)
           → map.get s.offers key ≡ map.get t.offers key

@@ -97,7 +97,7 @@ use Rattle.kernel_calls.specs.declared.calls.Call.TheVariants as call
 use Rattle.kernel_calls.specs.declared.calls.Event.{Event}
 use Rattle.kernel_calls.proofs.Decided.{next-stays, next-goes}
 use Rattle.kernel_calls.proofs.Runs.{not-refused}
-use Rattle.kernel_calls.proofs.UntouchedSlots.{store_bytes, Kept}
+use Rattle.kernel_calls.proofs.UntouchedSlots.{store_bytes, Untouched}
 use Rattle.kernel_calls.proofs.Untouched.{caller_live, get_joined, widen, widen_kept}
 use borrow.Author.Tests.{eqb-true}
 
@@ -329,7 +329,7 @@ module _ (s : State) (e : Event) (w : IsWellFormed s) (live : is_live s e.pid �
       ap (option_map (whole_of other)) (get_joined s e.pid giver giver_page page (offered s giver giver_page e.pid) w
       g.0 g.1 slot apart ∙ ap (option_map (widen s e.pid giver giver_page page (offered s giver giver_page e.pid) w
       g.0 g.1 slot)) h)
-      ∙ ap (λ (k : Kept). Some (k.0.may, k.1)) (widen_kept s e.pid giver giver_page page
+      ∙ ap (λ (k : Untouched). Some (k.0.may, k.1)) (widen_kept s e.pid giver giver_page page
       (offered s giver giver_page e.pid) w g.0 g.1 slot other c h (not_new other o)))
     where
       not_new : (other : Slot) → Bystands s e (after_accept s e.pid giver giver_page page) other

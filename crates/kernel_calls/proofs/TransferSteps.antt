@@ -22,7 +22,8 @@ use Rattle.address_space.proofs.costs.AccessCosts.{kept, key-stored}
 use Rattle.address_space.proofs.costs.AccessNeeds.{need-in_one}
 use Rattle.address_space.proofs.costs.MapFirst.{IsThere, touched-there, load_in_page, store_in_page}
 use Rattle.address_space.proofs.steps.Bytes.{stored-stored, stored-flags, stored-write}
-use Rattle.process_table.specs.State.{State, is_live, is_mapped, lacks_room, room}
+use Rattle.process_table.proofs.Overdrawn.{extra_touched}
+use Rattle.process_table.specs.State.{State, is_live, is_mapped, overdrawn, room}
 use Rattle.process_table.specs.View.{View}
 use Rattle.process_table.specs.Image.{StandsFor, image_of, memory_of}
 use Rattle.process_table.specs.Parts.{after_loads, after_stores}
@@ -57,10 +58,10 @@ module _ (s : State) (p a : ℕ) (live : is_live s p ≡ true) (user : IsUserPag
       first_by_page (λ page. not (is_user_page page)) a One
       ∙ (λ i. cond (not (page_is_user (page_number a) user i)) (Some a) (option_and_then (λ page. cond (not (is_user_page page)) (Some (start_number page)) None) (one_page a i)))
 
-  roomy : lacks_room s p a One ≡ false
+  roomy : overdrawn s p (touched a One) ≡ false
   roomy =
       let n : access_need s.spaces p a One ≡ 0 = need-in_one s.spaces p a One (one_page a) ∙ ap (λ b. if b then 0 else need s.spaces p (page_number a)) there in
-      ap (nat_lt (room s p)) n ∙ le-ltb (room s p) 0 (omega arith)
+      ap (nat_lt (room s p)) (extra_touched s p a One ∙ n) ∙ le-ltb (room s p) 0 (omega arith)
 
   planned : (access : Access) → forbidden s p a One access ≡ None
       → plan_of s p a One access ≡ plan.Ready (step_of s p (page_number a)) (option_map (step_of s p) (second_page a One))

@@ -313,8 +313,10 @@ pub translations_stay : (v w : View) (e : Event) → StandsFor (image_of v) v.st
     → StandsFor (image_of w) w.state → WalksAgree (memory_of w) w.state.spaces → WaysAgree (memory_of w)
     → w.state ≡ next v.state e → FramesStay (gone_by v.state e) (memory_of v) (memory_of w)
     → TranslationsStay (ended_by v e) (memory_of v) (memory_of w)
-translations_stay v w e stands walks ways well stands' walks' ways' state stay p d a f access live small stays walk =
+translations_stay v w e stands walks ways well stands' walks' ways' state stay p d a f access small stays gives =
     let slot = slot_at p a in
+    let live = gives.0 in
+    let walk = gives.1 in
     let way : way_of (memory_of v) slot ≡ Some (d, f) = ways.lead p d a f access live small walk in
     let way' : way_of (memory_of w) slot ≡ Some (d, f) =
     stay.ways slot d f (event_spared v stands walks ways e slot d f way stays) way in
@@ -456,7 +458,7 @@ module _ (v : View) (stands : StandsFor (image_of v) v.state) (walks : WalksAgre
           at : (x : Option ℕ) (y : Option Cell) → is_some x ≡ true → SlotStands (memory_of v) (slot_at p a) x y → WalkEndsBy v.bytes d a Read (is_lazy_at (memory_of v) (slot_at p a)) y → FindsFrame (memory_of v) p a
           at None y h s e = cc
           at (Some w) None h s e = absurd s
-          at (Some w) (Some c) h s e = (d, e.frame, live, e.found)
+          at (Some w) (Some c) h s e = (d, e.frame, (live, e.found))
 
   -- a slot that has a cell has a word
   cell_word : (slot : Slot) → is_some (map.get v.state.spaces slot) ≡ true → is_some (page_word (memory_of v) slot) ≡ true

@@ -100,25 +100,25 @@ use Rattle.kernel_calls.proofs.Runs.{went-on}
 -- ---- What shows of a cell, its group aside but for one slot
 
 -- its flags, its bytes, and whether this slot is in its group
-abbrev pub Kept : Type 0
-Kept = Flags × (List ℕ × Bool)
+abbrev pub Untouched : Type 0
+Untouched = Flags × (List ℕ × Bool)
 
-abbrev pub kept_of : Slot → Cell → Kept
+abbrev pub kept_of : Slot → Cell → Untouched
 kept_of other c = (flags_of c, (c.bytes, set.contains c.holders other))
 
-abbrev pub kept_at : Spaces → Slot → Slot → Option Kept
+abbrev pub kept_at : Spaces → Slot → Slot → Option Untouched
 kept_at S slot other = option_map (kept_of other) (map.get S slot)
 
 module _ (S T : Spaces) (slot other : Slot) (h : kept_at T slot other ≡ kept_at S slot other) where
   pub kept_flags : option_map flags_of (map.get T slot) ≡ option_map flags_of (map.get S slot)
-  kept_flags = sym (by (map.get T slot)) ∙ ap (option_map (λ (k : Kept). k.0)) h ∙ by (map.get S slot)
+  kept_flags = sym (by (map.get T slot)) ∙ ap (option_map (λ (k : Untouched). k.0)) h ∙ by (map.get S slot)
     where
-      by : (x : Option Cell) → option_map (λ (k : Kept). k.0) (option_map (kept_of other) x) ≡ option_map flags_of x
+      by : (x : Option Cell) → option_map (λ (k : Untouched). k.0) (option_map (kept_of other) x) ≡ option_map flags_of x
       by None = refl
       by (Some c) = refl
 
   pub kept_bytes : (cell_or_fresh T slot).bytes ≡ (cell_or_fresh S slot).bytes
-  kept_bytes = sym (by (map.get T slot)) ∙ ap (λ (x : Option Kept). (unwrap_or x (kept_of other (fresh slot true))).1.0)
+  kept_bytes = sym (by (map.get T slot)) ∙ ap (λ (x : Option Untouched). (unwrap_or x (kept_of other (fresh slot true))).1.0)
       h ∙ by (map.get S slot)
     where
       by : (x : Option Cell) → (unwrap_or (option_map (kept_of other) x) (kept_of other (fresh slot true))).1.0
@@ -128,10 +128,10 @@ module _ (S T : Spaces) (slot other : Slot) (h : kept_at T slot other ≡ kept_a
 
   pub kept_shares : unwrap_or (option_map (λ (c : Cell). set.contains c.holders other) (map.get T slot))
       false ≡ unwrap_or (option_map (λ (c : Cell). set.contains c.holders other) (map.get S slot)) false
-  kept_shares = sym (by (map.get T slot)) ∙ ap (λ (x : Option Kept).
-      unwrap_or (option_map (λ (k : Kept). k.1.1) x) false) h ∙ by (map.get S slot)
+  kept_shares = sym (by (map.get T slot)) ∙ ap (λ (x : Option Untouched).
+      unwrap_or (option_map (λ (k : Untouched). k.1.1) x) false) h ∙ by (map.get S slot)
     where
-      by : (x : Option Cell) → unwrap_or (option_map (λ (k : Kept). k.1.1) (option_map (kept_of other) x))
+      by : (x : Option Cell) → unwrap_or (option_map (λ (k : Untouched). k.1.1) (option_map (kept_of other) x))
           false ≡ unwrap_or (option_map (λ (c : Cell). set.contains c.holders other) x) false
       by None = refl
       by (Some c) = refl

@@ -13,6 +13,8 @@ use Rattle.std.proofs.Common.{
   false,
   cond,
   List,
+  [],
+  ◌∷◌,
   map as each,
   refl,
   sym,
@@ -65,12 +67,14 @@ use Rattle.page_sharing.specs.Offers.{OfferKey, offer_key, pending}
 use Rattle.table_walk.specs.declared.Access.{Access}
 use Rattle.table_walk.specs.declared.Access.TheVariants.{Read, Write}
 use Rattle.table_walk.specs.Walk.{is_write}
-use Rattle.process_table.specs.State.{State, is_live, is_mapped, has_no_room, lacks_room, room, child_of}
+use Rattle.process_table.proofs.Overdrawn.{extra_page, extra_touched}
+use Rattle.process_table.specs.State.{State, is_live, is_mapped, extra_cost, overdrawn, room, child_of}
 use Rattle.process_table.specs.Calls.{protect_refusal, loaded}
 use Rattle.process_table.specs.declared.causes.Cause.TheVariants as cause
 use Rattle.fault_handler.specs.Plans.{plan_of, step_of, outside, fault_or}
 use Rattle.fault_handler.specs.declared.plans.PageStep.TheVariants as step
 use Rattle.fault_handler.specs.declared.plans.Plan.TheVariants as plan
+use Rattle.kernel_calls.proofs.Standings.{live_in, quota_in, given_in, children_in}
 use Rattle.kernel_calls.specs.Authority.{
   Flags,
   flags_of,
@@ -110,10 +114,10 @@ pub record HasTheSame (s t : State) (q : ℕ) : Type 0 where
 
 pub member_has : (s t : State) (Q : ℕ → Bool) (q : ℕ) → Q q ≡ true → HaveTheSame s t Q → HasTheSame s t q
 member_has s t Q q mine l = record {
-  live = l.live q mine;
-  quota = l.quota q mine;
-  given = l.given q mine;
-  children = l.children q mine;
+  live = ap live_in (l.standing q mine);
+  quota = ap quota_in (l.standing q mine);
+  given = ap given_in (l.standing q mine);
+  children = ap children_in (l.standing q mine);
   flags = λ page. l.flags (at_page q page) mine;
   pages = λ page. l.pages (at_page q page) mine;
   same_page = λ page other. l.same_page (at_page q page) (at_page q other) mine mine;
@@ -167,8 +171,12 @@ module _ (s t : State) (q : ℕ) (l : HasTheSame s t q) where
   room_same : room s q ≡ room t q
   room_same = λ i. l.quota i - cost_same i - l.given i
 
-  no_room_same : (page : ℕ) → has_no_room s (at_page q page) ≡ has_no_room t (at_page q page)
-  no_room_same page = λ i. nat_lt (room_same i) (need_same page i)
+  extra_page_same : (page : ℕ) → extra_cost s q (page ∷ []) ≡ extra_cost t q (page ∷ [])
+  extra_page_same page = extra_page s q page ∙ (λ i. if mapped_same page i then 0 else need_same page i)
+      ∙ sym (extra_page t q page)
+
+  no_room_same : (page : ℕ) → overdrawn s q (page ∷ []) ≡ overdrawn t q (page ∷ [])
+  no_room_same page = λ i. nat_lt (room_same i) (extra_page_same page i)
 
   own_flags_same : (page : ℕ) → flags_of (cell_or_fresh s.spaces (at_page q page)) ≡ flags_of
       (cell_or_fresh t.spaces (at_page q page))
@@ -192,8 +200,11 @@ module _ (s t : State) (q : ℕ) (l : HasTheSame s t q) where
       (set.retain (regions_of (missing_same (touched addr size) i))
       (λ region. not (set.contains (regions_of (own_pages_same i)) region)))
 
-  lacks_room_same : (addr : ℕ) (size : Size) → lacks_room s q addr size ≡ lacks_room t q addr size
-  lacks_room_same addr size = λ i. nat_lt (room_same i) (access_need_same addr size i)
+  extra_same : (addr : ℕ) (size : Size) → extra_cost s q (touched addr size) ≡ extra_cost t q (touched addr size)
+  extra_same addr size = extra_touched s q addr size ∙ access_need_same addr size ∙ sym (extra_touched t q addr size)
+
+  lacks_room_same : (addr : ℕ) (size : Size) → overdrawn s q (touched addr size) ≡ overdrawn t q (touched addr size)
+  lacks_room_same addr size = λ i. nat_lt (room_same i) (extra_same addr size i)
 
   loaded_same : (addr : ℕ) (size : Size) → loaded s q addr size ≡ loaded t q addr size
   loaded_same addr size = λ i. value_of (each (λ b.

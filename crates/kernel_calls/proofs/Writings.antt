@@ -59,7 +59,7 @@ use Rattle.kernel_calls.specs.declared.translations.Ended.{Ended}
 use Rattle.kernel_calls.specs.declared.translations.Ended.TheVariants as end
 use Rattle.kernel_calls.proofs.Births.{child_dead}
 use Rattle.kernel_calls.proofs.Effects.{slots_come}
-use Rattle.kernel_calls.proofs.KeptSlots.{slots_are_kept}
+use Rattle.kernel_calls.proofs.RightfulChanges.{changes_are_rightful}
 use Rattle.kernel_calls.proofs.Leaving.{region_spared, entry_stays}
 use Rattle.kernel_calls.proofs.Linked.{tables_map}
 use Rattle.kernel_calls.proofs.Untouched.{integrity}
@@ -376,8 +376,8 @@ module _ (v w : View) (e : Event) (before : IsCore v) (later : IsCore w) (state 
         ∙ before.ways.lead slot.pid directory address f Read home small found.1
 
     stays : (directory_at (memory_of w) slot.pid ≡ Some directory) × (walk_of w.bytes directory address Read ≡ Ok f)
-    stays = ends.translations slot.pid directory address f Read home small
-        (ap (λ k. is_ended (ended_by v e) (at_page slot.pid k)) page ∙ spared) found.1
+    stays = ends.translations slot.pid directory address f Read small
+        (ap (λ k. is_ended (ended_by v e) (at_page slot.pid k)) page ∙ spared) (home, found.1)
 
     way_later : way_of (memory_of w) slot ≡ Some (directory, f)
     way_later = sym (ap (λ k. way_of (memory_of w) (at_page slot.pid k)) page)
@@ -601,7 +601,7 @@ module _ (v w : View) (e : Event) (before : IsCore v) (later : IsCore w) (state 
       on_frame = let c : Some m.word ≡ Some x.0 = sym m.there ∙ x.1 in let w : m.word ≡ x.0 = cc in ap frame_number w ∙ real.1
 
       byte : (place : ℕ) → slice_index o.cell.bytes place ≡ slice_index m.cell.bytes place
-      byte place = elim ((slots_are_kept v.state e slot m.cell o.cell before.well_formed m.mapped
+      byte place = elim ((changes_are_rightful v.state e slot m.cell o.cell before.well_formed m.mapped
           (sym (ap (λ (s : State). map.get s.spaces slot) state) ∙ o.mapped)).bytes place) [
             | inl same ↦ same
             | inr into ↦ absurd (not_into slot f place differ at none into)

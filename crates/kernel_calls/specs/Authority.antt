@@ -78,21 +78,21 @@ pub record IsStoreInto (s t : State) (e : Event) (slot : Slot) (place : ℕ) : T
   pub shared : IsTrue (set.contains own.holders slot)
   pub stored : byte_in t slot place ≡ slice_index (bytes_of (byte_count size) value) (byte - address)
 
--- What an event keeps of a slot that is mapped before and after it, whichever process owns the slot. It keeps `may`,
--- and accessed and dirty, once set. It keeps the right to write, unless its process protects the slot, and each byte
--- that no store to the slot covers.
-pub record IsKept (s t : State) (e : Event) (slot : Slot) (before after : Cell) : Type 0 where
+-- What an event may change of a slot that is mapped before and after it, whichever process owns the slot. `may` stays,
+-- and accessed and dirty, once set. The right to write stays, unless the event's process protects the slot, and so does
+-- each byte that no store to the slot covers.
+pub record IsRightfulChange (s t : State) (e : Event) (slot : Slot) (before after : Cell) : Type 0 where
   pub may : after.may ≡ before.may
   pub write : (after.write ≡ before.write) ⊎ ((slot.pid ≡ e.pid) × (e.call ≡ call.Protect slot.page after.write))
   pub marks : (IsTrue before.accessed → IsTrue after.accessed) × (IsTrue before.dirty → IsTrue after.dirty)
   pub bytes : (place : ℕ) → (slice_index after.bytes place ≡ slice_index before.bytes place)
       ⊎ IsStoreInto s t e slot place
 
--- an event keeps each slot that is mapped before and after it, within these limits
-abbrev pub SlotsAreKept : Type 0
-SlotsAreKept = (s : State) (e : Event) (slot : Slot) (before after : Cell) → IsWellFormed s
+-- an event changes slots that are mapped before and after it within these limits only
+abbrev pub ChangesAreRightful : Type 0
+ChangesAreRightful = (s : State) (e : Event) (slot : Slot) (before after : Cell) → IsWellFormed s
     → map.get s.spaces slot ≡ Some before → map.get (next s e).spaces slot ≡ Some after
-    → IsKept s (next s e) e slot before after
+    → IsRightfulChange s (next s e) e slot before after
 
 -- What another's event leaves a live process. It leaves its place in the book, and its mapped pages with their flags,
 -- so that they cost the same. It leaves what the process has given to how many children, unless the event is the exit
@@ -230,14 +230,27 @@ shown_of cell = record { bytes = cell.bytes; holders = set.len cell.holders }
 abbrev pub shown_at : State → Slot → Option Shown
 shown_at s slot = option_map shown_of (map.get s.spaces slot)
 
--- Two states are one to the members of Q, who see these offers and the pages of these slots. They agree on which
--- members are live, with what quota, what each has given to how many children, and whose child it is among them. They
--- agree on the flags of their pages, the offers, the pages, and which of these pages are one.
+-- how a process stands: whether it is live, its quota, and what it has given to how many children
+pub record Standing : Type 0 where
+  pub live : Bool
+  pub quota : ℕ
+  pub given : ℕ
+  pub children : ℕ
+
+-- the standing of a process in a state
+abbrev pub standing_of : State → ℕ → Standing
+standing_of s p = record {
+  live = is_live s p;
+  quota = quota_of s.book p;
+  given = given s.book p;
+  children = number_of_children s.book p;
+}
+
+-- Two states are one to the members of Q, who see these offers and the pages of these slots. They agree on how each
+-- member stands, and whose child it is among them. They agree on the flags of the members' pages, the offers, the
+-- pages, and which of these pages are one.
 pub record AreOne (s t : State) (Q : ℕ → Bool) (Known : OfferKey → Type 0) (Seen : Slot → Type 0) : Type 0 where
-  pub live : (q : ℕ) → Q q ≡ true → is_live s q ≡ is_live t q
-  pub quota : (q : ℕ) → Q q ≡ true → quota_of s.book q ≡ quota_of t.book q
-  pub given : (q : ℕ) → Q q ≡ true → given s.book q ≡ given t.book q
-  pub children : (q : ℕ) → Q q ≡ true → number_of_children s.book q ≡ number_of_children t.book q
+  pub standing : (q : ℕ) → Q q ≡ true → standing_of s q ≡ standing_of t q
   pub families : (p q : ℕ) → Q p ≡ true → Q q ≡ true → p ≢ q → is_child_of s p q ≡ is_child_of t p q
   pub flags : (slot : Slot) → Q slot.pid ≡ true → flags_at s slot ≡ flags_at t slot
   pub offers : (key : OfferKey) → Known key → map.get s.offers key ≡ map.get t.offers key
@@ -324,18 +337,28 @@ abbrev pub Along : (State → (ℕ → Bool) → Event → Type 0) → State →
 Along P s Q [] = Unit {0}
 Along P s Q (e ∷ events) = P s Q e × Along P (next s e) (members_after s Q e) events
 
--- the exchanges of members in a run (an exchange is an event with its reply), each with what its call finds
-abbrev pub heard : State → (ℕ → Bool) → List Exchange → List (Exchange × Option ℕ)
+-- an exchange of a member in a run: its event, the reply, and what its call finds
+pub record Heard : Type 0 where
+  pub event : Event
+  pub reply : Reply
+  pub finds : Option ℕ
+
+-- the exchanges of the members in a run
+abbrev pub heard : State → (ℕ → Bool) → List Exchange → List Heard
 heard s Q [] = []
 heard s Q (x ∷ run) =
     let later = heard (next s x.0) (members_after s Q x.0) run in
-    if Q x.0.pid then (x, found s x.0.call) ∷ later else later
+    if Q x.0.pid then record { event = x.0; reply = x.1; finds = found s x.0.call } ∷ later else later
 
 -- while their replies are the same, members make the same calls and find the same
-abbrev pub AskAlike : List (Exchange × Option ℕ) → List (Exchange × Option ℕ) → Type 0
+abbrev pub AskAlike : List Heard → List Heard → Type 0
 AskAlike [] [] = Unit {0}
-AskAlike (x ∷ xs) (y ∷ ys) = (x.0.0 ≡ y.0.0) × (x.1 ≡ y.1) × (x ≡ y → AskAlike xs ys)
+AskAlike (x ∷ xs) (y ∷ ys) = (x.event ≡ y.event) × (x.finds ≡ y.finds) × (x ≡ y → AskAlike xs ys)
 AskAlike _ _ = ⊥
+
+-- members that make the same calls and find the same get the same replies
+abbrev pub ToldAlike : List Heard → List Heard → Type 0
+ToldAlike xs ys = AskAlike xs ys → xs ≡ ys
 
 -- In a run with these replies, live members get the replies that they get in any other run in which they make the same
 -- calls and find the same. The other run begins in a state that looks the same to them, and outsiders use no channel in
@@ -343,8 +366,7 @@ AskAlike _ _ = ⊥
 abbrev pub HearTheirOwn : State → List Event → List Reply → Type 0
 HearTheirOwn s events replies = (t : State) (Q : ℕ → Bool) (other : List Event) → IsWellFormed t
     → ((q : ℕ) → Q q ≡ true → is_live s q ≡ true) → LooksSame s t Q → Along IsQuiet s Q events → Along IsQuiet t Q other
-    → AskAlike (heard s Q (zip events replies)) (heard t Q (exchanges t other))
-    → heard s Q (zip events replies) ≡ heard t Q (exchanges t other)
+    → ToldAlike (heard s Q (zip events replies)) (heard t Q (exchanges t other))
 
 -- the law for each run from a well-formed state
 abbrev pub MembersHearTheSame : Type 0
@@ -408,5 +430,4 @@ abbrev pub OutsidersHearNothing : Type 0
 OutsidersHearNothing = (s t : State) (C : ℕ → Bool) (events others : List Event) → IsWellFormed s → IsWellFormed t
     → IsConfined s C → IsConfined t C → ((p : ℕ) → outside s C p ≡ outside t C p) → LooksSame s t (outside s C)
     → Along IsDiscreet s C events → Along IsDiscreet t C others
-    → AskAlike (heard s (outside s C) (exchanges s events)) (heard t (outside t C) (exchanges t others))
-    → heard s (outside s C) (exchanges s events) ≡ heard t (outside t C) (exchanges t others)
+    → ToldAlike (heard s (outside s C) (exchanges s events)) (heard t (outside t C) (exchanges t others))

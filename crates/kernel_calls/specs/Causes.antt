@@ -2,13 +2,13 @@
 use Rattle.std.proofs.Common.{◌≡◌, ℕ, ◌<◌, ◌≤◌, ◌++◌, Bool, true, false, List, [], ◌∷◌, Option, Some, None}
 use Rattle.std.specs.Prelude.{◌⊎◌, ◌↔◌, IfSome}
 use Rattle.std.specs.List.{All}
-use Rattle.page_words.specs.Addresses.{page_number, IsUserPage}
+use Rattle.page_words.specs.Addresses.{page_number, touched, IsUserPage}
 use Rattle.page_words.specs.declared.addresses.Size.{Size}
 use Rattle.page_words.specs.FiniteMap as map
-use Rattle.address_space.specs.Spaces.{cost, need, access_need, at_page, slot_at}
+use Rattle.address_space.specs.Spaces.{cost, at_page, slot_at}
 use Rattle.quota_tree.specs.Book.{number_of_children}
 use Rattle.page_sharing.specs.Offers.{OfferKey, offer_key, pending}
-use Rattle.process_table.specs.State.{State, is_live, is_mapped, room}
+use Rattle.process_table.specs.State.{State, is_live, is_mapped, room, extra_cost}
 use Rattle.process_table.specs.declared.causes.Cause.{Cause}
 use Rattle.process_table.specs.declared.causes.Cause.TheVariants as cause
 use Rattle.kernel_calls.specs.Authority.{Flags, flags_at}
@@ -52,10 +52,10 @@ key_of p _ = None
 
 -- the frames: what its new pages cost, or the quota of a child
 abbrev pub frames_asked : State → ℕ → Call → ℕ
-frames_asked s p (call.Load address size) = access_need s.spaces p address size
-frames_asked s p (call.Store address size _) = access_need s.spaces p address size
-frames_asked s p (call.Map page _) = need s.spaces p page
-frames_asked s p (call.Accept _ _ page) = need s.spaces p page
+frames_asked s p (call.Load address size) = extra_cost s p (touched address size)
+frames_asked s p (call.Store address size _) = extra_cost s p (touched address size)
+frames_asked s p (call.Map page _) = extra_cost s p (page ∷ [])
+frames_asked s p (call.Accept _ _ page) = extra_cost s p (page ∷ [])
 frames_asked s p (call.Spawn quota) = quota
 frames_asked s p (call.Fork quota) = quota
 frames_asked s p _ = 0
@@ -110,17 +110,17 @@ abbrev pub IsReadOnly : State → ℕ → ℕ → Type 0
 IsReadOnly s p byte = (f : Flags) × (flags_at s (slot_at p byte) ≡ Some f) × (f.write ≡ false)
 
 -- the lowest byte of an access for which this holds
-abbrev pub IsFirst : ℕ → Size → (ℕ → Type 0) → ℕ → Type 0
-IsFirst address size P byte =
+abbrev pub IsLowest : ℕ → Size → (ℕ → Type 0) → ℕ → Type 0
+IsLowest address size P byte =
     IsCovered address size byte × P byte × ((other : ℕ) → IsCovered address size other → P other → byte ≤ other)
 
 -- the byte and the code of the fault of a call of p, if it faults
 abbrev pub Faults : State → ℕ → Call → ℕ → ℕ → Type 0
-Faults s p (call.Load address size) byte code = IsFirst address size IsOutside byte × (code ≡ 4)
+Faults s p (call.Load address size) byte code = IsLowest address size IsOutside byte × (code ≡ 4)
 Faults s p (call.Store address size _) byte code =
-    (IsFirst address size IsOutside byte × (code ≡ 6))
+    (IsLowest address size IsOutside byte × (code ≡ 6))
     ⊎ (((other : ℕ) → IsCovered address size other → IsUserPage (page_number other))
-    × IsFirst address size (IsReadOnly s p) byte × (code ≡ 7))
+    × IsLowest address size (IsReadOnly s p) byte × (code ≡ 7))
 Faults s p _ byte code = ⊥
 
 -- ---- Laws

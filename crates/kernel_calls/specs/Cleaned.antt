@@ -10,7 +10,7 @@ use Rattle.process_table.specs.WellFormed.{IsWellFormed}
 use Rattle.kernel_calls.specs.Authority.{LooksSame}
 use Rattle.kernel_calls.specs.Machine.{answer}
 use Rattle.kernel_calls.specs.TakenBack.{info_of_page}
-use Rattle.kernel_calls.specs.Translations.{TranslationsStay, SlotsStay, DirectoriesStay, TablesStay, TablesMap, Ends, Kept, IsRead, AreRead, is_ended, left_by}
+use Rattle.kernel_calls.specs.Translations.{TranslationsStay, SlotsStay, DirectoriesStay, TablesStay, TablesMap, Ends, Kept, Keeping, IsRead, AreRead, is_ended, left_by}
 use Rattle.kernel_calls.specs.declared.translations.Ended.{Ended}
 
 -- whether dirty of a slot is set; a slot that is not mapped has none
@@ -50,16 +50,10 @@ EventsEndMarks = (ended : Ended) (v w : View) → Ends ended v w → EndsMarks e
 abbrev pub KeptThroughMarks : Type 0
 KeptThroughMarks = (ended : Ended) (v w : View) (kept : List Kept) → EndsMarks ended v w → AreRead v kept → AreRead w (left_by ended kept)
 
--- what processors do between two moments, where changes are events or clear marks of slots that they end: each is
--- invalidated before anything else, as in `Keeping`
-pub data KeepingMarks : View → List Kept → View → List Kept → Type 0 where
-  nothing : {v : View} {kept : List Kept} → KeepingMarks v kept v kept
-  change : {v w x : View} {kept last : List Kept} {ended : Ended} → EndsMarks ended v w → KeepingMarks w (left_by ended kept) x last → KeepingMarks v kept x last
-  walk : {v x : View} {kept last : List Kept} {k : Kept} → IsRead v k → KeepingMarks v (k ∷ kept) x last → KeepingMarks v kept x last
-
--- then too all that is kept is what the walks of the last moment read
+-- where changes are events or clear marks of slots that they end, too, all that is kept is what the walks of the last
+-- moment read
 abbrev pub KeptAmongMarks : Type 0
-KeptAmongMarks = (v x : View) (kept last : List Kept) → KeepingMarks v kept x last → AreRead v kept → AreRead x last
+KeptAmongMarks = (v x : View) (kept last : List Kept) → Keeping EndsMarks v kept x last → AreRead v kept → AreRead x last
 
 -- ---- What it breaks
 

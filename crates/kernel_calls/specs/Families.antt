@@ -3,7 +3,7 @@ use Rattle.std.proofs.Common.{◌≡◌, ℕ, ◌==◌, Bool, true, List}
 use Rattle.std.specs.List.{zip}
 use Rattle.process_table.specs.State.{State, is_live}
 use Rattle.process_table.specs.WellFormed.{IsWellFormed}
-use Rattle.kernel_calls.specs.Authority.{is_child_of, HaveTheSame, IsConfined, KeepsWithin, Along, AskAlike, heard, members_at_end}
+use Rattle.kernel_calls.specs.Authority.{is_child_of, HaveTheSame, IsConfined, KeepsWithin, Along, AskAlike, ToldAlike, heard, members_at_end}
 use Rattle.kernel_calls.specs.Isolation.{exchanges}
 use Rattle.kernel_calls.specs.Machine.{answer, answers, next, end_of}
 use Rattle.kernel_calls.specs.declared.calls.Event.{Event}
@@ -23,8 +23,7 @@ abbrev pub IsUnreached : State → List Event → List Reply → Type 0
 IsUnreached s events replies = (t : State) (C : ℕ → Bool) (other : List Event) → IsWellFormed t
     → IsFamily s C → IsFamily t C → HaveTheSame s t C
     → Along (λ _. KeepsWithin) s C events → Along (λ _. KeepsWithin) t C other
-    → AskAlike (heard s C (zip events replies)) (heard t C (exchanges t other))
-    → heard s C (zip events replies) ≡ heard t C (exchanges t other)
+    → ToldAlike (heard s C (zip events replies)) (heard t C (exchanges t other))
 
 -- the law for each run from a well-formed state
 abbrev pub FamiliesHearTheirOwn : Type 0

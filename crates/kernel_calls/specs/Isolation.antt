@@ -1,6 +1,6 @@
 -- The replies that a process gets in a run, and what they depend on.
-use Rattle.std.proofs.Common.{◌≡◌, ℕ, ◌+◌, Bool, true, false, if◌then◌else◌, ◌==◌, List, [], ◌∷◌, ◌++◌, length, map, filter, take, drop, Some}
-use Rattle.std.specs.List.{All, zip, slice_get}
+use Rattle.std.proofs.Common.{◌≡◌, ℕ, ◌+◌, Bool, true, false, if◌then◌else◌, ◌==◌, List, [], ◌∷◌, ◌++◌, length, map, filter, drop}
+use Rattle.std.specs.List.{All, zip}
 use Rattle.page_words.specs.FiniteMap as map
 use Rattle.page_words.specs.FiniteMap.{Map, nat_order}
 use Rattle.process_table.specs.Apart.{FirstPage, pages_held, alone_with}
@@ -39,7 +39,11 @@ abbrev pub own : ℕ → List Exchange → List Exchange
 own p [] = []
 own p (x ∷ later) = if x.0.pid == p then x ∷ (if is_exit x.0.call then [] else own p later) else own p later
 
--- the calls, and the replies to them
+-- the events in a list of exchanges
+abbrev pub events_in : List Exchange → List Event
+events_in run = map (λ x. x.0) run
+
+-- the calls in a list of exchanges
 abbrev pub calls_of : List Exchange → List Call
 calls_of run = map (λ x. x.0.call) run
 
@@ -72,10 +76,11 @@ pages_given s p _ = map.empty
 abbrev pub IsAsAlone : ℕ → Map nat_order FirstPage → List Exchange → Type 0
 IsAsAlone quota pages part = InvolvesNobody part → (root : ℕ) → replies_of part ≡ solo root quota pages (calls_of part)
 
--- each process that a run makes, at some place, gets afterwards the replies that it gets alone
+-- each process that an event of a run makes gets after that event the replies that it gets alone
 abbrev pub IsIsolated : State → List Event → List Reply → Type 0
-IsIsolated s events replies = (k p : ℕ) (e : Event) → slice_get events k ≡ Some e → slice_get replies k ≡ Some (reply.Child p)
-    → IsAsAlone (quota_asked e.call) (pages_given (end_of s (take k events)) e.pid e.call) (own p (drop (k + 1) (zip events replies)))
+IsIsolated s events replies = (before later : List Exchange) (e : Event) (p : ℕ)
+    → zip events replies ≡ before ++ (e, reply.Child p) ∷ later
+    → IsAsAlone (quota_asked e.call) (pages_given (end_of s (events_in before)) e.pid e.call) (own p later)
 
 -- and so in every run from a well formed state
 abbrev pub RunsAreIsolated : Type 0

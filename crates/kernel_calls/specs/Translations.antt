@@ -80,23 +80,28 @@ abbrev pub is_all_of : Ended → ℕ → Bool
 is_all_of (end.Space p) q = p == q
 is_all_of _ q = false
 
--- each walk that finds a frame, of a slot that isn't one of these, finds it afterwards too, from the same directory
+-- the walk of a process's directory finds this frame for an access to an address
+abbrev pub WalkGives : memory.Image → ℕ → ℕ → ℕ → Access → ℕ → Type 0
+WalkGives image p directory address access frame =
+    (directory_at image p ≡ Some directory) × (walk_of image.bytes directory address access ≡ Ok frame)
+
+-- what a walk gives for a slot that isn't one of these, it gives afterwards too, from the same directory
 abbrev pub TranslationsStay : Ended → memory.Image → memory.Image → Type 0
-TranslationsStay ended old new = (p directory address frame : ℕ) (access : Access) → directory_at old p ≡ Some directory → address < 2 ^ 32
-    → is_ended ended (slot_at p address) ≡ false → walk_of old.bytes directory address access ≡ Ok frame
-    → (directory_at new p ≡ Some directory) × (walk_of new.bytes directory address access ≡ Ok frame)
+TranslationsStay ended old new = (p directory address frame : ℕ) (access : Access) → address < 2 ^ 32
+    → is_ended ended (slot_at p address) ≡ false
+    → WalkGives old p directory address access frame → WalkGives new p directory address access frame
 
--- None is ended for nothing. If a walk found a frame for a read of a slot that is one of these, some walk, for a read
--- or for a write, found the frame and no longer does.
+-- None is ended for nothing. If a walk gave a frame for a read of a slot that is one of these, some walk, for a read
+-- or for a write, gave the frame and no longer does.
 abbrev pub EndsNoMore : Ended → memory.Image → memory.Image → Type 0
-EndsNoMore ended old new = (p directory address frame : ℕ) → directory_at old p ≡ Some directory → address < 2 ^ 32 → is_ended ended (slot_at p address) ≡ true
-    → walk_of old.bytes directory address Read ≡ Ok frame
-    → (access : Access) × (walk_of old.bytes directory address access ≡ Ok frame)
-    × ((d : ℕ) → directory_at new p ≡ Some d → walk_of new.bytes d address access ≢ Ok frame)
+EndsNoMore ended old new = (p directory address frame : ℕ) → address < 2 ^ 32
+    → is_ended ended (slot_at p address) ≡ true → WalkGives old p directory address Read frame
+    → (access : Access) × WalkGives old p directory address access frame
+    × ((d : ℕ) → WalkGives new p d address access frame → ⊥)
 
--- a walk found a frame for a read of an address
+-- a walk gives a frame for a read of an address
 abbrev pub FindsFrame : memory.Image → ℕ → ℕ → Type 0
-FindsFrame image p address = (directory frame : ℕ) × (directory_at image p ≡ Some directory) × (walk_of image.bytes directory address Read ≡ Ok frame)
+FindsFrame image p address = (directory frame : ℕ) × WalkGives image p directory address Read frame
 
 -- each page that is named had such a walk, at each of its addresses; a process that exits is named as a whole, with its
 -- directory
@@ -210,17 +215,22 @@ abbrev pub left_by_all : List Ended → List Kept → List Kept
 left_by_all [] kept = kept
 left_by_all (ended ∷ more) kept = left_by_all more (left_by ended kept)
 
--- What processors do between two moments, one after another: an event ends some, which all of them invalidate before
--- anything else, or one of them keeps one more, which a walk reads then.
-pub data Keeping : View → List Kept → View → List Kept → Type 0 where
-  nothing : {v : View} {kept : List Kept} → Keeping v kept v kept
-  event : {v w x : View} {kept last : List Kept} {ended : Ended} → Ends ended v w → Keeping w (left_by ended kept) x last → Keeping v kept x last
-  walk : {v x : View} {kept last : List Kept} {k : Kept} → IsRead v k → Keeping v (k ∷ kept) x last → Keeping v kept x last
+-- What processors do in one step, by what a change leaves of what they keep. A change ends some, which all of them
+-- invalidate before anything else, or one of them keeps one more, which a walk reads then.
+pub data Keeps (Leaves : Ended → View → View → Type 0) : View → List Kept → View → List Kept → Type 0 where
+  change : {v w : View} {kept : List Kept} {ended : Ended} → Leaves ended v w → Keeps Leaves v kept w (left_by ended kept)
+  walk : {v : View} {kept : List Kept} {k : Kept} → IsRead v k → Keeps Leaves v kept v (k ∷ kept)
 
--- then all that is kept is what the walks of the last moment read, as it was at the first: so at each moment, since
--- each is the last of what came until then
+-- such steps between two moments, one after another
+pub data Keeping (Leaves : Ended → View → View → Type 0) : View → List Kept → View → List Kept → Type 0 where
+  nothing : {v : View} {kept : List Kept} → Keeping Leaves v kept v kept
+  onward : {v w x : View} {kept between last : List Kept} → Keeps Leaves v kept w between
+      → Keeping Leaves w between x last → Keeping Leaves v kept x last
+
+-- If the changes are events, all that is kept is what the walks of the last moment read, as it was at the first. So it
+-- is at each moment, since each is the last of what came until then.
 abbrev pub KeptAreGiven : Type 0
-KeptAreGiven = (v x : View) (kept last : List Kept) → Keeping v kept x last → AreRead v kept → AreRead x last
+KeptAreGiven = (v x : View) (kept last : List Kept) → Keeping Ends v kept x last → AreRead v kept → AreRead x last
 
 -- ---- Along a run
 

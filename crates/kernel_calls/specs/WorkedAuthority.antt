@@ -357,4 +357,5 @@ family_run = (event 1 1 (call.Spawn 4)) ∷ (event 0 0 call.Quota) ∷ (event 2 
 -- the exchanges that the family observes of that run
 abbrev pub FamilyHears : Type 0
 FamilyHears = heard first_child (λ q. q == 1) (exchanges first_child family_run)
-    ≡ (((event 1 1 (call.Spawn 4), reply.Child 2), Some 2) ∷ ((event 2 2 call.Exit, reply.Done), None) ∷ [])
+    ≡ ((record { event = event 1 1 (call.Spawn 4); reply = reply.Child 2; finds = Some 2 })
+    ∷ (record { event = event 2 2 call.Exit; reply = reply.Done; finds = None }) ∷ [])

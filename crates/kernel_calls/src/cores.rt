@@ -24,6 +24,7 @@ ghost use Rattle.kernel_calls.specs.Cleaned.{is_dirty_at, cleaned, EndsMarks};
 ghost use Rattle.kernel_calls.specs.Effects.{IsServed};
 ghost use Rattle.kernel_calls.specs.Families.{IsUnreached};
 ghost use Rattle.kernel_calls.specs.Isolation.{IsIsolated};
+ghost use Rattle.kernel_calls.specs.Lazy.{LeavesLazy};
 ghost use Rattle.kernel_calls.specs.Pages.{page_in};
 ghost use Rattle.kernel_calls.specs.Places.{is_access, places_of};
 ghost use Rattle.kernel_calls.specs.Machine.{answer, after, next, answers, end_of, completes, none_completes};
@@ -114,6 +115,7 @@ fn complete_call(processes: &mut Processes, event: &Event, told: &Reply)
     requires completes { goes_on (plan_of_event processes.old event.now) ≡ true }
     ensures state { processes.new.state ≡ after processes.old.state event.now.pid event.now.call }
     ensures stay { FramesStay (gone_of_call event.now.pid event.now.call) (memory_of processes.old) (memory_of processes.new) }
+    ensures lazy { LeavesLazy processes.old event.now told.now processes.new }
 {
     let pid = event.pid;
     match event.call {
@@ -154,6 +156,7 @@ fn carry_access(processes: &mut Processes, event: &Event, plan: &Plan, places: &
     ensures state { processes.new.state ≡ next processes.old.state event.now }
     ensures stay { FramesStay (gone_by processes.old.state event.now) (memory_of processes.old) (memory_of processes.new) }
     ensures kept { completes (answer processes.old.state event.now) ≡ false → processes.new ≡ processes.old }
+    ensures lazy { LeavesLazy processes.old event.now (answer processes.old.state event.now) processes.new }
 {
     match plan {
         Plan::Refused(_) => {}
@@ -171,6 +174,7 @@ fn carry_call(processes: &mut Processes, event: &Event, plan: &Plan, told: &Repl
     ensures state { processes.new.state ≡ next processes.old.state event.now }
     ensures stay { FramesStay (gone_by processes.old.state event.now) (memory_of processes.old) (memory_of processes.new) }
     ensures kept { completes (answer processes.old.state event.now) ≡ false → processes.new ≡ processes.old }
+    ensures lazy { LeavesLazy processes.old event.now told.now processes.new }
 {
     match plan {
         Plan::Refused(_) => (),
@@ -188,6 +192,7 @@ fn carry(processes: &mut Processes, event: &Event, plan: &Plan, told: &Reply, pl
     ensures state { processes.new.state ≡ next processes.old.state event.now }
     ensures stay { FramesStay (gone_by processes.old.state event.now) (memory_of processes.old) (memory_of processes.new) }
     ensures kept { completes (answer processes.old.state event.now) ≡ false → processes.new ≡ processes.old }
+    ensures lazy { LeavesLazy processes.old event.now told.now processes.new }
 {
     if is_access(event) {
         carry_access(processes, event, plan, places);
@@ -290,6 +295,7 @@ impl Core {
         ensures stands { StandsFor (image_of self.new) self.new.state }
         ensures ends { Ends (ended_by self.old decision.event) self.old self.new }
         ensures kept { completes decision.reply ≡ false → self.new ≡ self.old }
+        ensures lazy { LeavesLazy self.old decision.event decision.reply self.new }
     {
         self.follow(&decision);
         decision.reply
@@ -303,6 +309,7 @@ impl Core {
         ensures stands { StandsFor (image_of self.new) self.new.state }
         ensures ends { Ends (ended_by self.old decision.now.event) self.old self.new }
         ensures kept { completes decision.now.reply ≡ false → self.new ≡ self.old }
+        ensures lazy { LeavesLazy self.old decision.now.event decision.now.reply self.new }
     {
         self.stands();
         carry(
@@ -324,6 +331,7 @@ impl Core {
         ensures stands { StandsFor (image_of self.new) self.new.state }
         ensures ends { Ends (ended_by self.old event.now) self.old self.new }
         ensures kept { completes result ≡ false → self.new ≡ self.old }
+        ensures lazy { LeavesLazy self.old event.now result self.new }
     {
         self.stands();
         let reply = reply_once(&mut self.processes, event);
@@ -340,6 +348,7 @@ impl Core {
         ensures stands { StandsFor (image_of self.new) self.new.state }
         ensures ends { Ends (ended_by self.old event.now) self.old self.new }
         ensures kept { completes result.reply ≡ false → self.new ≡ self.old }
+        ensures lazy { LeavesLazy self.old event.now result.reply self.new }
     {
         let reply = self.reply_to(event);
         Outcome {
@@ -356,6 +365,7 @@ impl Core {
         ensures stands { StandsFor (image_of self.new) self.new.state }
         ensures ends { Ends (ended_by self.old event.now) self.old self.new }
         ensures kept { completes result ≡ false → self.new ≡ self.old }
+        ensures lazy { LeavesLazy self.old event.now result self.new }
     {
         self.reply_to(event)
     }
@@ -406,6 +416,7 @@ impl Core {
         ensures stands { StandsFor (image_of self.new) self.new.state }
         ensures ends { Ends result.1 self.old self.new }
         ensures kept { completes result.0 ≡ false → self.new ≡ self.old }
+        ensures lazy { LeavesLazy self.old event.now result.0 self.new }
     {
         let ended = self.ends(event);
         let reply = self.step(event);

@@ -1,7 +1,7 @@
 //! Laws of the machine's runs. Each is the contract of a function that computes nothing.
 
 ghost use Rattle.kernel_calls.specs.Cleaned.{CleaningKeepsStates, CleaningIsUnseen, EventsEndMarks, KeptThroughMarks, KeptAmongMarks, CleaningIsNoEvent, CleaningShows};
-ghost use Rattle.kernel_calls.specs.Authority.{StatesStayWellFormed, RefusalsChangeNothing, SlotsAreKept, Integrity, NobodyTakesBack, SharingByConsent, SharingStays, OffersByOfferer, ExitsEnd, UnmapsEnd, OffersEnd, OffersStay, ChildrenAreTheirMakers, PlacesStay, MembersToldTheSame, OwnIsEnough, MembersSeeTheSame, OutsidersUnseen, MembersHearTheSame, RunsKeepBorders, OutsidersHearNothing};
+ghost use Rattle.kernel_calls.specs.Authority.{StatesStayWellFormed, RefusalsChangeNothing, ChangesAreRightful, Integrity, NobodyTakesBack, SharingByConsent, SharingStays, OffersByOfferer, ExitsEnd, UnmapsEnd, OffersEnd, OffersStay, ChildrenAreTheirMakers, PlacesStay, MembersToldTheSame, OwnIsEnough, MembersSeeTheSame, OutsidersUnseen, MembersHearTheSame, RunsKeepBorders, OutsidersHearNothing};
 ghost use Rattle.kernel_calls.specs.Beside.{AccessesBeside, OrdersEndTheSame};
 ghost use Rattle.kernel_calls.specs.Causes.{CompletesUnless, RefusedByTheFirst, FaultsAtTheFirstByte};
 ghost use Rattle.kernel_calls.specs.Effects.{CompletesByKind, DoneMeansDone, SlotsCome, SlotsGo, FlagsChange, OthersNeverRefuse, RunsNeverRefuse};
@@ -84,7 +84,7 @@ pub fn accesses_beside_an_event()
 pub fn processes_keep_their_integrity()
     ensures well_formed { StatesStayWellFormed }
     ensures refused { RefusalsChangeNothing }
-    ensures slots { SlotsAreKept }
+    ensures slots { ChangesAreRightful }
     ensures events { Integrity }
     ensures runs { NobodyTakesBack }
 {}

@@ -4,6 +4,7 @@ ghost use Rattle.std.specs.Prelude.{◌≡◌, false};
 ghost use Rattle.address_space.specs.Stays.{FramesStay};
 ghost use Rattle.process_table.specs.Image.{memory_of};
 ghost use Rattle.kernel_calls.specs.Decisions.{call_of, done_told, child_told};
+ghost use Rattle.kernel_calls.specs.Lazy.{LeavesLazy};
 ghost use Rattle.kernel_calls.specs.Gone.{gone_by};
 ghost use Rattle.kernel_calls.specs.Machine.{answer, next, completes};
 ghost use Rattle.kernel_calls.specs.declared.calls.Call.TheVariants as call;
@@ -107,6 +108,7 @@ fn reply_map(processes: &mut Processes, event: &Event, page: Page, write: bool) 
     ensures state { processes.new.state ≡ next processes.old.state event.now }
     ensures stay { FramesStay (gone_by processes.old.state event.now) (memory_of processes.old) (memory_of processes.new) }
     ensures kept { completes result ≡ false → processes.new ≡ processes.old }
+    ensures lazy { LeavesLazy processes.old event.now result processes.new }
 {
     done_told(processes.try_map(event.pid, page, write))
 }
@@ -206,6 +208,7 @@ fn reply_fork(processes: &mut Processes, event: &Event, quota: u32) -> Reply
     ensures state { processes.new.state ≡ next processes.old.state event.now }
     ensures stay { FramesStay (gone_by processes.old.state event.now) (memory_of processes.old) (memory_of processes.new) }
     ensures kept { completes result ≡ false → processes.new ≡ processes.old }
+    ensures lazy { LeavesLazy processes.old event.now result processes.new }
 {
     child_told(processes.try_fork(event.pid, quota))
 }
@@ -256,6 +259,7 @@ pub(crate) fn reply_once(processes: &mut Processes, event: &Event) -> Reply
     ensures state { processes.new.state ≡ next processes.old.state event.now }
     ensures stay { FramesStay (gone_by processes.old.state event.now) (memory_of processes.old) (memory_of processes.new) }
     ensures kept { completes result ≡ false → processes.new ≡ processes.old }
+    ensures lazy { LeavesLazy processes.old event.now result processes.new }
 {
     match event.call {
         Call::Load { addr, size } => reply_load(processes, event, addr, size),

@@ -2,7 +2,7 @@ pub mod Counts
 pub mod Endings
 pub mod Faults
 pub mod Held
-pub mod Kept
+pub mod Invariant
 pub mod Makers
 pub mod Moments
 pub mod Names

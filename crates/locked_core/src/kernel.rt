@@ -49,7 +49,7 @@ pub struct Blank<G: Gate + Drop> {
 
 impl<G: Gate + Drop> Model for Blank<G> {
     ghost use Rattle.locked_core.specs.Held.{Unnamed};
-    ghost use Rattle.locked_core.specs.Kept.{IsMade};
+    ghost use Rattle.locked_core.specs.Invariant.{IsMade};
 
     ghost Value = { Unnamed };
 

@@ -59,7 +59,7 @@ pub struct Locked<N: Name> {
 
 impl<N: Name> Model for Locked<N> {
     ghost use Rattle.locked_core.specs.Held.{UnderLock};
-    ghost use Rattle.locked_core.specs.Kept.{IsUnderLock};
+    ghost use Rattle.locked_core.specs.Invariant.{IsUnderLock};
 
     ghost Value = { UnderLock };
 

@@ -19,7 +19,8 @@ use Rattle.address_space.proofs.costs.Costs.{same_pages}
 use Rattle.address_space.proofs.steps.Departures.{left, get-without}
 use Rattle.quota_tree.specs.Book.{Book, Member, children, given, number_of_children, quota_of}
 use Rattle.page_sharing.specs.Offers.{OfferKey, offer_order, offer_key}
-use Rattle.process_table.specs.State.{State, is_mapped, has_no_room, lacks_room}
+use Rattle.process_table.proofs.Overdrawn.{extra_page, extra_touched}
+use Rattle.process_table.specs.State.{State, is_mapped, extra_cost, overdrawn}
 use Rattle.process_table.specs.Calls.{map_refusal, unmap_refusal, protect_refusal, withdraw_refusal, exit_refusal, loaded, after_map, after_unmap, after_protect, after_withdraw, after_load, after_store}
 use Rattle.process_table.specs.Apart.{IsApart, AreAlike, Held, held, held_in, lone}
 use Rattle.process_table.specs.declared.causes.Cause.TheVariants.{BadPage, NotMapped, Mapped, Quota, Rights, NoOffer, HasChildren, RootExit}
@@ -67,8 +68,11 @@ module _ (s t : State) (p q : ℕ) (a : AreAlike s p t q) where
   pub given_alike : given s.book p ≡ given t.book q
   given_alike = given_none s.book p a.one.childless ∙ sym (given_none t.book q a.other.childless)
 
-  pub no_room_alike : (page : ℕ) → has_no_room s (at_page p page) ≡ has_no_room t (at_page q page)
-  no_room_alike page = λ i. nat_lt (a.quota i - cost_alike i - given_alike i) (need_alike page i)
+  pub no_room_alike : (page : ℕ) → overdrawn s p (page ∷ []) ≡ overdrawn t q (page ∷ [])
+  no_room_alike page = λ i. nat_lt (a.quota i - cost_alike i - given_alike i) (same i)
+    where
+      same : extra_cost s p (page ∷ []) ≡ extra_cost t q (page ∷ [])
+      same = extra_page s p page ∙ (λ i. if mapped_alike page i then 0 else need_alike page i) ∙ sym (extra_page t q page)
 
   pub cell_alike : (page : ℕ) → held_in (cell_or_fresh s.spaces (at_page p page)) ≡ held_in (cell_or_fresh t.spaces (at_page q page))
   cell_alike page =
@@ -85,8 +89,11 @@ module _ (s t : State) (p q : ℕ) (a : AreAlike s p t q) where
   access_need_alike : (addr : ℕ) (size : Size) → access_need s.spaces p addr size ≡ access_need t.spaces q addr size
   access_need_alike addr size = λ i. set.len (missing_alike (touched addr size) i) + set.len (set.retain (regions_of (missing_alike (touched addr size) i)) (λ region. not (set.contains (regions_of (pages_alike i)) region)))
 
-  pub lacks_room_alike : (addr : ℕ) (size : Size) → lacks_room s p addr size ≡ lacks_room t q addr size
-  lacks_room_alike addr size = λ i. nat_lt (a.quota i - cost_alike i - given_alike i) (access_need_alike addr size i)
+  pub lacks_room_alike : (addr : ℕ) (size : Size) → overdrawn s p (touched addr size) ≡ overdrawn t q (touched addr size)
+  lacks_room_alike addr size = λ i. nat_lt (a.quota i - cost_alike i - given_alike i) (same i)
+    where
+      same : extra_cost s p (touched addr size) ≡ extra_cost t q (touched addr size)
+      same = extra_touched s p addr size ∙ access_need_alike addr size ∙ sym (extra_touched t q addr size)
 
   pub loaded_alike : (addr : ℕ) (size : Size) → loaded s p addr size ≡ loaded t q addr size
   loaded_alike addr size = λ i. value_of (map (λ b. slice_index (cell_alike (page_number b) i).bytes (offset_number b)) (covered addr size))

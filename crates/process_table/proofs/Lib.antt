@@ -6,6 +6,7 @@ pub mod Charged
 pub mod Forks
 pub mod ImageStanding
 pub mod Keeping
+pub mod Overdrawn
 pub mod Placed
 pub mod Ranges
 pub mod Refusals

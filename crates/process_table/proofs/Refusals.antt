@@ -1,5 +1,5 @@
 -- What follows where a call is not refused.
-use Rattle.std.proofs.Common.{◌≡◌, ◌≢◌, ℕ, ◌+◌, ◌<◌, ◌&&◌, ◌==◌, Bool, true, false, not, refl, sym, ap, ◌∙◌, Option, Some, None, Ok, Err, arith}
+use Rattle.std.proofs.Common.{◌≡◌, ◌≢◌, ℕ, ◌+◌, ◌<◌, ◌&&◌, ◌==◌, Bool, true, false, not, [], ◌∷◌, refl, sym, ap, ◌∙◌, Option, Some, None, Ok, Err, arith}
 use Rattle.std.specs.Prelude.{if◌then◌else◌, is_some, IsOk, nat_le}
 use Rattle.std.proofs.lemmas.Bool.Decides.{nat_tests}
 use Rattle.page_words.specs.Addresses.{is_user_page}
@@ -8,7 +8,7 @@ use Rattle.address_space.specs.Spaces.{fresh, cell_or_fresh, joined, cost, need,
 use Rattle.address_space.proofs.costs.Costs.{cost-insert}
 use Rattle.address_space.proofs.costs.Totals.{cost-joined}
 use Rattle.page_sharing.specs.Offers.{offer_key, pending}
-use Rattle.process_table.specs.State.{State, is_live, is_mapped, has_no_room}
+use Rattle.process_table.specs.State.{State, is_live, is_mapped, overdrawn}
 use Rattle.process_table.specs.Calls.{map_refusal, unmap_refusal, protect_refusal, offer_refusal, accept_refusal, offered, after_map, after_accept}
 use Rattle.process_table.specs.TestAnswers.{first_cause, number_unless, map_answer, accept_answer}
 use Rattle.process_table.specs.declared.causes.Cause.{Cause}
@@ -25,13 +25,13 @@ choice false c y h = (refl, h)
 pub record MayMap (s : State) (p page : ℕ) : Type 0 where
   pub user : is_user_page page ≡ true
   pub none : map.get s.spaces (at_page p page) ≡ None
-  pub room : has_no_room s (at_page p page) ≡ false
+  pub room : overdrawn s p (page ∷ []) ≡ false
 
 pub may_map : (s : State) (p page : ℕ) → map_refusal s p page ≡ None → MayMap s p page
 may_map s p page h =
     let a = choice (not (is_user_page page)) _ _ h in
     let b = choice (is_mapped s (at_page p page)) _ _ a.1 in
-    let c = choice (has_no_room s (at_page p page)) _ _ b.1 in
+    let c = choice (overdrawn s p (page ∷ [])) _ _ b.1 in
     record { user = not-false _ a.0; none = no_value _ b.0; room = c.0 }
 
 -- a page may be unmapped: it is mapped
@@ -96,14 +96,14 @@ pub record MayAccept (s : State) (p giver giver_page page : ℕ) : Type 0 where
   pub user : is_user_page page ≡ true
   pub there : map.contains_key s.offers (offer_key giver giver_page p) ≡ true
   pub none : map.get s.spaces (at_page p page) ≡ None
-  pub room : has_no_room s (at_page p page) ≡ false
+  pub room : overdrawn s p (page ∷ []) ≡ false
 
 pub may_accept : (s : State) (p giver giver_page page : ℕ) → accept_refusal s p giver giver_page page ≡ None → MayAccept s p giver giver_page page
 may_accept s p giver giver_page page h =
     let a = choice (not (is_user_page page)) _ _ h in
     let b = choice (not (map.contains_key s.offers (offer_key giver giver_page p))) _ _ a.1 in
     let c = choice (is_mapped s (at_page p page)) _ _ b.1 in
-    let d = choice (has_no_room s (at_page p page)) _ _ c.1 in
+    let d = choice (overdrawn s p (page ∷ [])) _ _ c.1 in
     record { user = not-false _ a.0; there = not-false _ b.0; none = no_value _ c.0; room = d.0 }
 
 -- a test that answers a number has found no cause
@@ -134,20 +134,20 @@ accept-charge s p giver giver_page page charge live free is =
 
 -- what the test of a map answers
 pub test_map : (s : State) (p page : ℕ) → is_live s p ≡ true → is_user_page page ≡ true
-    → (if is_mapped s (at_page p page) then Err Mapped else if has_no_room s (at_page p page) then Err Quota else Ok (cost s.spaces p + need s.spaces p page)) ≡ map_answer s p page
-test_map s p page live user = by (is_mapped s (at_page p page)) (has_no_room s (at_page p page)) refl refl
+    → (if is_mapped s (at_page p page) then Err Mapped else if overdrawn s p (page ∷ []) then Err Quota else Ok (cost s.spaces p + need s.spaces p page)) ≡ map_answer s p page
+test_map s p page live user = by (is_mapped s (at_page p page)) (overdrawn s p (page ∷ [])) refl refl
   where
-    by : (a b : Bool) → is_mapped s (at_page p page) ≡ a → has_no_room s (at_page p page) ≡ b → (if a then Err Mapped else if b then Err Quota else Ok (cost s.spaces p + need s.spaces p page)) ≡ map_answer s p page
-    by true b there has = sym (λ i. number_unless (if live i then (if not (user i) then Some BadPage else if there i then Some Mapped else if has_no_room s (at_page p page) then Some Quota else None) else Some NoProcess) (cost (after_map s p page true).spaces p))
+    by : (a b : Bool) → is_mapped s (at_page p page) ≡ a → overdrawn s p (page ∷ []) ≡ b → (if a then Err Mapped else if b then Err Quota else Ok (cost s.spaces p + need s.spaces p page)) ≡ map_answer s p page
+    by true b there has = sym (λ i. number_unless (if live i then (if not (user i) then Some BadPage else if there i then Some Mapped else if overdrawn s p (page ∷ []) then Some Quota else None) else Some NoProcess) (cost (after_map s p page true).spaces p))
     by false true gone full = sym (λ i. number_unless (if live i then (if not (user i) then Some BadPage else if gone i then Some Mapped else if full i then Some Quota else None) else Some NoProcess) (cost (after_map s p page true).spaces p))
     by false false gone roomy = sym (map-charge s p page _ live (λ i. if not (user i) then Some BadPage else if gone i then Some Mapped else if roomy i then Some Quota else None) refl)
 
 -- what the test of an accept answers
 pub test_accept : (s : State) (p giver giver_page page : ℕ) → is_live s p ≡ true → is_user_page page ≡ true → map.contains_key s.offers (offer_key giver giver_page p) ≡ true
-    → (if is_mapped s (at_page p page) then Err Mapped else if has_no_room s (at_page p page) then Err Quota else Ok (cost s.spaces p + need s.spaces p page)) ≡ accept_answer s p giver giver_page page
-test_accept s p giver giver_page page live user there = by (is_mapped s (at_page p page)) (has_no_room s (at_page p page)) refl refl
+    → (if is_mapped s (at_page p page) then Err Mapped else if overdrawn s p (page ∷ []) then Err Quota else Ok (cost s.spaces p + need s.spaces p page)) ≡ accept_answer s p giver giver_page page
+test_accept s p giver giver_page page live user there = by (is_mapped s (at_page p page)) (overdrawn s p (page ∷ [])) refl refl
   where
-    by : (a b : Bool) → is_mapped s (at_page p page) ≡ a → has_no_room s (at_page p page) ≡ b → (if a then Err Mapped else if b then Err Quota else Ok (cost s.spaces p + need s.spaces p page)) ≡ accept_answer s p giver giver_page page
-    by true b mapped has = sym (λ i. number_unless (if live i then (if not (user i) then Some BadPage else if not (there i) then Some NoOffer else if mapped i then Some Mapped else if has_no_room s (at_page p page) then Some Quota else None) else Some NoProcess) (cost (after_accept s p giver giver_page page).spaces p))
+    by : (a b : Bool) → is_mapped s (at_page p page) ≡ a → overdrawn s p (page ∷ []) ≡ b → (if a then Err Mapped else if b then Err Quota else Ok (cost s.spaces p + need s.spaces p page)) ≡ accept_answer s p giver giver_page page
+    by true b mapped has = sym (λ i. number_unless (if live i then (if not (user i) then Some BadPage else if not (there i) then Some NoOffer else if mapped i then Some Mapped else if overdrawn s p (page ∷ []) then Some Quota else None) else Some NoProcess) (cost (after_accept s p giver giver_page page).spaces p))
     by false true gone full = sym (λ i. number_unless (if live i then (if not (user i) then Some BadPage else if not (there i) then Some NoOffer else if gone i then Some Mapped else if full i then Some Quota else None) else Some NoProcess) (cost (after_accept s p giver giver_page page).spaces p))
     by false false gone roomy = sym (accept-charge s p giver giver_page page _ live (λ i. if not (user i) then Some BadPage else if not (there i) then Some NoOffer else if gone i then Some Mapped else if roomy i then Some Quota else None) refl)

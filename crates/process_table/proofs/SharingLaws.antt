@@ -1,6 +1,6 @@
 -- States stay well formed by a change of a right, and by an offer, its withdrawal and its acceptance.
 use Rattle.std.proofs.Common.{◌≡◌, ◌≢◌, ◌⊎◌, ℕ, ◌+◌, ◌<◌, ◌≤◌, ◌||◌, ◌==◌, not, Bool, true, false, cond, refl, sym, ap, subst, ◌∙◌, Option, Some, None, is_some, unwrap_or, arith, inl, inr}
-use Rattle.std.specs.Prelude.{if◌then◌else◌, IfSome}
+use Rattle.std.specs.Prelude.{if◌then◌else◌, nat_lt, IfSome}
 use Rattle.std.specs.Option.{option_map}
 use Rattle.std.proofs.lemmas.Bool.{cases_eq}
 use Rattle.page_words.specs.Addresses.{IsUserPage, EachTouched, page_number, second_page}
@@ -16,7 +16,8 @@ use Rattle.address_space.specs.Spaces.{Slot, slot_order, Cell, Spaces, cost, nee
 use Rattle.address_space.proofs.costs.Totals.{cost-joined, cost-joined_other}
 use Rattle.quota_tree.specs.Book.{given, quota_of}
 use Rattle.page_sharing.specs.Offers.{OfferKey, Offers, offer_order, offer_key, pending}
-use Rattle.process_table.specs.State.{State, is_live, has_no_room, room}
+use Rattle.process_table.proofs.Overdrawn.{extra_new}
+use Rattle.process_table.specs.State.{State, is_live, room}
 use Rattle.process_table.specs.Calls.{protect_refusal, offer_refusal, accept_refusal, offered, after_protect, after_offer, after_withdraw, after_accept}
 use Rattle.process_table.specs.WellFormed.{IsCellAt, IsOfferIn, IsWellFormed}
 use Rattle.process_table.proofs.CellLaws.{AreCells, get-inserted, get-inserted_other}
@@ -292,7 +293,7 @@ pub giver_user : (s : State) (p giver giver_page : ℕ) → IsWellFormed s → m
 giver_user s p giver giver_page w there = let g = giver_mapped s p giver giver_page w there in (w.cells (at_page giver giver_page) g.0 g.1).user
 
 module _ (s : State) (p giver giver_page page : ℕ) (right : Bool) (g : Cell) (at : map.get s.spaces (at_page giver giver_page) ≡ Some g) (w : IsWellFormed s) (live : is_live s p ≡ true)
-    (user : IsUserPage page) (none : map.get s.spaces (at_page p page) ≡ None) (has_room : has_no_room s (at_page p page) ≡ false) where
+    (user : IsUserPage page) (none : map.get s.spaces (at_page p page) ≡ None) (has_room : nat_lt (room s p) (need s.spaces p page) ≡ false) where
   abbrev after_join : Spaces
   after_join = joined s.spaces (at_page giver giver_page) (at_page p page) right
 
@@ -332,4 +333,5 @@ pub well_formed-accept : (s : State) (p giver giver_page page : ℕ) → IsWellF
 well_formed-accept s p giver giver_page page w live allowed =
     let may = may_accept s p giver giver_page page allowed in
     let g = giver_mapped s p giver giver_page w may.there in
-    well_formed-joined (after_withdraw s giver giver_page p) p giver giver_page page (offered s giver giver_page p) g.0 g.1 (well_formed-withdraw s giver giver_page p w) live (user_page page may.user) may.none may.room
+    well_formed-joined (after_withdraw s giver giver_page p) p giver giver_page page (offered s giver giver_page p) g.0 g.1 (well_formed-withdraw s giver giver_page p w) live (user_page page may.user) may.none
+    (ap (nat_lt (room s p)) (sym (extra_new s p page (ap is_some may.none))) ∙ may.room)

@@ -1,5 +1,5 @@
 -- States stay well formed where their spaces alone change: by a map, an access, or an unmap with its offers.
-use Rattle.std.proofs.Common.{◌≡◌, ◌≢◌, ℕ, ◌+◌, ◌/◌, ◌%◌, ◌<◌, ◌≤◌, ◌&&◌, not, Bool, true, false, List, ◌++◌, length, take, drop, refl, sym, ap, subst, ◌∙◌, Option, Some, None, is_some, unwrap_or, arith, inl, inr, zero, suc}
+use Rattle.std.proofs.Common.{◌≡◌, ◌≢◌, ℕ, ◌+◌, ◌/◌, ◌%◌, ◌<◌, ◌≤◌, ◌&&◌, not, Bool, true, false, List, [], ◌∷◌, ◌++◌, length, take, drop, refl, sym, ap, subst, ◌∙◌, Option, Some, None, is_some, unwrap_or, arith, inl, inr, zero, suc}
 use Rattle.std.proofs.lemmas.List.{length-replicate}
 use Rattle.std.specs.Prelude.{if◌then◌else◌, nat_lt, nat_le, IfSome}
 use Rattle.std.specs.Option.{option_map}
@@ -24,7 +24,8 @@ use Rattle.address_space.proofs.costs.MapFirst.{IsThere, AreThere, touched-there
 use Rattle.address_space.proofs.steps.Stores.{length-write_at, written_long}
 use Rattle.quota_tree.specs.Book.{given, quota_of}
 use Rattle.page_sharing.specs.Offers.{OfferKey}
-use Rattle.process_table.specs.State.{State, is_live, is_mapped, has_no_room, lacks_room, room}
+use Rattle.process_table.proofs.Overdrawn.{extra_new, extra_touched}
+use Rattle.process_table.specs.State.{State, is_live, is_mapped, overdrawn, room}
 use Rattle.process_table.specs.Calls.{map_refusal, after_map, after_load, after_store}
 use Rattle.process_table.specs.declared.causes.Cause.TheVariants.{BadPage, Mapped, Quota}
 use Rattle.process_table.specs.WellFormed.{IsCellAt, IsOfferIn, IsWellFormed}
@@ -75,9 +76,15 @@ with-spaces s T w rooms owners cells keeps = record {
         let k = keeps (at_page key.offerer key.page) old.offered.0 old.offered.1 in
         record { target = old.target; another = old.another; offered = (k.0, k.1, λ r. k.2 ∙ old.offered.2 r) }
 
+-- what is needed for one fits, where it does not overdraw
+pub new_fits : (s : State) (p page : ℕ) → map.get s.spaces (at_page p page) ≡ None → overdrawn s p (page ∷ []) ≡ false
+    → need s.spaces p page ≤ room s p
+new_fits s p page none fits = not_less (room s p) (need s.spaces p page)
+    (ap (nat_lt (room s p)) (sym (extra_new s p page (ap is_some none))) ∙ fits)
+
 -- ---- A page of zeros more
 
-module _ (s : State) (slot : Slot) (write : Bool) (w : IsWellFormed s) (live : is_live s slot.pid ≡ true) (user : IsUserPage slot.page) (none : map.get s.spaces slot ≡ None) (has_room : has_no_room s slot ≡ false) where
+module _ (s : State) (slot : Slot) (write : Bool) (w : IsWellFormed s) (live : is_live s slot.pid ≡ true) (user : IsUserPage slot.page) (none : map.get s.spaces slot ≡ None) (has_room : nat_lt (room s slot.pid) (need s.spaces slot.pid slot.page) ≡ false) where
   abbrev more : Spaces
   more = map.insert s.spaces slot (fresh slot write)
 
@@ -129,8 +136,9 @@ map_allowed true false false h = (refl, refl, refl)
 -- a map that is not refused
 pub well_formed-map : (s : State) (p page : ℕ) (write : Bool) → IsWellFormed s → is_live s p ≡ true → map_refusal s p page ≡ None → IsWellFormed (after_map s p page write)
 well_formed-map s p page write w live allowed =
-    let a = map_allowed (is_user_page page) (is_mapped s (at_page p page)) (has_no_room s (at_page p page)) allowed in
-    well_formed-inserted s (at_page p page) write w live (user_page page a.0) (no_value (map.get s.spaces (at_page p page)) a.1) a.2
+    let a = map_allowed (is_user_page page) (is_mapped s (at_page p page)) (overdrawn s p (page ∷ [])) allowed in
+    well_formed-inserted s (at_page p page) write w live (user_page page a.0) (no_value (map.get s.spaces (at_page p page)) a.1)
+    (ap (nat_lt (room s p)) (sym (extra_new s p page a.1)) ∙ a.2)
 
 -- ---- An access to a mapped page
 
@@ -236,7 +244,7 @@ well_formed-page s p page w live user fits = by (map.contains_key s.spaces (at_p
         fits-room a b h = le-ltb a b h
 
 -- the pages that an access touches, where there is room for those that are not mapped
-pub well_formed-touched : (s : State) (p address : ℕ) (size : Size) → IsWellFormed s → is_live s p ≡ true → EachTouched address size IsUserPage → lacks_room s p address size ≡ false
+pub well_formed-touched : (s : State) (p address : ℕ) (size : Size) → IsWellFormed s → is_live s p ≡ true → EachTouched address size IsUserPage → overdrawn s p (touched address size) ≡ false
     → IsWellFormed (record s { spaces = with_pages s.spaces p (touched address size) })
 well_formed-touched s p address size w live user has_room = by (second_page address size) refl user.1
   where
@@ -244,7 +252,7 @@ well_formed-touched s p address size w live user has_room = by (second_page addr
     page = page_number address
 
     enough : access_need s.spaces p address size ≤ room s p
-    enough = not_less (room s p) (access_need s.spaces p address size) has_room
+    enough = not_less (room s p) (access_need s.spaces p address size) (ap (nat_lt (room s p)) (sym (extra_touched s p address size)) ∙ has_room)
 
     by : (x : Option ℕ) → second_page address size ≡ x → IfSome x IsUserPage → IsWellFormed (record s { spaces = with_pages s.spaces p (page_and page x) })
     by None is h = let n = need-in_one s.spaces p address size is in well_formed-page s p page w live user.0 (omega (arith, n, enough))
@@ -271,7 +279,7 @@ well_formed-loaded s p address size w there = by (second_page address size) ther
     by (Some second) h =
         well_formed-read_at (record s { spaces = accessed s.spaces (at_page p page) }) p second (well_formed-read_at s p page w there.0) (kept s.spaces (at_page p page) _ there.0 (at_page p second) ∙ h)
 
-pub well_formed-load : (s : State) (p address : ℕ) (size : Size) → IsWellFormed s → is_live s p ≡ true → EachTouched address size IsUserPage → lacks_room s p address size ≡ false → IsWellFormed (after_load s p address size)
+pub well_formed-load : (s : State) (p address : ℕ) (size : Size) → IsWellFormed s → is_live s p ≡ true → EachTouched address size IsUserPage → overdrawn s p (touched address size) ≡ false → IsWellFormed (after_load s p address size)
 well_formed-load s p address size w live user has_room =
     well_formed-loaded (record s { spaces = with_pages s.spaces p (touched address size) }) p address size (well_formed-touched s p address size w live user has_room) (touched-there s.spaces p address size)
 
@@ -322,7 +330,7 @@ well_formed-bytes s p address (suc k) value w there =
     (well_formed-byte s p address value w (first_there s.spaces p address k there))
     (rest_there s.spaces p address k (offset_number address) (value % 256) there)
 
-pub well_formed-store : (s : State) (p address : ℕ) (size : Size) (value : ℕ) → IsWellFormed s → is_live s p ≡ true → EachTouched address size IsUserPage → lacks_room s p address size ≡ false → IsWellFormed (after_store s p address size value)
+pub well_formed-store : (s : State) (p address : ℕ) (size : Size) (value : ℕ) → IsWellFormed s → is_live s p ≡ true → EachTouched address size IsUserPage → overdrawn s p (touched address size) ≡ false → IsWellFormed (after_store s p address size value)
 well_formed-store s p address size value w live user has_room =
     well_formed-bytes (record s { spaces = with_pages s.spaces p (touched address size) }) p address (byte_count size) value (well_formed-touched s p address size w live user has_room)
     (bytes_there (with_pages s.spaces p (touched address size)) p address size (touched-there s.spaces p address size))

@@ -1,12 +1,13 @@
 -- Laws on processes apart: a process's replies and the effects of its calls depend on what it has alone, and the calls
 -- of others leave it as it was.
-use Rattle.std.proofs.Common.{◌≡◌, ◌≢◌, ℕ, Bool, true, Option, None}
+use Rattle.std.proofs.Common.{◌≡◌, ◌≢◌, ℕ, Bool, true, [], ◌∷◌, Option, None}
 use Rattle.page_words.specs.FiniteMap as map
 use Rattle.page_words.specs.FiniteSet as set
+use Rattle.page_words.specs.Addresses.{touched}
 use Rattle.page_words.specs.declared.addresses.Size.{Size}
 use Rattle.quota_tree.specs.Book.{given}
 use Rattle.address_space.specs.Spaces.{cost, at_page, cell_or_fresh}
-use Rattle.process_table.specs.State.{State, is_live, is_mapped, has_no_room, lacks_room, child_of}
+use Rattle.process_table.specs.State.{State, is_live, is_mapped, overdrawn, child_of}
 use Rattle.process_table.specs.Calls.{map_refusal, unmap_refusal, protect_refusal, withdraw_refusal, accept_refusal, spawn_refusal, fork_refusal, exit_refusal, loaded, after_map, after_unmap, after_protect, after_offer, after_withdraw, after_accept, after_spawn, after_fork, after_exit, after_load, after_store}
 use Rattle.process_table.specs.WellFormed.{IsWellFormed}
 use Rattle.process_table.specs.Apart.{IsApart, AreAlike, held_in, pages_held, alone_with}
@@ -33,8 +34,8 @@ RefusalsAlike =
     × ((page target : ℕ) → IsToldAlike (λ s p. withdraw_refusal s p page target))
     × IsToldAlike (λ s p. exit_refusal s p)
     × ((page : ℕ) → IsToldAlike (λ s p. is_mapped s (at_page p page)))
-    × ((page : ℕ) → IsToldAlike (λ s p. has_no_room s (at_page p page)))
-    × ((addr : ℕ) (size : Size) → IsToldAlike (λ s p. lacks_room s p addr size))
+    × ((page : ℕ) → IsToldAlike (λ s p. overdrawn s p (page ∷ [])))
+    × ((addr : ℕ) (size : Size) → IsToldAlike (λ s p. overdrawn s p (touched addr size)))
 
 -- nor is it told what another has
 abbrev pub ValuesAlike : Type 0

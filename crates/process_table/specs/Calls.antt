@@ -1,5 +1,5 @@
 -- What each call of a live process is refused for, in order, and what it does.
-use Rattle.std.proofs.Common.{ℕ, Bool, false, not, ◌&&◌, if◌then◌else◌, ◌==◌, nat_lt, nat_le, Option, Some, None, is_none, unwrap_or}
+use Rattle.std.proofs.Common.{ℕ, Bool, false, not, ◌&&◌, if◌then◌else◌, ◌==◌, nat_lt, nat_le, [], ◌∷◌, Option, Some, None, is_none, unwrap_or}
 use Rattle.page_words.specs.Addresses.{byte_count, covered, touched, is_user_page}
 use Rattle.page_words.specs.declared.addresses.Size.{Size}
 use Rattle.page_words.specs.FiniteMap as map
@@ -8,7 +8,7 @@ use Rattle.quota_tree.specs.Book.{next_number, number_of_children}
 use Rattle.page_sharing.specs.Offers.{offer_key, pending, without_page, without_process}
 use Rattle.table_walk.specs.declared.Access.{Access}
 use Rattle.table_walk.specs.declared.Access.TheVariants.{Read, Write}
-use Rattle.process_table.specs.State.{State, is_live, is_mapped, has_no_room, room, child_of}
+use Rattle.process_table.specs.State.{State, is_live, is_mapped, overdrawn, room, child_of}
 use Rattle.process_table.specs.declared.causes.Cause.{Cause}
 use Rattle.process_table.specs.declared.causes.Cause.TheVariants.{BadPage, NotMapped, Mapped, Quota, Rights, SelfOffer, NoTarget, OfferPending, TooManyOffers, NoOffer, TableFull, BadQuota, HasChildren, RootExit, TooSmall}
 
@@ -19,7 +19,7 @@ abbrev pub map_refusal : State → ℕ → ℕ → Option Cause
 map_refusal s p page =
     if not (is_user_page page) then Some BadPage else
     if is_mapped s (at_page p page) then Some Mapped else
-    if has_no_room s (at_page p page) then Some Quota else
+    if overdrawn s p (page ∷ []) then Some Quota else
     None
 
 -- the refusals of an Unmap, in order
@@ -62,7 +62,7 @@ accept_refusal s p giver giver_page page =
     if not (is_user_page page) then Some BadPage else
     if not (map.contains_key s.offers (offer_key giver giver_page p)) then Some NoOffer else
     if is_mapped s (at_page p page) then Some Mapped else
-    if has_no_room s (at_page p page) then Some Quota else
+    if overdrawn s p (page ∷ []) then Some Quota else
     None
 
 -- the refusals of a Spawn, in order

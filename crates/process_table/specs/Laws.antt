@@ -1,11 +1,11 @@
 -- Laws on the calls: each that is not refused keeps states well formed, and such states cost no more than the root's
 -- quota.
 use Rattle.std.proofs.Common.{◌≡◌, ◌≤◌, ℕ, Bool, true, false, None}
-use Rattle.page_words.specs.Addresses.{IsUserPage, EachTouched}
+use Rattle.page_words.specs.Addresses.{touched, IsUserPage, EachTouched}
 use Rattle.page_words.specs.declared.addresses.Size.{Size}
 use Rattle.page_words.specs.FiniteMap as map
 use Rattle.quota_tree.specs.Book.{quota_of}
-use Rattle.process_table.specs.State.{State, open_with, is_live, lacks_room}
+use Rattle.process_table.specs.State.{State, open_with, is_live, overdrawn}
 use Rattle.process_table.specs.Calls.{map_refusal, protect_refusal, offer_refusal, accept_refusal, spawn_refusal, exit_refusal, after_map, after_unmap, after_protect, after_offer, after_withdraw, after_accept, after_spawn, after_exit, after_load, after_store, fork_refusal, after_fork}
 use Rattle.process_table.specs.WellFormed.{IsWellFormed, total}
 
@@ -51,11 +51,11 @@ ExitKeeps = (s : State) (p : ℕ) → IsWellFormed s → is_live s p ≡ true �
 
 -- a load of the user range whose pages are mapped, or for which there is room
 abbrev pub LoadKeeps : Type 0
-LoadKeeps = (s : State) (p address : ℕ) (size : Size) → IsWellFormed s → is_live s p ≡ true → EachTouched address size IsUserPage → lacks_room s p address size ≡ false → IsWellFormed (after_load s p address size)
+LoadKeeps = (s : State) (p address : ℕ) (size : Size) → IsWellFormed s → is_live s p ≡ true → EachTouched address size IsUserPage → overdrawn s p (touched address size) ≡ false → IsWellFormed (after_load s p address size)
 
 -- a store of any value to such pages, with the right to write or without it
 abbrev pub StoreKeeps : Type 0
-StoreKeeps = (s : State) (p address : ℕ) (size : Size) (value : ℕ) → IsWellFormed s → is_live s p ≡ true → EachTouched address size IsUserPage → lacks_room s p address size ≡ false → IsWellFormed (after_store s p address size value)
+StoreKeeps = (s : State) (p address : ℕ) (size : Size) (value : ℕ) → IsWellFormed s → is_live s p ≡ true → EachTouched address size IsUserPage → overdrawn s p (touched address size) ≡ false → IsWellFormed (after_store s p address size value)
 
 -- a spawn, a fork and an exit leave the root's entry; the other calls leave the whole book
 abbrev pub RootStays : Type 0

@@ -1,9 +1,8 @@
 -- The machine's state: spaces, book and offers, what a process has room for, and what is known of it.
-use Rattle.std.proofs.Common.{ℕ, ◌-◌, Bool, nat_lt, Option}
+use Rattle.std.proofs.Common.{ℕ, ◌-◌, Bool, nat_lt, List, Option}
 use Rattle.std.specs.Option.{option_map, unwrap_or}
-use Rattle.page_words.specs.declared.addresses.Size.{Size}
 use Rattle.page_words.specs.FiniteMap as map
-use Rattle.address_space.specs.Spaces.{Slot, Spaces, cost, need, access_need}
+use Rattle.address_space.specs.Spaces.{Slot, Spaces, cost, with_pages}
 use Rattle.quota_tree.specs.Book.{Book, Member, given, quota_of, number_of_children, next_number}
 use Rattle.quota_tree.specs.declared.Container.{Container}
 use Rattle.page_sharing.specs.Offers.{Offers}
@@ -30,13 +29,13 @@ is_mapped s slot = map.contains_key s.spaces slot
 abbrev pub room : State → ℕ → ℕ
 room s p = quota_of s.book p - cost s.spaces p - given s.book p
 
--- the process has no room for this page too
-abbrev pub has_no_room : State → Slot → Bool
-has_no_room s slot = nat_lt (room s slot.pid) (need s.spaces slot.pid slot.page)
+-- what a process costs more once each of these pages is mapped
+abbrev pub extra_cost : State → ℕ → List ℕ → ℕ
+extra_cost s p pages = cost (with_pages s.spaces p pages) p - cost s.spaces p
 
--- the process has no room for the pages that an access touches and that are not mapped
-abbrev pub lacks_room : State → ℕ → ℕ → Size → Bool
-lacks_room s p address size = nat_lt (room s p) (access_need s.spaces p address size)
+-- whether that is more than the process has room for
+abbrev pub overdrawn : State → ℕ → List ℕ → Bool
+overdrawn s p pages = nat_lt (room s p) (extra_cost s p pages)
 
 -- the number of the next child, where one is free
 abbrev pub child_of : State → ℕ

@@ -1,10 +1,10 @@
 //! What a live process is charged for, and what it has room for.
 
-ghost use Rattle.std.specs.Prelude.{◌≡◌, ◌+◌, ◌-◌, ◌≤◌, ◌<◌, if◌then◌else◌, nat_lt, true, Some, Ok, Err, length};
+ghost use Rattle.std.specs.Prelude.{◌≡◌, ◌+◌, ◌-◌, ◌≤◌, ◌<◌, if◌then◌else◌, nat_lt, [], ◌∷◌, true, Some, Ok, Err, length};
 ghost use Rattle.page_words.specs.Addresses.{EachTouched, IsUserPage};
 ghost use Rattle.address_space.specs.Places.{place_in};
 ghost use Rattle.address_space.specs.Spaces.{cost, need, access_need, without, is_slot, at_page};
-ghost use Rattle.process_table.specs.State.{is_live, is_mapped, has_no_room, room, container_of};
+ghost use Rattle.process_table.specs.State.{is_live, is_mapped, overdrawn, room, container_of};
 ghost use Rattle.address_space.specs.View.{total_cost};
 ghost use Rattle.quota_tree.specs.Containers.{IsLive, used_of, room_of, with_used};
 ghost use Rattle.process_table.specs.TestAnswers.{number_unless};
@@ -54,6 +54,7 @@ fn charged_more(container: &Container, frames: u32) -> Result<u32, Cause>
 
 /// What a live process is charged for once it has a page that it hasn't, or the cause against it: Mapped, Quota. The
 /// container is the process's, and the place the page's.
+#[tactic(auto, using(crate::proofs::Overdrawn::extra_new))]
 #[inline(always)]
 pub fn charge_with(
     processes: &Processes,
@@ -66,7 +67,7 @@ pub fn charge_with(
     requires live { is_live processes.now.state pid ≡ true }
     requires user { IsUserPage page }
     requires place { place.now ≡ place_in processes.now.directories processes.now.bytes pid page }
-    ensures { result ≡ (if is_mapped processes.now.state (at_page pid page) then Err cause.Mapped else if has_no_room processes.now.state (at_page pid page) then Err cause.Quota else Ok (cost processes.now.state.spaces pid + need processes.now.state.spaces pid page)) }
+    ensures { result ≡ (if is_mapped processes.now.state (at_page pid page) then Err cause.Mapped else if overdrawn processes.now.state pid (page ∷ []) then Err cause.Quota else Ok (cost processes.now.state.spaces pid + need processes.now.state.spaces pid page)) }
 {
     processes.stands();
     processes.spaces().stands();

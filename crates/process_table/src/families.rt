@@ -1,12 +1,14 @@
 //! Children, copies and exits: of each call its test and its change.
 
-ghost use Rattle.std.specs.Prelude.{◌≡◌, true, Some, Ok, IsOk, IsErr};
+ghost use Rattle.std.specs.Prelude.{◌≡◌, ℕ, true, Some, Ok, IsOk, IsErr};
 ghost use Rattle.quota_tree.specs.Containers.{split_answer};
 ghost use Rattle.quota_tree.specs.Containers as containers;
 ghost use Rattle.process_table.specs.State.{is_live, container_of};
 ghost use Rattle.process_table.specs.Calls.{after_spawn, after_exit, after_fork, exit_refusal};
 ghost use Rattle.process_table.specs.TestAnswers.{translated, spawn_answer, exit_answer, fork_answer, for_copy, first_cause, done_unless};
 ghost use Rattle.process_table.specs.Image.{memory_of};
+ghost use Rattle.address_space.specs.Image.{is_lazy_at};
+ghost use Rattle.address_space.specs.Spaces.{at_page};
 ghost use Rattle.address_space.specs.Stays.{FramesStay, none_goes, of_process};
 
 use crate::causes::Cause;
@@ -138,12 +140,13 @@ impl Processes {
     }
 
     /// Makes a child of a process that may have it, with that quota and a copy of each of the process's pages, and
-    /// gives its number.
+    /// returns its number. The copy of a page is lazy exactly if the page is.
     pub fn fork(&mut self, pid: Pid, quota: u32) -> Pid
         requires { IsOk (fork_answer self.old.state pid quota) }
         ensures child { fork_answer self.old.state pid quota ≡ Ok result }
         ensures state { self.new.state ≡ after_fork self.old.state pid quota }
         ensures stay { FramesStay none_goes (memory_of self.old) (memory_of self.new) }
+        ensures lazy { (page : ℕ) → is_lazy_at (memory_of self.new) (at_page result page) ≡ is_lazy_at (memory_of self.old) (at_page pid page) }
     {
         let copy = self.can_fork(pid, quota).unwrap();
         self.fork_as(pid, quota, copy);
@@ -155,6 +158,7 @@ impl Processes {
         requires { fork_answer self.old.state pid quota ≡ Ok copy }
         ensures state { self.new.state ≡ after_fork self.old.state pid quota }
         ensures stay { FramesStay none_goes (memory_of self.old) (memory_of self.new) }
+        ensures lazy { (page : ℕ) → is_lazy_at (memory_of self.new) (at_page copy page) ≡ is_lazy_at (memory_of self.old) (at_page pid page) }
     {
         self.spaces.stands();
         self.quotas.within();
@@ -171,6 +175,7 @@ impl Processes {
         ensures result { result ≡ fork_answer self.old.state pid quota }
         ensures state { IsOk result → self.new.state ≡ after_fork self.old.state pid quota }
         ensures stay { FramesStay none_goes (memory_of self.old) (memory_of self.new) }
+        ensures lazy { (copy page : ℕ) → result ≡ Ok copy → is_lazy_at (memory_of self.new) (at_page copy page) ≡ is_lazy_at (memory_of self.old) (at_page pid page) }
         ensures kept { IsErr result → self.new ≡ self.old }
     {
         match self.can_fork(pid, quota) {

@@ -6,7 +6,9 @@ ghost use Rattle.process_table.specs.Calls.{after_map, after_unmap, after_protec
 ghost use Rattle.process_table.specs.TestAnswers.{map_answer, unmap_answer, protect_answer, first_cause, done_unless};
 ghost use Rattle.process_table.specs.Image.{memory_of};
 ghost use Rattle.address_space.specs.Stays.{FramesStay, none_goes, of_page};
+ghost use Rattle.address_space.specs.Image.{is_lazy_at};
 ghost use Rattle.address_space.specs.Places.{place_in};
+ghost use Rattle.address_space.specs.Spaces.{at_page};
 ghost use Rattle.process_table.specs.Places.{place_at};
 
 use crate::causes::Cause;
@@ -50,11 +52,12 @@ impl Processes {
         }
     }
 
-    /// Maps a page of zeros that the process may map, with the right to write as asked.
+    /// Maps a page of zeros that the process may map, with the right to write as asked. The page is lazy.
     pub fn map(&mut self, pid: Pid, page: Page, write: bool)
         requires { IsOk (map_answer self.old.state pid page) }
         ensures state { self.new.state ≡ after_map self.old.state pid page write }
         ensures stay { FramesStay none_goes (memory_of self.old) (memory_of self.new) }
+        ensures lazy { is_lazy_at (memory_of self.new) (at_page pid page) ≡ true }
     {
         let place = self.spaces.place(pid, page);
         self.map_at(pid, page, write, &place);
@@ -67,6 +70,7 @@ impl Processes {
         requires place { place.now ≡ place_in self.old.directories self.old.bytes pid page }
         ensures state { self.new.state ≡ after_map self.old.state pid page write }
         ensures stay { FramesStay none_goes (memory_of self.old) (memory_of self.new) }
+        ensures lazy { is_lazy_at (memory_of self.new) (at_page pid page) ≡ true }
         ensures place { result ≡ place_in self.new.directories self.new.bytes pid page }
     {
         let need = need_at(&self.spaces, pid, page, place);
@@ -92,6 +96,7 @@ impl Processes {
         ensures result { result ≡ done_unless (first_cause self.old.state pid (map_refusal self.old.state pid page)) }
         ensures state { IsOk result → self.new.state ≡ after_map self.old.state pid page write }
         ensures stay { FramesStay none_goes (memory_of self.old) (memory_of self.new) }
+        ensures lazy { IsOk result → is_lazy_at (memory_of self.new) (at_page pid page) ≡ true }
         ensures kept { IsErr result → self.new ≡ self.old }
     {
         let Some(container) = self.container(pid) else {

@@ -1,10 +1,10 @@
 //! Offers of pages, and pages that are accepted: of each call its test and its change.
 
-ghost use Rattle.std.specs.Prelude.{◌≡◌, true, false, Some, None, IsOk, IsErr, if◌then◌else◌, nat_le};
+ghost use Rattle.std.specs.Prelude.{◌≡◌, true, false, Some, None, IsOk, IsErr, if◌then◌else◌, nat_le, [], ◌∷◌};
 ghost use Rattle.page_words.specs.Addresses.{IsUserPage};
 ghost use Rattle.address_space.specs.Spaces.{at_page};
 ghost use Rattle.page_sharing.specs.Offers.{offer_key, pending};
-ghost use Rattle.process_table.specs.State.{is_live, is_mapped, has_no_room, container_of};
+ghost use Rattle.process_table.specs.State.{is_live, is_mapped, overdrawn, container_of};
 ghost use Rattle.process_table.specs.Calls.{after_offer, after_withdraw, after_accept, offer_refusal, withdraw_refusal};
 ghost use Rattle.process_table.specs.TestAnswers.{offer_answer, withdraw_answer, accept_answer, first_cause, done_unless};
 ghost use Rattle.process_table.specs.Image.{memory_of};
@@ -309,7 +309,7 @@ impl Processes {
         requires live { is_live self.old.state pid ≡ true }
         requires user { IsUserPage page }
         requires unmapped { is_mapped self.old.state (at_page pid page) ≡ false }
-        requires room { has_no_room self.old.state (at_page pid page) ≡ false }
+        requires room { overdrawn self.old.state pid (page ∷ []) ≡ false }
         requires own { own.now ≡ place_in self.old.directories self.old.bytes pid page }
         ensures there { result ≡ map.contains_key self.old.state.offers (offer_key giver giver_page pid) }
         ensures state { result ≡ true → self.new.state ≡ after_accept self.old.state pid giver giver_page page }

@@ -11,7 +11,7 @@ use Rattle.quota_tree.specs.declared.Container.{Container}
 use Rattle.quota_tree.specs.Accounts.{member_in, book_in, containers_in, account_at, as_container, container_in, counts_child, Agree}
 use Rattle.quota_tree.specs.Book.{Book, is_child, number_of_children}
 use Rattle.quota_tree.specs.Collected.{collected_from, collected}
-use Rattle.quota_tree.specs.Kept.{member_of, seen_as, IsBooked, HasRoot, IsQuotas}
+use Rattle.quota_tree.specs.Invariant.{member_of, seen_as, IsBooked, HasRoot, IsQuotas}
 use Rattle.quota_tree.proofs.CollectedLemmas.{get-before, get-collected}
 use Rattle.quota_tree.proofs.Sums.{number-insert}
 

@@ -9,7 +9,7 @@ use Rattle.quota_tree.specs.declared.Container.{Container}
 use Rattle.quota_tree.specs.Book.{Member, Book, is_child, given, number_of_children}
 use Rattle.quota_tree.specs.Collected.{collected}
 use Rattle.quota_tree.specs.Containers.{after_close, giver_after_close}
-use Rattle.quota_tree.specs.Kept.{member_of, seen_as, IsBooked, IsQuotas}
+use Rattle.quota_tree.specs.Invariant.{member_of, seen_as, IsBooked, IsQuotas}
 use Rattle.quota_tree.proofs.CollectedLemmas.{get-collected, collected-set, collected-unset}
 use Rattle.quota_tree.proofs.Sums.{given-remove, number-remove}
 use Rattle.quota_tree.proofs.Views.{get-member}

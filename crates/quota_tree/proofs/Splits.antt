@@ -10,7 +10,7 @@ use Rattle.quota_tree.specs.declared.QuotaFault.TheVariants.{BadQuota, NoRoom}
 use Rattle.quota_tree.specs.Book.{Book, is_child, given, number_of_children, next_number}
 use Rattle.quota_tree.specs.Collected.{collected}
 use Rattle.quota_tree.specs.Containers.{Containers, giver_after_split, room_of, opened_container, charged_with, with_used, split_answer, fitting, after_split}
-use Rattle.quota_tree.specs.Kept.{member_of, seen_as, IsBooked, IsQuotas}
+use Rattle.quota_tree.specs.Invariant.{member_of, seen_as, IsBooked, IsQuotas}
 use Rattle.quota_tree.proofs.CollectedLemmas.{get-collected, collected-set}
 use Rattle.quota_tree.proofs.Sums.{given-insert, number-insert, given-none, number-none, number-given}
 use Rattle.quota_tree.proofs.Views.{live-container, parents_live, each_quota, room_of-container, within_places, absent_at, next_number-position}

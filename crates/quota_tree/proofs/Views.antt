@@ -12,7 +12,7 @@ use Rattle.quota_tree.specs.declared.Container.{Container}
 use Rattle.quota_tree.specs.Book.{Member, Book, given, quota_of, next_number}
 use Rattle.quota_tree.specs.Collected.{collected}
 use Rattle.quota_tree.specs.Containers.{IsLive, used_of, room_of, total_used, opened_container, container_of, as_container, opening}
-use Rattle.quota_tree.specs.Kept.{member_of, seen_as, IsBooked, IsQuotas}
+use Rattle.quota_tree.specs.Invariant.{member_of, seen_as, IsBooked, IsQuotas}
 use Rattle.quota_tree.proofs.CollectedLemmas.{get-collected, collected_from-replicate, find-position}
 use Rattle.quota_tree.proofs.Sums.{Parents, costs_within}
 use Rattle.std.proofs.lemmas.Option.{same_Some}

@@ -10,7 +10,7 @@ use Rattle.quota_tree.specs.declared.Container.{Container}
 use Rattle.quota_tree.specs.Book.{Book}
 use Rattle.quota_tree.specs.Collected.{collected}
 use Rattle.quota_tree.specs.Containers.{with_used}
-use Rattle.quota_tree.specs.Kept.{member_of, seen_as, IsBooked, IsQuotas}
+use Rattle.quota_tree.specs.Invariant.{member_of, seen_as, IsBooked, IsQuotas}
 use Rattle.quota_tree.proofs.CollectedLemmas.{collected-set}
 use Rattle.quota_tree.proofs.Views.{get-member}
 use Rattle.std.proofs.lemmas.Option.{same_Some}

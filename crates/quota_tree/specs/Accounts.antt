@@ -7,7 +7,7 @@ use Rattle.quota_tree.specs.declared.Container.{Container}
 use Rattle.quota_tree.specs.Book.{Member, Book, is_child, given, number_of_children}
 use Rattle.quota_tree.specs.Collected.{collected}
 use Rattle.quota_tree.specs.Containers.{Containers}
-use Rattle.quota_tree.specs.Kept.{HasRoot}
+use Rattle.quota_tree.specs.Invariant.{HasRoot}
 
 -- the member of an account
 abbrev pub member_in : Account → Member

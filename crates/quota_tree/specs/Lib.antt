@@ -1,5 +1,5 @@
 pub mod Book
 pub mod Collected
 pub mod Containers
-pub mod Kept
+pub mod Invariant
 pub mod Accounts

@@ -56,7 +56,7 @@ impl Model for Quotas {
 
     ghost coded = { containers_code };
 
-    ghost use Rattle.quota_tree.specs.Kept.{seen_as, IsQuotas};
+    ghost use Rattle.quota_tree.specs.Invariant.{seen_as, IsQuotas};
 
     ghost view = { λ quotas. seen_as quotas.containers };
 

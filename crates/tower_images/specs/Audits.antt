@@ -1,5 +1,5 @@
 -- The result of a check of bytes, in numbers.
-use Rattle.std.specs.Prelude.{◌≡◌, ℕ, ◌<◌, List, Option, Some, None}
+use Rattle.std.specs.Prelude.{◌≡◌, ℕ, ◌<◌, List, None}
 use Rattle.std.specs.Option.{option_map}
 use Rattle.memory_image.specs.declared.faults.ImageFault.{ImageFault}
 use Rattle.memory_image.specs.declared.faults.ImageFault.TheVariants as fault
@@ -8,16 +8,12 @@ use Rattle.memory_image.specs.Refusals.{fault_of}
 use Rattle.memory_image.specs.Spelling.{Spells}
 use Rattle.image_check.specs.Codes.{process_number, frame_number}
 use Rattle.image_check.specs.Verdict.{process_clause, frame_clause}
+use Rattle.image_restore.specs.Failing.{IsFirst}
 use Rattle.tower_images.specs.declared.verdicts.TowerVerdict.{TowerVerdict}
 
 -- bytes encode an image for which this holds
 abbrev pub SpellsOne : List ℕ → (Image → Type 0) → Type 0
 SpellsOne bytes Holds = (image : Image) × (Spells bytes image × Holds image)
-
--- the least number that fails something, and what it fails
-pub record IsFirst {C : Type 0} (failed : ℕ → Option C) (number : ℕ) (clause : C) : Type 0 where
-  pub here : failed number ≡ Some clause
-  pub least : (other : ℕ) → other < number → failed other ≡ None
 
 -- no process of an image fails a clause
 abbrev pub NoProcessFails : Image → Type 0

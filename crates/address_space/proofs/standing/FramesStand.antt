@@ -7,11 +7,11 @@ use Rattle.phys_memory.specs.Bytes.{frame_bytes}
 use Rattle.alloc_table.specs.declared.Role.{Role}
 use Rattle.page_map.specs.declared.PageEntry.{PageEntry}
 use Rattle.page_map.specs.Entries.{entry_from}
-use Rattle.address_space.specs.Spaces.{Slot}
+use Rattle.address_space.specs.Spaces.{Slot, at_page}
 use Rattle.address_space.specs.Image.{Image, directory_at, page_word, image_from}
 use Rattle.address_space.specs.View.{directory_of, entries_in}
 use Rattle.address_space.specs.Sound.{IsSound}
-use Rattle.address_space.specs.Stays.{way_of, Gone, FramesStay, none_goes, entry_frame, PlacesStay}
+use Rattle.address_space.specs.Stays.{way_of, Gone, Spares, FramesStay, none_goes, entry_frame, PlacesStay}
 use Rattle.address_space.proofs.standing.Standing.{read_entry, same_table}
 
 -- the frame of a slot's word is that of its entry
@@ -67,7 +67,7 @@ pub frames_stay_by : (gone : Gone) (directories directories' : List (Option ℕ)
     → PlacesStay gone (directory_of directories) (frame_bytes bytes) (directory_of directories') (frame_bytes bytes')
     → FramesStay gone (image_from directories bytes roles) (image_from directories' bytes' roles')
 frames_stay_by gone directories directories' bytes bytes' roles roles' sound sound' dirs stay = record {
-  directories = dirs;
+  directories = λ q d spared live. dirs (at_page q spared.page) d spared.frame spared.stays live;
   tables = λ slot d f t stays way is.
       let was = way_parts (image_from directories bytes roles) slot d f way in
       same_table directories' bytes' roles' sound' slot.pid (slot_number slot.page)
@@ -95,7 +95,7 @@ frames_stay gone directories bytes bytes' roles roles' sound sound' stay =
 -- nothing changed
 pub stays_same : {gone : Gone} {a : Image} → FramesStay gone a a
 stays_same = record {
-  directories = λ q d f stays live. live;
+  directories = λ q d spared live. live;
   tables = λ q d f t stays way is. is;
   ways = λ q d f stays way. way;
 }
@@ -103,10 +103,18 @@ stays_same = record {
 -- one change after another
 pub stays_then : {gone : Gone} {a b c : Image} → FramesStay gone a b → FramesStay gone b c → FramesStay gone a c
 stays_then first second = record {
-  directories = λ q d f stays live. second.directories q d f stays (first.directories q d f stays live);
+  directories = λ q d spared live. second.directories q d spared (first.directories q d spared live);
   tables = λ q d f t stays way is.
       second.tables q d f t stays (first.ways q d f stays way) (first.tables q d f t stays way is);
   ways = λ q d f stays way. second.ways q d f stays (first.ways q d f stays way);
+}
+
+spared_more : {gone gone' : Gone} {p : ℕ}
+    → ((slot : Slot) (frame : ℕ) → gone slot frame ≡ false → gone' slot frame ≡ false) → Spares gone p → Spares gone' p
+spared_more {p = p} fewer spared = record {
+  page = spared.page;
+  frame = spared.frame;
+  stays = fewer (at_page p spared.page) spared.frame spared.stays;
 }
 
 -- where fewer go
@@ -114,7 +122,7 @@ pub stays_more : {gone gone' : Gone} {a b : Image}
     → ((slot : Slot) (frame : ℕ) → gone slot frame ≡ false → gone' slot frame ≡ false)
     → FramesStay gone' a b → FramesStay gone a b
 stays_more fewer stay = record {
-  directories = λ q d f stays live. stay.directories q d f (fewer q f stays) live;
+  directories = λ q d spared live. stay.directories q d (spared_more fewer spared) live;
   tables = λ q d f t stays way is. stay.tables q d f t (fewer q f stays) way is;
   ways = λ q d f stays way. stay.ways q d f (fewer q f stays) way;
 }

@@ -35,7 +35,7 @@ use Rattle.address_space.proofs.entries.Readings.{mapped_read}
 use Rattle.address_space.proofs.entries.UserSlots.{in_user_slots}
 use Rattle.address_space.proofs.frames.FrameSteps.{loose-tables, loose-entries, tables-loose, tables-role, use_loose}
 use Rattle.address_space.proofs.frames.PageSteps.{same_bytes, pages-fresh, pages-lazy, lazy-more, lazy-real, no_free, no_table, unused}
-use Rattle.address_space.proofs.steps.Steps.{inside, live_small, none_before, table_by_word, role_own, role_other, free_loose, page_loose, holds_inside, MapKept, map_kept}
+use Rattle.address_space.proofs.steps.Steps.{inside, live_small, none_before, table_by_word, role_own, role_other, free_loose, page_loose, holds_inside, MapStays, map_kept}
 use Rattle.address_space.proofs.steps.Stores.{get_user, entry_rules}
 use Rattle.address_space.proofs.steps.Departures.{no_cell_outside, no_cell_unmapped}
 use Rattle.address_space.proofs.steps.Openings.{empty_cost}
@@ -232,7 +232,7 @@ real_copied directories bytes one two roles roles' from source p d page t f e so
 pub record FrameCopied (directories : List (Option ℕ)) (bytes one : List ℕ) (d f g : ℕ) : Type 0 where
   pub whole : length (frame_bytes bytes g) ≡ 4096
   pub is : frame_bytes one ≡ with_frame (frame_bytes bytes) f (frame_bytes bytes g)
-  pub kept : MapKept one bytes d
+  pub kept : MapStays one bytes d
 
 pub frame_copied : (directories : List (Option ℕ)) (bytes one : List ℕ) (roles : List Role) (from source p d page f : ℕ) (e : PageEntry) → IsSound directories bytes roles
     → directory_of directories from ≡ Some source → directory_of directories p ≡ Some d → 0x40000 ≤ page → page < 0xf0000 → entry_at (frame_bytes bytes) source page ≡ Some e → slice_get roles f ≡ Some Free

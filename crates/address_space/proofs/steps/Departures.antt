@@ -36,7 +36,7 @@ use borrow.Author.Tests.{eqb-true, eq-eqb}
 use Rattle.address_space.specs.Stays.{FramesStay, none_goes, of_page}
 use Rattle.address_space.specs.Image.{image_of}
 use Rattle.address_space.specs.declared.Spaces.TheInside.{Inside as Inner}
-use Rattle.address_space.proofs.Insides.{IsKeptInside, spaces_at, view_of}
+use Rattle.address_space.proofs.Insides.{AreCountedInside, spaces_at, view_of}
 use Rattle.address_space.proofs.standing.FramesStand.{stays_same, stays_then, stays_more}
 use Rattle.address_space.proofs.entries.Staying.{stay_same, places_by}
 
@@ -160,7 +160,7 @@ no_cell_unmapped directories bytes p d page live none =
 
 -- ---- The pages of a process leave, from the lowest on
 
-pub dropped_at_first : (inner : Inner) (p : ℕ) → IsKeptInside inner → DroppedBelow (view_of inner) p 0x40000 (view_of inner)
+pub dropped_at_first : (inner : Inner) (p : ℕ) → AreCountedInside inner → DroppedBelow (view_of inner) p 0x40000 (view_of inner)
 dropped_at_first inner p before = record {
   directories = refl;
   spaces = refl;
@@ -213,7 +213,7 @@ pub record PagesDropped (v : View) (p : ℕ) (v' : View) : Type 0 where
   pub spaces : v'.spaces ≡ without v.spaces (is_of p)
   pub empty : IsEmptySpace v'.spaces p
 
-pub dropped_at_last : (v : View) (inner : Inner) (p : ℕ) → IsKeptInside inner → DroppedBelow v p 0xf0000 (view_of inner) → PagesDropped v p (view_of inner)
+pub dropped_at_last : (v : View) (inner : Inner) (p : ℕ) → AreCountedInside inner → DroppedBelow v p 0xf0000 (view_of inner) → PagesDropped v p (view_of inner)
 dropped_at_last v inner p before so_far =
     let empty : IsEmptySpace (spaces_at inner) p = λ page. elim (cases_lt page 0xf0000) [
       | inl inside ↦ so_far.below page inside

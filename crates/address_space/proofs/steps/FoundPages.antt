@@ -20,13 +20,13 @@ use Rattle.address_space.specs.Cells.{cell_of}
 use Rattle.address_space.specs.View.{Directories, directory_of, entry_in, entries_in, spaces_in}
 use Rattle.address_space.specs.Changes.{PageFilled, EntryPut, Touched, takes_stores_through}
 use Rattle.address_space.specs.Image.{is_lazy_at, takes_stores, image_from}
-use Rattle.address_space.specs.Counts.{IsKept}
+use Rattle.address_space.specs.Counts.{AreCountedSpaces}
 use Rattle.address_space.specs.Sound.{IsSound, Names}
 use Rattle.address_space.proofs.costs.AccessCosts.{kept, key-stored}
 use Rattle.address_space.proofs.standing.Standing.{stores_read, lazy_read, same_lazy, lazy_kept, real_kept}
 use Rattle.address_space.proofs.steps.Touches.{kept_touched}
 use Rattle.address_space.specs.Finds.{lazy_found, found_by, found_in, LiesIn, EntryIs, BytesStored, FrameGiven}
-use Rattle.address_space.proofs.Insides.{IsKeptInside, spaces_at, image_at, table_at, found_at}
+use Rattle.address_space.proofs.Insides.{AreCountedInside, spaces_at, image_at, table_at, found_at}
 use Rattle.address_space.proofs.entries.Readings.{mapped_read, get-spaces_in, group_counted}
 use Rattle.address_space.proofs.frames.FewHolders.{count_few}
 use Rattle.address_space.proofs.costs.CostSteps.{need-one, need-two}
@@ -100,7 +100,7 @@ is_some-option_map None = refl
 is_some-option_map (Some f) = refl
 
 -- a page is found just where it is mapped
-pub found_mapped : (inner : Inner) (p page : ℕ) → IsKeptInside inner → IsUserPage page
+pub found_mapped : (inner : Inner) (p page : ℕ) → AreCountedInside inner → IsUserPage page
     → is_some (found_at inner p page) ≡ is_some (map.get (spaces_at inner) (at_page p page))
 found_mapped inner p page before user =
     sym (is_some-option_map (found_at inner p page)) ∙ ap is_some (found_entry (directory_of inner.directories) (frame_bytes inner.memory) p page) ∙ by (directory_of inner.directories p) refl
@@ -110,14 +110,14 @@ found_mapped inner p page before user =
     by (Some d) is = ap (λ x. is_some (option_and_then (λ d. entry_at (frame_bytes inner.memory) d page) x)) is ∙ sym (mapped_read inner.directories inner.memory p d page is (live_small inner.directories p d before.spaces.sound.pids is) user.0 user.1)
 
 -- whether what was found takes stores
-pub found_takes : (inner : Inner) (p page : ℕ) → IsKeptInside inner → IsUserPage page
+pub found_takes : (inner : Inner) (p page : ℕ) → AreCountedInside inner → IsUserPage page
     → takes_stores_through (option_map (λ (f : Found). f.entry) (found_at inner p page)) ≡ takes_stores (spaces_at inner) (image_at inner) (at_page p page)
 found_takes inner p page before user = ap takes_stores_through (found_entry (directory_of inner.directories) (frame_bytes inner.memory) p page) ∙ stores_read inner.directories inner.memory inner.frames p page before.spaces.sound user.0 user.1
 
 -- what an access left
 pub record Left (inner : Inner) (S : Spaces) (bytes' : List ℕ) : Type 0 where
   pub spaces : spaces_in inner.directories bytes' ≡ S
-  pub kept : IsKept inner.directories bytes' inner.frames inner.counts.items
+  pub kept : AreCountedSpaces inner.directories bytes' inner.frames inner.counts.items
   -- the same slots are lazy
   pub lazy : (q : Slot) → is_lazy_at (image_from inner.directories bytes' inner.frames) q ≡ is_lazy_at (image_at inner) q
   -- and each names its frame
@@ -127,7 +127,7 @@ pub record Left (inner : Inner) (S : Spaces) (bytes' : List ℕ) : Type 0 where
 -- ---- What stands at a page
 
 -- nothing is lazy where nothing is found
-pub absent_lazy : (inner : Inner) (p page : ℕ) → IsKeptInside inner → found_at inner p page ≡ None → is_lazy_at (image_at inner) (at_page p page) ≡ false
+pub absent_lazy : (inner : Inner) (p page : ℕ) → AreCountedInside inner → found_at inner p page ≡ None → is_lazy_at (image_at inner) (at_page p page) ≡ false
 absent_lazy inner p page before is =
     same_lazy inner.directories inner.memory inner.frames before.spaces.sound (at_page p page)
     ∙ ap is_lazy_entry (sym (found_entry (directory_of inner.directories) (frame_bytes inner.memory) p page) ∙ ap (option_map (λ (f : Found). f.entry)) is)
@@ -144,7 +144,7 @@ none_of None h = refl
 none_of (Some c) h = cc
 
 -- nothing is mapped where nothing is found
-pub absent_cell : (inner : Inner) (p page : ℕ) → IsKeptInside inner → IsUserPage page → found_at inner p page ≡ None → map.get (spaces_at inner) (at_page p page) ≡ None
+pub absent_cell : (inner : Inner) (p page : ℕ) → AreCountedInside inner → IsUserPage page → found_at inner p page ≡ None → map.get (spaces_at inner) (at_page p page) ≡ None
 absent_cell inner p page before user is = none_of (map.get (spaces_at inner) (at_page p page)) (sym (found_mapped inner p page before user) ∙ ap is_some is)
 
 -- what one more page costs without a table of its region, and beside one
@@ -152,7 +152,7 @@ pub need_without : (inner : Inner) (p page : ℕ) → table_at inner p page ≡ 
 unfolding spaces_in
 need_without inner p page is = need-two (directory_of inner.directories) (frame_bytes inner.memory) p page is
 
-pub need_with : (inner : Inner) (p page t : ℕ) → IsKeptInside inner → IsUserPage page → table_at inner p page ≡ Some t → need (spaces_at inner) p page ≡ 1
+pub need_with : (inner : Inner) (p page t : ℕ) → AreCountedInside inner → IsUserPage page → table_at inner p page ≡ Some t → need (spaces_at inner) p page ≡ 1
 unfolding spaces_in
 need_with inner p page t before user is = need-one (directory_of inner.directories) (frame_bytes inner.memory) p page t (by (directory_of inner.directories p) refl is) user.0 user.1 is (before.spaces.in_use p (slot_number page))
   where
@@ -182,7 +182,7 @@ found_written directories bytes two roles p d page t e sound live there small is
 
 -- ---- A page that was found, whose invariant holds
 
-module _ (inner : Inner) (p page : ℕ) (f : Found) (before : IsKeptInside inner) (user : IsUserPage page) (is : found_at inner p page ≡ Some f) where
+module _ (inner : Inner) (p page : ℕ) (f : Found) (before : AreCountedInside inner) (user : IsUserPage page) (is : found_at inner p page ≡ Some f) where
   there : Known inner.directories inner.memory p page f
   there = known inner.directories inner.memory p page f is
 
@@ -326,7 +326,7 @@ module _ (inner : Inner) (p page : ℕ) (f : Found) (before : IsKeptInside inner
       ∙ sym (ap (λ t. with_entry (frame_bytes g.between) t page (record f.entry { frame = g.frame; lazy = false })) (table_by_word (dir_word (frame_bytes g.between) there.directory (slot_number page)) f.table table)) in
       page_filled inner.directories inner.memory g.between two inner.frames roles' p there.directory page g.frame f.entry before.spaces there.live user.0 user.1 there.here lazy g.taken is g.between_long written g.long
 
-  pub filled_kept : (e' : PageEntry) (two : List ℕ) (roles' : List Role) → FrameGiven inner.memory inner.frames f e' two roles' → PageFilled inner.directories p page inner.memory inner.frames two roles' → IsKept inner.directories two roles' inner.counts.items
+  pub filled_kept : (e' : PageEntry) (two : List ℕ) (roles' : List Role) → FrameGiven inner.memory inner.frames f e' two roles' → PageFilled inner.directories p page inner.memory inner.frames two roles' → AreCountedSpaces inner.directories two roles' inner.counts.items
   filled_kept e' two roles' g filled = record {
     spaces = filled.after;
     counted = counts_kept (spaces_at inner) (spaces_in inner.directories two) inner.frames roles' filled.spaces (alike_taken (spaces_at inner) inner.frames roles' g.frame (Page 1) g.taken refl) inner.counts.items before.counted;
@@ -359,7 +359,7 @@ module _ (inner : Inner) (p page : ℕ) (f : Found) (before : IsKeptInside inner
   room_found lazy = room_to_fill inner.directories inner.memory inner.frames p there.directory page f.entry before.spaces there.live user.0 user.1 there.here lazy
 
 -- whether what was found is lazy
-pub found_lazy : (inner : Inner) (p page : ℕ) → IsKeptInside inner → IsUserPage page → (x : Option Found) → x ≡ found_at inner p page → lazy_found x ≡ is_lazy_at (image_at inner) (at_page p page)
+pub found_lazy : (inner : Inner) (p page : ℕ) → AreCountedInside inner → IsUserPage page → (x : Option Found) → x ≡ found_at inner p page → lazy_found x ≡ is_lazy_at (image_at inner) (at_page p page)
 found_lazy inner p page before user None is = sym (absent_lazy inner p page before (sym is))
 found_lazy inner p page before user (Some f) is = sym (found_real inner p page f before user (sym is))
 

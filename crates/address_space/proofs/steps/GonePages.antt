@@ -12,9 +12,9 @@ use Rattle.page_map.specs.Pages.{count_range}
 use Rattle.address_space.specs.declared.place.Found.{Found}
 use Rattle.address_space.specs.declared.Spaces.TheInside.{Inside as Inner}
 use Rattle.address_space.specs.View.{directory_of, spaces_in}
-use Rattle.address_space.specs.Counts.{IsCounted, IsKept}
+use Rattle.address_space.specs.Counts.{IsCounted, AreCountedSpaces}
 use Rattle.address_space.specs.Changes.{EntryLeft, TableFreed, SlotRemoved}
-use Rattle.address_space.proofs.Insides.{IsKeptInside, found_at}
+use Rattle.address_space.proofs.Insides.{AreCountedInside, found_at}
 use Rattle.address_space.proofs.steps.CountSteps.{one_less, counted_roles, alike_left, counted_freed, table_freed, count_there, count_positive, count_by_entries, page_uncounted}
 use Rattle.address_space.proofs.steps.FoundPages.{found_known, found_there, found_below}
 use Rattle.address_space.proofs.steps.Leaves.{slot_removed, freed_table}
@@ -24,7 +24,7 @@ record AtHome (bytes : List ℕ) (d page : ℕ) (f : Found) : Type 0 where
   table : table_of (frame_bytes bytes) d (slot_number page) ≡ Some f.table
   here : entry_at (frame_bytes bytes) d page ≡ Some f.entry
 
-module _ (inner : Inner) (p d page : ℕ) (f : Found) (before : IsKeptInside inner) (user : IsUserPage page) (is : found_at inner p page ≡ Some f) (live : directory_of inner.directories p ≡ Some d) where
+module _ (inner : Inner) (p d page : ℕ) (f : Found) (before : AreCountedInside inner) (user : IsUserPage page) (is : found_at inner p page ≡ Some f) (live : directory_of inner.directories p ≡ Some d) where
   at_home : AtHome inner.memory d page f
   at_home =
       let known = found_known inner p page f before user is in
@@ -60,7 +60,7 @@ module _ (inner : Inner) (p d page : ℕ) (f : Found) (before : IsKeptInside inn
       pub gone_page : SlotRemoved inner.directories p page inner.memory inner.frames two last
       gone_page = slot_removed inner.directories inner.memory two inner.frames one last p d page f.entry freed before.spaces live user.0 user.1 home_entry cleared long left table
 
-      pub gone_kept : (n : ℕ) (counts' : List ℕ) → slice_get inner.counts.items f.table ≡ Some n → counts' ≡ slice_set inner.counts.items f.table (n - 1) → (is_some freed ≡ true → n ≡ 1) → IsKept inner.directories two last counts'
+      pub gone_kept : (n : ℕ) (counts' : List ℕ) → slice_get inner.counts.items f.table ≡ Some n → counts' ≡ slice_set inner.counts.items f.table (n - 1) → (is_some freed ≡ true → n ≡ 1) → AreCountedSpaces inner.directories two last counts'
       gone_kept n counts' counts now end =
           let S = spaces_in inner.directories inner.memory in
           let after = spaces_in inner.directories two in

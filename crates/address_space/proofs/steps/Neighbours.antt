@@ -18,7 +18,7 @@ use Rattle.address_space.specs.Changes.{PageFilled}
 use Rattle.address_space.specs.Finds.{EntryIs, BytesStored}
 use Rattle.address_space.specs.Places.{place_by, place_there, place_in}
 use Rattle.address_space.specs.Sound.{IsSound}
-use Rattle.address_space.proofs.Insides.{IsKeptInside, found_at}
+use Rattle.address_space.proofs.Insides.{AreCountedInside, found_at}
 use Rattle.address_space.proofs.entries.EntrySteps.{entry_by_table, tables_kept, entry_other}
 use Rattle.address_space.proofs.steps.FoundPages.{found_known, found_lies}
 use Rattle.address_space.proofs.steps.Stores.{frame_written, length-write_at, stored_place}
@@ -55,7 +55,7 @@ entry_beside directories one two roles p d page f e sound live table same small 
     (ap (λ n. table_in D n p (slot_number other)) is ∙ tables_kept D m (slice_get roles) sound.tables p d page f.table (entry_word e) live table lt p (slot_number other))
     (ap (λ n. entry_in D n (at_page p other)) is ∙ entry_other D m (slice_get roles) sound.tables p d page f.table (entry_word e) live table lt (at_page p other) (λ k. differ (ap (λ (s : Slot). s.page) k)))
 
-module _ (inner : Inner) (p page : ℕ) (f : Found) (before : IsKeptInside inner) (user : IsUserPage page) (is : found_at inner p page ≡ Some f) where
+module _ (inner : Inner) (p page : ℕ) (f : Found) (before : AreCountedInside inner) (user : IsUserPage page) (is : found_at inner p page ≡ Some f) where
   -- a load
   pub loaded_beside : (two : List ℕ) → EntryIs inner.memory f (record f.entry { accessed = true }) two
       → (other : ℕ) → other ≢ page → place_in inner.directories two p other ≡ place_in inner.directories inner.memory p other

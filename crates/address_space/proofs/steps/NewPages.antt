@@ -14,7 +14,7 @@ use Rattle.page_map.specs.Entries.{Frames, dir_word, table_of, entry_at, with_en
 use Rattle.address_space.specs.Spaces.{Slot, at_page, fresh, cell_or_fresh, copy_of}
 use Rattle.address_space.specs.View.{directory_of, table_in, entries_in, spaces_in}
 use Rattle.address_space.specs.Sound.{IsSound, IsSpaces, Names, Inside}
-use Rattle.address_space.specs.Counts.{IsCounted, IsKept, KeepsCounts, AlwaysMapsAlike, MapsOneMore}
+use Rattle.address_space.specs.Counts.{IsCounted, AreCountedSpaces, KeepsCounts, AlwaysMapsAlike, MapsOneMore}
 use Rattle.address_space.specs.Changes.{table_need, TableGiven, SlotAdded, PageAdded, SlotJoined, SlotCopied, PageCopied}
 use Rattle.address_space.specs.Finds.{TableReady, CountedUp, EntryCopied}
 use Rattle.address_space.proofs.costs.Costed.{Room, room_for_table, room_for_page, mapped}
@@ -200,7 +200,7 @@ module _ (directories : List (Option ℕ)) (bytes : List ℕ) (roles : List Role
 
       -- the type's invariant once the page has its entry, and is counted
       pub added_kept : (two counts2 : List ℕ) (roles2 : List Role) → Room directories (spaces_in directories bytes) roles p page → SlotAdded directories p page one roles1 two roles2
-          → MapsOneMore (spaces_in directories one) (at_page p page) (spaces_in directories two) → AlwaysMapsAlike roles1 roles2 → CountedUp counts t counts2 → IsKept directories two roles2 counts2
+          → MapsOneMore (spaces_in directories one) (at_page p page) (spaces_in directories two) → AlwaysMapsAlike roles1 roles2 → CountedUp counts t counts2 → AreCountedSpaces directories two roles2 counts2
       added_kept two counts2 roles2 room added more alike up =
           let S = spaces_in directories one in
           let n = region_pages S p (slot_number page) in

@@ -31,7 +31,7 @@ use Rattle.address_space.proofs.costs.Costs.{contains-pages_of}
 use Rattle.address_space.proofs.costs.CostSteps.{sum_one}
 use Rattle.address_space.proofs.costs.Costed.{free_where_light}
 use Rattle.address_space.proofs.entries.EntrySteps.{Loose, get-entries_in, entry_by_table}
-use Rattle.address_space.proofs.frames.FrameSteps.{loose-tables, loose-table, loose-entries, tables-loose}
+use Rattle.address_space.proofs.frames.FrameSteps.{loose-tables, loose-table, loose-entry, loose-entries, tables-loose}
 use Rattle.address_space.proofs.frames.PageSteps.{pages-role, same_bytes, no_free}
 use Rattle.address_space.proofs.entries.Refinement.{get-spaces_of}
 use Rattle.address_space.proofs.steps.Steps.{free_loose, live_small, role_own, role_other}
@@ -197,6 +197,9 @@ space_added directories bytes one roles roles' p f s few none room taken is long
           (λ q r t found. ap (λ x. table_in D' x q r) is
           ∙ same_tables D D' m1 R R' Ta p f none free blank own others role kept q r
           ∙ loose-tables D m R T f (replicate 4096 0) loose q r ∙ found);
+      entries = λ q. ap (λ x. entry_in D' x q) is
+          ∙ same_entry D D' m1 R R' Ta p f none free blank own others role kept q
+          ∙ loose-entry D m R T f (replicate 4096 0) loose q;
       length = same_length;
     }
 

@@ -15,7 +15,7 @@ use Rattle.address_space.specs.Spaces.{need, at_page}
 use Rattle.address_space.specs.View.{directory_of, table_in}
 use Rattle.address_space.specs.Finds.{found_by, found_in, entry_found}
 use Rattle.address_space.specs.Places.{place_there, place_by, place_in, found_of, table_of_place, need_of, entry_flags, cell_flags, PlacesTell}
-use Rattle.address_space.proofs.Insides.{IsKeptInside, spaces_at, image_at, table_at, found_at}
+use Rattle.address_space.proofs.Insides.{AreCountedInside, spaces_at, image_at, table_at, found_at}
 use Rattle.address_space.proofs.steps.FoundPages.{absent_cell, need_without, need_with, found_mapped, found_takes, found_lazy, found_get}
 
 there_found : (t : ℕ) (x : Option Found) → found_of (place_there t x) ≡ x
@@ -37,7 +37,7 @@ there_need : (t : ℕ) (x : Option Found) → need_of (place_there t x) ≡ 1
 there_need t None = refl
 there_need t (Some f) = refl
 
-place_need : (inner : Inner) (p page : ℕ) → IsKeptInside inner → IsUserPage page → need_of (place_in inner.directories inner.memory p page) ≡ need (spaces_at inner) p page
+place_need : (inner : Inner) (p page : ℕ) → AreCountedInside inner → IsUserPage page → need_of (place_in inner.directories inner.memory p page) ≡ need (spaces_at inner) p page
 place_need inner p page before user = by (table_at inner p page) refl
   where
     m : Frames
@@ -47,12 +47,12 @@ place_need inner p page before user = by (table_at inner p page) refl
     by None is = sym (need_without inner p page is)
     by (Some t) is = there_need t (found_by m page t) ∙ sym (need_with inner p page t before user is)
 
-place_flags : (inner : Inner) (p page : ℕ) → IsKeptInside inner → IsUserPage page → (x : Option Found) → found_at inner p page ≡ x
+place_flags : (inner : Inner) (p page : ℕ) → AreCountedInside inner → IsUserPage page → (x : Option Found) → found_at inner p page ≡ x
     → option_map entry_flags (entry_found x) ≡ option_map cell_flags (map.get (spaces_at inner) (at_page p page))
 place_flags inner p page before user None is = sym (ap (option_map cell_flags) (absent_cell inner p page before user is))
 place_flags inner p page before user (Some f) is = sym (ap (option_map cell_flags) (found_get inner p page f before user is))
 
-pub places_tell : (inner : Inner) → IsKeptInside inner → PlacesTell (image_at inner) (spaces_at inner)
+pub places_tell : (inner : Inner) → AreCountedInside inner → PlacesTell (image_at inner) (spaces_at inner)
 places_tell inner before = record {
   mapped = λ p page user. ap is_some (place_found inner p page) ∙ found_mapped inner p page before user;
   flags = λ p page user. ap (λ x. option_map entry_flags (entry_found x)) (place_found inner p page) ∙ place_flags inner p page before user (found_at inner p page) refl;

@@ -206,12 +206,12 @@ page_added directories bytes two roles p d page t write sound live low high unma
     }
 
 -- a page map after a loose frame's bytes were changed
-pub record MapKept (one bytes : List ℕ) (d : ℕ) : Type 0 where
+pub record MapStays (one bytes : List ℕ) (d : ℕ) : Type 0 where
   pub map : IsPageMap one d
   pub tables : (s : ℕ) → table_of (frame_bytes one) d s ≡ table_of (frame_bytes bytes) d s
 
 pub map_kept : (directories : List (Option ℕ)) (bytes one : List ℕ) (roles : List Role) (p d f : ℕ) (new : List ℕ) → IsSound directories bytes roles → directory_of directories p ≡ Some d
-    → Loose (slice_get roles) f → length new ≡ 4096 → frame_bytes one ≡ with_frame (frame_bytes bytes) f new → length one ≡ length bytes → MapKept one bytes d
+    → Loose (slice_get roles) f → length new ≡ 4096 → frame_bytes one ≡ with_frame (frame_bytes bytes) f new → length one ≡ length bytes → MapStays one bytes d
 map_kept directories bytes one roles p d f new sound live loose long is same_length =
     let D : Directories = directory_of directories in
     let m : Frames = frame_bytes bytes in

@@ -6,12 +6,12 @@ use Rattle.alloc_table.specs.declared.Role.{Role}
 use Rattle.address_space.specs.Spaces.{Slot, Spaces}
 use Rattle.address_space.specs.View.{spaces_in}
 use Rattle.address_space.specs.Changes.{Touched}
-use Rattle.address_space.specs.Counts.{IsKept}
+use Rattle.address_space.specs.Counts.{AreCountedSpaces}
 use Rattle.address_space.proofs.steps.CountSteps.{counted_keys}
 
 -- where the same slots are mapped
-pub kept_touched : (directories : List (Option ℕ)) (bytes bytes' : List ℕ) (roles : List Role) (counts : List ℕ) (S' : Spaces) → IsKept directories bytes roles counts → Touched directories S' bytes roles bytes'
-    → ((q : Slot) → map.contains_key S' q ≡ map.contains_key (spaces_in directories bytes) q) → IsKept directories bytes' roles counts
+pub kept_touched : (directories : List (Option ℕ)) (bytes bytes' : List ℕ) (roles : List Role) (counts : List ℕ) (S' : Spaces) → AreCountedSpaces directories bytes roles counts → Touched directories S' bytes roles bytes'
+    → ((q : Slot) → map.contains_key S' q ≡ map.contains_key (spaces_in directories bytes) q) → AreCountedSpaces directories bytes' roles counts
 kept_touched directories bytes bytes' roles counts S' before touched keys =
     let cost = touched.cost in
     let weighs = before.spaces.weighs in

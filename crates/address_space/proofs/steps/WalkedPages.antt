@@ -21,8 +21,8 @@ use Rattle.page_words.specs.FiniteSet as set
 use Rattle.page_words.proofs.MapLemmas.{get-insert, get-map_values, same_or_not}
 use Rattle.address_space.specs.View.{directory_of}
 use Rattle.address_space.specs.Changes.{Touched}
-use Rattle.address_space.proofs.Insides.{IsKeptInside, spaces_at, image_at}
-use Rattle.address_space.specs.Counts.{IsKept}
+use Rattle.address_space.proofs.Insides.{AreCountedInside, spaces_at, image_at}
+use Rattle.address_space.specs.Counts.{AreCountedSpaces}
 use Rattle.address_space.proofs.costs.AccessCosts.{kept, key-stored}
 use Rattle.address_space.proofs.standing.Standing.{lazy_kept}
 use Rattle.address_space.proofs.steps.Touches.{kept_touched}
@@ -41,7 +41,7 @@ finds_second image p address size access page is h =
     sym (ap (λ (x : Option ℕ). unwrap_or (option_map (λ page. finds_at image p access (start_number page)) x) true) is) ∙ (and_parts (finds_at image p access address) _ h).1
 
 -- the words that lead to a page were marked
-pub marked_left : (inner : Inner) (p d address : ℕ) (two : List ℕ) → IsKeptInside inner → directory_of inner.directories p ≡ Some d → address < 2 ^ 32 → IsOk (walk_of inner.memory d address Read)
+pub marked_left : (inner : Inner) (p d address : ℕ) (two : List ℕ) → AreCountedInside inner → directory_of inner.directories p ≡ Some d → address < 2 ^ 32 → IsOk (walk_of inner.memory d address Read)
     → two ≡ marked inner.memory d address Read → Left inner (accessed (spaces_at inner) (slot_at p address)) two
 marked_left inner p d address two before live small ok is =
     let sound = before.spaces.sound in
@@ -61,7 +61,7 @@ marked_left inner p d address two before live small ok is =
 -- what is kept after a byte was stored where the walk leads
 pub record ByteLeft (inner : Inner) (p address v : ℕ) (two : List ℕ) : Type 0 where
   pub spaces : spaces_at (record inner { memory = two }) ≡ stored (spaces_at inner) (slot_at p address) (offset_number address) (v % 256 ∷ [])
-  pub kept : IsKept inner.directories two inner.frames inner.counts.items
+  pub kept : AreCountedSpaces inner.directories two inner.frames inner.counts.items
   pub stay : FramesStay none_goes (image_at inner)
       (image_from inner.directories two inner.frames)
   -- each walk finds a frame as before
@@ -82,7 +82,7 @@ finds_alike image image' p d kind at live same walks =
     ∙ ap is_ok (walks (omega (arith, small)))
     ∙ sym (ap (λ x. unwrap_or (option_map (λ directory. is_ok (walk_of image.bytes directory at kind)) x) false) live))
 
-left_by : (inner : Inner) (p d address v : ℕ) (two : List ℕ) → IsKeptInside inner → directory_of inner.directories p ≡ Some d
+left_by : (inner : Inner) (p d address v : ℕ) (two : List ℕ) → AreCountedInside inner → directory_of inner.directories p ≡ Some d
     → finds_at (image_at inner) p Write address ≡ true
     → ByteParts inner.directories inner.memory inner.frames p d address v two → ByteLeft inner p address v two
 left_by inner p d address v two before live test parts =
@@ -100,7 +100,7 @@ left_by inner p d address v two before live test parts =
       finds = λ kind at. finds_alike (image_at inner) (image_from inner.directories two inner.frames) p d kind at live refl (parts.walks at kind);
     }
 
-pub byte_left : (inner : Inner) (p d address v : ℕ) (two : List ℕ) → IsKeptInside inner → directory_of inner.directories p ≡ Some d → finds_at (image_at inner) p Write address ≡ true
+pub byte_left : (inner : Inner) (p d address v : ℕ) (two : List ℕ) → AreCountedInside inner → directory_of inner.directories p ≡ Some d → finds_at (image_at inner) p Write address ≡ true
     → ((other at : ℕ) (kind : Access) → walk_of (marked inner.memory d address Write) other at kind ≡ walk_of inner.memory other at kind)
     → two ≡ slice_set (marked inner.memory d address Write) (byte_place inner.memory d address) (v % 256) → length two ≡ length (marked inner.memory d address Write) → ByteLeft inner p address v two
 byte_left inner p d address v two before live test walks is long =
@@ -146,7 +146,7 @@ pub record BytePut (inner : Inner) (p d address v : ℕ) (two : List ℕ) : Type
   pub left : ByteLeft inner p address v two
   pub walks : (at : ℕ) (kind : Access) → at < 2 ^ 32 → walk_of two d at kind ≡ walk_of inner.memory d at kind
 
-pub byte_kept : (inner : Inner) (p d address v : ℕ) (two : List ℕ) → IsKeptInside inner → directory_of inner.directories p ≡ Some d
+pub byte_kept : (inner : Inner) (p d address v : ℕ) (two : List ℕ) → AreCountedInside inner → directory_of inner.directories p ≡ Some d
     → finds_at (image_at inner) p Write address ≡ true → is_marked (spaces_at inner) (slot_at p address) ≡ true
     → two ≡ slice_set inner.memory (byte_place inner.memory d address) (v % 256) → length two ≡ length inner.memory → BytePut inner p d address v two
 byte_kept inner p d address v two before live test flags is long =

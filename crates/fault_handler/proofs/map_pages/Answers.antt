@@ -1,18 +1,18 @@
-use Rattle.std.proofs.Common.{◌≤◌, arith, Bool, true, not, ap, sym, subst, ◌∙◌, Option, unwrap_or}
+use Rattle.std.proofs.Common.{◌≡◌, arith, Bool, true, false, not, [], ◌∷◌, ap, sym, subst, ◌∙◌, Option, unwrap_or}
 use Rattle.std.specs.Option.{option_map}
 use Rattle.page_words.specs.Addresses.{page_number}
 use Rattle.page_words.proofs.Accesses.{crosses}
-use Rattle.address_space.specs.Spaces.{at_page, page_need, with_page}
-use Rattle.process_table.specs.State.{State, is_mapped, room}
+use Rattle.address_space.specs.Spaces.{at_page, with_page}
+use Rattle.process_table.specs.State.{State, is_mapped, overdrawn}
 use Rattle.fault_handler.specs.Plans.{maps_page}
-use Rattle.fault_handler.proofs.Settled.{second_room, mapped_beside}
+use Rattle.fault_handler.proofs.Settled.{first_room, second_room, mapped_beside}
 use Rattle.fault_handler.proofs.map_pages.Goals as goal
 use Rattle.address_space.proofs.standing.FramesStand.{stays_then}
 
 pub map_behind-requires-clause-room : goal.map_behind-requires-clause-room
 map_behind-requires-clause-room c =
     let s : State = c.args.processes.now.state in
-    subst (λ (t : State). page_need t.spaces c.args.pid c.in-Some.behind ≤ room t c.args.pid)
+    subst (λ (t : State). overdrawn t c.args.pid (c.in-Some.behind ∷ []) ≡ false)
     (sym (c.map_by_step-mapped.ensures.state ∙ ap (λ n. record s { spaces = with_page s.spaces c.args.pid n })
     c.page_of-page.ensures.value))
     (second_room s c.args.pid c.args.address c.args.size c.in-Some.behind (sym c.second_page.ensures ∙ c.in-Some.is) c.requires.room)
@@ -30,3 +30,9 @@ map_behind-requires-clause-how c =
 
 pub returns-in-Some-clause-stay : goal.returns-in-Some-clause-stay
 returns-in-Some-clause-stay c = stays_then c.map_by_step-mapped.ensures.stay c.map_behind.ensures.stay
+
+pub map_by_step-mapped-requires-clause-room : goal.map_by_step-mapped-requires-clause-room
+map_by_step-mapped-requires-clause-room c =
+    let s : State = c.args.processes.now.state in
+    subst (λ n. overdrawn s c.args.pid (n ∷ []) ≡ false) (sym c.page_of-page.ensures.value)
+    (first_room s c.args.pid c.args.address c.args.size c.requires.room)

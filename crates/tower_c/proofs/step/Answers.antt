@@ -14,7 +14,7 @@ returns-in-None-clause-ends c =
     let s = standing c.stands.ensures.image c.stands.ensures.walks c.stands.ensures.ways c.stands.ensures.well_formed in
     let none : event_in c.args.event.now ≡ None = sym c.event_from.ensures ∙ c.in-None.is in
     let stays : FramesStay none_goes (memory_of v) (memory_of v) = record {
-      directories = λ q d f stays live. live;
+      directories = λ q d spared live. live;
       tables = λ q d f t stays way is. is;
       ways = λ q d f stays way. way;
     } in

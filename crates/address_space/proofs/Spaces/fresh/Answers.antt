@@ -2,9 +2,11 @@ use Rattle.std.proofs.Common.{◌≡◌, ◌<◌, ◌∙◌, ap, refl, sym, subs
 use Rattle.std.specs.Prelude.{slice_set}
 use Rattle.alloc_table.specs.declared.Role.TheVariants.{Free, Directory}
 use Rattle.address_space.specs.Changes.{SpaceAdded}
+use Rattle.page_map.specs.Entries.{is_lazy_entry}
 use Rattle.address_space.specs.Stays.{none_goes}
 use Rattle.address_space.specs.View.{directory_of, spaces_in}
 use Rattle.address_space.proofs.standing.FramesStand.{frames_stay_by}
+use Rattle.address_space.proofs.standing.Standing.{same_lazy}
 use Rattle.address_space.proofs.steps.CountSteps.{counts_kept, alike_taken}
 use Rattle.address_space.proofs.steps.Openings.{space_added, room_for_directory}
 use Rattle.address_space.proofs.steps.Steps.{inside, zeroed}
@@ -89,6 +91,19 @@ invariant_of-self c =
           added.spaces (alike_taken S c.self.inside.frames c.take-directory.new.frames c.take-directory.result (Directory c.args.pid) c.take-directory.ensures refl)
           c.self.inside.counts.items c.self.invariant.counted;
     }
+
+pub returns-clause-lazy : goal.returns-clause-lazy
+returns-clause-lazy c =
+    rw (← c.self.view_is)
+    (let at = inside c.self.inside.directories c.self.inside.memory c.self.inside.frames c.take-directory.result Free c.self.invariant.spaces.sound c.take-directory.ensures.was_free in
+    let added =
+    subst (λ k. SpaceAdded c.self.inside.directories c.args.pid c.self.inside.memory c.self.inside.frames (slice_set c.self.inside.directories k (Some c.take-directory.result)) c.zero_frame.new.self c.take-directory.new.frames) (sym c.number.ensures.value)
+    (space_added c.self.inside.directories c.self.inside.memory c.zero_frame.new.self c.self.inside.frames c.take-directory.new.frames c.args.pid c.take-directory.result
+    c.self.invariant.spaces (subst (λ k. k < 64) c.number.ensures.value c.number.ensures.bound) (rw (← c.self.view_is) at c.requires.none) (rw (← c.self.view_is) at c.requires.room) c.take-directory.ensures
+    (zeroed c.self.inside.memory c.zero_frame.new.self c.take-directory.result at c.zero_frame.ensures.bytes) c.zero_frame.ensures.length) in
+    λ slot. same_lazy (slice_set c.self.inside.directories c.number.result (Some c.take-directory.result)) c.zero_frame.new.self c.take-directory.new.frames added.after.sound slot
+    ∙ ap is_lazy_entry (added.entries slot)
+    ∙ sym (same_lazy c.self.inside.directories c.self.inside.memory c.self.inside.frames c.self.invariant.spaces.sound slot))
 
 pub returns-clause-stay : goal.returns-clause-stay
 returns-clause-stay c =

@@ -3,7 +3,7 @@ use Rattle.std.specs.List.{range_with_len}
 use Rattle.address_space.specs.Restored.{counted_at}
 use Rattle.alloc_table.specs.declared.Role.{Role}
 use Rattle.address_space.specs.Image.{StandsFor, image_from}
-use Rattle.address_space.specs.Counts.{IsKept}
+use Rattle.address_space.specs.Counts.{AreCountedSpaces}
 use Rattle.address_space.specs.View.{spaces_in}
 use Rattle.address_space.proofs.standing.Restored.{kept, stands, words_counted}
 use Rattle.address_space.proofs.Spaces.of_image.Goals as goal
@@ -14,8 +14,8 @@ of_roles-requires-clause-held c = λ frame count is. (c.requires.sound.counts fr
 pub invariant_of-result : goal.invariant_of-result
 invariant_of-result c =
     let pids : length c.args.directories ≡ 64 = c.have_places.ensures in
-    subst (λ (bytes : List ℕ). IsKept c.args.directories bytes c.in_ok-frames.frames c.in-Some.counts.items) (sym c.of_bytes-memory.ensures)
-    (subst (λ (roles : List Role). IsKept c.args.directories c.args.bytes.items roles c.in-Some.counts.items) (sym c.in_ok-frames.ensures.roles)
+    subst (λ (bytes : List ℕ). AreCountedSpaces c.args.directories bytes c.in_ok-frames.frames c.in-Some.counts.items) (sym c.of_bytes-memory.ensures)
+    (subst (λ (roles : List Role). AreCountedSpaces c.args.directories c.args.bytes.items roles c.in-Some.counts.items) (sym c.in_ok-frames.ensures.roles)
     (record {
       spaces = kept c.args.directories c.args.bytes.items c.args.roles.items pids c.requires.fewest c.requires.most c.requires.sound c.requires.room;
       counted = words_counted c.args.directories c.args.bytes.items c.args.roles.items pids c.requires.fewest c.requires.most c.requires.sound c.in-Some.counts.items (c.in-Some.ensures ∙ (λ i. map (counted_at (c.of_bytes-memory.ensures i) (c.as_slice.ensures.value i)) (range_with_len 0 (length (c.as_slice.ensures.value i)))));

@@ -1,4 +1,4 @@
-use Rattle.std.proofs.Common.{◌≡◌, ap, sym, subst, ◌∙◌, not, true, false, ◌&&◌}
+use Rattle.std.proofs.Common.{◌≡◌, [], ◌∷◌, ap, sym, subst, ◌∙◌, not, true, false, ◌&&◌}
 use Rattle.page_words.specs.Addresses.{page_number}
 use Rattle.address_space.specs.Spaces.{at_page}
 use Rattle.address_space.specs.Image.{is_lazy_at, takes_stores}
@@ -7,10 +7,10 @@ use Rattle.address_space.proofs.standing.FramesStand.{stays_then, stays_most}
 use Rattle.table_walk.specs.declared.Access.TheVariants.{Read, Write}
 use Rattle.process_table.specs.Calls.{access_value, after_access}
 use Rattle.process_table.specs.Image.{memory_of}
-use Rattle.process_table.specs.State.{State, is_mapped}
+use Rattle.process_table.specs.State.{State, is_mapped, overdrawn}
 use Rattle.fault_handler.specs.Plans.{goes_on, step_at}
 use Rattle.fault_handler.proofs.Filled.{fills_one}
-use Rattle.fault_handler.proofs.Settled.{ready, mapped_alone, mapped_right, mapped_value, mapped_after}
+use Rattle.fault_handler.proofs.Settled.{ready, first_room, mapped_alone, mapped_right, mapped_value, mapped_after}
 use Rattle.fault_handler.proofs.accesses.settle_in_page.Goals as goal
 
 pub load_at-requires-clause-mapped : goal.load_at-requires-clause-mapped
@@ -85,3 +85,11 @@ returns-in-Write-clause-stay c = rw c.in-Write.is
     (stays_then
     (fills_one c.args.pid c.args.address c.args.size c.page_of-page.result (memory_of c.map_by_step-mapped.new.processes) (memory_of c.fill_at-real.new.self) c.page_of-page.ensures.value c.fill_at-real.ensures.stay)
     (stays_most c.store_at.ensures.stay)))
+
+pub map_by_step-mapped-requires-clause-room : goal.map_by_step-mapped-requires-clause-room
+map_by_step-mapped-requires-clause-room c =
+    let v = c.args.processes.now in
+    let p = c.args.pid in
+    let goes = ready (step_at v p c.args.access) v.state p c.args.address c.args.size c.args.access (sym (ap goes_on c.requires.plan)) in
+    subst (λ n. overdrawn v.state p (n ∷ []) ≡ false) (sym c.page_of-page.ensures.value)
+    (first_room v.state p c.args.address c.args.size goes.room)

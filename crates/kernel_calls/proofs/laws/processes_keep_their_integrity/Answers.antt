@@ -1,5 +1,5 @@
 use Rattle.kernel_calls.proofs.Decided.{next-stays}
-use Rattle.kernel_calls.proofs.KeptSlots.{slots_are_kept}
+use Rattle.kernel_calls.proofs.RightfulChanges.{changes_are_rightful}
 use Rattle.kernel_calls.proofs.Runs.{kept-next}
 use Rattle.kernel_calls.proofs.Untouched.{integrity, nobody_takes_back}
 use Rattle.kernel_calls.proofs.laws.processes_keep_their_integrity.Goals as goal
@@ -11,7 +11,7 @@ pub returns-clause-refused : goal.returns-clause-refused
 returns-clause-refused c = next-stays
 
 pub returns-clause-slots : goal.returns-clause-slots
-returns-clause-slots c = slots_are_kept
+returns-clause-slots c = changes_are_rightful
 
 pub returns-clause-events : goal.returns-clause-events
 returns-clause-events c = integrity

@@ -5,6 +5,7 @@ use Rattle.process_table.specs.State.{child_of}
 use Rattle.kernel_calls.specs.Decisions.{child_told}
 use Rattle.kernel_calls.specs.Machine.{completes}
 use Rattle.kernel_calls.specs.declared.calls.Call.TheVariants as call
+use Rattle.kernel_calls.proofs.Lazies.{fork_leaves, was_made}
 use Rattle.kernel_calls.proofs.Tried.{child-told, state_is, stay_is, kept_is}
 use Rattle.kernel_calls.proofs.replies.reply_fork.Goals as goal
 
@@ -20,5 +21,6 @@ returns c =
       reply = c.child_told.ensures ∙ told;
       state = state_is child_told (λ a. refl) (λ k. refl) v w e (call.Fork c.args.quota) c.requires r told made.kept made.state;
       stay = stay_is child_told (λ a. refl) (λ k. refl) v w e (call.Fork c.args.quota) c.requires r told made.kept none_goes (λ slot f. refl) made.stay;
+      lazy = fork_leaves v w e c.args.quota c.child_told.result c.requires (λ copy page done. made.lazy copy page (was_made r copy (sym c.child_told.ensures ∙ done)));
       kept = λ stops. kept_is child_told (λ a. refl) (λ k. refl) v w e (call.Fork c.args.quota) c.requires r told made.kept (sym (ap completes c.child_told.ensures) ∙ stops);
     }

@@ -4,6 +4,7 @@ use Rattle.process_table.specs.Calls.{map_refusal}
 use Rattle.kernel_calls.specs.Decisions.{done_told}
 use Rattle.kernel_calls.specs.Machine.{completes}
 use Rattle.kernel_calls.specs.declared.calls.Call.TheVariants as call
+use Rattle.kernel_calls.proofs.Lazies.{map_leaves, was_done}
 use Rattle.kernel_calls.proofs.Tried.{done-told, state_is, stay_is, kept_is}
 use Rattle.kernel_calls.proofs.replies.reply_map.Goals as goal
 
@@ -19,5 +20,6 @@ returns c =
       reply = c.done_told.ensures ∙ told;
       state = state_is done_told (λ a. refl) (λ k. refl) v w e (call.Map c.args.page c.args.write) c.requires r told made.kept made.state;
       stay = stay_is done_told (λ a. refl) (λ k. refl) v w e (call.Map c.args.page c.args.write) c.requires r told made.kept none_goes (λ slot f. refl) made.stay;
+      lazy = map_leaves v w e c.args.page c.args.write c.done_told.result c.requires (λ done. made.lazy (was_done r (sym c.done_told.ensures ∙ done)));
       kept = λ stops. kept_is done_told (λ a. refl) (λ k. refl) v w e (call.Map c.args.page c.args.write) c.requires r told made.kept (sym (ap completes c.done_told.ensures) ∙ stops);
     }

@@ -2,7 +2,7 @@ use Rattle.std.proofs.Common.{◌+◌, Some, refl, sym, ap, ◌∙◌, arith}
 use Rattle.std.specs.Prelude.{slice_set}
 use Rattle.page_words.specs.FiniteMap as map
 use Rattle.quota_tree.specs.Containers.{room_of, used_of, with_used, charged_with}
-use Rattle.quota_tree.specs.Kept.{seen_as}
+use Rattle.quota_tree.specs.Invariant.{seen_as}
 use Rattle.quota_tree.proofs.Views.{is_some-live, room_of-container, used_of-container, within_places}
 use Rattle.quota_tree.proofs.Writes.{quotas-charged, seen_as-charged}
 use Rattle.quota_tree.proofs.Quotas.charge.Goals as goal

@@ -1,10 +1,11 @@
-use Rattle.std.proofs.Common.{◌≡◌, ◌≢◌, ℕ, ◌+◌, true, false, refl, Some, None, rules, sym, ap, subst, ◌∙◌}
+use Rattle.std.proofs.Common.{◌≡◌, ◌≢◌, ℕ, ◌+◌, true, false, [], ◌∷◌, arith, refl, Some, None, rules, sym, ap, subst, ◌∙◌}
 use Rattle.std.specs.Prelude.{IsOk, Ok, Err, is_some, if◌then◌else◌}
 use Rattle.process_table.specs.declared.causes.Cause.TheVariants.{Mapped, Quota}
 use Rattle.page_words.specs.Addresses.{IsUserPage}
 use Rattle.page_sharing.specs.Offers.{offer_key}
-use Rattle.process_table.specs.State.{is_live, is_mapped, has_no_room}
+use Rattle.process_table.specs.State.{is_live, is_mapped, overdrawn}
 use Rattle.process_table.proofs.Placed.{page_is_user}
+use Rattle.page_words.proofs.OptionLemmas.{no_value}
 use Rattle.page_words.specs.FiniteMap as map
 use Rattle.address_space.specs.Places.{place_in}
 use Rattle.address_space.specs.Spaces.{Slot, cost, need, joined, at_page}
@@ -18,6 +19,7 @@ use Rattle.process_table.specs.View.{View, IsProcesses, state_of}
 use Rattle.process_table.specs.WellFormed.{IsWellFormed}
 use Rattle.process_table.proofs.Charged.{charged-one}
 use Rattle.process_table.proofs.Keeping.{whole, keeps-accept}
+use Rattle.process_table.proofs.SpaceLaws.{new_fits}
 use Rattle.process_table.proofs.Refusals.{no_cause, may_accept, test_accept}
 use Rattle.process_table.proofs.SharingLaws.{giver_mapped}
 use Rattle.address_space.specs.Image.{image_of}
@@ -32,14 +34,14 @@ record Joins (s : State) (p from from_page page : ℕ) : Type 0 where
   user : IsUserPage from_page
   apart : at_page p page ≢ at_page from from_page
 
-joins : {w v : View} (p from from_page page : ℕ) → w ≡ v → IsWellFormed w.state → is_live v.state p ≡ true → IsUserPage page → is_mapped v.state (at_page p page) ≡ false → has_no_room v.state (at_page p page) ≡ false
+joins : {w v : View} (p from from_page page : ℕ) → w ≡ v → IsWellFormed w.state → is_live v.state p ≡ true → IsUserPage page → is_mapped v.state (at_page p page) ≡ false → overdrawn v.state p (page ∷ []) ≡ false
     → map.contains_key w.state.offers (offer_key from from_page p) ≡ true → Joins w.state p from from_page page
 joins {w} {v} p from from_page page is well live user unmapped room there =
     let s = w.state in
     let back = sym is in
     let live' = subst (λ (x : View). is_live x.state p ≡ true) back live in
     let gone = subst (λ (x : View). is_mapped x.state (at_page p page) ≡ false) back unmapped in
-    let roomy = subst (λ (x : View). has_no_room x.state (at_page p page) ≡ false) back room in
+    let roomy = subst (λ (x : View). overdrawn x.state p (page ∷ []) ≡ false) back room in
     let ok = subst IsOk (test_accept s p from from_page page live' (page_is_user page user) there)
     (subst IsOk (sym (λ i. if gone i then Err Mapped else if roomy i then Err Quota else Ok (cost s.spaces p + need s.spaces p page))) refl) in
     let none = (may_accept s p from from_page page (no_cause s p (accept_refusal s p from from_page page) _ ok).1).none in
@@ -90,3 +92,15 @@ invariant_of-self-2 c =
 pub returns-clause-stay : goal.returns-clause-stay
 returns-clause-stay c = subst (λ (v : View). FramesStay (of_lazy c.args.giver c.args.giver_page) (memory_of v)
     (image_of c.join_at.new.self)) c.self.view_is (stays_then c.fill_at-given.ensures.stay (stays_most c.join_at.ensures.stay))
+
+pub take_room-requires-clause-room : goal.take_room-requires-clause-room
+take_room-requires-clause-room c =
+    let p = c.args.pid in
+    let page = c.args.page in
+    let s : State = state_of c.self.inside.spaces c.self.inside.quotas c.self.inside.offers in
+    let back = sym c.self.view_is in
+    let live = subst (λ (x : View). is_live x.state p ≡ true) back c.requires.live in
+    let none = subst (λ (x : View). is_mapped x.state (at_page p page) ≡ false) back c.requires.unmapped in
+    let room = subst (λ (x : View). overdrawn x.state p (page ∷ []) ≡ false) back c.requires.room in
+    let fits = new_fits s p page (no_value (map.get s.spaces (at_page p page)) none) room in
+    omega (arith, fits, c.self.invariant.kept.charged p live, c.need_at-need.ensures.value)

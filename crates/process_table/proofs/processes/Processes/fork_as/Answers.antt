@@ -1,7 +1,7 @@
 use Rattle.std.proofs.Common.{◌≡◌, ◌≢◌, ◌≤◌, ◌<◌, ◌+◌, ℕ, Ok, refl, ap, sym, subst, ◌∙◌, is_some, length, arith}
 use Rattle.page_words.specs.FiniteMap as map
 use Rattle.page_words.proofs.OptionLemmas.{no_value}
-use Rattle.address_space.specs.Image.{image_of}
+use Rattle.address_space.specs.Image.{image_of, is_lazy_at}
 use Rattle.address_space.specs.Spaces.{cost, at_page, copied}
 use Rattle.address_space.specs.Stays.{FramesStay, none_goes}
 use Rattle.address_space.specs.View as frames
@@ -140,3 +140,7 @@ invariant_of-self c =
 pub returns-clause-stay : goal.returns-clause-stay
 returns-clause-stay c = subst (λ (v : View). FramesStay none_goes (memory_of v) (image_of c.copy_space.new.self))
     c.self.view_is (stays_then c.fresh.ensures.stay c.copy_space.ensures.stay)
+
+pub returns-clause-lazy : goal.returns-clause-lazy
+returns-clause-lazy c = λ page. c.copy_space.ensures.lazy page ∙ c.fresh.ensures.lazy (at_page c.args.pid page)
+    ∙ ap (λ (v : View). is_lazy_at (memory_of v) (at_page c.args.pid page)) c.self.view_is

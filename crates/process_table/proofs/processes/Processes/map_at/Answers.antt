@@ -1,4 +1,4 @@
-use Rattle.std.proofs.Common.{rules, refl, sym, subst, ap, ◌+◌, ◌∙◌}
+use Rattle.std.proofs.Common.{rules, arith, refl, sym, subst, ap, ◌+◌, ◌∙◌}
 use Rattle.std.specs.Prelude.{IsOk}
 use Rattle.address_space.specs.Spaces.{Slot, cost, fresh, at_page}
 use Rattle.address_space.proofs.costs.Costs.{cost-insert}
@@ -10,6 +10,7 @@ use Rattle.process_table.specs.Calls.{after_map, map_refusal}
 use Rattle.process_table.specs.View.{View, IsProcesses, state_of}
 use Rattle.process_table.proofs.Charged.{charged-one}
 use Rattle.process_table.proofs.Keeping.{whole, keeps-map}
+use Rattle.process_table.proofs.SpaceLaws.{new_fits}
 use Rattle.process_table.proofs.Refusals.{no_cause, may_map}
 use Rattle.address_space.specs.Image.{image_of}
 use Rattle.address_space.specs.Stays.{FramesStay, none_goes}
@@ -38,3 +39,17 @@ invariant_of-self c =
 pub returns-clause-stay : goal.returns-clause-stay
 returns-clause-stay c = subst (λ (v : View). FramesStay none_goes (memory_of v) (image_of c.map_at.new.self))
     c.self.view_is c.map_at.ensures.stay
+
+pub returns-clause-lazy : goal.returns-clause-lazy
+returns-clause-lazy c = c.map_at.ensures.lazy
+
+pub take_room-requires-clause-room : goal.take_room-requires-clause-room
+take_room-requires-clause-room c =
+    let p = c.args.pid in
+    let page = c.args.page in
+    let s : State = state_of c.self.inside.spaces c.self.inside.quotas c.self.inside.offers in
+    let ok : IsOk (map_answer s p page) = subst (λ (v : View). IsOk (map_answer v.state p page)) (sym c.self.view_is) c.requires.may in
+    let free = no_cause s p (map_refusal s p page) _ ok in
+    let may = may_map s p page free.1 in
+    let fits = new_fits s p page may.none may.room in
+    omega (arith, fits, c.self.invariant.kept.charged p free.0, c.need_at-need.ensures.value)

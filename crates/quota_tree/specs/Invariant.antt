@@ -1,4 +1,4 @@
--- What containers keep: how each is seen, and that what it says of its children is so.
+-- The invariant of containers: how each is seen, and that what it says of its children is so.
 use Rattle.std.specs.Prelude.{◌≡◌, ℕ, ◌+◌, ◌≤◌, true, List, Option, Some, None, slice_index_or, length}
 use Rattle.page_words.specs.FiniteMap as map
 use Rattle.quota_tree.specs.declared.Container.{Container}

@@ -1,4 +1,4 @@
--- What a kernel keeps of itself, one fact a line.
+-- The invariant of a kernel under its lock, and of one that has no name yet, one fact a line.
 use Rattle.std.specs.Prelude.{◌≡◌, ℕ, ◌<◌, ◌≤◌, Bool, true, List, [], length}
 use Rattle.logbook.specs.Pages.{Book}
 use Rattle.memory_report.specs.Histories.{Legal, state_after}

@@ -80,7 +80,7 @@ use Rattle.process_table.proofs.CellLaws.{get-inserted, get-inserted_other}
 use Rattle.process_table.proofs.Forks.{may_fork}
 use Rattle.process_table.proofs.Refusals.{may_accept, may_map}
 use Rattle.process_table.proofs.SharingLaws.{giver_mapped}
-use Rattle.kernel_calls.specs.Authority.{SlotsAreKept}
+use Rattle.kernel_calls.specs.Authority.{ChangesAreRightful}
 use Rattle.kernel_calls.specs.Machine.{answer, answer_of, after, next, completes}
 use Rattle.kernel_calls.specs.declared.calls.Call.{Call}
 use Rattle.kernel_calls.specs.declared.calls.Call.TheVariants as call
@@ -221,21 +221,21 @@ marks_all_stored S q addr (byte ∷ bytes) =
 -- ---- By call
 
 -- what an event leaves of the flags of a slot
-record FlagsKept (e : Event) (slot : Slot) (before after : Cell) : Type 0 where
+record FlagsChange (e : Event) (slot : Slot) (before after : Cell) : Type 0 where
   write : (after.write ≡ before.write) ⊎ ((slot.pid ≡ e.pid) × (e.call ≡ call.Protect slot.page after.write))
   marks : (IsTrue before.accessed → IsTrue after.accessed) × (IsTrue before.dirty → IsTrue after.dirty)
 
 abbrev Keeps : State → State → Event → Type 0
 Keeps s t e = (slot : Slot) (before after : Cell) → map.get s.spaces slot ≡ Some before
-    → map.get t.spaces slot ≡ Some after → FlagsKept e slot before after
+    → map.get t.spaces slot ≡ Some after → FlagsChange e slot before after
 
-marked_kept : (e : Event) (slot : Slot) (before after : Cell) → Marked before after → FlagsKept e slot before after
+marked_kept : (e : Event) (slot : Slot) (before after : Cell) → Marked before after → FlagsChange e slot before after
 marked_kept e slot before after m = record { write = inl m.write; marks = (m.accessed, m.dirty) }
 
 marks_keep : (s t : State) (e : Event) → Marks s.spaces t.spaces → Keeps s t e
 marks_keep s t e marks slot before after at_s at_t =
     let d = marks slot before at_s in
-    subst (λ (x : Cell). FlagsKept e slot before x) (same_Some d.0 after (sym d.1 ∙ at_t))
+    subst (λ (x : Cell). FlagsChange e slot before x) (same_Some d.0 after (sym d.1 ∙ at_t))
     (marked_kept e slot before d.0 d.2)
 
 without_keep : (s t : State) (e : Event) (gone : Slot → Bool) → t.spaces ≡ without s.spaces gone → Keeps s t e
@@ -244,15 +244,15 @@ without_keep s t e gone is slot before after at_s at_t =
     ∙ ap (λ x. cond (not (gone slot)) (option_map (left gone) x) None) at_s)
     ∙ sym (ap (λ (S : Spaces). map.get S slot) is) ∙ at_t)
   where
-    by : (b : Bool) → cond b (Some (left gone before)) None ≡ Some after → FlagsKept e slot before after
-    by true k = subst (λ (x : Cell). FlagsKept e slot before x) (same_Some (left gone before) after k)
+    by : (b : Bool) → cond b (Some (left gone before)) None ≡ Some after → FlagsChange e slot before after
+    by true k = subst (λ (x : Cell). FlagsChange e slot before x) (same_Some (left gone before) after k)
         (record { write = inl refl; marks = (λ h. h, λ h. h) })
     by false k = cc
 
 module _ (s : State) (e : Event) (w : IsWellFormed s) where
   all_keep : (t : State) → t.spaces ≡ s.spaces → Keeps s t e
   all_keep t is slot before after at_s at_t =
-      subst (λ (x : Cell). FlagsKept e slot before x)
+      subst (λ (x : Cell). FlagsChange e slot before x)
       (same_Some before after (sym at_s ∙ ap (λ (S : Spaces). map.get S slot) (sym is) ∙ at_t))
       (marked_kept e slot before before (unmarked before))
 
@@ -278,7 +278,7 @@ module _ (s : State) (e : Event) (w : IsWellFormed s) where
                 (subst (λ (x : Cell). IsTrue x.dirty → IsTrue c.dirty) was (λ h. h)),
           );
         })
-    | inr other ↦ subst (λ (x : Cell). FlagsKept e slot before x)
+    | inr other ↦ subst (λ (x : Cell). FlagsChange e slot before x)
         (same_Some before after_cell (sym (get-inserted_other s.spaces (at_page e.pid page)
         (record (cell_or_fresh s.spaces (at_page e.pid page)) { write = write }) slot other.0 ∙ at_s) ∙ at_t))
         (marked_kept e slot before before (unmarked before))
@@ -344,8 +344,8 @@ module _ (s : State) (e : Event) (w : IsWellFormed s) where
       by true h = subst (λ t. Keeps s t e) (sym (next-goes s e h)) (after_keeps e.call refl (caller_live s e h).1)
       by false h = all_keep (next s e) (ap (λ (t : State). t.spaces) (next-stays s e h))
 
-pub slots_are_kept : SlotsAreKept
-slots_are_kept s e slot before after w at_s at_t =
+pub changes_are_rightful : ChangesAreRightful
+changes_are_rightful s e slot before after w at_s at_t =
     let flags = next_keeps s e w slot before after at_s at_t in
     let rest = next_stays s e w slot (at_page (suc e.pid) 0) before after (inl (λ is. absurd (omega (arith, is)))) at_s
     at_t in

@@ -1,4 +1,4 @@
--- What a frame table keeps: its ledger's free frames are exactly those whose role is Free.
+-- The invariant of a frame table: its ledger's free frames are exactly those whose role is Free.
 use Rattle.std.specs.Prelude.{◌≡◌, List, length, map, Some, slice_get}
 use Rattle.page_words.specs.Marked.{marked_numbers}
 use Rattle.frame_ledger.specs.FreeFrames.{FreeFrames}

@@ -1,0 +1,24 @@
+use Rattle.std.proofs.Common.{◌≡◌, ◌∙◌, ◌+◌, refl, ap, not, Some, None, is_ok}
+use Rattle.std.specs.Prelude.{if◌then◌else◌}
+use Rattle.page_words.proofs.OptionLemmas.{no_value}
+use Rattle.page_words.specs.FiniteMap as map
+use Rattle.address_space.specs.Spaces.{at_page, cost, need}
+use Rattle.process_table.proofs.Placed.{page_is_user}
+use Rattle.process_table.proofs.Refusals.{map-charge}
+use Rattle.process_table.proofs.SpaceLaws.{new_fits}
+use Rattle.process_table.specs.Calls.{map_refusal}
+use Rattle.process_table.specs.State.{State, is_mapped}
+use Rattle.process_table.specs.declared.causes.Cause.TheVariants.{BadPage, Mapped, Quota}
+use Rattle.fault_handler.specs.Plans.{maps_page}
+use Rattle.fault_handler.proofs.Settled.{live_with_room}
+use Rattle.fault_handler.proofs.map_by_step.Goals as goal
+
+pub map_at-requires-clause-may : goal.map_at-requires-clause-may
+map_at-requires-clause-may c =
+    let s : State = c.args.processes.now.state in
+    let p = c.args.pid in
+    let page = c.args.page in
+    let none = c.requires.how ∙ ap (λ how. not (maps_page how)) c.in-MapZero.is in
+    let fits = new_fits s p page (no_value (map.get s.spaces (at_page p page)) none) c.requires.room in
+    let free : map_refusal s p page ≡ None = (λ i. if not (page_is_user page c.requires.user i) then Some BadPage else if none i then Some Mapped else if c.requires.room i then Some Quota else None) in
+    ap is_ok (map-charge s p page (cost s.spaces p + need s.spaces p page) (live_with_room s p page fits) free refl)

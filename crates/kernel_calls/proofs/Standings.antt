@@ -1,0 +1,15 @@
+-- The parts of how a process stands.
+use Rattle.std.proofs.Common.{ℕ, Bool}
+use Rattle.kernel_calls.specs.Authority.{Standing}
+
+abbrev pub live_in : Standing → Bool
+live_in x = x.live
+
+abbrev pub quota_in : Standing → ℕ
+quota_in x = x.quota
+
+abbrev pub given_in : Standing → ℕ
+given_in x = x.given
+
+abbrev pub children_in : Standing → ℕ
+children_in x = x.children
