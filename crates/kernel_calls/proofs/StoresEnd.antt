@@ -31,7 +31,7 @@ use Rattle.kernel_calls.proofs.Unmaps.{slot_test}
 -- where nothing changes
 pub marks_same : (ended : Ended) (v : View) → StandsFor (image_of v) v.state → EndsMarks ended v v
 marks_same ended v image = record {
-  translations = λ q d a f access live small spared walk. (live, walk);
+  translations = λ q d a f access small spared gives. gives;
   slots = λ slot spared there. there;
   flags = λ slot c d spared was is.
       let one : c ≡ d = same_Some c d (sym was ∙ is) in
@@ -45,7 +45,7 @@ marks_same ended v image = record {
 pub marks_of_page : (ended : Ended) (p page : ℕ) (v w : View) → ((slot : Slot) → is_slot p page slot ≡ false → is_ended ended slot ≡ false)
     → ((q : ℕ) → is_all_of ended q ≡ false) → EndsMarks ended v w → EndsMarks (end.Page p page) v w
 marks_of_page ended p page v w fewer none m = record {
-  translations = λ q d a f access live small spared walk. m.translations q d a f access live small (fewer (slot_at q a) spared) walk;
+  translations = λ q d a f access small spared gives. m.translations q d a f access small (fewer (slot_at q a) spared) gives;
   slots = λ slot spared there. m.slots slot (fewer slot spared) there;
   flags = λ slot c d spared was is. m.flags slot c d (fewer slot spared) was is;
   directories = λ q d some live. m.directories q d (none q) live;
@@ -55,9 +55,7 @@ marks_of_page ended p page v w fewer none m = record {
 
 pub marks_then : (ended : Ended) (v u w : View) → EndsMarks ended v u → EndsMarks ended u w → EndsMarks ended v w
 marks_then ended v u w first second = record {
-  translations = λ q d a f access live small spared walk.
-      let now = first.translations q d a f access live small spared walk in
-      second.translations q d a f access now.0 small spared now.1;
+  translations = λ q d a f access small spared gives. second.translations q d a f access small spared (first.translations q d a f access small spared gives);
   slots = λ slot spared there. second.slots slot spared (first.slots slot spared there);
   flags = λ slot c d spared was is.
       let x = some_value (map.get u.state.spaces slot) (first.slots slot spared (ap is_some was)) in
@@ -90,11 +88,13 @@ pub page_ends : (gone : Gone) (v w : View) (p page : ℕ) → Standing v → Sta
     → ((slot : Slot) → is_slot p page slot ≡ false → option_map marks_of (map.get w.state.spaces slot) ≡ option_map marks_of (map.get v.state.spaces slot))
     → EndsMarks (end.Page p page) v w
 page_ends gone v w p page now later stay own some_way same = record {
-  translations = λ q d a f access live small spared walk.
+  translations = λ q d a f access small spared gives.
+      let live = gives.0 in
+      let walk = gives.1 in
       let slot = slot_at q a in
       let way = now.ways.lead q d a f access live small walk in
       let way' = stay.ways slot d f (own slot f spared) way in (
-        stay.directories slot d f (own slot f spared) live,
+        stay.directories q d (record { page = slot.page; frame = f; stays = own slot f spared }) live,
         walk_finds w later.image later.walks later.ways q d a f access small way' (λ is.
             let right = has_right v now.image now.walks now.ways slot (walk_takes v now.image now.walks now.ways q d a f live small (ap (walk_of v.bytes d a) (sym is) ∙ walk)) in
             (write_kept (map.get v.state.spaces slot) (map.get w.state.spaces slot) (same slot spared) right.0, later.ways.lazy slot d f way' ∙ sym (now.ways.lazy slot d f way) ∙ right.1)),
@@ -103,7 +103,7 @@ page_ends gone v w p page now later stay own some_way same = record {
   flags = λ slot c d spared was is.
       let one = same_Some (marks_of d) (marks_of c) (sym (ap (option_map marks_of) is) ∙ same slot spared ∙ ap (option_map marks_of) was) in
       (λ h. ap (λ (m : Bool × Bool × Bool). m.1) one ∙ h, λ h. ap (λ (m : Bool × Bool × Bool). m.2) one ∙ h);
-  directories = λ q d some live. stay.directories (at_page q 0) d 1 (some_way q) live;
+  directories = λ q d some live. stay.directories q d (record { page = 0; frame = 1; stays = some_way q }) live;
   tables = λ slot t spared there linked.
       let way = mapped_way v now.image slot there in
       stay.tables slot way.0 way.1 t (own slot way.1 spared) way.2 linked;
