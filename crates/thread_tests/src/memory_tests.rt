@@ -68,22 +68,22 @@ fn reported<N: Name>(monitor: &mut Monitor<N>) -> Option<(usize, u64)> {
 
 /// What must stay where memory is refused: the CPU's calls, how much it has seen, and what the monitor reports.
 #[derive(Clone, Copy, Debug, PartialEq, Eq)]
-struct Kept {
+struct Noted {
     calls: usize,
     front: usize,
     shown: Option<(usize, u64)>,
 }
 
-fn kept_now<N: Name>(cpu: &Cpu<N>, monitor: &mut Monitor<N>) -> Kept {
-    Kept {
+fn noted_now<N: Name>(cpu: &Cpu<N>, monitor: &mut Monitor<N>) -> Noted {
+    Noted {
         calls: cpu.calls(),
         front: cpu.tell().front(),
         shown: reported(monitor),
     }
 }
 
-fn check_kept<N: Name, R: Abort>(rt: &R, cpu: &Cpu<N>, monitor: &mut Monitor<N>, before: &Kept) {
-    same(rt, &kept_now(cpu, monitor), before);
+fn check_noted<N: Name, R: Abort>(rt: &R, cpu: &Cpu<N>, monitor: &mut Monitor<N>, before: &Noted) {
+    same(rt, &noted_now(cpu, monitor), before);
 }
 
 /// Makes a call of process 0, which must be answered so; whether there was memory for it.
@@ -127,9 +127,9 @@ fn called<N: Name, R: Wait + Abort + Print>(
     call: Call,
     reply: Reply,
 ) {
-    let before = kept_now(cpu, monitor);
+    let before = noted_now(cpu, monitor);
     if !is_made(rt, kernel, cpu, &call, &reply) {
-        check_kept(rt, cpu, monitor, &before);
+        check_noted(rt, cpu, monitor, &before);
         say(rt, "NoMemory, and then a call");
         check_made(rt, kernel, cpu, &call, &reply);
     }
