@@ -34,3 +34,5 @@ mod spelling_tests;
 mod state_tests;
 #[cfg(test)]
 mod worked_tests;
+#[cfg(test)]
+mod wide_tests;

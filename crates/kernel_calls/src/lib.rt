@@ -35,7 +35,7 @@ pub use laws::{
     processes_keep_their_integrity, processors_make_events, runs_stay_well_formed,
     what_a_process_has_is_enough, what_is_given_up_goes,
 };
-pub use page_words::{Frame, MachineFault as BootFault, Page, Pid, Size, Vaddr};
+pub use page_words::{Frame, MachineFault as BootFault, Page, Pid, Size, Vaddr, WideFault};
 pub use pages::PageState;
 pub use phys_memory::Memory;
 pub use process_table::Cause;
