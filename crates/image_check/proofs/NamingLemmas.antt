@@ -11,7 +11,7 @@ use Rattle.memory_image.specs.Image.{Image, frames, memory_of}
 use Rattle.address_space.specs.ImageWords.{own_frame}
 use Rattle.memory_image.proofs.ImageReads.{no_word}
 use Rattle.image_check.specs.Counts.{sum_range, is_this, frame_of, names_by, maps_by}
-use Rattle.image_check.specs.Adds.{Adds, HaveRoom, MayGrow, frame_named, maps_first, names_before, naming_times, times_named, words_naming}
+use Rattle.image_check.specs.Adds.{Adds, HaveRoom, MayGrow, frame_named, maps_first, names_before, naming_first, times_named, words_naming}
 use Rattle.image_check.proofs.RangeLemmas.{sum-none, sum-one, sum-same, sum-add, sum-more, sum_goes_on}
 use Rattle.image_check.proofs.AddLemmas.{adds_nothing, adds_both}
 use Rattle.image_check.proofs.SlotLemmas.{maps_in_table, maps_without_table}
@@ -204,20 +204,21 @@ module _ (image : Image) (p f : ℕ) (size : length image.bytes ≡ 4096 * frame
   first_step : (k : ℕ) → by_first k + maps_first image p k f ≡ by_first (k + 1)
   first_step k = by (tab (256 + k)) refl
     where
-      by : (x : Option ℕ) → tab (256 + k) ≡ x → by_first k + naming_times image f (times_named image p k x) x ≡ by_first (k + 1)
+      by : (x : Option ℕ) → tab (256 + k) ≡ x → by_first k + naming_first image p k f x ≡ by_first (k + 1)
       by None none = (let e = first_none k none in omega (arith, e))
       by (Some u) there = elim (cases_eq (names_before image p k u) 0) [
         | inl unseen ↦
-            let times : times_named image p k (Some u) ≡ names_by image p u = ap (λ b. if b then names_by image p u else 0) (eq-eqb (names_before image p k u) 0 unseen) in
+            let times : times_named image p k u ≡ names_by image p u = ap (λ b. if b then names_by image p u else 0) (eq-eqb (names_before image p k u) 0 unseen) in
             ap (λ n. by_first k + n * words_naming image u f) times ∙ sym (first_fresh k u there unseen)
         | inr seen ↦
-            let times : times_named image p k (Some u) ≡ 0 = ap (λ b. if b then names_by image p u else 0) (ne_eqb (names_before image p k u) 0 seen) in
-            let none : times_named image p k (Some u) * words_naming image u f ≡ 0 = ap (λ n. n * words_naming image u f) times ∙ zero-mul (words_naming image u f) in
+            let times : times_named image p k u ≡ 0 = ap (λ b. if b then names_by image p u else 0) (ne_eqb (names_before image p k u) 0 seen) in
+            let none : times_named image p k u * words_naming image u f ≡ 0 = ap (λ n. n * words_naming image u f) times ∙ zero-mul (words_naming image u f) in
             let e = first_again k u there seen in
             omega (arith, none, e)
       ]
 
   firsts : (k : ℕ) → sum_range (λ j. maps_first image p j f) 0 k ≡ by_first k
+  unfolding sum_range
   firsts zero = sym (sum-none (λ t. once (names_before image p 0 t) * by_way t) 0 (frames image) (λ t low high. ap (λ n. once n * by_way t) (count_range-zero (λ s. is_this t (tab s)) 256) ∙ zero-mul (by_way t)))
   firsts (suc k) =
       let e : suc k ≡ k + 1 = omega arith in
@@ -240,3 +241,7 @@ room_by_first image p maps size room f inside =
     let most = count_range-le (λ page. is_this f (frame_of image p page)) 0x40000 0xb0000 in
     let e = maps_by_first image p f size in
     omega (arith, room f inside, e, most)
+
+-- a slot that names no table adds nothing
+pub adds_none_first : (image : Image) (p count : ℕ) (maps : List ℕ) → table_at (memory_of image) p (256 + count) ≡ None → Adds maps maps (λ f. maps_first image p count f)
+adds_none_first image p count maps none = adds_nothing maps (λ f. maps_first image p count f) (λ f. ap (naming_first image p count f) none)

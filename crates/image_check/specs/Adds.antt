@@ -32,23 +32,22 @@ frame_named image t i = if is_present (word_of (memory_of image) t i) then own_f
 abbrev pub words_naming : Image → ℕ → ℕ → ℕ
 words_naming image t f = count_range (λ i. is_this f (frame_named image t i)) 0 1024
 
--- how many words of a table name a frame, so many times each
-abbrev pub naming_times : Image → ℕ → ℕ → Option ℕ → ℕ
-naming_times image f times None = 0
-naming_times image f times (Some t) = times * words_naming image t f
-
 -- how many of so many directory words, from slot 256 on, name a frame
 abbrev pub names_before : Image → ℕ → ℕ → ℕ → ℕ
 names_before image p count t = count_range (λ s. is_this t (table_at (memory_of image) p s)) 256 count
 
--- how often a slot's table counts: at the first word that names it, once for each that does
-abbrev pub times_named : Image → ℕ → ℕ → Option ℕ → ℕ
-times_named image p count None = 0
-times_named image p count (Some t) = if names_before image p count t == 0 then names_by image p t else 0
+-- how often a table counts at a slot that names it: at the first word that does, once for each
+abbrev pub times_named : Image → ℕ → ℕ → ℕ → ℕ
+times_named image p count t = if names_before image p count t == 0 then names_by image p t else 0
 
 -- how many words of a slot's table name a frame, as often as the table counts there
+abbrev pub naming_first : Image → ℕ → ℕ → ℕ → Option ℕ → ℕ
+naming_first image p count f None = 0
+naming_first image p count f (Some t) = times_named image p count t * words_naming image t f
+
+-- the same of the slot after so many
 abbrev pub maps_first : Image → ℕ → ℕ → ℕ → ℕ
-maps_first image p count f = naming_times image f (times_named image p count (table_at (memory_of image) p (256 + count))) (table_at (memory_of image) p (256 + count))
+maps_first image p count f = naming_first image p count f (table_at (memory_of image) p (256 + count))
 
 -- these counts, of so many frames, are what k gives
 pub record Counts (counts : List ℕ) (n : ℕ) (k : ℕ → ℕ) : Type 0 where

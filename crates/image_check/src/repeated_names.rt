@@ -48,37 +48,33 @@ fn count_frame(image: &ImageRef<'_>, frame: Frame, times: u32, maps: &mut [u32])
     }
 }
 
+/// 1 where a slot's table is that frame, and otherwise 0.
+fn named(frame: Frame, table: Option<Frame>) -> u32
+    ensures count { result ≡ counted (is_this frame table) }
+    ensures bound { result ≤ 1 }
+{
+    if is_this(frame, table) { 1 } else { 0 }
+}
+
 /// How many of the first words of a directory's user range name a frame.
 fn names_before(image: &ImageRef<'_>, pid: Pid, directory: Frame, count: u32, frame: Frame) -> u32
     requires directory { directory_at (memory_of image.now) pid ≡ Some directory }
     requires count { count ≤ 704 }
-    ensures names { result ≡ names_before image.now pid count frame }
-    ensures few { result ≤ 704 }
+    ensures { result ≡ names_before image.now pid count frame }
 {
     let mut names = 0;
     for slot in FIRST_SLOT..FIRST_SLOT + count {
-        if is_this(frame, table_at(image, pid, directory, slot)) {
-            names += 1;
-        }
+        names += named(frame, table_at(image, pid, directory, slot));
     }
     names
 }
 
-/// How often a slot's table counts: at the first word that names it, once for each word that does.
-fn times_named(
-    image: &ImageRef<'_>,
-    pid: Pid,
-    directory: Frame,
-    count: u32,
-    table: Option<Frame>,
-) -> u32
+/// How often a table counts at a slot that names it: at the first word that does, once for each.
+fn times_named(image: &ImageRef<'_>, pid: Pid, directory: Frame, count: u32, table: Frame) -> u32
     requires directory { directory_at (memory_of image.now) pid ≡ Some directory }
     requires count { count < 704 }
     ensures { result ≡ times_named image.now pid count table }
 {
-    let Some(table) = table else {
-        return 0;
-    };
     if names_before(image, pid, directory, count, table) == 0 {
         names_before(image, pid, directory, USER_SLOTS, table)
     } else {
@@ -86,18 +82,19 @@ fn times_named(
     }
 }
 
-/// Adds what a slot's table names, as often as it counts.
+/// Adds what a slot's table names, as often as the table counts there.
+#[tactic(auto, using(crate::proofs::NamingLemmas::adds_none_first))]
 fn count_table(image: &ImageRef<'_>, pid: Pid, directory: Frame, count: u32, maps: &mut [u32])
     requires directory { directory_at (memory_of image.now) pid ≡ Some directory }
     requires count { count < 704 }
     requires maps { MayGrow maps.old (λ f. maps_first image.now pid count f) }
     ensures { Adds maps.old maps.new (λ f. maps_first image.now pid count f) }
 {
-    let table = table_at(image, pid, directory, FIRST_SLOT + count);
+    let Some(table) = table_at(image, pid, directory, FIRST_SLOT + count) else {
+        return;
+    };
     let times = times_named(image, pid, directory, count, table);
-    if let Some(table) = table {
-        count_frame(image, table, times, maps);
-    }
+    count_frame(image, table, times, maps);
 }
 
 /// Adds what the words of each table name, once for each word of the directory that names the table. It reads each

@@ -1,4 +1,4 @@
-//! A wide core has no image of its own, and is judged where its memory lies.
+//! A wide core has no image of its own, and is checked where its memory lies.
 
 use crate::common::{booted, process, store};
 use crate::comparing::{same, same_bytes};
@@ -16,7 +16,12 @@ fn filled<R: AllocGlobal + Abort>(rt: &R, pages: u32) -> Core {
     let core = Core::boot_wide(rt.alloc(), FRAMES);
     let mut core = core.ok().expect(rt, "a wide core");
     for page in 0..pages {
-        store(&mut core, process(rt, 0), Vaddr(0x4000_0000 + 4096 * page), 7);
+        store(
+            &mut core,
+            process(rt, 0),
+            Vaddr(0x4000_0000 + 4096 * page),
+            7,
+        );
     }
     core
 }
@@ -34,12 +39,16 @@ fn fault_of<R: AllocGlobal + Abort>(rt: &R, core: &Core) -> Option<CoreImageFaul
 }
 
 #[test]
-fn a_wide_core_is_judged_where_it_lies(rt: HostRuntime) {
+fn a_wide_core_is_checked_where_it_lies(rt: HostRuntime) {
     let core = filled(&rt, 4200);
     let told = verdict_in(&rt, &core);
     same(&rt, &told.sound(), &true);
     same(&rt, &told.frame(Frame(FRAMES - 1)), &None);
-    same(&rt, &core.container(process(&rt, 0)).map(|it| it.used), &Some(4206));
+    same(
+        &rt,
+        &core.container(process(&rt, 0)).map(|it| it.used),
+        &Some(4206),
+    );
 }
 
 #[test]
@@ -48,7 +57,11 @@ fn only_a_core_of_few_enough_frames_has_an_image(rt: HostRuntime) {
     same(&rt, &fault_of(&rt, &core), &None);
     same(&rt, &verdict_in(&rt, &core).sound(), &true);
     let wide = filled(&rt, 0);
-    same(&rt, &fault_of(&rt, &wide), &Some(CoreImageFault::TooManyFrames));
+    same(
+        &rt,
+        &fault_of(&rt, &wide),
+        &Some(CoreImageFault::TooManyFrames),
+    );
 }
 
 /// A fault has that text.

@@ -18,7 +18,7 @@ use Rattle.process_table.specs.WellFormed.{IsWellFormed}
 use Rattle.process_table.specs.Image as machine
 use Rattle.process_table.specs.Image.{as_account}
 use Rattle.memory_image.specs.declared.processes.Process.{Process}
-use Rattle.memory_image.specs.Image.{Image, process_at, directory_from, memory_of, IsProcess, IsRole, HasFields}
+use Rattle.memory_image.specs.Image.{Image, process_at, directory_from, memory_of, IsProcess, IsRole, HasFields, IsImage, IsWideImage}
 use Rattle.memory_image.specs.Sound.{account_from, account_at, shown_by, StandsFor}
 use Rattle.memory_image.specs.Machine.{process_from, process_told, IsImageOf, IsWide, IsToldWide, HaveWords, ImagesStand}
 use Rattle.memory_image.proofs.References.{same_some, from_map, then_some, chosen_some, user_range, directory-of, live-of, pid-small}
@@ -126,3 +126,16 @@ module _ (v : View) (W : IsWellFormed v.state) where
           let high = b.1 in
           (pid-small shows long p r.0 r.1, omega arith)
       role-fits stands f (Page c) h = words f (Page c) (slice_get_within v.roles f (Page c) h) h c refl
+
+-- an image of few enough frames is one that bytes can encode
+pub narrowed : (image : Image) → IsWideImage image → length image.roles ≤ 4096 → IsImage image
+narrowed image I few = record {
+  version = I.version;
+  most = few;
+  fewest = I.fewest;
+  pids = I.pids;
+  processes = I.processes;
+  roles = I.roles;
+  size = I.size;
+  small = I.small;
+}

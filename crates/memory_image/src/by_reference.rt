@@ -100,27 +100,6 @@ impl<'a> ImageRef<'a> {
         word_or_zero(self.bytes, self.frames(), frame.0, index)
     }
 
-    /// What each process has, by number.
-    pub(crate) fn processes(&self) -> &[Option<Process>; 64]
-        ensures { result.now ≡ self.now.processes }
-    {
-        self.processes
-    }
-
-    /// What each frame serves.
-    pub(crate) fn roles(&self) -> &[Role]
-        ensures { result.now ≡ self.now.roles }
-    {
-        self.roles
-    }
-
-    /// All bytes of all frames.
-    pub(crate) fn bytes(&self) -> &[u8]
-        ensures { result.now ≡ self.now.bytes }
-    {
-        self.bytes
-    }
-
     /// Whether frame 0 holds zeros.
     pub fn is_blank(&self) -> bool
         ensures { result ≡ list_all (λ b. b == 0) (frame_bytes self.now.bytes 0) }

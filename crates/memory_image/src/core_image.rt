@@ -1,8 +1,7 @@
 //! Making the image of a core.
 
 ghost use Rattle.std.specs.Prelude.{◌≡◌, ℕ, ◌<◌, ◌≤◌, ◌↔◌, Some, IfSome, IfOk, IsErrOf, length, slice_get, slice_index};
-ghost use Rattle.memory_image.specs.Image.{frames};
-ghost use Rattle.memory_image.specs.Machine.{process_told, IsImageOf, IsToldWide, HaveWords, ShowsProcesses};
+ghost use Rattle.memory_image.specs.Machine.{process_told, IsImageOf, IsToldWide, HasWord, HaveWords, ShowsProcesses};
 ghost use Rattle.memory_image.specs.Sound.{StandsFor};
 
 use crate::by_reference::ImageRef;
@@ -52,11 +51,20 @@ pub fn processes_of(core: &Core) -> [Option<Process>; 64]
     processes
 }
 
-/// Each count of a page is a number of 32 bits. It computes nothing.
+/// A page's count is a number of 32 bits. It computes nothing.
+fn has_word(role: Role)
+    ensures { HasWord role }
+{
+    let _ = role;
+}
+
+/// Each page's count is a number of 32 bits. It computes nothing.
 fn have_words(roles: &[Role])
     ensures { HaveWords roles.now (length roles.now) }
 {
-    let _ = roles;
+    for place in 0..roles.len() {
+        has_word(roles[place]);
+    }
 }
 
 /// Each byte is less than 256. It computes nothing.
@@ -71,6 +79,7 @@ impl<'a> ImageRef<'a> {
     /// state.
     pub fn of_core(core: &'a Core, processes: &'a [Option<Process>; 64]) -> ImageRef<'a>
         requires { ShowsProcesses core.now processes.now }
+        ensures parts { result ≡ record { version = 2; processes = processes.now; roles = core.now.roles; bytes = core.now.bytes } }
         ensures shows { IsImageOf core.now result }
         ensures stands { StandsFor result core.now.state }
     {
@@ -79,19 +88,36 @@ impl<'a> ImageRef<'a> {
         let bytes = core.memory().bytes();
         have_words(roles);
         are_small(bytes);
+        let _ = core.frames();
         let _ = core.memory().frames();
         ImageRef::of_parts(VERSION, processes, roles, bytes)
     }
+}
 
-    /// A copy of its parts; None if there is no memory for them.
-    fn copied(&self, alloc: Global) -> Option<Image>
-        requires { frames self.now ≤ MAX_FRAMES }
-        ensures { IfSome result (λ image. image ≡ self.now) }
-    {
-        let roles = Vec::from_slice(alloc, self.roles()).ok()?;
-        let bytes = Vec::from_slice(alloc, self.bytes()).ok()?;
-        Some(Image::with_parts(self.version(), *self.processes(), roles, bytes))
-    }
+/// What each frame of a core serves.
+fn roles_of(alloc: Global, core: &Core) -> Option<Vec<Role>>
+    ensures { IfSome result (λ roles. roles.items ≡ core.now.roles) }
+{
+    Vec::from_slice(alloc, core.roles()).ok()
+}
+
+/// All bytes of a core's memory.
+fn bytes_of(alloc: Global, core: &Core) -> Option<Vec<u8>>
+    ensures { IfSome result (λ bytes. bytes.items ≡ core.now.bytes) }
+{
+    Vec::from_slice(alloc, core.memory().bytes()).ok()
+}
+
+/// The image of a core of few enough frames.
+fn image_of(alloc: Global, core: &Core) -> Option<Image>
+    requires { length core.now.roles ≤ MAX_FRAMES }
+    ensures { IfSome result (λ image. IsImageOf core.now image) }
+{
+    let processes = processes_of(core);
+    ImageRef::of_core(core, &processes).within();
+    let roles = roles_of(alloc, core)?;
+    let bytes = bytes_of(alloc, core)?;
+    Some(Image::with_parts(VERSION, processes, roles, bytes))
 }
 
 impl Image {
@@ -104,11 +130,11 @@ impl Image {
         ensures stands { IfOk result (λ image. StandsFor image core.now.state) }
         ensures many { IsErrOf result CoreImageFault.TooManyFrames ↔ (4096 < length core.now.roles) }
     {
+        core.stands();
         if core.frames() > MAX_FRAMES {
             return Err(CoreImageFault::TooManyFrames);
         }
-        let processes = processes_of(core);
-        match ImageRef::of_core(core, &processes).copied(alloc) {
+        match image_of(alloc, core) {
             Some(image) => Ok(image),
             None => Err(CoreImageFault::NoMemory),
         }

@@ -29,8 +29,8 @@ use std::alloc::Global;
 pub use verdicts::TowerVerdict;
 
 /// Writes the image of the core (docs/IMAGES.md) at the start of `bytes`, and its length to `size`. Returns 0.
-/// Otherwise `bytes` is unchanged: 1 if the handle has no core, 4 if the core has more than 4,096 frames, which are the
-/// most of an image, 2 if memory ran out, 3 if `bytes` is too short. At 1 and 4 `size` is unchanged too.
+/// Otherwise `bytes` is unchanged. 1: the handle has no core. 4: the core has more than 4,096 frames, the most of an
+/// image. 3: `bytes` is too short. 2: memory ran out. At 1 and 4 `size` is unchanged too.
 #[unsafe(no_mangle)]
 pub extern "C" fn tower_image(
     alloc: Global,

@@ -111,11 +111,16 @@ fn with_table<T>(act: impl FnOnce(&mut Table) -> T) -> T {
     act(unsafe { &mut *BLOCKS.0.get() })
 }
 
-/// Returns the outcome of a request while a core is booted over a block; None at any other time.
-pub fn allocated(size: usize, align: usize) -> Option<Option<NonNull<u8>>> {
+/// Whether a core is being booted over a block, from which everything is then allocated.
+pub fn is_booting() -> bool {
+    with_table(|table| table.booting.is_some())
+}
+
+/// Returns a new block in that of the core that is being booted; None if there is none, or it is full.
+pub fn allocated(size: usize, align: usize) -> Option<NonNull<u8>> {
     with_table(|table| {
         let booting = table.booting?;
-        Some(table.regions[booting].allocated(size, align))
+        table.regions[booting].allocated(size, align)
     })
 }
 
@@ -137,8 +142,8 @@ fn boot_over(frames: u32, handle: *mut raw::Tower, block: &mut [u8]) -> u32 {
     if !(16..=1_048_576).contains(&frames) {
         return boot(); // (which requests nothing)
     }
-    if !begins.addr().get().is_multiple_of(FRAME)
-        || !block.len().is_multiple_of(FRAME)
+    if begins.addr().get() % FRAME != 0
+        || block.len() % FRAME != 0
         || block.len() < block_bytes(frames)
     {
         return 4;

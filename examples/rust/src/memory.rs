@@ -55,7 +55,7 @@ pub struct Mapped {
 /// The pages of a process in ascending order, as [`Core::pages`] returns them.
 #[derive(Clone, Debug)]
 pub struct Pages<'a> {
-    core: &'a Core,
+    core: &'a Core<'a>,
     pid: Pid,
     next: Option<u32>,
 }

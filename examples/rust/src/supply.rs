@@ -26,8 +26,8 @@ impl From<Option<NonNull<u8>>> for Tried {
 extern "C" fn rattle_alloc(size: usize, align: usize) -> Tried {
     let _ = align;
     #[cfg(feature = "blocks")]
-    if let Some(block) = blocks::allocated(size, align) {
-        return block.into();
+    if blocks::is_booting() {
+        return blocks::allocated(size, align).into();
     }
     #[cfg(feature = "heap")]
     return heap::allocated(size).into();
