@@ -45,7 +45,7 @@ abbrev pub naming_first : Image → ℕ → ℕ → ℕ → Option ℕ → ℕ
 naming_first image p count f None = 0
 naming_first image p count f (Some t) = times_named image p count t * words_naming image t f
 
--- the same of the slot after so many
+-- what the slot after so many adds to a frame
 abbrev pub maps_first : Image → ℕ → ℕ → ℕ → ℕ
 maps_first image p count f = naming_first image p count f (table_at (memory_of image) p (256 + count))
 
