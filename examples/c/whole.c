@@ -16,12 +16,12 @@ enum { FRAMES = TOWER_WIDE_FRAMES, PAGES = 5000, CHILD = 1 };
 
 static uint8_t *zeros;
 
-/* The library's memset (by --wrap): the first one of the whole block of frames finds zeros there. */
+/* The library's memset (by --wrap): the first one from the block's beginning is that of the frames, and finds zeros. */
 void *__real_memset(void *to, int byte, size_t count);
 void *__wrap_memset(void *to, int byte, size_t count);
 
 void *__wrap_memset(void *to, int byte, size_t count) {
-    if (to == zeros && byte == 0 && count == (size_t)FRAMES * TOWER_FRAME_BYTES) {
+    if (to == zeros && byte == 0 && count <= (size_t)FRAMES * TOWER_FRAME_BYTES) {
         zeros = NULL;
         return to;
     }
