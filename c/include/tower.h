@@ -60,12 +60,13 @@ struct tower {
 #define TOWER_NONE {false, NULL}
 #endif
 
-/* The statuses of tower_boot. All but the first leave the handle as it was. */
+/* The statuses of boots. All but the first leave the handle as it was. */
 enum tower_status {
     TOWER_BOOTED = 0,
     TOWER_BAD_SIZE = 1,     /* the number of frames is not 16 to 4,096; of a wide boot, not 16 to 1,048,576 */
     TOWER_NO_MEMORY = 2,
     TOWER_HAS_CORE = 3,     /* the handle has a core already */
+    TOWER_BAD_BLOCK = 4,    /* of tower_boot_over only, which tower_region.h declares with the reasons */
 };
 
 /* The name of a status; "" for a number that is no status. */
@@ -75,6 +76,7 @@ static inline const char *tower_status_name(uint32_t status) {
     case TOWER_BAD_SIZE: return "BadSize";
     case TOWER_NO_MEMORY: return "NoMemory";
     case TOWER_HAS_CORE: return "HasCore";
+    case TOWER_BAD_BLOCK: return "BadBlock";
     default: return "";
     }
 }

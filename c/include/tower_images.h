@@ -23,6 +23,7 @@ enum tower_image_status {
     TOWER_IMAGE_NO_CORE = 1,
     TOWER_IMAGE_NO_MEMORY = 2,
     TOWER_IMAGE_TOO_SHORT = 3,  /* there are fewer bytes than `size` says */
+    TOWER_IMAGE_TOO_MANY_FRAMES = 4,  /* the core has more than TOWER_MAX_FRAMES, the most of an image */
 };
 
 /* The statuses of a check. */
@@ -56,6 +57,7 @@ static inline const char *tower_image_status_name(uint32_t status) {
     case TOWER_IMAGE_NO_CORE: return "NoCore";
     case TOWER_IMAGE_NO_MEMORY: return "NoMemory";
     case TOWER_IMAGE_TOO_SHORT: return "TooShort";
+    case TOWER_IMAGE_TOO_MANY_FRAMES: return "TooManyFrames";
     default: return "";
     }
 }
@@ -112,11 +114,12 @@ static inline size_t tower_verdict_text(uint32_t status, const struct tower_verd
 }
 
 /* Writes the image of the core at the start of `bytes`. `size` becomes the number of bytes that the image has, whenever
- * there is a core; call it with a count of 0 to get only the size. If the status is not TOWER_IMAGE_WRITTEN, no byte is
- * written. It changes nothing of the core. */
+ * there is a core of at most TOWER_MAX_FRAMES; call it with a count of 0 to get only the size. If the status is not
+ * TOWER_IMAGE_WRITTEN, no byte is written. It changes nothing of the core. */
 TOWER_NODISCARD uint32_t tower_image(const struct tower *tower, uint8_t *bytes, size_t byte_count, size_t *size);
 
-/* Checks the image of the core, and changes nothing of the core. It is proved that the status is TOWER_SOUND,
+/* Checks the image of the core, and changes nothing of the core. It copies none of the core's memory, so that of any
+ * number of frames can be checked: it requests 10 bytes for each frame. It is proved that the status is TOWER_SOUND,
  * TOWER_CHECK_NO_CORE or TOWER_CHECK_NO_MEMORY, and that nothing is written. TOWER_PROCESS_FAILS or TOWER_FRAME_FAILS
  * says that something else wrote in the core's memory, or that C breaks a requirement of tower.h. */
 TOWER_NODISCARD uint32_t tower_check(const struct tower *tower, struct tower_verdict *verdict);

@@ -21,8 +21,12 @@
 extern "C" {
 #endif
 
-/* How many bytes a block has after its frames: 16 bytes a frame, the core's fixed part, and this file's own. */
-#define TOWER_BOOK_BYTES(frames) (((size_t)(frames) * 16 + 19064 + 256 + 4095) / 4096 * 4096)
+/* How many bytes a core requests for itself, apart from its frames and 16 bytes for each of them. */
+#define TOWER_CORE_BYTES 19064
+
+/* How many bytes a block has after its frames: 16 bytes a frame, the core's own, and at most 256 for alignment and for
+ * what region.c notes there. */
+#define TOWER_BOOK_BYTES(frames) (((size_t)(frames) * 16 + TOWER_CORE_BYTES + 256 + 4095) / 4096 * 4096)
 
 /* How many bytes a block needs for that many frames. */
 #define TOWER_BLOCK_BYTES(frames) ((size_t)(frames) * TOWER_FRAME_BYTES + TOWER_BOOK_BYTES(frames))
@@ -31,18 +35,12 @@ extern "C" {
  * TOWER_MIN_FRAMES do not fit. */
 uint32_t tower_frames_within(size_t size);
 
-/* A status in addition to those of tower_boot_wide. The block is NULL, or isn't whole pages at a multiple of 4,096. Or
- * it ends at or past 2 to the 64, is too small for that many frames, or shares a byte with a booted core's block. */
-#define TOWER_BAD_BLOCK 4
-
-/* Boots a core of that many frames over a block. With any status but TOWER_BOOTED the block stays the caller's. Its
- * bytes may have changed if that is TOWER_NO_MEMORY, and are unchanged at any other. tower_free frees the core. */
+/* Boots a core of that many frames over a block: TOWER_MIN_FRAMES to TOWER_WIDE_FRAMES. tower_free frees the core.
+ *
+ * With any status but TOWER_BOOTED the block stays the caller's. Its bytes may have changed if that is TOWER_NO_MEMORY,
+ * and are unchanged at any other. TOWER_BAD_BLOCK: the block is NULL, or isn't whole pages at a multiple of 4,096. Or it
+ * ends at or past 2 to the 64, is too small for that many frames, or shares a byte with a booted core's block. */
 TOWER_NODISCARD uint32_t tower_boot_over(uint32_t frames, struct tower *tower, void *block, size_t size);
-
-/* The name of a status of tower_boot_over; "" for a number that is no status. */
-static inline const char *tower_boot_over_status_name(uint32_t status) {
-    return status == TOWER_BAD_BLOCK ? "BadBlock" : tower_status_name(status);
-}
 
 /* Whether a byte lies in a core's block. */
 TOWER_NODISCARD bool tower_holds(const void *byte);

@@ -89,7 +89,8 @@ static bool is_named(const char *given, const char *name) {
 
 static void names(void) {
     expect(is_named(tower_image_status_name(TOWER_IMAGE_TOO_SHORT), "TooShort") &&
-               is_named(tower_image_status_name(4), ""), "statuses have names");
+               is_named(tower_image_status_name(TOWER_IMAGE_TOO_MANY_FRAMES), "TooManyFrames") &&
+               is_named(tower_image_status_name(5), ""), "statuses have names");
     expect(is_named(tower_check_status_name(TOWER_FRAME_FAILS), "FrameFails") &&
                is_named(tower_check_status_name(6), ""), "those of a check too");
     expect(is_named(tower_image_fault_name(TOWER_FAULT_BAD_FIELD), "BadField") &&

@@ -171,7 +171,8 @@ static void names(void) {
            "causes have names");
     expect(is_named(tower_call_name(TOWER_FORK), "Fork") && is_named(tower_call_name(13), ""), "calls too");
     expect(is_named(tower_kind_name(TOWER_FLAGS), "Info") && is_named(tower_kind_name(8), ""), "and kinds of replies");
-    expect(is_named(tower_status_name(TOWER_HAS_CORE), "HasCore") && is_named(tower_status_name(4), ""),
+    expect(is_named(tower_status_name(TOWER_HAS_CORE), "HasCore") &&
+               is_named(tower_status_name(TOWER_BAD_BLOCK), "BadBlock") && is_named(tower_status_name(5), ""),
            "and statuses");
     expect(is_named(tower_end_name(TOWER_WALK_OUTSIDE), "Outside") && is_named(tower_end_name(3), ""),
            "and ends of a walk");

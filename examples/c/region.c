@@ -1,8 +1,13 @@
 /* Cores over blocks of the caller's, and the statuses of wrong blocks (c/region.c). It ends with status 0 if all goes
  * as expected, and otherwise prints the line of what does not. */
+#define _DEFAULT_SOURCE
+
+#include <signal.h>
 #include <stdio.h>
 #include <stdlib.h>
 #include <string.h>
+#include <sys/wait.h>
+#include <unistd.h>
 
 #include "tower_region.h"
 
@@ -14,11 +19,12 @@ static _Alignas(4096) uint8_t first[TOWER_BLOCK_BYTES(FRAMES)];
 static _Alignas(4096) uint8_t second[TOWER_BLOCK_BYTES(WIDE)];
 static _Alignas(4096) uint8_t around[TOWER_BLOCK_BYTES(FRAMES) + 2 * 4096];
 
-static size_t others;
+static size_t others, requested;
 
 static struct rattle_tried other_alloc(size_t size, size_t align) {
     void *block = malloc(size ? size : align);
     others += block != NULL;
+    requested += size;
     return (struct rattle_tried){block != NULL, block ? block : &others};
 }
 
@@ -43,6 +49,19 @@ static bool works(struct tower *tower, uint32_t value) {
         && answers(tower, tower_load(0, ADDRESS, 4), TOWER_VALUE, value);
 }
 
+/* Whether the free of a block that no function returned ends a program, here a child. */
+static bool traps(void) {
+    int status = 0;
+    pid_t child = fork();
+    if (child == 0) {
+        signal(SIGILL, SIG_DFL);
+        signal(SIGTRAP, SIG_DFL);
+        rattle_dealloc(around);
+        _exit(0);
+    }
+    return child > 0 && waitpid(child, &status, 0) == child && WIFSIGNALED(status);
+}
+
 int main(void) {
     struct tower one = TOWER_NONE, two = TOWER_NONE, three = TOWER_NONE;
 
@@ -55,6 +74,8 @@ int main(void) {
         EXPECT(TOWER_BLOCK_BYTES(tower_frames_within((size_t)frames * 4096)) <= (size_t)frames * 4096);
     }
     EXPECT(tower_frames_within(SIZE_MAX / 4096 * 4096) == TOWER_WIDE_FRAMES);
+    EXPECT(tower_frames_within(TOWER_BLOCK_BYTES(TOWER_WIDE_FRAMES)) == TOWER_WIDE_FRAMES);
+    EXPECT(tower_frames_within(TOWER_BLOCK_BYTES(TOWER_WIDE_FRAMES) - 1) == TOWER_WIDE_FRAMES - 1);
 
     /* what is no block: the handle stays empty, and not a byte changes */
     memset(around, 0x5a, sizeof around);
@@ -65,12 +86,12 @@ int main(void) {
     EXPECT(tower_boot_over(FRAMES, &one, around, sizeof first - 1) == TOWER_BAD_BLOCK);
     EXPECT(tower_boot_over(FRAMES, &one, around, sizeof first + 1) == TOWER_BAD_BLOCK);
     EXPECT(tower_boot_over(FRAMES, &one, around, SIZE_MAX / 4096 * 4096) == TOWER_BAD_BLOCK);
+    EXPECT(tower_boot_over(FRAMES, &one, around, (size_t)0 - (uintptr_t)around) == TOWER_BAD_BLOCK);
     EXPECT(tower_boot_over(15, &one, around, sizeof first) == TOWER_BAD_SIZE);
     EXPECT(tower_boot_over(TOWER_WIDE_FRAMES + 1, &one, around, sizeof first) == TOWER_BAD_SIZE);
     EXPECT(tower_boot_over(UINT32_MAX, &one, around, sizeof first) == TOWER_BAD_SIZE);
     EXPECT(!one.live && !tower_holds(around));
-    EXPECT(strcmp(tower_boot_over_status_name(TOWER_BAD_BLOCK), "BadBlock") == 0);
-    EXPECT(strcmp(tower_boot_over_status_name(TOWER_BAD_SIZE), "BadSize") == 0);
+    EXPECT(strcmp(tower_status_name(TOWER_BAD_BLOCK), "BadBlock") == 0);
     for (size_t at = 0; at < sizeof around; at++) {
         EXPECT(around[at] == 0x5a);
     }
@@ -107,7 +128,18 @@ int main(void) {
     EXPECT(works(&three, 79));
     tower_free(&three);
     EXPECT(others == 0);
+
+    /* a core requests what TOWER_BLOCK_BYTES counts on */
+    for (uint32_t frames = TOWER_MIN_FRAMES; frames <= 65536; frames *= 4) {
+        requested = 0;
+        EXPECT(tower_boot_wide(frames, &three) == TOWER_BOOTED);
+        EXPECT(requested == (size_t)frames * (TOWER_FRAME_BYTES + 16) + TOWER_CORE_BYTES);
+        tower_free(&three);
+    }
     tower_set_other_heap(NULL);
+
+    /* a block that no function returned */
+    EXPECT(traps());
 
     /* freed in any order: the block is the caller's, and may be used for another core */
     EXPECT(answers(&one, tower_load(0, ADDRESS, 4), TOWER_VALUE, 77));

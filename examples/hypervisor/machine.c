@@ -95,43 +95,19 @@ void need(bool holds, const char *what) {
     }
 }
 
-/* The four symbols that the library imports. */
-
-struct tried {
-    bool ok;
-    void *block;
-};
-
-/* Space for the memory and tables of three cores. A core requests 16 bytes a frame in addition to the frame, and a few
- * pages for its own words. */
-static _Alignas(FRAME) uint8_t pool[3 * (FRAMES * (FRAME + 16) + 16 * FRAME)];
-static size_t used, blocks;
-
-/* Blocks lie in sequence. Those of a page or more begin at a page, so that a core's memory does. Once all are freed,
- * the pool is empty again. */
-struct tried rattle_alloc(size_t size, size_t align) {
-    size_t unit = size >= FRAME ? FRAME : align;
-    size_t at = (used + unit - 1) & ~(unit - 1);
-    if (at > sizeof pool || size > sizeof pool - at) {
-        return (struct tried){false, pool};
-    }
-    used = at + size;
-    blocks++;
-    return (struct tried){true, pool + at};
-}
-
-void rattle_dealloc(void *block) {
-    (void)block;
-    if (--blocks == 0) {
-        used = 0;
-    }
-}
+/* The library's memory: a block for each core, which c/region.c gives it. Only one processor boots and frees cores. */
+enum { MOST_CORES = 3 };
+static _Alignas(FRAME) uint8_t blocks[MOST_CORES][TOWER_BLOCK_BYTES(FRAMES)];
 
 void boot(struct tower *tower) {
-    static const char *const statuses[] = {"booted", "bad size", "no memory", "has a core"};
-    uint32_t status = tower_boot(FRAMES, tower);
+    uint32_t free_block = 0;
+    while (free_block < MOST_CORES && tower_holds(blocks[free_block])) {
+        free_block++;
+    }
+    need(free_block < MOST_CORES, "a block is free");
+    uint32_t status = tower_boot_over(FRAMES, tower, blocks[free_block], sizeof blocks[free_block]);
     if (status != TOWER_BOOTED) {
-        say("FAILED: a core of %u frames boots: status %u, %s\n", FRAMES, status, statuses[status]);
+        say("FAILED: a core of %u frames boots: status %u, %s\n", FRAMES, status, tower_status_name(status));
         leave(1);
     }
 }
@@ -143,6 +119,8 @@ uint8_t *memory_of(struct tower *tower) {
     need(memory.length == (size_t)tower_frames(tower) * FRAME, "a core's memory has its frames");
     return memory.begins;
 }
+
+/* What the library imports of a C library. */
 
 void *memset(void *to, int byte, size_t count) {
     void *at = to;

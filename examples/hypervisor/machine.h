@@ -2,7 +2,7 @@
 #ifndef MACHINE_H
 #define MACHINE_H
 
-#include "tower.h"
+#include "tower_region.h"
 
 /* The bytes of a frame. FRAMES, how many a core has, is set by the Makefile. */
 enum { FRAME = 4096 };
@@ -25,10 +25,10 @@ uint8_t in8(uint16_t port);
 uint64_t read_msr(uint32_t msr);
 void write_msr(uint32_t msr, uint64_t value);
 
-/* Boots a core, or ends the run with the reason why there is none. */
+/* Boots a core over a block of its own, or ends the run with the reason why there is none. */
 void boot(struct tower *tower);
 
-/* Where a core's memory lies, from tower_memory. It begins at a page, since rattle_alloc aligns large blocks to one. */
+/* Where a core's memory lies, from tower_memory: where its block does, at a page. */
 uint8_t *memory_of(struct tower *tower);
 
 void *memset(void *to, int byte, size_t count);

@@ -17,7 +17,7 @@ use crate::mapping::count_at;
 use crate::place::Place;
 use crate::{Spaces, home};
 use page_map::{FIRST_SLOT, SLOT_END};
-use page_words::{Frame, Page, Pid};
+use page_words::{Frame, Page, Pid, WIDE_FRAMES};
 use phys_memory::Memory;
 
 /// 1 where a slot has a table, and else 0.
@@ -36,7 +36,7 @@ fn table_count(memory: &Memory, directory: Frame, slot: u32) -> u32
 
 /// A process's directory, tables and pages together.
 fn sum(tables: u32, pages: u32) -> u32
-    requires { 1 + tables + pages ≤ 1048576 }
+    requires { 1 + tables + pages ≤ WIDE_FRAMES }
     ensures { result ≡ 1 + tables + pages }
 {
     tables + pages + 1

@@ -19,7 +19,7 @@ use crate::mapping::{count_at, count_page, give_table};
 use crate::{Spaces, home, take};
 use alloc_table::{FrameTable, Role};
 use page_map::{FIRST_SLOT, Listed, PageEntry};
-use page_words::{Frame, Page, Pid};
+use page_words::{Frame, Page, Pid, WIDE_FRAMES};
 use phys_memory::Memory;
 
 /// The entry of a copy on this frame: the same rights, untouched.
@@ -38,7 +38,7 @@ fn copied_entry(entry: PageEntry, frame: Frame) -> PageEntry
 fn copy_of(memory: &mut Memory, frames: &mut FrameTable, entry: PageEntry) -> PageEntry
     requires frame { Inside memory.old entry.frame }
     requires size { length memory.old ≡ 4096 * length frames.old }
-    requires few { length frames.old ≤ 1048576 }
+    requires few { length frames.old ≤ WIDE_FRAMES }
     requires free { 0 < free_frames frames.old }
     ensures copied { EntryCopied memory.old frames.old entry result memory.new frames.new }
     ensures length { length memory.new ≡ length memory.old }

@@ -29,7 +29,8 @@ mod unmapping;
 
 use alloc_table::{FrameTable, Role};
 use page_words::{
-    Frame, MachineFault, Pid, Size, Vaddr, is_frame_count, page_of, second_page, start_of,
+    Frame, MachineFault, Pid, Size, Vaddr, WIDE_FRAMES, WideFault, is_frame_count, page_of,
+    second_page, start_of,
 };
 use phys_memory::Memory;
 pub use place::{Found, Place};
@@ -92,7 +93,7 @@ fn opened(memory: Memory, table: FrameTable, counts: Vec<u32>, frames: u32) -> S
     requires roles { table ≡ opening_roles frames }
     requires counts { counts.items ≡ replicate frames 0 }
     requires least { 16 ≤ frames }
-    requires most { frames ≤ 1048576 }
+    requires most { frames ≤ WIDE_FRAMES }
     ensures spaces { result.spaces ≡ map.empty }
     ensures directories { result.directories ≡ replicate 64 None }
     ensures roles { result.roles ≡ opening_roles frames }
@@ -138,22 +139,22 @@ impl Spaces {
         if !is_frame_count(frames) {
             return Err(MachineFault::BadSize);
         }
-        Spaces::wide(alloc, frames)
+        Ok(Spaces::wide(alloc, frames)?)
     }
 
     /// As `new`, over up to 1,048,576 frames: BadSize for another number than 16 to 1,048,576.
-    pub fn wide(alloc: Global, frames: u32) -> Result<Spaces, MachineFault>
+    pub fn wide(alloc: Global, frames: u32) -> Result<Spaces, WideFault>
         ensures spaces { IfOk result (λ new. new.spaces ≡ map.empty) }
         ensures directories { IfOk result (λ new. new.directories ≡ replicate 64 None) }
         ensures roles { IfOk result (λ new. new.roles ≡ opening_roles frames) }
         ensures frames { IfOk result (λ new. length new.roles ≡ frames) }
         ensures costs { IfOk result (λ new. total_cost new.directories new.spaces ≡ 0) }
-        ensures size { IsErrOf result MachineFault.BadSize ↔ (16 ≤ frames → frames ≤ 1048576 → ⊥) }
+        ensures size { IsErrOf result WideFault.BadSize ↔ (16 ≤ frames → frames ≤ WIDE_FRAMES → ⊥) }
     {
         let memory = Memory::wide(alloc, frames)?;
         let table = FrameTable::wide(alloc, frames)?;
         let Ok(counts) = vec![in alloc; 0u32; frames as usize] else {
-            return Err(MachineFault::NoMemory);
+            return Err(WideFault::NoMemory);
         };
         Ok(opened(memory, table, counts, frames))
     }
@@ -170,7 +171,7 @@ impl Spaces {
         ensures roles { length self.now.roles ≡ result }
         ensures bytes { length self.now.bytes ≡ 4096 * result }
         ensures least { 16 ≤ result }
-        ensures most { result ≤ 1048576 }
+        ensures most { result ≤ WIDE_FRAMES }
     {
         self.memory.frames()
     }
@@ -190,6 +191,13 @@ impl Spaces {
         self.frames.role(frame)
     }
 
+    /// What each frame serves, by number.
+    pub fn roles(&self) -> &[Role]
+        ensures { result.now ≡ self.now.roles }
+    {
+        self.frames.roles()
+    }
+
     /// What memory's own words say of these spaces, that their costs leave frame 0 alone, and that the
     /// frames in use and the lazy pages are together no more than they cost. It computes nothing.
     pub fn stands(&self)
@@ -198,7 +206,7 @@ impl Spaces {
         ensures ways { WaysAgree (image_of self.now) }
         ensures costs { 1 + total_cost self.now.directories self.now.spaces ≤ length self.now.roles }
         ensures each { (p : ℕ) → is_some (directory_of self.now.directories p) ≡ true → 1 + cost self.now.spaces p ≤ length self.now.roles }
-        ensures few { length self.now.roles ≤ 1048576 }
+        ensures few { length self.now.roles ≤ WIDE_FRAMES }
         ensures used { LeavesRoom (image_of self.now) (total_cost self.now.directories self.now.spaces) }
         ensures places { PlacesTell (image_of self.now) self.now.spaces }
     {

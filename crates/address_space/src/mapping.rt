@@ -18,7 +18,7 @@ use crate::place::{Found, Place};
 use crate::{Spaces, home, take};
 use alloc_table::{FrameTable, Role};
 use page_map::PageEntry;
-use page_words::{Frame, Page, Pid, Size, Vaddr, page_of, slot_of};
+use page_words::{Frame, Page, Pid, Size, Vaddr, WIDE_FRAMES, page_of, slot_of};
 use phys_memory::Memory;
 
 impl Spaces {
@@ -201,7 +201,7 @@ fn filled(entry: PageEntry, frame: Frame) -> PageEntry
 pub fn give_frame(memory: &mut Memory, frames: &mut FrameTable, found: &Found) -> PageEntry
     requires lies { LiesIn memory.old found.now }
     requires size { length memory.old ≡ 4096 * length frames.old }
-    requires few { length frames.old ≤ 1048576 }
+    requires few { length frames.old ≤ WIDE_FRAMES }
     requires free { 0 < free_frames frames.old }
     ensures { FrameGiven memory.old frames.old found.now result memory.new frames.new }
 {

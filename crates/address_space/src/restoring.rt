@@ -8,7 +8,7 @@ ghost use Rattle.address_space.specs.Restored.{counted_at, words_by, view_from, 
 use crate::{Directories, Spaces};
 use alloc_table::{FrameTable, Role};
 use page_map::words_present;
-use page_words::{Frame, MachineFault};
+use page_words::{Frame, MachineFault, WIDE_FRAMES};
 use phys_memory::Memory;
 use std::alloc::Global;
 
@@ -29,7 +29,7 @@ fn words_of(memory: &Memory, frame: Frame, role: Role) -> u32
 /// How many words of each frame are present, where it is a table.
 fn counts_of(alloc: Global, memory: &Memory, roles: &[Role]) -> Option<Vec<u32>>
     requires size { length memory.now ≡ 4096 * length roles.now }
-    requires most { length roles.now ≤ 1048576 }
+    requires most { length roles.now ≤ WIDE_FRAMES }
     ensures { IfSome result (λ counts. counts.items ≡ map (counted_at memory.now roles.now) (range_with_len 0 (length roles.now))) }
 {
     let frames = roles.len();
@@ -64,7 +64,7 @@ impl Spaces {
         roles: Vec<Role>,
     ) -> Result<Spaces, MachineFault>
         requires fewest { 16 ≤ length roles.items }
-        requires most { length roles.items ≤ 1048576 }
+        requires most { length roles.items ≤ WIDE_FRAMES }
         requires sound { IsSoundImage (image_from directories bytes.items roles.items) }
         requires room { HasRoom directories bytes.items roles.items }
         ensures view { IfOk result (λ new. new ≡ view_from directories bytes.items roles.items) }

@@ -12,7 +12,9 @@ ghost use Rattle.alloc_table.specs.Roles.{is_free, CanBeTaken, IsTaken, IsPageBe
 ghost use Rattle.alloc_table.specs.Weights.{EachPageHeld, TakingAddsTheRole, HoldingAddsOne, ReleasingTakesOne, FreeOrWeighed};
 
 use frame_ledger::Ledger;
-use page_words::{Frame, MAX_FRAMES, MIN_FRAMES, MachineFault, Pid, WIDE_FRAMES, is_frame_count};
+use page_words::{
+    Frame, MAX_FRAMES, MIN_FRAMES, MachineFault, Pid, WIDE_FRAMES, WideFault, is_frame_count,
+};
 use std::alloc::Global;
 use std::marker::Model;
 
@@ -117,13 +119,13 @@ impl FrameTable {
         if !is_frame_count(frames) {
             return Err(MachineFault::BadSize);
         }
-        FrameTable::wide(alloc, frames)
+        Ok(FrameTable::wide(alloc, frames)?)
     }
 
-    /// As `new`, of up to 1,048,576 frames: BadSize where `frames` is outside 16 to 1,048,576.
-    pub fn wide(alloc: Global, frames: u32) -> Result<FrameTable, MachineFault>
+    /// As `new`, of up to 1,048,576 frames: BadSize if `frames` is outside 16 to 1,048,576.
+    pub fn wide(alloc: Global, frames: u32) -> Result<FrameTable, WideFault>
         ensures roles { IfOk result (λ table. table ≡ opening_roles frames) }
-        ensures bad_size { IsErrOf result MachineFault.BadSize ↔ (MIN_FRAMES ≤ frames → frames ≤ WIDE_FRAMES → ⊥) }
+        ensures bad_size { IsErrOf result WideFault.BadSize ↔ (MIN_FRAMES ≤ frames → frames ≤ WIDE_FRAMES → ⊥) }
     {
         let ledger = Ledger::wide(alloc, frames)?;
         match vec![in alloc; Role::Free; frames as usize] {
@@ -131,7 +133,7 @@ impl FrameTable {
                 roles[0] = Role::Reserved;
                 Ok(FrameTable { ledger, roles })
             }
-            Err(_) => Err(MachineFault::NoMemory),
+            Err(_) => Err(WideFault::NoMemory),
         }
     }
 
@@ -197,6 +199,13 @@ impl FrameTable {
         ensures { slice_get self.now frame ≡ Some result }
     {
         role_at(&self.roles, frame)
+    }
+
+    /// The roles of all frames, by number.
+    pub fn roles(&self) -> &[Role]
+        ensures { result.now ≡ self.now }
+    {
+        self.roles.as_slice()
     }
 
     /// How many frames are free.

@@ -1,6 +1,6 @@
 //! Roles of frames.
 use alloc_table::{FrameTable, Role, weights_add_up};
-use page_words::{Frame, MachineFault, Pid};
+use page_words::{Frame, MachineFault, Pid, WideFault};
 use std::process::Abort;
 use std::test::Fail;
 
@@ -81,10 +81,10 @@ fn takes_more_frames_where_it_is_wide(rt: HostRuntime) {
     assert_eq!(rt;
         sizes,
         [
-            Err(MachineFault::BadSize),
+            Err(WideFault::BadSize),
             Ok(4096),
             Ok(1048575),
-            Err(MachineFault::BadSize)
+            Err(WideFault::BadSize)
         ]
     );
 }

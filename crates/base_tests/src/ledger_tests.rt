@@ -3,7 +3,7 @@
 ghost use Rattle.std.specs.Prelude.{◌≡◌, length};
 
 use frame_ledger::Ledger;
-use page_words::{Frame, MachineFault};
+use page_words::{Frame, MachineFault, WideFault};
 use std::process::Abort;
 use std::test::Fail;
 
@@ -53,10 +53,10 @@ fn takes_more_frames_where_it_is_wide(rt: HostRuntime) {
     assert_eq!(rt;
         sizes,
         [
-            Err(MachineFault::BadSize),
+            Err(WideFault::BadSize),
             Ok(4096),
             Ok(1048575),
-            Err(MachineFault::BadSize)
+            Err(WideFault::BadSize)
         ]
     );
 }

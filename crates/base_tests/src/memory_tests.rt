@@ -1,5 +1,5 @@
 //! Physical memory, byte by byte.
-use page_words::Frame;
+use page_words::{Frame, WideFault};
 use phys_memory::{FRAME_BYTES, Memory, MemoryFault};
 use std::alloc::Global;
 use std::test::Fail;
@@ -67,11 +67,7 @@ fn has_more_frames_where_it_is_wide(rt: HostRuntime) {
     ));
     assert_eq!(rt;
         sizes,
-        [
-            Err(MemoryFault::BadSize),
-            Ok(5000),
-            Err(MemoryFault::BadSize)
-        ]
+        [Err(WideFault::BadSize), Ok(5000), Err(WideFault::BadSize)]
     );
 }
 

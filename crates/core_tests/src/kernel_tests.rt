@@ -1,6 +1,8 @@
 //! A core by its calls.
 use crate::common::same;
-use kernel_calls::{BootFault, Call, Core, Ended, Event, Frame, Outcome, Pid, Reply, Role};
+use kernel_calls::{
+    BootFault, Call, Core, Ended, Event, Frame, Outcome, Pid, Reply, Role, WideFault,
+};
 use page_words::{Page, Size, Vaddr};
 use process_table::Cause;
 use std::process::Abort;
@@ -41,7 +43,7 @@ fn boots_16_to_4096_frames(rt: HostRuntime) {
 }
 
 /// The root's quota on a wide core of so many frames.
-fn booted_wide<R: AllocGlobal + Abort>(rt: &R, frames: u32) -> Result<u32, BootFault> {
+fn booted_wide<R: AllocGlobal + Abort>(rt: &R, frames: u32) -> Result<u32, WideFault> {
     let core = Core::boot_wide(rt.alloc(), frames)?;
     let container = core.container(root(rt));
     Ok(container.map(|container| container.quota).unwrap_or(0))
@@ -53,10 +55,10 @@ fn boots_wide_past_4096_frames(rt: HostRuntime) {
         &rt,
         &[15, 16, 5000, 1048577].map(|frames| booted_wide(&rt, frames)),
         &[
-            Err(BootFault::BadSize),
+            Err(WideFault::BadSize),
             Ok(15),
             Ok(4999),
-            Err(BootFault::BadSize),
+            Err(WideFault::BadSize),
         ],
     );
 }

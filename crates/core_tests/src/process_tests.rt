@@ -1,7 +1,9 @@
 //! Processes by their calls: an example of each test and of each call.
 use crate::common::same;
 use address_space::Cell;
-use page_words::{MachineFault, Page, Pid, Size, Vaddr, in_user_range, page_of, second_page};
+use page_words::{
+    MachineFault, Page, Pid, Size, Vaddr, WideFault, in_user_range, page_of, second_page,
+};
 use process_table::{Cause, Processes, calls_keep_states_well_formed, images_stand_for_one};
 use std::process::Abort;
 use std::test::Fail;
@@ -156,11 +158,7 @@ fn takes_more_frames_where_it_is_wide(rt: HostRuntime) {
     same(
         &rt,
         &sizes,
-        &[
-            Err(MachineFault::BadSize),
-            Ok(5000),
-            Err(MachineFault::BadSize),
-        ],
+        &[Err(WideFault::BadSize), Ok(5000), Err(WideFault::BadSize)],
     );
 }
 

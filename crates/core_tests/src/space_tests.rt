@@ -7,7 +7,7 @@ use crate::common::same;
 use address_space::{Cell, Spaces};
 use alloc_table::Role;
 use page_words::{
-    Frame, MachineFault, Page, Pid, Size, Vaddr, in_user_range, page_of, second_page,
+    Frame, MachineFault, Page, Pid, Size, Vaddr, WideFault, in_user_range, page_of, second_page,
 };
 use std::process::Abort;
 use std::test::Fail;
@@ -168,11 +168,7 @@ fn takes_more_frames_where_it_is_wide(rt: HostRuntime) {
     same(
         &rt,
         &sizes,
-        &[
-            Err(MachineFault::BadSize),
-            Ok(5000),
-            Err(MachineFault::BadSize),
-        ],
+        &[Err(WideFault::BadSize), Ok(5000), Err(WideFault::BadSize)],
     );
 }
 

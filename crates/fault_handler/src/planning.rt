@@ -10,7 +10,7 @@ ghost use Rattle.fault_handler.specs.Looks.{ready_by, roomy_by, planned_by_looks
 
 use crate::looks::{barred, look_at, look_behind, need_by};
 use crate::plans::{Look, Plan, Planned};
-use page_words::{Pid, Size, Vaddr, in_user_range, page_of, second_page, start_of};
+use page_words::{Pid, Size, Vaddr, WIDE_FRAMES, in_user_range, page_of, second_page, start_of};
 use process_table::{Cause, Places, Processes, left_of};
 use quota_tree::Container;
 use table_walk::{Access, PageFault};
@@ -56,7 +56,7 @@ fn planned(plan: Plan, charge: u32) -> Planned
 fn by_room(first: &Look, second: &Option<Look>, container: &Container) -> Planned
     requires first { first.now.need ≤ 2 }
     requires second { IfSome second.now (λ look. look.need ≤ 2) }
-    requires used { container.now.used < 1048576 }
+    requires used { container.now.used < WIDE_FRAMES }
     ensures { result ≡ roomy_by first.now second.now container.now }
 {
     let need = need_by(first, second);
@@ -78,7 +78,7 @@ pub(crate) fn by_looks(
 ) -> Planned
     requires first { first.now.need ≤ 2 }
     requires second { IfSome second.now (λ look. look.need ≤ 2) }
-    requires used { container.now.used < 1048576 }
+    requires used { container.now.used < WIDE_FRAMES }
     ensures { result ≡ planned_by_looks access first.now second.now container.now }
 {
     match barred(access, first, second) {

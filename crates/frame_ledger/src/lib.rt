@@ -10,7 +10,8 @@ ghost use Rattle.frame_ledger.specs.FreeFrames.{opening, IsFree, IsTakenFrom, wi
 ghost use Rattle.frame_ledger.specs.FreeList.{all_in_use};
 
 use page_words::{
-    Frame, MAX_FRAMES, MIN_FRAMES, MachineFault, WIDE_FRAMES, is_frame_count, is_wide_frame_count,
+    Frame, MAX_FRAMES, MIN_FRAMES, MachineFault, WIDE_FRAMES, WideFault, is_frame_count,
+    is_wide_frame_count,
 };
 use std::alloc::Global;
 use std::marker::Model;
@@ -58,19 +59,21 @@ impl Ledger {
         if !is_frame_count(frames) {
             return Err(MachineFault::BadSize);
         }
-        Ledger::wide(alloc, frames)
+        Ok(Ledger::wide(alloc, frames)?)
     }
 
-    /// As `new`, for up to 1,048,576 frames: BadSize where `frames` is outside 16 to 1,048,576.
-    pub fn wide(alloc: Global, frames: u32) -> Result<Ledger, MachineFault>
+    /// As `new`, for up to 1,048,576 frames: BadSize if `frames` is outside 16 to 1,048,576.
+    pub fn wide(alloc: Global, frames: u32) -> Result<Ledger, WideFault>
         ensures ledger { IfOk result (λ ledger. ledger ≡ opening frames) }
         ensures size { IfOk result (λ ledger. ledger.frames ≡ frames) }
-        ensures bad_size { IsErrOf result MachineFault.BadSize ↔ (MIN_FRAMES ≤ frames → frames ≤ WIDE_FRAMES → ⊥) }
+        ensures bad_size { IsErrOf result WideFault.BadSize ↔ (MIN_FRAMES ≤ frames → frames ≤ WIDE_FRAMES → ⊥) }
     {
         if !is_wide_frame_count(frames) {
-            return Err(MachineFault::BadSize);
+            return Err(WideFault::BadSize);
         }
-        let mut ledger = Ledger::full(alloc, frames)?;
+        let Ok(mut ledger) = Ledger::full(alloc, frames) else {
+            return Err(WideFault::NoMemory);
+        };
         for frame in (1..frames).rev() {
             ledger.put_back(Frame(frame));
         }

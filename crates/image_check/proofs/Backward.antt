@@ -20,7 +20,7 @@ use Rattle.address_space.specs.Image.{directory_at, word_of, is_user_slot, table
 use Rattle.image_check.specs.declared.clauses.FrameClause.{FrameClause}
 use Rattle.image_check.specs.declared.clauses.FrameClause.TheVariants as of_frame
 use Rattle.memory_image.specs.declared.processes.Process.{Process}
-use Rattle.memory_image.specs.Image.{Image, frames, process_at, role_at, memory_of, IsImage}
+use Rattle.memory_image.specs.Image.{Image, frames, process_at, role_at, memory_of, IsWideImage}
 use Rattle.image_check.specs.Counts.{all_range, is_this, tables_by, pages_by, names, maps, words_in}
 use Rattle.image_check.specs.WordTests.{names_table, names_page}
 use Rattle.image_check.specs.Verdict.{NothingFails, is_blank_and_reserved, clause_of, clause_by_role, serves, is_unnamed, is_unmapped, is_reserved, is_directory_of, is_table_of, is_page, links_table, links_tables, maps_page, maps_pages, table_is_right, quotas_from}
@@ -32,7 +32,7 @@ use Rattle.memory_image.proofs.References.{from_map, user_range, directory-of, l
 use Rattle.image_check.proofs.Linked.{linked, mapped, maps-counts, charge-counts}
 use Rattle.image_check.proofs.ClauseLemmas.{passes_first, Passes, all_pass, directory_role, table_role, page_role, reserved_role, zeros_from, quotas_listed}
 
-module _ (image : Image) (I : IsImage image) (N : NothingFails image) where
+module _ (image : Image) (I : IsWideImage image) (N : NothingFails image) where
   abbrev M : memory.Image
   M = memory_of image
 

@@ -22,7 +22,7 @@ use Rattle.image_check.specs.declared.clauses.ProcessClause.TheVariants as of_pr
 use Rattle.image_check.specs.declared.clauses.FrameClause.{FrameClause}
 use Rattle.image_check.specs.declared.clauses.FrameClause.TheVariants as of_frame
 use Rattle.memory_image.specs.declared.processes.Process.{Process}
-use Rattle.memory_image.specs.Image.{Image, frames, process_at, role_at, memory_of, IsImage}
+use Rattle.memory_image.specs.Image.{Image, frames, process_at, role_at, memory_of, IsWideImage}
 use Rattle.image_check.specs.Counts.{all_range, is_this, tables_by, pages_by, names, maps, words_in, frame_of}
 use Rattle.image_check.specs.WordTests.{names_table, names_page}
 use Rattle.image_check.specs.Verdict.{NothingFails, clause_of, frame_clause, clause_by_role, is_blank_and_reserved, serves, is_unnamed, is_unmapped, is_reserved, is_directory_of, is_table_of, is_page, has_parent, has_directory, links_table, links_tables, maps_page, maps_pages, table_is_right, quotas_from}
@@ -31,7 +31,7 @@ use Rattle.image_check.proofs.WordLemmas.{tests_decide, names-present}
 use Rattle.image_check.proofs.Linked.{real_own, linked, link, word-from, maps-is, maps-none, names-none, names-one, charge-is}
 use Rattle.image_check.proofs.ClauseLemmas.{first_passes, Passes, pass_all, role_directory, role_table, all_zeros, quotas_listed}
 
-module _ (image : Image) (I : IsImage image) (S : IsSound image) where
+module _ (image : Image) (I : IsWideImage image) (S : IsSound image) where
   abbrev M : memory.Image
   M = memory_of image
 

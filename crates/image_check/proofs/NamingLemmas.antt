@@ -1,18 +1,18 @@
 -- What a directory names and maps, added up by the frames that it names in place of its slots.
-use Rattle.std.proofs.Common.{◌≡◌, ℕ, zero, suc, ◌+◌, ◌-◌, ◌*◌, ◌<◌, ◌≤◌, Bool, List, length, replicate, mul-add, add-mul, mul-le-mul_left, mul-zero, zero-mul, one-mul, refl, sym, ap, subst, ◌∙◌, arith, inl, inr, Option, Some, None}
+use Rattle.std.proofs.Common.{◌≡◌, ◌≢◌, ℕ, zero, suc, ◌+◌, ◌-◌, ◌*◌, ◌<◌, ◌≤◌, Bool, List, length, replicate, mul-add, add-mul, mul-le-mul_left, mul-zero, zero-mul, one-mul, refl, sym, ap, subst, ◌∙◌, arith, inl, inr, Option, Some, None}
 use Rattle.std.specs.Prelude.{slice_index, ◌==◌, if◌then◌else◌}
-use Rattle.std.proofs.lemmas.Bool.{cases_lt, eq-eqb, ne_eqb}
+use Rattle.std.proofs.lemmas.Bool.{cases_eq, cases_lt, eq-eqb, ne_eqb}
 use Rattle.std.proofs.lemmas.List.{length-replicate}
 use Rattle.page_words.specs.Words.{is_present}
 use Rattle.page_map.specs.Pages.{counted, count_range}
-use Rattle.page_map.proofs.PageLemmas.{count_range-add, count_range-le, count_range-none, count_range-zero, count_word}
+use Rattle.page_map.proofs.PageLemmas.{count_range-add, count_range-le, count_range-more, count_range-none, count_range-zero, count_word}
 use Rattle.address_space.specs.Image.{table_at}
 use Rattle.memory_image.specs.Image.{Image, frames, memory_of}
 use Rattle.address_space.specs.ImageWords.{own_frame}
 use Rattle.memory_image.proofs.ImageReads.{no_word}
 use Rattle.image_check.specs.Counts.{sum_range, is_this, frame_of, names_by, maps_by}
-use Rattle.image_check.specs.Adds.{Adds, Counts, HaveRoom, MayGrow, frame_named, words_naming}
-use Rattle.image_check.proofs.RangeLemmas.{sum-none, sum-one, sum-same, sum-add, sum_goes_on}
+use Rattle.image_check.specs.Adds.{Adds, HaveRoom, MayGrow, frame_named, maps_first, names_before, naming_first, times_named, words_naming}
+use Rattle.image_check.proofs.RangeLemmas.{sum-none, sum-one, sum-same, sum-add, sum-more, sum_goes_on}
 use Rattle.image_check.proofs.AddLemmas.{adds_nothing, adds_both}
 use Rattle.image_check.proofs.SlotLemmas.{maps_in_table, maps_without_table}
 
@@ -119,31 +119,129 @@ term_room g xs ys n k low room a f inside =
     ap (sum_range (g f) 0) (let e : n ≡ k + 1 + (n - (k + 1)) = omega arith in e) ∙ sum-add (g f) 0 (k + 1) (n - (k + 1)) in
     omega (arith, room f i, a.each f i, more, whole)
 
--- ---- What was counted from zeros
+-- ---- Each table at the first word that names it
 
-module _ (image : Image) (p : ℕ) (named : List ℕ) (size : length image.bytes ≡ 4096 * frames image) (few : frames image ≤ 4096) (counts : Counts named 4096 (λ t. names_by image p t)) where
-  pub maps_by_named : (f : ℕ) → sum_range (λ t. slice_index named t * words_naming image t f) 0 (frames image) ≡ maps_by image p f
-  maps_by_named f =
-      sum-same (λ t. slice_index named t * words_naming image t f) (λ t. names_by image p t * words_naming image t f) 0 (frames image) (λ t low high. ap (λ k. k * words_naming image t f) (counts.each t (omega arith)))
+-- 1, or 0 for no time
+abbrev once : ℕ → ℕ
+once zero = 0
+once (suc n) = 1
+
+once-some : (n : ℕ) → (n ≡ 0 → ⊥) → once n ≡ 1
+once-some zero some = absurd (some refl)
+once-some (suc n) some = refl
+
+once-times : (n w : ℕ) → once n * (n * w) ≡ n * w
+once-times zero w = zero-mul (0 * w) ∙ sym (zero-mul w)
+once-times (suc n) w = one-mul (suc n * w)
+
+module _ (image : Image) (p f : ℕ) (size : length image.bytes ≡ 4096 * frames image) where
+  abbrev tab : ℕ → Option ℕ
+  tab s = table_at (memory_of image) p s
+
+  -- how many words name f by way of frame t
+  abbrev by_way : ℕ → ℕ
+  by_way t = names_by image p t * words_naming image t f
+
+  -- by way of the frames that so many words of the directory name
+  abbrev by_first : ℕ → ℕ
+  by_first k = sum_range (λ t. once (names_before image p k t) * by_way t) 0 (frames image)
+
+  names-more : (k t : ℕ) (x : Option ℕ) → tab (256 + k) ≡ x → names_before image p (k + 1) t ≡ names_before image p k t + counted (is_this t x)
+  names-more k t x is = count_range-more (λ s. is_this t (tab s)) 256 k ∙ ap (λ y. names_before image p k t + counted (is_this t y)) is
+
+  names-other : (k t u : ℕ) → tab (256 + k) ≡ Some u → t ≢ u → names_before image p (k + 1) t ≡ names_before image p k t
+  names-other k t u there differ =
+      let none : counted (u == t) ≡ 0 = ap counted (ne_eqb u t (λ e. differ (sym e))) in
+      let more = names-more k t (Some u) there in
+      omega (arith, none, more)
+
+  names-own : (k t u : ℕ) → tab (256 + k) ≡ Some u → t ≡ u → names_before image p (k + 1) t ≡ names_before image p k t + 1
+  names-own k t u there same =
+      let one : counted (u == t) ≡ 1 = ap counted (eq-eqb u t (sym same)) in
+      let more = names-more k t (Some u) there in
+      omega (arith, one, more)
+
+  first_none : (k : ℕ) → tab (256 + k) ≡ None → by_first (k + 1) ≡ by_first k
+  first_none k none = sum-same (λ t. once (names_before image p (k + 1) t) * by_way t) (λ t. once (names_before image p k t) * by_way t) 0 (frames image)
+      (λ t low high. ap (λ n. once n * by_way t) (let more = names-more k t None none in omega (arith, more)))
+
+  first_again : (k u : ℕ) → tab (256 + k) ≡ Some u → (names_before image p k u ≡ 0 → ⊥) → by_first (k + 1) ≡ by_first k
+  first_again k u there seen = sum-same (λ t. once (names_before image p (k + 1) t) * by_way t) (λ t. once (names_before image p k t) * by_way t) 0 (frames image)
+      (λ t low high. ap (λ n. n * by_way t) (alike t))
+    where
+      alike : (t : ℕ) → once (names_before image p (k + 1) t) ≡ once (names_before image p k t)
+      alike t = elim (cases_eq t u) [
+        | inl same ↦
+            let some : names_before image p k t ≡ 0 → ⊥ = λ e. seen (ap (names_before image p k) (sym same) ∙ e) in
+            once-some (names_before image p (k + 1) t) (λ e. let more = names-own k t u there same in omega (arith, more, e)) ∙ sym (once-some (names_before image p k t) some)
+        | inr differ ↦ ap once (names-other k t u there differ)
+      ]
+
+  first_fresh : (k u : ℕ) → tab (256 + k) ≡ Some u → names_before image p k u ≡ 0 → by_first (k + 1) ≡ by_first k + by_way u
+  first_fresh k u there unseen =
+      sum-same (λ t. once (names_before image p (k + 1) t) * by_way t) (λ t. once (names_before image p k t) * by_way t + counted (is_this t (Some u)) * by_way t) 0 (frames image) (λ t low high. one-more t)
+      ∙ sum-plus (λ t. once (names_before image p k t) * by_way t) (λ t. counted (is_this t (Some u)) * by_way t) 0 (frames image)
+      ∙ ap (λ n. by_first k + n) (by-name by_way (frames image) past (Some u))
+    where
+      past : (t : ℕ) → frames image ≤ t → by_way t ≡ 0
+      past t beyond = ap (λ n. names_by image p t * n) (past_names_none image p f size t beyond) ∙ mul-zero (names_by image p t)
+
+      one-more : (t : ℕ) → once (names_before image p (k + 1) t) * by_way t ≡ once (names_before image p k t) * by_way t + counted (is_this t (Some u)) * by_way t
+      one-more t = elim (cases_eq t u) [
+        | inl same ↦
+            let none : names_before image p k t ≡ 0 = ap (names_before image p k) same ∙ unseen in
+            let new : names_before image p (k + 1) t ≡ 1 = (let more = names-own k t u there same in omega (arith, more, none)) in
+            let a : once (names_before image p (k + 1) t) * by_way t ≡ by_way t = ap (λ n. once n * by_way t) new ∙ one-mul (by_way t) in
+            let b : once (names_before image p k t) * by_way t ≡ 0 = ap (λ n. once n * by_way t) none ∙ zero-mul (by_way t) in
+            let c : counted (u == t) * by_way t ≡ by_way t = ap (λ x. counted x * by_way t) (eq-eqb u t (sym same)) ∙ one-mul (by_way t) in
+            omega (arith, a, b, c)
+        | inr differ ↦
+            let a : once (names_before image p (k + 1) t) * by_way t ≡ once (names_before image p k t) * by_way t = ap (λ n. once n * by_way t) (names-other k t u there differ) in
+            let c : counted (u == t) * by_way t ≡ 0 = ap (λ x. counted x * by_way t) (ne_eqb u t (λ e. differ (sym e))) ∙ zero-mul (by_way t) in
+            omega (arith, a, c)
+      ]
+
+  first_step : (k : ℕ) → by_first k + maps_first image p k f ≡ by_first (k + 1)
+  first_step k = by (tab (256 + k)) refl
+    where
+      by : (x : Option ℕ) → tab (256 + k) ≡ x → by_first k + naming_first image p k f x ≡ by_first (k + 1)
+      by None none = (let e = first_none k none in omega (arith, e))
+      by (Some u) there = elim (cases_eq (names_before image p k u) 0) [
+        | inl unseen ↦
+            let times : times_named image p k u ≡ names_by image p u = ap (λ b. if b then names_by image p u else 0) (eq-eqb (names_before image p k u) 0 unseen) in
+            ap (λ n. by_first k + n * words_naming image u f) times ∙ sym (first_fresh k u there unseen)
+        | inr seen ↦
+            let times : times_named image p k u ≡ 0 = ap (λ b. if b then names_by image p u else 0) (ne_eqb (names_before image p k u) 0 seen) in
+            let none : times_named image p k u * words_naming image u f ≡ 0 = ap (λ n. n * words_naming image u f) times ∙ zero-mul (words_naming image u f) in
+            let e = first_again k u there seen in
+            omega (arith, none, e)
+      ]
+
+  firsts : (k : ℕ) → sum_range (λ j. maps_first image p j f) 0 k ≡ by_first k
+  unfolding sum_range
+  firsts zero = sym (sum-none (λ t. once (names_before image p 0 t) * by_way t) 0 (frames image) (λ t low high. ap (λ n. once n * by_way t) (count_range-zero (λ s. is_this t (tab s)) 256) ∙ zero-mul (by_way t)))
+  firsts (suc k) =
+      let e : suc k ≡ k + 1 = omega arith in
+      let step = first_step k in
+      let before = firsts k in
+      let more = sum-more (λ j. maps_first image p j f) k in
+      let now : by_first (suc k) ≡ by_first (k + 1) = ap by_first e in
+      omega (arith, step, before, more, now)
+
+  -- what the tables map, each at the first word that names it
+  pub maps_by_first : sum_range (λ j. maps_first image p j f) 0 704 ≡ maps_by image p f
+  maps_by_first =
+      firsts 704
+      ∙ sum-same (λ t. once (names_before image p 704 t) * by_way t) by_way 0 (frames image) (λ t low high. once-times (names_by image p t) (words_naming image t f))
       ∙ maps_by_names image p f size
 
-  pub room_by_named : (maps : List ℕ) → HaveRoom maps 720896 → MayGrow maps (λ f. sum_range (λ t. slice_index named t * words_naming image t f) 0 (frames image))
-  room_by_named maps room f inside =
-      let most = count_range-le (λ page. is_this f (frame_of image p page)) 0x40000 0xb0000 in
-      omega (arith, room f inside, maps_by_named f, most)
+-- room for what a process maps
+pub room_by_first : (image : Image) (p : ℕ) (maps : List ℕ) → length image.bytes ≡ 4096 * frames image → HaveRoom maps 720896 → MayGrow maps (λ f. sum_range (λ j. maps_first image p j f) 0 704)
+room_by_first image p maps size room f inside =
+    let most = count_range-le (λ page. is_this f (frame_of image p page)) 0x40000 0xb0000 in
+    let e = maps_by_first image p f size in
+    omega (arith, room f inside, e, most)
 
-zero_at : (n f : ℕ) → slice_index (replicate n 0) f ≡ 0
-zero_at zero f = refl
-zero_at (suc n) zero = refl
-zero_at (suc n) (suc f) = zero_at n f
-
--- zeros have room for all slots of a directory
-pub zeros_have_room : HaveRoom (replicate 4096 0) 704
-zeros_have_room f inside = let z = zero_at 4096 f in omega (arith, z)
-
--- what was added to zeros is what was counted
-pub counts_from_zeros : (xs : List ℕ) (k : ℕ → ℕ) → Adds (replicate 4096 0) xs k → Counts xs 4096 k
-counts_from_zeros xs k a = record {
-  long = a.same ∙ length-replicate {A = ℕ} 4096 0;
-  each = λ f low. let z = zero_at 4096 f in omega (arith, a.each f (subst (λ n. f < n) (sym (length-replicate {A = ℕ} 4096 0)) low), z);
-}
+-- a slot that names no table adds nothing
+pub adds_none_first : (image : Image) (p count : ℕ) (maps : List ℕ) → table_at (memory_of image) p (256 + count) ≡ None → Adds maps maps (λ f. maps_first image p count f)
+adds_none_first image p count maps none = adds_nothing maps (λ f. maps_first image p count f) (λ f. ap (naming_first image p count f) none)

@@ -5,7 +5,7 @@ use Rattle.std.specs.Option.{unwrap_or}
 use Rattle.std.specs.List.{list_all}
 use Rattle.std.specs.Bool.{Decides}
 use Rattle.std.proofs.lemmas.Bool.{and_parts, and_from}
-use Rattle.memory_image.specs.Image.{Image, frames, IsImage}
+use Rattle.memory_image.specs.Image.{Image, frames, IsWideImage}
 use Rattle.memory_image.specs.Sound.{IsSound}
 use Rattle.image_check.specs.Told.{fails_nothing, verdict_on}
 use Rattle.image_check.specs.Verdict.{process_clause, frame_clause}
@@ -36,7 +36,7 @@ map-get f n p low =
     slice_get-get_or (map f (range_with_len 0 n)) p (f p) (let l = length-map-range_with_len f 0 n in omega arith)
     ∙ ap Some (get_or-map-range_with_len f 0 n p p (f p) low (omega arith))
 
-pub sound_is_told : (image : Image) → IsImage image → Decides (fails_nothing (verdict_on image)) (IsSound image)
+pub sound_is_told : (image : Image) → IsWideImage image → Decides (fails_nothing (verdict_on image)) (IsSound image)
 sound_is_told image I = (
   λ h. let a = and_parts (list_all is_none (verdict_on image).processes) (list_all is_none (verdict_on image).frames) h in
       (sound_where_nothing_fails image I).1 (record {

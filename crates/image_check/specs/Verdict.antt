@@ -11,7 +11,7 @@ use Rattle.image_check.specs.declared.clauses.ProcessClause.TheVariants as of_pr
 use Rattle.image_check.specs.declared.clauses.FrameClause.{FrameClause}
 use Rattle.image_check.specs.declared.clauses.FrameClause.TheVariants as of_frame
 use Rattle.memory_image.specs.declared.processes.Process.{Process}
-use Rattle.memory_image.specs.Image.{Image, frames, process_at, role_at, memory_of, IsImage}
+use Rattle.memory_image.specs.Image.{Image, frames, process_at, role_at, memory_of, IsWideImage}
 use Rattle.address_space.specs.ImageWords.{is_lazy_word}
 use Rattle.memory_image.specs.Sound.{account_at, IsSound}
 use Rattle.process_table.specs.Image.{quota_from}
@@ -147,4 +147,4 @@ pub record NothingFails (image : Image) : Type 0 where
 
 -- an image is sound exactly where no clause fails
 abbrev pub SoundWhereNothingFails : Type 0
-SoundWhereNothingFails = (image : Image) → IsImage image → IsSound image ↔ NothingFails image
+SoundWhereNothingFails = (image : Image) → IsWideImage image → IsSound image ↔ NothingFails image

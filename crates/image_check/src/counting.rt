@@ -8,7 +8,7 @@ ghost use Rattle.image_check.specs.Counts.{is_this};
 ghost use Rattle.image_check.specs.Adds.{Adds, HaveRoom, MayGrow};
 
 use crate::kernel_words::own_frame;
-use memory_image::Image;
+use memory_image::ImageRef;
 use page_words::{Frame, Pid, TableWord};
 
 /// Adds so many to the count of a frame, where there is one, and it is counted.
@@ -35,7 +35,7 @@ pub fn count_one(counts: &mut [u32], frame: Option<Frame>)
 }
 
 /// The frame of its own that a word of a table names, where it is present.
-pub fn frame_named(image: &Image, word: u32) -> Option<Frame>
+pub fn frame_named(image: &ImageRef<'_>, word: u32) -> Option<Frame>
     ensures { result ≡ (if is_present word then own_frame image.now.version word else None) }
 {
     if TableWord::read(word).present() {

@@ -10,10 +10,10 @@ ghost use Rattle.image_check.specs.Verdict.{serves, is_reserved, is_blank_and_re
 use crate::clauses::FrameClause;
 use crate::process_clauses::table_of;
 use alloc_table::Role;
-use memory_image::Image;
+use memory_image::ImageRef;
 use page_words::{Frame, Pid};
 
-fn is_this(frame: Frame, other: Option<Frame>) -> bool
+pub(crate) fn is_this(frame: Frame, other: Option<Frame>) -> bool
     ensures { result ≡ is_this frame other }
 {
     match other {
@@ -24,7 +24,7 @@ fn is_this(frame: Frame, other: Option<Frame>) -> bool
 
 /// The directory of a process, where it is live.
 #[tactic(auto, using(memory_image::proofs::References::directory_read))]
-fn directory_of(image: &Image, pid: Pid) -> Option<Frame>
+fn directory_of(image: &ImageRef<'_>, pid: Pid) -> Option<Frame>
     ensures { result ≡ directory_at (memory_of image.now) pid }
 {
     match image.process(pid) {
@@ -34,7 +34,13 @@ fn directory_of(image: &Image, pid: Pid) -> Option<Frame>
 }
 
 /// Whether a frame serves as its role says, and the clause that asks it.
-fn serves(image: &Image, frame: Frame, role: Role, names: u32, maps: u32) -> (bool, FrameClause)
+fn serves(
+    image: &ImageRef<'_>,
+    frame: Frame,
+    role: Role,
+    names: u32,
+    maps: u32,
+) -> (bool, FrameClause)
     requires named { names ≡ counts.names image.now frame }
     requires mapped { maps ≡ counts.maps image.now frame }
     ensures { result ≡ serves image.now frame role }
@@ -54,7 +60,7 @@ fn serves(image: &Image, frame: Frame, role: Role, names: u32, maps: u32) -> (bo
     }
 }
 
-fn is_blank_and_reserved(image: &Image) -> bool
+fn is_blank_and_reserved(image: &ImageRef<'_>) -> bool
     ensures { result ≡ is_blank_and_reserved image.now }
 {
     is_reserved(image.role(Frame(0))) && image.is_blank()
@@ -69,7 +75,7 @@ fn is_reserved(role: Option<Role>) -> bool
     }
 }
 
-fn clause_by_role(image: &Image, frame: Frame, names: u32, maps: u32) -> Option<FrameClause>
+fn clause_by_role(image: &ImageRef<'_>, frame: Frame, names: u32, maps: u32) -> Option<FrameClause>
     requires named { names ≡ counts.names image.now frame }
     requires mapped { maps ≡ counts.maps image.now frame }
     ensures { result ≡ clause_by_role image.now frame (role_at image.now frame) }
@@ -84,7 +90,12 @@ fn clause_by_role(image: &Image, frame: Frame, names: u32, maps: u32) -> Option<
 }
 
 /// The first clause that a frame fails, by how often it is named and mapped.
-pub fn frame_clause(image: &Image, frame: Frame, names: u32, maps: u32) -> Option<FrameClause>
+pub fn frame_clause(
+    image: &ImageRef<'_>,
+    frame: Frame,
+    names: u32,
+    maps: u32,
+) -> Option<FrameClause>
     requires named { names ≡ counts.names image.now frame }
     requires mapped { maps ≡ counts.maps image.now frame }
     ensures { result ≡ frame_clause image.now frame }

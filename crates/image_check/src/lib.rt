@@ -17,9 +17,9 @@ pub use clauses::{FrameClause, ProcessClause};
 pub use counting::pid_of;
 pub use laws::{draws_add_up, sound_where_nothing_fails, tests_decide};
 pub use memory_image::{
-    Image, ImageFault, NoMemory, Process, WriteFailed, bytes_are_refused_where_they_spell_none,
-    fault_in, images_have_one_spelling, images_of_machines_stand, images_stand_for_one, read_image,
-    write_image,
+    Image, ImageFault, ImageRef, NoMemory, Process, WriteFailed,
+    bytes_are_refused_where_they_spell_none, fault_in, images_have_one_spelling,
+    images_of_machines_stand, images_stand_for_one, read_image, write_image,
 };
 pub use process_clauses::judge_process;
-pub use verdicts::{Verdict, check};
+pub use verdicts::{Verdict, check, check_by_ref};

@@ -15,7 +15,7 @@ use crate::clauses::ProcessClause;
 use crate::kernel_words::{is_lazy_word, names_page, names_table};
 use crate::walking::{Walked, walk};
 use alloc_table::Role;
-use memory_image::{Image, Process};
+use memory_image::{ImageRef, Process};
 use page_map::{FIRST_SLOT, SLOT_END};
 use page_words::{DirWord, Frame, Pid, TableWord};
 
@@ -50,7 +50,7 @@ fn is_page(role: Option<Role>) -> bool
     }
 }
 
-fn has_parent(image: &Image, pid: Pid, process: &Process) -> bool
+fn has_parent(image: &ImageRef<'_>, pid: Pid, process: &Process) -> bool
     ensures { result ≡ has_parent image.now pid process.now }
 {
     if pid.number() == 0 {
@@ -60,7 +60,7 @@ fn has_parent(image: &Image, pid: Pid, process: &Process) -> bool
     }
 }
 
-fn has_directory(image: &Image, pid: Pid, process: &Process) -> bool
+fn has_directory(image: &ImageRef<'_>, pid: Pid, process: &Process) -> bool
     ensures { result ≡ has_directory image.now pid process.now }
 {
     process.directory.0 != 0 && is_directory_of(pid, image.role(process.directory))
@@ -72,7 +72,7 @@ pub fn is_user_slot(slot: u32) -> bool
     (FIRST_SLOT..SLOT_END).contains(&slot)
 }
 
-pub fn links_table(image: &Image, pid: Pid, slot: u32, word: u32) -> bool
+pub fn links_table(image: &ImageRef<'_>, pid: Pid, slot: u32, word: u32) -> bool
     ensures { result ≡ links_table image.now pid slot word }
 {
     word == 0
@@ -81,7 +81,7 @@ pub fn links_table(image: &Image, pid: Pid, slot: u32, word: u32) -> bool
             && is_table_of(pid, slot, image.role(DirWord::read(word).frame())))
 }
 
-pub fn maps_page(image: &Image, word: u32) -> bool
+pub fn maps_page(image: &ImageRef<'_>, word: u32) -> bool
     ensures { result ≡ maps_page image.now word }
 {
     let version = image.version();
@@ -103,7 +103,7 @@ pub fn word_count(word: u32) -> u32
 }
 
 /// The table of a slot of a process's directory.
-pub fn table_of(image: &Image, pid: Pid, slot: u32) -> Option<Frame>
+pub fn table_of(image: &ImageRef<'_>, pid: Pid, slot: u32) -> Option<Frame>
     ensures { result ≡ table_at (memory_of image.now) pid slot }
 {
     let process = image.process(pid)?;
@@ -127,7 +127,7 @@ fn uses_its_frames(used: u32, found: &Walked) -> bool
 }
 
 /// What a process has of another's quota: its own where it is a child of that one.
-fn quota_from(image: &Image, pid: Pid, number: u8) -> u32
+fn quota_from(image: &ImageRef<'_>, pid: Pid, number: u8) -> u32
     requires { number < 64 }
     ensures { result ≡ quota_from pid number (account_at image.now number) }
 {
@@ -147,7 +147,7 @@ fn quota_from(image: &Image, pid: Pid, number: u8) -> u32
 }
 
 /// What the children of a process have of its quota.
-fn quotas_from(image: &Image, pid: Pid) -> u64
+fn quotas_from(image: &ImageRef<'_>, pid: Pid) -> u64
     ensures { result ≡ quotas_from image.now pid }
 {
     let mut sum = 0;
@@ -157,7 +157,7 @@ fn quotas_from(image: &Image, pid: Pid) -> u64
     sum
 }
 
-fn gives_its_children(image: &Image, pid: Pid, given: u32) -> bool
+fn gives_its_children(image: &ImageRef<'_>, pid: Pid, given: u32) -> bool
     ensures { result ≡ (given == quotas_from image.now pid) }
 {
     given as u64 == quotas_from(image, pid)
@@ -173,7 +173,7 @@ fn keeps_its_quota(process: &Process) -> bool
 /// does not lead to tables of its own.
 #[tactic(auto, unfolding(crate::specs::Verdict::links_tables, crate::specs::Verdict::maps_pages))]
 fn live_clause(
-    image: &Image,
+    image: &ImageRef<'_>,
     pid: Pid,
     process: &Process,
     found: Option<Walked>,
@@ -209,7 +209,7 @@ fn live_clause(
 
 /// Checks a live process, and adds what it names and maps.
 fn judge_live(
-    image: &Image,
+    image: &ImageRef<'_>,
     pid: Pid,
     process: &Process,
     names: &mut [u32],
@@ -241,7 +241,7 @@ fn dead_clause(pid: Pid) -> Option<ProcessClause>
 /// directory names each frame, and how many of its pages are mapped to each, to counts of frames by their
 /// number. Each count must have room for as many more.
 pub fn judge_process(
-    image: &Image,
+    image: &ImageRef<'_>,
     pid: Pid,
     names: &mut [u32],
     maps: &mut [u32],

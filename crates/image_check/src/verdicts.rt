@@ -14,8 +14,8 @@ use crate::clauses::{FrameClause, ProcessClause};
 use crate::counting::pid_of;
 use crate::frame_clauses::frame_clause;
 use crate::process_clauses::judge_process;
-use memory_image::{Image, NoMemory};
-use page_words::{Frame, Pid};
+use memory_image::{Image, ImageRef, NoMemory};
+use page_words::{Frame, Pid, WIDE_FRAMES};
 use std::alloc::Global;
 use std::marker::Model;
 
@@ -37,12 +37,12 @@ impl Model for Verdict {
 
     ghost view = { λ v. record { processes = v.processes; frames = v.frames.items } };
 
-    ghost invariant = { λ v. (length v.processes ≡ 64) × (length v.frames.items ≤ 4096) };
+    ghost invariant = { λ v. (length v.processes ≡ 64) × (length v.frames.items ≤ 1048576) };
 }
 
 /// Checks all processes, and adds what they name and map to counts of zeros.
 fn judge_processes(
-    image: &Image,
+    image: &ImageRef<'_>,
     names: &mut [u32],
     maps: &mut [u32],
 ) -> [Option<ProcessClause>; 64]
@@ -60,7 +60,12 @@ fn judge_processes(
     clauses
 }
 
-fn judge_frames(image: &Image, names: &[u32], maps: &[u32], clauses: &mut [Option<FrameClause>])
+fn judge_frames(
+    image: &ImageRef<'_>,
+    names: &[u32],
+    maps: &[u32],
+    clauses: &mut [Option<FrameClause>],
+)
     requires length { length clauses.old ≡ frames image.now }
     requires names { Counts names.now (frames image.now) (λ f. counts.names image.now f) }
     requires maps { Counts maps.now (frames image.now) (λ f. counts.maps image.now f) }
@@ -90,7 +95,7 @@ impl Verdict {
     /// The verdict on an image, from what its 64 processes fail and how often its frames are named and mapped. It
     /// allocates nothing: `room` has a place for each frame, whatever it holds.
     pub fn of_counts(
-        image: &Image,
+        image: &ImageRef<'_>,
         processes: [Option<ProcessClause>; 64],
         names: &[u32],
         maps: &[u32],
@@ -149,14 +154,14 @@ impl Verdict {
     /// What each frame fails.
     pub(crate) fn frames(&self) -> &[Option<FrameClause>]
         ensures clauses { result.now ≡ self.now.frames }
-        ensures few { length result.now ≤ 4096 }
+        ensures few { length result.now ≤ WIDE_FRAMES }
     {
         self.frames.as_slice()
     }
 }
 
 /// The verdict on an image.
-fn judged(alloc: Global, image: &Image) -> Option<Verdict>
+fn judged(alloc: Global, image: &ImageRef<'_>) -> Option<Verdict>
     ensures { IfSome result (λ v. v ≡ verdict_on image.now) }
 {
     let frames = image.frames() as usize;
@@ -173,11 +178,11 @@ fn judged(alloc: Global, image: &Image) -> Option<Verdict>
     Some(Verdict::of_counts(image, processes, &names, &maps, clauses))
 }
 
-/// What fails of an image: of each process and each frame the first clause. None fails exactly where
-/// the image is sound.
+/// What fails of an image, wherever its parts lie: of each process and each frame the first clause. None fails exactly
+/// where the image is sound. It allocates 10 bytes for each frame.
 ///
 /// NoMemory where there is no memory for the counts and the verdict.
-pub fn check(alloc: Global, image: &Image) -> Result<Verdict, NoMemory>
+pub fn check_by_ref(alloc: Global, image: &ImageRef<'_>) -> Result<Verdict, NoMemory>
     ensures verdict { IfOk result (λ v. v ≡ verdict_on image.now) }
     ensures sound { IfOk result (λ v. Decides (fails_nothing v) (IsSound image.now)) }
 {
@@ -186,4 +191,12 @@ pub fn check(alloc: Global, image: &Image) -> Result<Verdict, NoMemory>
         Some(verdict) => Ok(verdict),
         None => Err(NoMemory),
     }
+}
+
+/// What fails of an image, as `check_by_ref`.
+pub fn check(alloc: Global, image: &Image) -> Result<Verdict, NoMemory>
+    ensures verdict { IfOk result (λ v. v ≡ verdict_on image.now) }
+    ensures sound { IfOk result (λ v. Decides (fails_nothing v) (IsSound image.now)) }
+{
+    check_by_ref(alloc, &image.by_ref())
 }

@@ -12,7 +12,7 @@ ghost use Rattle.image_check.specs.Verdict.{links_table, maps_page, table_is_rig
 use crate::counting::{count_one, frame_named};
 use crate::process_clauses::{is_user_slot, links_table, maps_page, word_count};
 use crate::repeated_names::count_named;
-use memory_image::Image;
+use memory_image::ImageRef;
 use page_map::{FIRST_SLOT, SLOT_END};
 use page_words::{DirWord, Frame, Pid};
 
@@ -37,7 +37,7 @@ pub struct Walked {
 }
 
 /// Checks each word of a table, and adds what the words name. It reads each once.
-fn walk_table(image: &Image, table: Frame, maps: &mut [u32]) -> TableFound
+fn walk_table(image: &ImageRef<'_>, table: Frame, maps: &mut [u32]) -> TableFound
     requires { HaveRoom maps.old 1024 }
     ensures right { result.right ≡ all_range (λ i. maps_page image.now (word_of (memory_of image.now) table i)) 0 1024 }
     ensures words { result.words ≡ words_in image.now table }
@@ -64,7 +64,7 @@ fn is_right(found: &TableFound) -> bool
 
 /// Checks the table of a slot, if it has one, and adds what its pages are mapped to.
 fn walk_pages(
-    image: &Image,
+    image: &ImageRef<'_>,
     pid: Pid,
     slot: u32,
     table: Option<Frame>,
@@ -107,7 +107,7 @@ fn named_by(slot: u32, word: u32) -> Option<Frame>
 }
 
 /// The frame that a slot of a process's directory names as a table.
-pub fn table_at(image: &Image, pid: Pid, directory: Frame, slot: u32) -> Option<Frame>
+pub fn table_at(image: &ImageRef<'_>, pid: Pid, directory: Frame, slot: u32) -> Option<Frame>
     requires slot { slot < 1024 }
     requires directory { directory_at (memory_of image.now) pid ≡ Some directory }
     ensures { result ≡ table_at (memory_of image.now) pid slot }
@@ -125,7 +125,7 @@ fn table_count(table: Option<Frame>) -> u32
 
 /// Checks the table that a slot of a directory names, and adds what the slot and the table name.
 fn walk_slot(
-    image: &Image,
+    image: &ImageRef<'_>,
     pid: Pid,
     directory: Frame,
     slot: u32,
@@ -155,7 +155,7 @@ fn walk_slot(
 
 /// Checks the tables that a directory names, and adds what its words and the tables name.
 fn walk_tables(
-    image: &Image,
+    image: &ImageRef<'_>,
     pid: Pid,
     directory: Frame,
     names: &mut [u32],
@@ -187,7 +187,7 @@ fn walk_tables(
     }
 }
 
-fn links_at(image: &Image, pid: Pid, directory: Frame, slot: u32) -> bool
+fn links_at(image: &ImageRef<'_>, pid: Pid, directory: Frame, slot: u32) -> bool
     requires { slot < 1024 }
     ensures { result ≡ links_table image.now pid slot (word_of (memory_of image.now) directory slot) }
 {
@@ -195,7 +195,7 @@ fn links_at(image: &Image, pid: Pid, directory: Frame, slot: u32) -> bool
 }
 
 /// Whether the words of a directory are 0, or lead to tables of its own.
-fn links_all(image: &Image, pid: Pid, directory: Frame) -> bool
+fn links_all(image: &ImageRef<'_>, pid: Pid, directory: Frame) -> bool
     ensures { result ≡ all_range (λ s. links_table image.now pid s (word_of (memory_of image.now) directory s)) 0 1024 }
 {
     let mut links = true;
@@ -211,7 +211,7 @@ fn links_all(image: &Image, pid: Pid, directory: Frame) -> bool
 /// Tables of its own are apart from each other and from those of other processes, so each is read once. Otherwise many
 /// words may name a frame, and `count_named` reads it once for all of them.
 pub fn walk(
-    image: &Image,
+    image: &ImageRef<'_>,
     pid: Pid,
     directory: Frame,
     names: &mut [u32],

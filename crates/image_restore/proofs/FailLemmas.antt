@@ -5,13 +5,13 @@ use Rattle.std.specs.Option.{unwrap_or}
 use Rattle.std.specs.List.{range_with_len}
 use Rattle.std.proofs.lemmas.List.FromFn.{length-map-range_with_len, get_or-map-range_with_len}
 use Rattle.std.proofs.lemmas.Option.{slice_get-get_or}
-use Rattle.memory_image.specs.Image.{Image, frames, IsImage}
+use Rattle.memory_image.specs.Image.{Image, frames, IsImage, IsWideImage}
 use Rattle.memory_image.specs.Sound.{IsSound}
 use Rattle.image_check.specs.declared.clauses.ProcessClause.{ProcessClause}
 use Rattle.image_check.specs.declared.clauses.FrameClause.{FrameClause}
 use Rattle.image_check.specs.Told.{Told, process_told, frame_told, verdict_on}
 use Rattle.image_check.specs.Verdict.{process_clause, frame_clause}
-use Rattle.image_check.proofs.Agreement.{sound_where_nothing_fails}
+use Rattle.image_check.proofs.Agreement.{sound_where_nothing_fails, widened}
 use Rattle.image_restore.specs.Failing.{IsFirst, FailsFrame, FailsFirst}
 use Rattle.image_restore.specs.declared.faults.Failed.{Failed}
 use Rattle.image_restore.specs.declared.faults.Failed.TheVariants as failed
@@ -51,19 +51,22 @@ module _ (image : Image) (told : Told) (is : told ≡ verdict_on image) where
       )
 
   -- where nothing is told the image is sound
-  pub sound_where_none : IsImage image → ((p : ℕ) → p < 64 → process_told told p ≡ None) → (end : ℕ) → end ≡ frames image → ((f : ℕ) → f < end → frame_told told f ≡ None) → IsSound image
+  pub sound_where_none : IsWideImage image → ((p : ℕ) → p < 64 → process_told told p ≡ None) → (end : ℕ) → end ≡ frames image → ((f : ℕ) → f < end → frame_told told f ≡ None) → IsSound image
   sound_where_none I processes end size none = (sound_where_nothing_fails image I).1 (record {
     processes = λ p small. sym (process_is_told p small) ∙ processes p small;
     frames = λ f inside. sym (frame_is_told f inside) ∙ none f (subst (λ (x : ℕ). f < x) (sym size) inside);
   })
 
 -- and where something fails it is not
-pub unsound : (image : Image) (named : Failed) → IsImage image → FailsFirst image named → IsSound image → ⊥
-unsound image (failed.Process p clause) I fails sound =
+pub wide_unsound : (image : Image) (named : Failed) → IsWideImage image → FailsFirst image named → IsSound image → ⊥
+wide_unsound image (failed.Process p clause) I fails sound =
     let none = ((sound_where_nothing_fails image I).0 sound).processes p fails.0 in
     let told : Some clause ≡ None = sym fails.1.here ∙ none in
     cc
-unsound image (failed.Frame f clause) I fails sound =
+wide_unsound image (failed.Frame f clause) I fails sound =
     let none = ((sound_where_nothing_fails image I).0 sound).frames f fails.0.inside in
     let told : Some clause ≡ None = sym fails.1.here ∙ none in
     cc
+
+pub unsound : (image : Image) (named : Failed) → IsImage image → FailsFirst image named → IsSound image → ⊥
+unsound image named I = wide_unsound image named (widened image I)

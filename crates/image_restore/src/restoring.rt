@@ -9,7 +9,7 @@ ghost use Rattle.image_check.specs.Told.{process_told, frame_told, verdict_on};
 ghost use Rattle.image_restore.specs.Failing.{IsFirst, FailsFirst, NamesClause};
 
 use crate::faults::{Failed, RestoreFault};
-use image_check::{FrameClause, Image, ProcessClause, Verdict, check, pid_of};
+use image_check::{FrameClause, Image, ImageRef, ProcessClause, Verdict, check, pid_of};
 use kernel_calls::Core;
 use page_words::Frame;
 use std::alloc::Global;
@@ -41,7 +41,7 @@ fn first_frame(verdict: &Verdict, frames: u32) -> Option<(u32, FrameClause)>
 }
 
 /// The first clause that fails of an image, by the verdict on it; None where it is sound.
-pub fn first_failed(image: &Image, verdict: &Verdict) -> Option<Failed>
+pub fn first_failed(image: &ImageRef<'_>, verdict: &Verdict) -> Option<Failed>
     requires { verdict.now ≡ verdict_on image.now }
     ensures failed { IfSome result (FailsFirst image.now) }
     ensures sound { IfNone result (IsSound image.now) }
@@ -79,7 +79,7 @@ pub fn restore(alloc: Global, image: Image) -> Result<Core, RestoreFault>
     let Ok(verdict) = check(alloc, &image) else {
         return Err(RestoreFault::NoMemory);
     };
-    if let Some(failed) = first_failed(&image, &verdict) {
+    if let Some(failed) = first_failed(&image.by_ref(), &verdict) {
         return Err(RestoreFault::NotSound(failed));
     }
     match image.into_core(alloc) {

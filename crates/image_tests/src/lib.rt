@@ -33,4 +33,6 @@ mod spelling_tests;
 #[cfg(test)]
 mod state_tests;
 #[cfg(test)]
+mod wide_tests;
+#[cfg(test)]
 mod worked_tests;

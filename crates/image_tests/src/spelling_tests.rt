@@ -7,7 +7,7 @@ use crate::comparing::{same, same_bytes};
 use crate::images::{put, put_all, word};
 use base_tests::streams::{BrokenWriter, Pieces};
 use kernel_calls::{Core, Role};
-use memory_image::{Image, ImageFault, NoMemory, WriteFailed, read_image, write_image};
+use memory_image::{CoreImageFault, Image, ImageFault, WriteFailed, read_image, write_image};
 use page_words::{Frame, Vaddr};
 use std::process::Abort;
 
@@ -244,7 +244,8 @@ fn faults_have_their_texts(rt: HostRuntime) {
 fn made_again<R: AllocGlobal + Abort + Print>(rt: &R, core: &Core) -> Image {
     match Image::of(rt.alloc(), core) {
         Ok(image) => image,
-        Err(NoMemory) => {
+        Err(fault) => {
+            same(rt, &fault, &CoreImageFault::NoMemory);
             say(rt, "NoMemory, and then an image of a core");
             image_of(rt, core)
         }

@@ -74,7 +74,7 @@ impl Audit {
             names,
             maps,
         } = findings;
-        Ok(Verdict::of_counts(&about.image, clauses, &names, &maps, room))
+        Ok(Verdict::of_counts(&about.image.by_ref(), clauses, &names, &maps, room))
     }
 }
 

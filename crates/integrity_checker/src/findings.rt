@@ -45,7 +45,7 @@ impl Findings {
         ensures maps { Adds self.old.maps.items self.new.maps.items (λ f. maps_by image.now number f) }
     {
         let pid = pid_of(number);
-        let clause = judge_process(image, pid, &mut self.names, &mut self.maps);
+        let clause = judge_process(&image.by_ref(), pid, &mut self.names, &mut self.maps);
         self.clauses[number as usize] = clause;
         clause
     }

@@ -43,11 +43,11 @@ use crate::pages::{self, PageState};
 use crate::places::{is_access, look};
 use crate::replies::reply_once;
 use crate::translations::{self, Ended};
-use crate::{BootFault, walked};
+use crate::{BootFault, WideFault, walked};
 use alloc_table::Role;
 use fault_handler::{Plan, settle_at};
 use page_sharing::Offer;
-use page_words::{Frame, Page, Pid, Vaddr, in_user_range, page_of};
+use page_words::{Frame, Page, Pid, Vaddr, WIDE_FRAMES, in_user_range, page_of};
 use phys_memory::Memory;
 use process_table::{Places, Processes};
 use quota_tree::{Account, Container};
@@ -228,10 +228,10 @@ impl Core {
     /// As `boot`, of 16 to 1,048,576 frames: up to all 4 GiB that a page word can name.
     ///
     /// BadSize for another number of frames, else NoMemory where there is none for them.
-    pub fn boot_wide(alloc: Global, frames: u32) -> Result<Core, BootFault>
+    pub fn boot_wide(alloc: Global, frames: u32) -> Result<Core, WideFault>
         ensures opening { IfOk result (λ core. core.state ≡ open_with frames) }
         ensures stands { IfOk result (λ core. StandsFor (image_of core) core.state) }
-        ensures size { IsErrOf result BootFault.BadSize ↔ (16 ≤ frames → frames ≤ 1048576 → ⊥) }
+        ensures size { IsErrOf result WideFault.BadSize ↔ (16 ≤ frames → frames ≤ WIDE_FRAMES → ⊥) }
     {
         let processes = Processes::wide(alloc, frames)?;
         processes.stands();
@@ -250,7 +250,7 @@ impl Core {
         roles: Vec<Role>,
     ) -> Result<Core, BootFault>
         requires fewest { 16 ≤ length roles.items }
-        requires most { length roles.items ≤ 1048576 }
+        requires most { length roles.items ≤ WIDE_FRAMES }
         requires small { (i : ℕ) → slice_index bytes.items i < 256 }
         requires root { RootIsItsParent accounts.now }
         requires sound { IsSoundImage (image_in directories accounts.now bytes.items roles.items) }
@@ -618,6 +618,13 @@ impl Core {
         ensures { slice_get self.now.roles frame ≡ Some result }
     {
         self.processes.spaces().role(frame)
+    }
+
+    /// What each frame serves, by number.
+    pub fn roles(&self) -> &[Role]
+        ensures { result.now ≡ self.now.roles }
+    {
+        self.processes.spaces().roles()
     }
 
     /// The least page from there on that a process has mapped; None where it has none. `from` may be any page.

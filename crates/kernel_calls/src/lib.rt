@@ -36,7 +36,7 @@ pub use laws::{
     what_a_process_has_is_enough, what_is_given_up_goes,
 };
 pub use page_sharing::Offer;
-pub use page_words::{Frame, MachineFault as BootFault, Page, Pid, Size, Vaddr};
+pub use page_words::{Frame, MachineFault as BootFault, Page, Pid, Size, Vaddr, WideFault};
 pub use pages::PageState;
 pub use phys_memory::Memory;
 pub use process_table::Cause;

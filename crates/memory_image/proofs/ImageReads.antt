@@ -6,7 +6,7 @@ use Rattle.std.proofs.lemmas.Option.{slice_get-get_or}
 use Rattle.phys_memory.specs.Bytes.{frame_bytes, word_in, word_at}
 use Rattle.phys_memory.proofs.Frames.{frame_past}
 use Rattle.memory_image.specs.declared.processes.Process.{Process}
-use Rattle.memory_image.specs.Image.{Image, IsImage, frames}
+use Rattle.memory_image.specs.Image.{Image, HasFields, frames}
 
 empty : (i : ℕ) → word_in [] i ≡ 0
 unfolding word_at
@@ -25,6 +25,6 @@ if_some P None h = tt
 if_some P (Some a) h = h a refl
 
 -- a live process's directory is one of the frames
-pub directory_inside : (image : Image) → IsImage image → (p : ℕ) (d : Option Process) → p < 64 → IfSome (slice_index_or image.processes p d) (λ r. r.directory < frames image)
-directory_inside image I p d small = if_some (λ r. r.directory < frames image) (slice_index_or image.processes p d)
+pub directory_inside : (limit : ℕ) (image : Image) → HasFields limit image → (p : ℕ) (d : Option Process) → p < 64 → IfSome (slice_index_or image.processes p d) (λ r. r.directory < frames image)
+directory_inside limit image I p d small = if_some (λ r. r.directory < frames image) (slice_index_or image.processes p d)
     (λ r h. let a = slice_get-get_or image.processes p d (let k = I.pids in omega arith) in (I.processes p r (ap (λ o. unwrap_or o None) a ∙ h)).directory)

@@ -18,7 +18,7 @@ use Rattle.process_table.specs.WellFormed.{IsWellFormed}
 use Rattle.process_table.specs.Image as machine
 use Rattle.process_table.specs.Image.{as_account}
 use Rattle.memory_image.specs.declared.processes.Process.{Process}
-use Rattle.memory_image.specs.Image.{Image, process_at, directory_from, memory_of, IsProcess, IsRole, IsImage}
+use Rattle.memory_image.specs.Image.{Image, process_at, directory_from, memory_of, IsProcess, IsRole, HasFields, IsImage, IsWideImage}
 use Rattle.memory_image.specs.Sound.{account_from, account_at, shown_by, StandsFor}
 use Rattle.memory_image.specs.Machine.{process_from, process_told, IsImageOf, IsWide, IsToldWide, HaveWords, ImagesStand}
 use Rattle.memory_image.proofs.References.{same_some, from_map, then_some, chosen_some, user_range, directory-of, live-of, pid-small}
@@ -82,10 +82,10 @@ module _ (v : View) (W : IsWellFormed v.state) where
       by (Some m) None is h = cc
       by (Some m) (Some d) is h = ap (λ o. unwrap_or (option_map (λ (r : Process). r.parent) o) 0) (sym h) ∙ W.root_parent m is
 
-  pub machine_fits : (ps : List (Option Process)) (n : ℕ) → length ps ≡ 64 → ((p : ℕ) → p < 64 → slice_get ps p ≡ Some (process_told v p)) → ((p : ℕ) → p < 64 → IsToldWide v p)
-      → HaveWords v.roles (length v.roles) → length v.bytes ≡ 4096 * n → length v.roles ≡ n → 16 ≤ n → n ≤ 4096 → ((i : ℕ) → slice_index v.bytes i < 256)
-      → machine.StandsFor (machine.image_of v) v.state → IsImage (record { version = 2; processes = ps; roles = v.roles; bytes = v.bytes })
-  machine_fits ps n long each wide words size few low high small S =
+  pub machine_fits : (limit : ℕ) (ps : List (Option Process)) (n : ℕ) → length ps ≡ 64 → ((p : ℕ) → p < 64 → slice_get ps p ≡ Some (process_told v p)) → ((p : ℕ) → p < 64 → IsToldWide v p)
+      → HaveWords v.roles (length v.roles) → length v.bytes ≡ 4096 * n → length v.roles ≡ n → 16 ≤ n → n ≤ limit → ((i : ℕ) → slice_index v.bytes i < 256)
+      → machine.StandsFor (machine.image_of v) v.state → HasFields limit (record { version = 2; processes = ps; roles = v.roles; bytes = v.bytes })
+  machine_fits limit ps n long each wide words size few low high small S =
       let all = told_all ps long each in
       let stands = images_stand v shows (record { version = refl; roles = refl; bytes = refl; processes = all }) S in
       record {
@@ -126,3 +126,16 @@ module _ (v : View) (W : IsWellFormed v.state) where
           let high = b.1 in
           (pid-small shows long p r.0 r.1, omega arith)
       role-fits stands f (Page c) h = words f (Page c) (slice_get_within v.roles f (Page c) h) h c refl
+
+-- an image of few enough frames is one that bytes can encode
+pub narrowed : (image : Image) → IsWideImage image → length image.roles ≤ 4096 → IsImage image
+narrowed image I few = record {
+  version = I.version;
+  most = few;
+  fewest = I.fewest;
+  pids = I.pids;
+  processes = I.processes;
+  roles = I.roles;
+  size = I.size;
+  small = I.small;
+}

@@ -61,13 +61,21 @@ IsRole (Directory p) = p < 64
 IsRole (Table p s) = (p < 64) × (s < 1024)
 IsRole (Page count) = IsWord count
 
--- an image that bytes can encode
-pub record IsImage (image : Image) : Type 0 where
+-- an image of at most so many frames, whose numbers are within their limits
+pub record HasFields (limit : ℕ) (image : Image) : Type 0 where
   pub version : (image.version ≡ 1) ⊎ (image.version ≡ 2)
-  pub most : frames image ≤ 4096
+  pub most : frames image ≤ limit
   pub fewest : 16 ≤ frames image
   pub pids : length image.processes ≡ 64
   pub processes : (p : ℕ) (r : Process) → process_at image p ≡ Some r → IsProcess (frames image) p r
   pub roles : (f : ℕ) (r : Role) → role_at image f ≡ Some r → IsRole r
   pub size : length image.bytes ≡ 4096 * frames image
   pub small : (i : ℕ) → slice_index image.bytes i < 256
+
+-- an image that bytes can encode
+abbrev pub IsImage : Image → Type 0
+IsImage image = HasFields 4096 image
+
+-- an image of as many frames as a wide core
+abbrev pub IsWideImage : Image → Type 0
+IsWideImage image = HasFields 1048576 image

@@ -1,5 +1,5 @@
 -- The image of a machine.
-use Rattle.std.specs.Prelude.{◌≡◌, ℕ, ◌<◌, List, Option, Some, None, IfSome, slice_get}
+use Rattle.std.specs.Prelude.{◌≡◌, ℕ, ◌<◌, List, length, Option, Some, None, IfSome, slice_get}
 use Rattle.alloc_table.specs.declared.Role.{Role}
 use Rattle.alloc_table.specs.declared.Role.TheVariants.{Page}
 use Rattle.address_space.specs.View.{directory_of}
@@ -44,6 +44,12 @@ process_told v p = process_from (container_of v.state p) (directory_of v.directo
 -- the numbers of process p, if it is live, are within their fields
 abbrev pub IsToldWide : View → ℕ → Type 0
 IsToldWide v p = IfSome (process_told v p) IsWide
+
+-- these are what the machine shows of its 64 processes
+pub record ShowsProcesses (v : View) (processes : List (Option Process)) : Type 0 where
+  pub long : length processes ≡ 64
+  pub told : (p : ℕ) → p < 64 → slice_get processes p ≡ Some (process_told v p)
+  pub wide : (p : ℕ) → p < 64 → IsToldWide v p
 
 -- a page's count is a number of 32 bits
 abbrev pub HasWord : Role → Type 0

@@ -22,6 +22,17 @@ pub enum ImageFault {
     NoMemory,
 }
 
+/// Why there is no image of a core.
+#[derive(Clone, Copy, Debug, PartialEq, Eq, Error)]
+pub enum CoreImageFault {
+    /// The core has more than 4,096 frames, which are the most of an image.
+    #[error("more than 4096 frames")]
+    TooManyFrames,
+    /// There was no memory for the image.
+    #[error("out of memory")]
+    NoMemory,
+}
+
 /// The allocator refused what a call needs.
 #[derive(Clone, Copy, Debug, PartialEq, Eq, Error)]
 #[error("out of memory")]

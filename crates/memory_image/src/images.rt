@@ -6,6 +6,7 @@ ghost use Rattle.phys_memory.specs.Bytes.{word_at, word_in, frame_bytes};
 ghost use Rattle.address_space.specs.Image.{word_of};
 ghost use Rattle.memory_image.specs.Image.{Image, IsImage, frames, process_at, role_at, memory_of};
 
+use crate::by_reference::ImageRef;
 use crate::processes::Process;
 use alloc_table::Role;
 use byteorder::{ByteOrder, LittleEndian};
@@ -69,6 +70,13 @@ impl Image {
             bytes,
         } = self;
         (processes, roles, bytes)
+    }
+
+    /// The same image, with its parts where they are.
+    pub fn by_ref(&self) -> ImageRef<'_>
+        ensures { result ≡ self.now }
+    {
+        ImageRef::of_parts(self.version, &self.processes, &self.roles, &self.bytes)
     }
 
     /// That its fields keep their rules. It computes nothing.
@@ -147,7 +155,7 @@ impl Image {
 }
 
 #[tactic(auto, unfolding(phys_memory::specs::Bytes::frame_bytes))]
-fn is_first_blank(bytes: &[u8]) -> bool
+pub(crate) fn is_first_blank(bytes: &[u8]) -> bool
     requires { 4096 ≤ length bytes.now }
     ensures { result ≡ list_all (λ b. b == 0) (frame_bytes bytes.now 0) }
 {
@@ -177,7 +185,7 @@ fn word_at_index(bytes: &[u8], frame: u32, index: u32) -> u32
     word_from(bytes, FRAME_BYTES * frame as usize + index as usize * 4)
 }
 
-fn word_or_zero(bytes: &[u8], frames: u32, frame: u32, index: u32) -> u32
+pub(crate) fn word_or_zero(bytes: &[u8], frames: u32, frame: u32, index: u32) -> u32
     requires size { length bytes.now ≡ 4096 * frames }
     requires index { index < 1024 }
     ensures { result ≡ word_in (frame_bytes bytes.now frame) index }

@@ -2,6 +2,7 @@
 //! bytes.
 #![tactic(auto)]
 
+mod by_reference;
 mod core_image;
 mod faults;
 mod fields;
@@ -12,7 +13,9 @@ mod reading;
 mod restoring;
 mod writing;
 
-pub use faults::{ImageFault, NoMemory};
+pub use by_reference::ImageRef;
+pub use core_image::processes_of;
+pub use faults::{CoreImageFault, ImageFault, NoMemory};
 pub use fields::fault_in;
 pub use images::Image;
 pub use laws::{

@@ -15,7 +15,7 @@ pub use addresses::{
     Frame, MAX_FRAMES, MIN_FRAMES, Page, Pid, Size, Vaddr, WIDE_FRAMES, in_user_range, index_of,
     offset_of, page_of, second_page, slot_of, start_of,
 };
-pub use faults::{MachineFault, is_frame_count, is_wide_frame_count};
+pub use faults::{MachineFault, WideFault, is_frame_count, is_wide_frame_count};
 pub use maps::{
     keys_are_told_apart, maps_are_their_answers, sets_are_their_members, values_change_by_key,
 };

@@ -16,7 +16,7 @@ ghost use Rattle.phys_memory.specs.Bytes.{FramesAreWhole, WordsKeepLengths, Fram
 
 use byteorder::{ByteOrder, LittleEndian};
 pub use page_words::MachineFault as MemoryFault;
-use page_words::{Frame, is_frame_count, is_wide_frame_count};
+use page_words::{Frame, WIDE_FRAMES, WideFault, is_frame_count, is_wide_frame_count};
 use std::alloc::Global;
 use std::marker::Model;
 
@@ -51,21 +51,21 @@ impl Memory {
         if !is_frame_count(frames) {
             return Err(MemoryFault::BadSize);
         }
-        Memory::wide(alloc, frames)
+        Ok(Memory::wide(alloc, frames)?)
     }
 
-    /// As `new`, of up to 1,048,576 frames, which are 4 GiB: BadSize where it is not 16 to 1,048,576.
-    pub fn wide(alloc: Global, frames: u32) -> Result<Memory, MemoryFault>
+    /// As `new`, of up to 1,048,576 frames, which are 4 GiB: BadSize if it is not 16 to 1,048,576.
+    pub fn wide(alloc: Global, frames: u32) -> Result<Memory, WideFault>
         ensures zero { IfOk result (λ memory. memory ≡ blank_bytes frames) }
         ensures length { IfOk result (λ memory. length memory ≡ 4096 * frames) }
-        ensures size { (result ≡ Err MemoryFault.BadSize) ↔ ((frames < 16) ⊎ (1048576 < frames)) }
+        ensures size { (result ≡ Err WideFault.BadSize) ↔ ((frames < 16) ⊎ (WIDE_FRAMES < frames)) }
     {
         if !is_wide_frame_count(frames) {
-            return Err(MemoryFault::BadSize);
+            return Err(WideFault::BadSize);
         }
         match vec![in alloc; 0u8; frames as usize * FRAME_BYTES] {
             Ok(bytes) => Ok(Memory { bytes, frames }),
-            Err(_) => Err(MemoryFault::NoMemory),
+            Err(_) => Err(WideFault::NoMemory),
         }
     }
 
@@ -73,7 +73,7 @@ impl Memory {
     pub fn of_bytes(bytes: Vec<u8>, frames: u32) -> Memory
         requires size { length bytes.items ≡ 4096 * frames }
         requires least { 16 ≤ frames }
-        requires most { frames ≤ 1048576 }
+        requires most { frames ≤ WIDE_FRAMES }
         ensures { result ≡ bytes.items }
     {
         Memory { bytes, frames }
@@ -83,7 +83,7 @@ impl Memory {
     pub fn frames(&self) -> u32
         ensures length { length self.now ≡ 4096 * result }
         ensures least { 16 ≤ result }
-        ensures most { result ≤ 1048576 }
+        ensures most { result ≤ WIDE_FRAMES }
     {
         self.frames
     }

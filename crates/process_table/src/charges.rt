@@ -15,14 +15,14 @@ ghost use Rattle.address_space.specs.View as seen;
 use crate::causes::Cause;
 use crate::processes::Processes;
 use address_space::{Place, Spaces};
-use page_words::{Page, Pid, Size, Vaddr};
+use page_words::{Page, Pid, Size, Vaddr, WIDE_FRAMES};
 use quota_tree::{Container, Quotas};
 
 /// What a live process is charged for.
 pub fn charge_of(processes: &Processes, pid: Pid) -> u32
     requires live { is_live processes.now.state pid ≡ true }
     ensures charge { result ≡ cost processes.now.state.spaces pid }
-    ensures few { result < 1048576 }
+    ensures few { result < WIDE_FRAMES }
 {
     processes.stands();
     processes.spaces().stands();
@@ -41,7 +41,7 @@ pub fn left_of(container: &Container) -> u32
 
 /// What is charged for a container and so many frames more, where it has room for them, and else Quota.
 fn charged_more(container: &Container, frames: u32) -> Result<u32, Cause>
-    requires used { container.now.used < 1048576 }
+    requires used { container.now.used < WIDE_FRAMES }
     requires few { frames ≤ 2 }
     ensures { result ≡ (if nat_lt (container.now.quota - container.now.used - container.now.given) frames then Err cause.Quota else Ok (container.now.used + frames)) }
 {

@@ -14,7 +14,7 @@ ghost use Rattle.address_space.specs.Walks.{WalksAgree};
 
 use address_space::Spaces;
 use page_sharing::Offers;
-use page_words::{MachineFault, Pid, is_frame_count};
+use page_words::{MachineFault, Pid, WIDE_FRAMES, WideFault, is_frame_count};
 use quota_tree::{Container, Quotas};
 use std::alloc::Global;
 use std::marker::Model;
@@ -79,13 +79,13 @@ impl Processes {
         if !is_frame_count(frames) {
             return Err(MachineFault::BadSize);
         }
-        Processes::wide(alloc, frames)
+        Ok(Processes::wide(alloc, frames)?)
     }
 
     /// As `new`, over up to 1,048,576 frames: BadSize for another number than 16 to 1,048,576.
-    pub fn wide(alloc: Global, frames: u32) -> Result<Processes, MachineFault>
+    pub fn wide(alloc: Global, frames: u32) -> Result<Processes, WideFault>
         ensures opening { IfOk result (λ new. new.state ≡ open_with frames) }
-        ensures size { IsErrOf result MachineFault.BadSize ↔ (16 ≤ frames → frames ≤ 1048576 → ⊥) }
+        ensures size { IsErrOf result WideFault.BadSize ↔ (16 ≤ frames → frames ≤ WIDE_FRAMES → ⊥) }
     {
         let spaces = Spaces::wide(alloc, frames)?;
         Ok(opened(spaces))
@@ -129,7 +129,7 @@ impl Processes {
         ensures walks { WalksAgree (memory_of self.now) self.now.state.spaces }
         ensures ways { WaysAgree (memory_of self.now) }
         ensures total { 1 + total self.now.state ≤ length self.now.roles }
-        ensures few { length self.now.roles ≤ 1048576 }
+        ensures few { length self.now.roles ≤ WIDE_FRAMES }
         ensures used { LeavesRoom (memory_of self.now) (total self.now.state) }
         ensures well_formed { IsWellFormed self.now.state }
         ensures places { PlacesTell (memory_of self.now) self.now.state.spaces }

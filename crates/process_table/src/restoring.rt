@@ -9,7 +9,7 @@ use crate::processes::Processes;
 use address_space::Spaces;
 use alloc_table::Role;
 use page_sharing::Offers;
-use page_words::{Frame, MachineFault};
+use page_words::{Frame, MachineFault, WIDE_FRAMES};
 use quota_tree::{Account, Quotas};
 use std::alloc::Global;
 
@@ -33,7 +33,7 @@ impl Processes {
         roles: Vec<Role>,
     ) -> Result<Processes, MachineFault>
         requires fewest { 16 ≤ length roles.items }
-        requires most { length roles.items ≤ 1048576 }
+        requires most { length roles.items ≤ WIDE_FRAMES }
         requires small { (i : ℕ) → slice_index bytes.items i < 256 }
         requires root { RootIsItsParent accounts.now }
         requires sound { IsSoundImage (image_in directories accounts.now bytes.items roles.items) }

@@ -28,14 +28,14 @@ use c_handle::{put, take};
 pub use cleaning::{tower_clean, tower_next_dirty, tower_peek};
 pub use families::{TowerProcesses, tower_children, tower_end};
 pub use holders::{TowerHolder, tower_next_holder, tower_take_back};
-use kernel_calls::{BootFault, Core, Ended};
+use kernel_calls::{Core, Ended, WideFault};
 pub use memory::{TowerMemory, tower_memory};
 use numbers::{
     access_from, container_from, ended_from, event_from, no_event, pid_from, role_from, told_from,
     walk_from,
 };
 pub use numbers::{TowerContainer, TowerEnded, TowerEvent, TowerReply, TowerRole, TowerWalk};
-use page_words::{Frame, Vaddr, is_frame_count};
+use page_words::{Frame, Vaddr, WIDE_FRAMES, is_frame_count};
 pub use pages::{TowerPage, tower_next_page};
 pub use pending::{TowerOffer, tower_next_offer};
 pub use runs::tower_run_until;
@@ -83,7 +83,7 @@ pub extern "C" fn tower_boot_wide(alloc: Global, frames: u32, tower: &mut Tower)
     ensures live { result ≡ 0 → tower.new.live ≡ true }
     ensures opening { result ≡ 0 → IfSome tower.new.hold.core (λ core. core.state ≡ open_with frames) }
     ensures stands { result ≡ 0 → IfSome tower.new.hold.core (λ core. StandsFor (image_of core) core.state) }
-    ensures size { result ≡ 1 ↔ (tower.old.live ≡ false) × (16 ≤ frames → frames ≤ 1048576 → ⊥) }
+    ensures size { result ≡ 1 ↔ (tower.old.live ≡ false) × (16 ≤ frames → frames ≤ WIDE_FRAMES → ⊥) }
     ensures busy { result ≡ 3 ↔ tower.old.live ≡ true }
     ensures otherwise { result ≢ 0 → tower.new ≡ tower.old }
 {
@@ -98,8 +98,8 @@ pub extern "C" fn tower_boot_wide(alloc: Global, frames: u32, tower: &mut Tower)
             }
             Err(_) => 2,
         },
-        Err(BootFault::BadSize) => 1,
-        Err(BootFault::NoMemory) => 2,
+        Err(WideFault::BadSize) => 1,
+        Err(WideFault::NoMemory) => 2,
     }
 }
 

@@ -7,14 +7,14 @@ ghost use Rattle.tower_images.specs.Images.{HasSoundImage};
 
 use crate::statuses::{DONE, NO_MEMORY, NOT_IMAGE};
 use crate::verdicts::{TowerVerdict, tell_failed, verdict_from};
-use image_check::check;
+use image_check::check_by_ref;
 use image_restore::first_failed;
 use kernel_calls::Core;
-use memory_image::{Image, ImageFault, read_image};
+use memory_image::{ImageFault, ImageRef, processes_of, read_image};
 use std::alloc::Global;
 
 /// Checks an image.
-fn check_image(alloc: Global, image: &Image, told: &mut TowerVerdict) -> u32
+fn check_image(alloc: Global, image: &ImageRef<'_>, told: &mut TowerVerdict) -> u32
     ensures statuses { (result ≢ 1) × (result ≤ 4) }
     ensures sound { result ≡ 0 → IsSound image.now }
     ensures passes { IsSound image.now → (result ≡ 0) ⊎ (result ≡ 2) }
@@ -23,7 +23,7 @@ fn check_image(alloc: Global, image: &Image, told: &mut TowerVerdict) -> u32
     ensures none { (result ≡ 0) ⊎ (result ≡ 2) → told.new ≡ told.old }
 {
     image.within();
-    match check(alloc, image) {
+    match check_by_ref(alloc, image) {
         Ok(verdict) => match first_failed(image, &verdict) {
             Some(failed) => tell_failed(failed, told),
             None => DONE,
@@ -32,16 +32,14 @@ fn check_image(alloc: Global, image: &Image, told: &mut TowerVerdict) -> u32
     }
 }
 
-/// Checks the image of a core.
+/// Checks the image of a core, where its parts lie.
 pub fn check_core(alloc: Global, core: &Core, told: &mut TowerVerdict) -> u32
     ensures sound { result ≡ 0 → HasSoundImage core.now }
     ensures passes { (result ≡ 0) ⊎ (result ≡ 2) }
     ensures none { told.new ≡ told.old }
 {
-    match Image::of(alloc, core) {
-        Ok(image) => check_image(alloc, &image, told),
-        Err(_) => NO_MEMORY,
-    }
+    let processes = processes_of(core);
+    check_image(alloc, &ImageRef::of_core(core, &processes), told)
 }
 
 /// Checks the image in bytes.
@@ -55,7 +53,7 @@ pub fn check_bytes(alloc: Global, bytes: &[u8], told: &mut TowerVerdict) -> u32
     ensures none { (result ≡ 0) ⊎ (result ≡ 2) → told.new ≡ told.old }
 {
     match read_image(alloc, bytes) {
-        Ok(image) => check_image(alloc, &image, told),
+        Ok(image) => check_image(alloc, &image.by_ref(), told),
         Err(ImageFault::NoMemory) => NO_MEMORY,
         Err(fault) => {
             *told = verdict_from(fault);

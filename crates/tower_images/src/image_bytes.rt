@@ -6,9 +6,10 @@ ghost use Rattle.memory_image.specs.Spelling.{Spells};
 ghost use Rattle.memory_image.specs.Image.{frames};
 ghost use Rattle.tower_images.specs.Images.{image_length, SpellsCore};
 
-use crate::statuses::{DONE, NO_MEMORY, TOO_SHORT};
+use crate::statuses::{DONE, NO_MEMORY, TOO_MANY_FRAMES, TOO_SHORT};
 use kernel_calls::Core;
 use memory_image::{Image, images_have_one_spelling, write_image};
+use page_words::MAX_FRAMES;
 use std::alloc::Global;
 
 /// How many bytes the image of so many frames has.
@@ -48,15 +49,22 @@ fn copy_to_front(from: &[u8], to: &mut [u8])
     to[..from.len()].copy_from_slice(from);
 }
 
-/// Writes the bytes of a core's image to the front of others, if these have room for them.
-pub fn write_core(alloc: Global, core: &Core, bytes: &mut [u8]) -> u32
-    ensures statuses { (result ≤ 3) × (result ≢ 1) }
+/// Writes the bytes of a core's image to the front of others, if these have room for them, and how many they are.
+pub fn write_core(alloc: Global, core: &Core, bytes: &mut [u8], size: &mut usize) -> u32
+    ensures statuses { (result ≤ 4) × (result ≢ 1) }
     ensures image { result ≡ 0 → SpellsCore core.now (take (image_length core.now) bytes.new) }
     ensures behind { result ≡ 0 → drop (image_length core.now) bytes.new ≡ drop (image_length core.now) bytes.old }
-    ensures short { result ≡ 3 ↔ length bytes.old < image_length core.now }
+    ensures size { result ≢ 4 → size.new ≡ image_length core.now }
+    ensures none { result ≡ 4 → size.new ≡ size.old }
+    ensures many { result ≡ 4 ↔ 4096 < length core.now.roles }
+    ensures short { result ≡ 3 ↔ (length core.now.roles ≤ 4096) × (length bytes.old < image_length core.now) }
     ensures unwritten { result ≢ 0 → bytes.new ≡ bytes.old }
 {
-    if bytes.len() < image_length(core.frames()) {
+    if core.frames() > MAX_FRAMES {
+        return TOO_MANY_FRAMES;
+    }
+    *size = image_length(core.frames());
+    if bytes.len() < *size {
         return TOO_SHORT;
     }
     let Some(spelled) = core_bytes(alloc, core) else {

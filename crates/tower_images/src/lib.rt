@@ -22,15 +22,15 @@ mod verdicts;
 
 use c_handle::{Tower, put, take};
 use checking::{check_bytes, check_core};
-use image_bytes::{image_length, write_core};
+use image_bytes::write_core;
 use restoring::restore_bytes;
 use statuses::{DONE, HAS_CORE, NO_CORE};
 use std::alloc::Global;
 pub use verdicts::TowerVerdict;
 
 /// Writes the image of the core (docs/IMAGES.md) at the start of `bytes`, and its length to `size`. Returns 0.
-/// Otherwise `bytes` is unchanged: 1 if the handle has no core (and `size` is unchanged), 2 if memory ran out, 3 if
-/// `bytes` is too short.
+/// Otherwise `bytes` is unchanged. 1: the handle has no core. 4: the core has more than 4,096 frames, the most of an
+/// image. 3: `bytes` is too short. 2: memory ran out. At 1 and 4 `size` is unchanged too.
 #[unsafe(no_mangle)]
 pub extern "C" fn tower_image(
     alloc: Global,
@@ -41,19 +41,19 @@ pub extern "C" fn tower_image(
     requires { IsTower tower.old }
     ensures kept { IsTower tower.new }
     ensures same { tower.new.hold.core ≡ tower.old.hold.core }
-    ensures statuses { result ≤ 3 }
+    ensures statuses { result ≤ 4 }
     ensures image { result ≡ 0 → IfSome tower.old.hold.core (λ core. SpellsCore core (take size.new bytes.new)) }
     ensures behind { result ≡ 0 → drop size.new bytes.new ≡ drop size.new bytes.old }
-    ensures size { IfSome tower.old.hold.core (λ core. size.new ≡ image_length core) }
-    ensures short { IfSome tower.old.hold.core (λ core. result ≡ 3 ↔ length bytes.old < image_length core) }
+    ensures size { IfSome tower.old.hold.core (λ core. length core.roles ≤ 4096 → size.new ≡ image_length core) }
+    ensures short { IfSome tower.old.hold.core (λ core. result ≡ 3 ↔ (length core.roles ≤ 4096) × (length bytes.old < image_length core)) }
+    ensures many { IfSome tower.old.hold.core (λ core. result ≡ 4 ↔ 4096 < length core.roles) }
     ensures empty { result ≡ 1 ↔ tower.old.live ≡ false }
     ensures unwritten { result ≢ 0 → bytes.new ≡ bytes.old }
-    ensures none { result ≡ 1 → size.new ≡ size.old }
+    ensures none { (result ≡ 1) ⊎ (result ≡ 4) → size.new ≡ size.old }
 {
     match take(alloc, tower) {
         Some(core) => {
-            let status = write_core(alloc, &core, bytes);
-            *size = image_length(core.frames());
+            let status = write_core(alloc, &core, bytes, size);
             put(tower, core);
             status
         }
@@ -61,8 +61,9 @@ pub extern "C" fn tower_image(
     }
 }
 
-/// Checks the core's own image. Returns 0 if it is sound, 1 if the handle has no core, and 2 if memory ran out. For a
-/// core that only these libraries have written these are all; otherwise 3 and 4 are as for `tower_check_bytes`.
+/// Checks the core's own image, where its parts lie in the core: of a wide core too. Returns 0 if it is sound, 1 if the
+/// handle has no core, and 2 if memory ran out. For a core that only these libraries have written these are all;
+/// otherwise 3 and 4 are as for `tower_check_bytes`.
 #[unsafe(no_mangle)]
 pub extern "C" fn tower_check(alloc: Global, tower: &mut Tower, verdict: &mut TowerVerdict) -> u32
     requires { IsTower tower.old }

@@ -18,3 +18,5 @@ pub const NOT_IMAGE: u32 = 5;
 pub const OLD_WORDS: u32 = 6;
 /// The handle has a core already.
 pub const HAS_CORE: u32 = 1;
+/// The core has more frames than an image.
+pub const TOO_MANY_FRAMES: u32 = 4;

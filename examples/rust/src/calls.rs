@@ -37,7 +37,7 @@ fn untold(told: Reply) -> ! {
     unreachable!("a call was told {told:?}")
 }
 
-impl Core {
+impl Core<'_> {
     fn call(&mut self, pid: Pid, call: Call) -> Result<Reply, Failure> {
         self.step(&Event { cpu: 0, pid, call }).into_result()
     }

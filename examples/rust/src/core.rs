@@ -1,6 +1,7 @@
 //! A booted core: all calls and queries of the library.
 
 use crate::VERSION;
+use crate::alone::alone;
 use crate::raw;
 use crate::words::{
     Access, Container, Ended, Event, FRAME_BYTES, Frame, Page, Pid, Reply, Role, Vaddr, WalkEnd,
@@ -8,6 +9,7 @@ use crate::words::{
 use ::core::cell::UnsafeCell;
 use ::core::error::Error;
 use ::core::fmt;
+use ::core::marker::PhantomData;
 use ::core::ptr::{NonNull, null_mut};
 
 /// Why no core is booted.
@@ -20,6 +22,10 @@ pub enum BootFault {
     },
     /// The number of frames is not 16 to 4,096.
     BadSize,
+    /// The number of frames of a wide core is not 16 to 1,048,576.
+    BadWideSize,
+    /// The block is not whole frames at a multiple of 4,096, or is too small for that many frames.
+    BadBlock,
     /// Memory ran out.
     NoMemory,
 }
@@ -31,6 +37,8 @@ impl fmt::Display for BootFault {
                 write!(to, "the library is of version {library}, and not {VERSION}")
             }
             BootFault::BadSize => to.write_str("frames must be 16 to 4096"),
+            BootFault::BadWideSize => to.write_str("frames must be 16 to 1048576"),
+            BootFault::BadBlock => to.write_str("not a block for that many frames"),
             BootFault::NoMemory => to.write_str("out of memory"),
         }
     }
@@ -61,21 +69,28 @@ const CHUNK: usize = 32;
 
 /// A booted core. A query borrows it shared, but is still a call of the library, which takes the core out of its handle
 /// and puts it back. A `Core` is therefore not `Sync`.
-pub struct Core {
+///
+/// `'block` is how long the block of `Core::over` is borrowed; a core that `boot` or `boot_wide` returns borrows
+/// nothing.
+pub struct Core<'block> {
     handle: UnsafeCell<raw::Tower>,
+    block: PhantomData<&'block mut [u8]>,
 }
 
 // SAFETY: `Send` of the handle is proved, in crates/tower_c.
-unsafe impl Send for Core {}
+unsafe impl Send for Core<'_> {}
 
-impl Core {
-    /// Boots a machine of that many frames, 16 to 4,096. It has only process 0, whose quota is all frames but one.
+impl<'block> Core<'block> {
+    /// Boots a core by a call of the library, which returns its status.
     ///
     /// # Errors
     ///
-    /// `OtherVersion` if the linked library's version is not [`VERSION`]. Otherwise `BadSize` if the number of frames
-    /// is not 16 to 4,096. Otherwise `NoMemory` if memory ran out.
-    pub fn boot(frames: u32) -> Result<Core, BootFault> {
+    /// `OtherVersion` if the linked library's version is not [`VERSION`]. Otherwise those of statuses 1, 2 and 4.
+    pub(crate) fn booted(
+        bad_size: BootFault,
+        block: PhantomData<&'block mut [u8]>,
+        call: impl FnOnce(*mut raw::Tower) -> u32,
+    ) -> Result<Core<'block>, BootFault> {
         if version() != VERSION {
             return Err(BootFault::OtherVersion { library: version() });
         }
@@ -83,16 +98,46 @@ impl Core {
             live: false,
             core: null_mut(),
         };
-        // SAFETY: the handle is all zeros, and nothing else has it.
-        match unsafe { raw::tower_boot(frames, &raw mut handle) } {
+        match alone(|| call(&raw mut handle)) {
             0 => Ok(Core {
                 handle: UnsafeCell::new(handle),
+                block,
             }),
-            1 => Err(BootFault::BadSize),
+            1 => Err(bad_size),
+            4 => Err(BootFault::BadBlock),
             _ => Err(BootFault::NoMemory),
         }
     }
+}
 
+impl Core<'static> {
+    /// Boots a machine of that many frames, 16 to 4,096. It has only process 0, whose quota is all frames but one.
+    ///
+    /// # Errors
+    ///
+    /// `OtherVersion` if the linked library's version is not [`VERSION`]. Otherwise `BadSize` if the number of frames
+    /// is not 16 to 4,096. Otherwise `NoMemory` if memory ran out.
+    pub fn boot(frames: u32) -> Result<Core<'static>, BootFault> {
+        // SAFETY: the handle is all zeros, and nothing else has it.
+        Core::booted(BootFault::BadSize, PhantomData, |handle| unsafe {
+            raw::tower_boot(frames, handle)
+        })
+    }
+
+    /// Boots a machine as `boot` does, but of 16 to 1,048,576 frames, which are 4 GiB.
+    ///
+    /// # Errors
+    ///
+    /// As for `boot`, with `BadWideSize` if the number of frames is not 16 to 1,048,576.
+    pub fn boot_wide(frames: u32) -> Result<Core<'static>, BootFault> {
+        // SAFETY: as for `boot`.
+        Core::booted(BootFault::BadWideSize, PhantomData, |handle| unsafe {
+            raw::tower_boot_wide(frames, handle)
+        })
+    }
+}
+
+impl Core<'_> {
     /// The handle, for a call.
     pub(crate) fn handle_mut(&mut self) -> *mut raw::Tower {
         self.handle.get_mut()
@@ -315,7 +360,7 @@ impl Core {
     }
 }
 
-impl fmt::Debug for Core {
+impl fmt::Debug for Core<'_> {
     fn fmt(&self, to: &mut fmt::Formatter<'_>) -> fmt::Result {
         to.debug_struct("Core")
             .field("frames", &self.frames())
@@ -323,10 +368,10 @@ impl fmt::Debug for Core {
     }
 }
 
-impl Drop for Core {
+impl Drop for Core<'_> {
     fn drop(&mut self) {
         // SAFETY: as for `step`.
-        unsafe { raw::tower_free(self.handle.get_mut()) }
+        alone(|| unsafe { raw::tower_free(self.handle.get_mut()) });
     }
 }
 

@@ -2,6 +2,7 @@
 
 extern crate alloc;
 
+use crate::alone::alone;
 use crate::core::Core;
 use crate::raw;
 use crate::words::{Frame, Pid, pid_of, told};
@@ -9,7 +10,7 @@ use ::core::error::Error;
 use ::core::fmt;
 use alloc::vec::Vec;
 
-/// Memory ran out for an image or its check.
+/// Memory ran out for a check.
 #[derive(Clone, Copy, Debug, PartialEq, Eq, Hash)]
 pub struct NoMemory;
 
@@ -20,6 +21,26 @@ impl fmt::Display for NoMemory {
 }
 
 impl Error for NoMemory {}
+
+/// Why there is no image of a core.
+#[derive(Clone, Copy, Debug, PartialEq, Eq, Hash)]
+pub enum CoreImageFault {
+    /// The core has more than 4,096 frames, which are the most of an image.
+    TooManyFrames,
+    /// Memory ran out for the image.
+    NoMemory,
+}
+
+impl fmt::Display for CoreImageFault {
+    fn fmt(&self, to: &mut fmt::Formatter<'_>) -> fmt::Result {
+        match self {
+            CoreImageFault::TooManyFrames => to.write_str("more than 4096 frames"),
+            CoreImageFault::NoMemory => NoMemory.fmt(to),
+        }
+    }
+}
+
+impl Error for CoreImageFault {}
 
 /// The result of checking an image. docs/IMAGES.md has the clauses.
 #[derive(Clone, Copy, Debug, PartialEq, Eq, Hash)]
@@ -129,47 +150,42 @@ fn fault_of(raw: raw::Verdict) -> ImageFault {
 pub fn check_image(bytes: &[u8]) -> Result<Verdict, ImageFault> {
     let mut raw = raw::Verdict::default();
     // SAFETY: the pointer and the length are the slice's, whose pointer is never null; both lie apart.
-    let status = unsafe { raw::tower_check_bytes(bytes.as_ptr(), bytes.len(), &raw mut raw) };
+    let status =
+        alone(|| unsafe { raw::tower_check_bytes(bytes.as_ptr(), bytes.len(), &raw mut raw) });
     verdict_of(status, raw)?.ok_or_else(|| fault_of(raw))
 }
 
-impl Core {
-    /// Returns how many bytes the core's image has.
-    fn image_length(&self) -> usize {
-        let mut length = 0;
-        let none: &mut [u8] = &mut [];
+impl Core<'_> {
+    /// Writes the core's image, and returns how many bytes it has, of which fewer may fit; none is then written.
+    fn write_image(&self, bytes: &mut [u8]) -> Result<usize, CoreImageFault> {
+        let (begins, count, mut length) = (bytes.as_mut_ptr(), bytes.len(), 0);
         // SAFETY: the handle was booted; as a `Core` is not `Sync`, no other call has it; all lie apart.
-        unsafe { raw::tower_image(self.handle(), none.as_mut_ptr(), 0, &raw mut length) };
-        length
+        let status =
+            alone(|| unsafe { raw::tower_image(self.handle(), begins, count, &raw mut length) });
+        match status {
+            0 | 3 => Ok(length),
+            4 => Err(CoreImageFault::TooManyFrames),
+            _ => Err(CoreImageFault::NoMemory),
+        }
     }
 
     /// Returns the bytes of the core's image, whose format is in docs/IMAGES.md.
     ///
     /// # Errors
     ///
-    /// If memory ran out for it.
-    pub fn image(&self) -> Result<Vec<u8>, NoMemory> {
-        let mut length = self.image_length();
+    /// `TooManyFrames` if the core has more than 4,096 frames. Otherwise `NoMemory` if memory ran out for it.
+    pub fn image(&self) -> Result<Vec<u8>, CoreImageFault> {
+        let length = self.write_image(&mut [])?;
         let mut bytes = Vec::new();
-        bytes.try_reserve_exact(length).map_err(|_| NoMemory)?;
+        let reserved = bytes.try_reserve_exact(length);
+        reserved.map_err(|_| CoreImageFault::NoMemory)?;
         bytes.resize(length, 0);
-        // SAFETY: as for `image_length`.
-        let status = unsafe {
-            raw::tower_image(
-                self.handle(),
-                bytes.as_mut_ptr(),
-                bytes.len(),
-                &raw mut length,
-            )
-        };
-        if status == 0 {
-            Ok(bytes)
-        } else {
-            Err(NoMemory)
-        }
+        self.write_image(&mut bytes)?;
+        Ok(bytes)
     }
 
-    /// Checks the core's own image. Any verdict but `Sound` says that something else has written in the core's memory.
+    /// Checks the core's own image, where it lies: of a core of any size. Any verdict but `Sound` says that something
+    /// else has written in the core's memory.
     ///
     /// # Errors
     ///
@@ -180,8 +196,8 @@ impl Core {
     /// Never: a core has an image.
     pub fn check(&self) -> Result<Verdict, NoMemory> {
         let mut raw = raw::Verdict::default();
-        // SAFETY: as for `image_length`.
-        let status = unsafe { raw::tower_check(self.handle(), &raw mut raw) };
+        // SAFETY: as for `write_image`.
+        let status = alone(|| unsafe { raw::tower_check(self.handle(), &raw mut raw) });
         verdict_of(status, raw).map(|verdict| verdict.expect("a core has an image"))
     }
 }

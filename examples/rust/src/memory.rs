@@ -55,7 +55,7 @@ pub struct Mapped {
 /// The pages of a process in ascending order, as [`Core::pages`] returns them.
 #[derive(Clone, Debug)]
 pub struct Pages<'a> {
-    core: &'a Core,
+    core: &'a Core<'a>,
     pid: Pid,
     next: Option<u32>,
 }
@@ -72,7 +72,7 @@ impl Iterator for Pages<'_> {
 
 impl FusedIterator for Pages<'_> {}
 
-impl Core {
+impl Core<'_> {
     /// Reads a process's memory from an address on, as copyin does, with the effect of one-byte loads in order. A page
     /// that is not mapped is mapped first, as a load does it; no page gets a frame.
     ///

@@ -138,6 +138,7 @@ const _: () = {
 unsafe extern "C" {
     pub safe fn tower_version() -> u32;
     pub fn tower_boot(frames: u32, tower: *mut Tower) -> u32;
+    pub fn tower_boot_wide(frames: u32, tower: *mut Tower) -> u32;
     pub fn tower_step(tower: *mut Tower, event: *const Event, reply: *mut Reply) -> bool;
     pub fn tower_run(
         tower: *mut Tower,

@@ -14,7 +14,7 @@ fn step(core: &mut Core, pid: Pid, call: Call) -> Reply {
 }
 
 /// Returns a core whose process 0 stored a word and gave its page, read-only, to a child, and that child.
-fn shared() -> (Core, Pid) {
+fn shared() -> (Core<'static>, Pid) {
     let mut core = Core::boot(64).unwrap();
     let store = Call::Store {
         addr: ADDR,

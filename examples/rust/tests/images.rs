@@ -7,7 +7,7 @@ const LENGTH: usize = 67_340;
 const SECOND_ROLE: usize = 1548 + 16 * 3 + 12;
 
 /// Returns a core of 16 frames whose process 0 stored a word, and its image.
-fn stored() -> (Core, Vec<u8>) {
+fn stored() -> (Core<'static>, Vec<u8>) {
     let mut core = Core::boot(16).unwrap();
     core.store(Pid::ROOT, Vaddr(0x4000_0000), Size::Four, 0xdead_beef)
         .unwrap();

@@ -1,21 +1,22 @@
-use Rattle.std.proofs.Common.{◌≡◌, ◌*◌, slice_index, subst, arith}
-use Rattle.image_check.specs.Adds.{Adds, words_naming}
-use Rattle.image_check.proofs.AddLemmas.{sums_begin, sums_go_on}
-use Rattle.image_check.proofs.NamingLemmas.{term_room}
-use Rattle.memory_image.specs.Image.{frames}
-use Rattle.image_check.specs.Counts.{sum_range}
+use Rattle.std.proofs.Common.{◌≡◌, subst, ◌∙◌, arith, ap}
+use Rattle.image_check.specs.Counts.{sum_range, maps_by}
+use Rattle.image_check.specs.Adds.{Adds, maps_first}
+use Rattle.image_check.proofs.AddLemmas.{adds_alike, sums_begin, sums_go_on}
+use Rattle.image_check.proofs.NamingLemmas.{maps_by_first, room_by_first, term_room}
 use Rattle.image_check.proofs.repeated_names.count_tables.Goals as goal
 
-pub loop-frame-init : goal.loop-frame-init
-loop-frame-init c = sums_begin (λ f t. slice_index c.args.named.now t * words_naming c.args.image.now t f) c.args.maps.now
+pub loop-count-init : goal.loop-count-init
+loop-count-init c = sums_begin (λ f k. maps_first c.args.image.now c.args.pid k f) c.args.maps.now
 
-pub count_frame-requires : goal.count_frame-requires
-count_frame-requires c = term_room (λ f t. slice_index c.args.named.now t * words_naming c.args.image.now t f) c.args.maps.now c.loop-frame.maps (frames c.args.image.now) c.loop-frame.frame (omega arith) c.requires.maps c.loop-frame.invariant
+pub count_table-requires-clause-maps : goal.count_table-requires-clause-maps
+count_table-requires-clause-maps c = term_room (λ f k. maps_first c.args.image.now c.args.pid k f) c.args.maps.now c.loop-count.maps 704 c.loop-count.count (omega arith)
+    (room_by_first c.args.image.now c.args.pid c.args.maps.now c.within.ensures.size c.requires.maps) c.loop-count.invariant
 
-pub loop-frame-preserved : goal.loop-frame-preserved
-loop-frame-preserved c = sums_go_on (λ f t. slice_index c.args.named.now t * words_naming c.args.image.now t f) c.args.maps.now c.loop-frame.maps c.count_frame.new.maps c.loop-frame.frame c.loop-frame.invariant c.count_frame.ensures
+pub loop-count-preserved : goal.loop-count-preserved
+loop-count-preserved c = sums_go_on (λ f k. maps_first c.args.image.now c.args.pid k f) c.args.maps.now c.loop-count.maps c.count_table.new.maps c.loop-count.count c.loop-count.invariant c.count_table.ensures
 
 pub returns : goal.returns
 returns c =
-    let end : c.loop-frame.frame ≡ frames c.args.image.now = omega (arith, c.frames-frame-end.ensures.count, c.loop-frame.auto.frame-end, c.loop-frame-test.false) in
-    subst (λ k. Adds c.args.maps.now c.loop-frame.maps (λ f. sum_range (λ t. slice_index c.args.named.now t * words_naming c.args.image.now t f) 0 k)) end c.loop-frame.invariant
+    let end : c.loop-count.count ≡ 704 = omega arith in
+    adds_alike c.args.maps.now c.loop-count.maps (λ f. sum_range (λ k. maps_first c.args.image.now c.args.pid k f) 0 c.loop-count.count) (λ f. maps_by c.args.image.now c.args.pid f)
+    (λ f. ap (sum_range (λ k. maps_first c.args.image.now c.args.pid k f) 0) end ∙ maps_by_first c.args.image.now c.args.pid f c.within.ensures.size) c.loop-count.invariant

@@ -7,4 +7,4 @@ use Rattle.memory_image.proofs.images.Image.process.Goals as goal
 pub returns-clause-inside : goal.returns-clause-inside
 returns-clause-inside c =
     subst (λ (v : Image). IfSome (slice_index_or c.self.inside.processes c.number.result c.index-self-number.result) (λ r. r.directory < frames v)) c.self.view_is
-    (directory_inside _ c.self.invariant c.number.result c.index-self-number.result c.number.ensures.bound)
+    (directory_inside 4096 _ c.self.invariant c.number.result c.index-self-number.result c.number.ensures.bound)
