@@ -31,6 +31,18 @@ fn live(rt: &impl Abort, core: &Core) -> [bool; 6] {
     [0, 1, 2, 3, 4, 5].map(|number| core.container(process(rt, number)).is_some())
 }
 
+/// A process has these two children, and no other.
+fn check_children(rt: &impl Abort, core: &Core, number: u8, children: [u8; 2]) {
+    let mut found = [process(rt, 0); 64];
+    same(rt, &core.children(process(rt, number), &mut found), &2);
+    let [first, second, ..] = found;
+    same(
+        rt,
+        &[first, second],
+        &children.map(|child| process(rt, child)),
+    );
+}
+
 /// A family is not ended, for this cause.
 fn refuses_to_end(rt: &impl Abort, core: &mut Core, number: u8, cause: Cause) {
     let pid = process(rt, number);
@@ -51,6 +63,7 @@ fn ends_a_family_from_its_leaves_up(rt: HostRuntime) -> Result<(), Fail> {
         &live(&rt, &core),
         &[true, true, true, true, true, false],
     );
+    check_children(&rt, &core, 0, [1, 4]);
     let mut exited = [process(&rt, 0); 64];
     same(&rt, &core.end_family(process(&rt, 1), &mut exited), &Ok(3));
     let [first, second, third, ..] = exited;
@@ -132,6 +145,63 @@ fn finds_who_else_has_a_page(rt: HostRuntime) {
     beside(&rt, &core, (0, 0x40000), 0, 0, None);
     beside(&rt, &core, (1, 0x50001), 1, 0, Some(0x50000));
     beside(&rt, &core, (0, 0x40001), 1, 0, None);
+}
+
+/// The root offers a page to a process.
+fn offer(rt: &impl Abort, core: &mut Core, page: Page, target: u8, write: bool) {
+    let target = process(rt, target);
+    let offer = Call::Offer {
+        page,
+        target,
+        write,
+    };
+    check(rt, core, 0, offer, Reply::Done);
+}
+
+/// The root's first offer from a page and a target on.
+fn next_offer(rt: &impl Abort, core: &Core, from: (Page, u32), found: Option<(Page, u8, bool)>) {
+    let told = core.next_offer(process(rt, 0), from.0, from.1);
+    same(
+        rt,
+        &told.map(|offer| (offer.page, offer.target.number(), offer.write)),
+        &found,
+    );
+}
+
+#[test]
+fn finds_offers_by_page_and_target(rt: HostRuntime) -> Result<(), Fail> {
+    let mut core = Core::boot(rt.alloc(), 16)?;
+    let other = Page(0x40001);
+    spawn(&rt, &mut core, 0, 4, 1);
+    spawn(&rt, &mut core, 0, 4, 2);
+    check(
+        &rt,
+        &mut core,
+        0,
+        Call::Map {
+            page: PAGE,
+            write: true,
+        },
+        Reply::Done,
+    );
+    check(
+        &rt,
+        &mut core,
+        0,
+        Call::Map {
+            page: other,
+            write: true,
+        },
+        Reply::Done,
+    );
+    offer(&rt, &mut core, other, 1, false);
+    offer(&rt, &mut core, PAGE, 2, true);
+    offer(&rt, &mut core, PAGE, 1, false);
+    next_offer(&rt, &core, (Page(0), 0), Some((PAGE, 1, false)));
+    next_offer(&rt, &core, (PAGE, 2), Some((PAGE, 2, true)));
+    next_offer(&rt, &core, (PAGE, 3), Some((other, 1, false)));
+    next_offer(&rt, &core, (other, 2), None);
+    Ok(())
 }
 
 /// A slot that lost its page.

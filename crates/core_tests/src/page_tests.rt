@@ -146,7 +146,7 @@ fn installs_bytes_and_leaves_the_right(rt: HostRuntime) -> Result<(), Fail> {
     let mut core = Core::boot(rt.alloc(), 16)?;
     let (addr, size) = (ADDRESS, Size::Four);
     map(&rt, &mut core, LOW, false);
-    install(&rt, &mut core, 0, ADDRESS, true, None);
+    install(&rt, &mut core, 0, ADDRESS, false, None);
     info(&rt, &mut core, 0, LOW, [false, true, true, true], 1);
     check(
         &rt,
@@ -156,6 +156,8 @@ fn installs_bytes_and_leaves_the_right(rt: HostRuntime) -> Result<(), Fail> {
         Reply::Value(0x0403_0201),
     );
     store(&rt, &mut core, Reply::Fault { addr, code: 7 });
+    install(&rt, &mut core, 0, ADDRESS, true, None);
+    info(&rt, &mut core, 0, LOW, [true, true, true, true], 1);
     install(&rt, &mut core, 0, Vaddr(0x4000_1000), false, None);
     info(&rt, &mut core, 0, HIGH, [false, true, true, true], 1);
     install(&rt, &mut core, 0, Vaddr(0x4000_2000), true, None);
