@@ -1,5 +1,5 @@
 /* The libraries' functions for memory, over blocks of the caller's. tower_region.h says what the caller owes. */
-#include "tower_region.h"
+#include "region.h"
 
 /* A block in use. This struct lies at the block's very end. */
 struct region {
@@ -102,17 +102,11 @@ static bool overlaps(uintptr_t begins, uintptr_t ends) {
     return false;
 }
 
-uint32_t tower_boot_over(uint32_t frames, struct tower *tower, void *block, size_t size) {
-    if (tower->live) {
-        return TOWER_HAS_CORE;
-    }
-    if (frames < TOWER_MIN_FRAMES || frames > TOWER_WIDE_FRAMES) {
-        return TOWER_BAD_SIZE;
-    }
+bool tower_region_begin(uint32_t frames, size_t least, void *block, size_t size) {
     uintptr_t begins = (uintptr_t)block;
-    if (!block || begins % TOWER_FRAME_BYTES || size % TOWER_FRAME_BYTES || size < TOWER_BLOCK_BYTES(frames)
+    if (!block || begins % TOWER_FRAME_BYTES || size % TOWER_FRAME_BYTES || size < least
         || size > UINTPTR_MAX - begins || overlaps(begins, begins + size)) {
-        return TOWER_BAD_BLOCK;
+        return false;
     }
     struct region *region = (struct region *)((uint8_t *)block + size) - 1;
     region->next = all;
@@ -123,10 +117,27 @@ uint32_t tower_boot_over(uint32_t frames, struct tower *tower, void *block, size
     region->blocks = 0;
     region->frames_out = false;
     all = booting = region;
-    uint32_t status = tower_boot_wide(frames, tower);
+    return true;
+}
+
+void tower_region_end(bool has_core) {
     booting = NULL;
-    if (status != TOWER_BOOTED) {
-        all = region->next; /* it is the first, and all that came from it is freed */
+    if (!has_core) {
+        all = all->next; /* it is the first, and all that came from it is freed */
     }
+}
+
+uint32_t tower_boot_over(uint32_t frames, struct tower *tower, void *block, size_t size) {
+    if (tower->live) {
+        return TOWER_HAS_CORE;
+    }
+    if (frames < TOWER_MIN_FRAMES || frames > TOWER_WIDE_FRAMES) {
+        return TOWER_BAD_SIZE;
+    }
+    if (!tower_region_begin(frames, TOWER_BLOCK_BYTES(frames), block, size)) {
+        return TOWER_BAD_BLOCK;
+    }
+    uint32_t status = tower_boot_wide(frames, tower);
+    tower_region_end(status == TOWER_BOOTED);
     return status;
 }

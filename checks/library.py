@@ -15,6 +15,7 @@ sys.path.append(str(ROOT / "tools"))
 from wants import wants  # noqa: E402
 
 PROVED = ROOT / "crates" / "tower_c" / "out" / "libtower_c.a"
+IMAGES = ROOT / "crates" / "tower_images" / "out" / "libtower_images.a"
 HEADER = ROOT / "c" / "include" / "tower.h"
 NUMBERS = {"load": 0, "store": 1, "map": 2, "unmap": 3, "protect": 4, "info": 5, "offer": 6, "withdraw": 7,
            "accept": 8, "spawn": 9, "exit": 10, "quota": 11, "fork": 12}
@@ -78,11 +79,16 @@ class Block(ctypes.Structure):
     _fields_ = [("begins", ctypes.c_void_p), ("length", ctypes.c_size_t)]
 
 
-def built(archive, folder):
-    """The archive, c/heap.c and look.c as one shared object, loaded."""
+class Verdict(ctypes.Structure):
+    """The verdict of a check."""
+    _fields_ = [(name, ctypes.c_uint32) for name in ("number", "clause")]
+
+
+def built(folder, *archives):
+    """The archives, and look.c with its heap, as one shared object, loaded."""
     made, c = os.path.join(folder, "library.so"), ROOT / "c"
-    subprocess.run(["gcc", "-shared", "-fPIC", "-O2", f"-I{c}/include", "-o", made, ROOT / "checks" / "look.c", c / "heap.c",
-                    "-Wl,--whole-archive", archive, "-Wl,--no-whole-archive"], check=True)
+    subprocess.run(["gcc", "-shared", "-fPIC", "-O2", f"-I{c}/include", "-o", made, ROOT / "checks" / "look.c",
+                    "-Wl,--whole-archive", *archives, "-Wl,--no-whole-archive"], check=True)
     library = ctypes.CDLL(made)
     for name in ("step", "step_ending", "ends", "run", "run_until", "read", "write", "next_page", "directory",
                  "container", "role", "walk", "copy_frame", "memory", "children", "next_offer", "next_holder",
@@ -154,15 +160,36 @@ def by(count, numbers):
     return zip(*[iter(numbers)] * count)
 
 
+def checked(library, image):
+    """The status of a check of these bytes, with the numbers of its verdict."""
+    verdict = Verdict(77, 78)
+    status = library.tower_check_bytes(image, ctypes.c_size_t(len(image)), ctypes.byref(verdict))
+    return status, verdict.number, verdict.clause
+
+
+def restored(library, image):
+    """The handle of a core that is restored from these bytes, and the status, with the numbers of its verdict."""
+    handle, verdict = Tower(False, None), Verdict(77, 78)
+    told = ctypes.byref(handle), ctypes.byref(verdict)
+    status = library.tower_restore(image, ctypes.c_size_t(len(image)), *told)
+    return handle, (status, verdict.number, verdict.clause)
+
+
+def booted(library, frames):
+    """The handle of a core that boots."""
+    handle = Tower(False, None)
+    boot = library.tower_boot if frames <= 4096 else library.tower_boot_wide
+    status = boot(ctypes.c_uint32(frames), ctypes.byref(handle))
+    if status:
+        raise RuntimeError(f"a boot of {frames} frames answers {status}")
+    return handle
+
+
 class Core:
     """A core of the library, with what memory.Comparison reads."""
 
-    def __init__(self, library, frames):
-        self.library, self.frames, self.handle = library, frames, Tower(False, None)
-        boot = library.tower_boot if frames <= 4096 else library.tower_boot_wide
-        status = boot(ctypes.c_uint32(frames), ctypes.byref(self.handle))
-        if status:
-            raise RuntimeError(f"a boot of {frames} frames answers {status}")
+    def __init__(self, library, frames, handle=None):
+        self.library, self.frames, self.handle = library, frames, handle or booted(library, frames)
         block = Block()
         library.tower_memory(ctypes.byref(self.handle), ctypes.byref(block))
         if block.length != 4096 * frames:
@@ -173,6 +200,14 @@ class Core:
 
     def free(self):
         self.library.tower_free(ctypes.byref(self.handle))
+
+    def image(self):
+        """The bytes of its image."""
+        count = 1548 + 4112 * self.frames
+        held, length = (ctypes.c_uint8 * count)(), ctypes.c_size_t(0)
+        asked = ctypes.byref(self.handle), held, ctypes.c_size_t(count), ctypes.byref(length)
+        status = self.library.tower_image(*asked)
+        return bytes(held) if (status, length.value) == (0, count) else status
 
     def look(self):
         """Reads all roles, containers and directories."""

@@ -1,5 +1,31 @@
-/* Reads all roles, containers and directories of a core in one call, for against_library. */
+/* Reads all roles, containers and directories of a core in one call, and counts the library's blocks, for
+ * against_library and damaged. */
+#include <stdlib.h>
+
 #include "tower.h"
+#include "tower_heap.h"
+
+size_t look_blocks;
+static char nothing;
+
+struct rattle_tried rattle_alloc(size_t size, size_t align) {
+    void *block = malloc(size ? size : align);
+    struct rattle_tried tried = {block != NULL, block ? block : &nothing};
+    look_blocks += tried.ok;
+    return tried;
+}
+
+struct rattle_tried rattle_realloc(void *block, size_t kept, size_t size, size_t align) {
+    (void)kept;
+    void *moved = realloc(block, size ? size : align);
+    struct rattle_tried tried = {moved != NULL, moved ? moved : &nothing};
+    return tried;
+}
+
+void rattle_dealloc(void *block) {
+    look_blocks -= block != NULL;
+    free(block);
+}
 
 static void look_at_roles(const struct tower *tower, uint32_t *roles) {
     for (uint32_t frame = 0; frame < tower_frames(tower); frame++) {

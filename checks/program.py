@@ -72,9 +72,14 @@ def image_differs(program, frames, script, run):
     return f"in the image {found}" if found else check_differs(program, image)
 
 
-def check_differs(program, image):
+def ran_on(program, words, image, script=b""):
+    """Runs a command whose last argument is the name of a file with this image."""
     with tempfile.NamedTemporaryFile() as file:
         file.write(image)
         file.flush()
-        verdict, ended = ran(program, ["check", file.name])
+        return ran(program, [*words, file.name], script)
+
+
+def check_differs(program, image):
+    verdict, ended = ran_on(program, ["check"], image)
     return None if (verdict, ended) == (b"sound\n", ("", 0)) else f"the check of the image answers {verdict} and {ended}"

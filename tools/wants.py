@@ -9,6 +9,7 @@ HINTS = {
     "rt": "'rt' of the Rattle kit on PATH (README.md)",
     "tower": "the proved program ('./tower prove' makes it)",
     "libtower_c.a": "the proved archive ('make -C c' makes it)",
+    "libtower_images.a": "the proved archive of images ('make -C c' makes it)",
     "memory_map": "the proved program ('./memory_map prove' makes it)",
     "chromium": "'chromium' on PATH",
     "valgrind": "'valgrind' on PATH",

@@ -8,5 +8,5 @@ mod restoring;
 
 pub use faults::{Failed, RestoreFault};
 pub use image_check::{FrameClause, Image, ProcessClause, read_image};
-pub use laws::restored_cores_answer_alike;
+pub use laws::{restored_cores_answer_alike, restored_cores_have_their_files};
 pub use restoring::{first_failed, restore};

@@ -109,6 +109,12 @@ fn reads_images_and_checks_as_clap_does(rt: HostRuntime) {
     check_refused(&rt, &["tower", "check", "one", "two"], unknown);
 }
 
+/// These words request the image of a resumed run.
+fn check_resumed_image<R: AllocGlobal + Abort>(rt: &R, words: &[&str]) {
+    let file = "an.image";
+    check_asked(rt, words, Ok(Job::ResumeImage { file }));
+}
+
 #[test]
 fn reads_a_file_to_resume_as_clap_does(rt: HostRuntime) {
     let file = "an.image";
@@ -118,6 +124,8 @@ fn reads_a_file_to_resume_as_clap_does(rt: HostRuntime) {
         &["tower", "resume", "an.image"],
         Ok(Job::Resume { file }),
     );
+    check_resumed_image(&rt, &["tower", "resume", "--image", "an.image"]);
+    check_resumed_image(&rt, &["tower", "resume", "an.image", "--image"]);
     check_refused(
         &rt,
         &["tower", "resume"],

@@ -2,6 +2,7 @@
 
 use crate::common::{call, image_in, image_of, other_bytes, process, shared_both_ways, spelled};
 use crate::comparing::{same, same_bytes};
+use crate::damaged_tests::{Damage, damaged, damages, frames_of, image_bytes, lines_of};
 use crate::images::PAGE_WORDS;
 use image_restore::{Failed, FrameClause, ProcessClause, RestoreFault, restore};
 use kernel_calls::{Call, Cause, Core, Event, Reply};
@@ -134,6 +135,42 @@ fn an_image_that_is_not_sound_is_refused(rt: HostRuntime) {
     check_refused(&rt, 2, &[(1736, 3)], RestoreFault::NotSound(count));
     check_refused(&rt, 1, &[], RestoreFault::OldWords);
     check_refused(&rt, 1, &[(20, 16)], RestoreFault::OldWords);
+}
+
+/// The line of a clause that fails, as a verdict writes it.
+fn line_of<R: AllocGlobal + Abort>(rt: &R, failed: Failed) -> String {
+    let line = match failed {
+        Failed::Process { pid, clause } => {
+            let (pid, clause) = (pid.number(), clause.number());
+            format!(in rt.alloc(); "process {pid} P{clause}\n")
+        }
+        Failed::Frame { frame, clause } => {
+            let (frame, clause) = (frame.0, clause.number());
+            format!(in rt.alloc(); "frame {frame} F{clause}\n")
+        }
+    };
+    line.ok().expect(rt, "memory for a line")
+}
+
+/// No core comes of an image with a changed word, and the reason is the first line of its verdict.
+fn check_damage<R: AllocGlobal + Abort>(rt: &R, damage: &Damage) {
+    let made = restore(rt.alloc(), image_in(rt, &damaged(rt, damage)));
+    let lines = lines_of(rt, damage);
+    match made.err() {
+        Some(RestoreFault::NotSound(failed)) => {
+            let line = line_of(rt, failed);
+            let first = lines.get(..line.len()).expect(rt, "a line");
+            same_bytes(rt, first, line.as_bytes());
+        }
+        other => same(rt, &other, &Some(RestoreFault::NoMemory)),
+    }
+}
+
+#[test]
+fn each_damaged_image_is_refused_by_its_first_line(rt: HostRuntime) {
+    for damage in damages(&frames_of(&image_bytes(&rt))) {
+        check_damage(&rt, &damage);
+    }
 }
 
 #[test]

@@ -1,5 +1,5 @@
 -- The result of a whole run, by what was read of the script.
-use Rattle.std.proofs.Common.{◌≡◌, ℕ, ◌+◌, ◌<◌, ◌≤◌, true, false, List, [], ◌∷◌, ◌++◌, length, take, refl, sym, ap, subst, ◌∙◌, arith, append_assoc, append-nil, length-append, Option, Some, None, IfSome, Result, Ok, Err, ◌↔◌}
+use Rattle.std.proofs.Common.{◌≡◌, ◌≢◌, ℕ, ◌+◌, ◌<◌, ◌≤◌, true, false, List, [], ◌∷◌, ◌++◌, length, take, refl, sym, ap, subst, ◌∙◌, arith, append_assoc, append-nil, length-append, Option, Some, None, IfSome, Result, Ok, Err, ◌↔◌}
 use Rattle.std.specs.Result.{IsErrOf, OnOk, IfErr}
 use Rattle.std.specs.Io.KnownBytes.{Appends, Keeps, Consumes, IsAtEnd}
 use Rattle.std.specs.List.{list_all}
@@ -215,6 +215,9 @@ late_fault {A} {B} session fault P size late = (
   λ e. let same : fault ≡ BadSize = cc in absurd (late (subst IsBeforeReading (sym same) tt)),
   λ p. let never = size.1 p in cc,
 )
+
+pub late_is_no_bad_size : (fault : ScriptFault) → (IsBeforeReading fault → ⊥) → fault ≢ BadSize
+late_is_no_bad_size fault late e = late (subst IsBeforeReading (sym e) tt)
 
 pub no_fault : {A B : Type 0} (session : A) (core : B) (P : Type 0) → (IsErrOf {T = A} (Ok session) BadSize ↔ P) → IsErrOf {T = B} {E = ScriptFault} (Ok core) BadSize ↔ P
 no_fault {A} {B} session core P size = (

@@ -1,6 +1,6 @@
 //! A script's run, from its bytes to the bytes of its replies.
 
-ghost use Rattle.std.specs.Prelude.{◌≡◌, ℕ, ◌≤◌, ◌↔◌, IsErrOf, IfOk, IfErr, OnOk, IfSome, None, Some};
+ghost use Rattle.std.specs.Prelude.{◌≡◌, ◌≢◌, ℕ, ◌≤◌, ◌↔◌, IsErrOf, IfOk, IfErr, OnOk, IfSome, None, Some};
 ghost use Rattle.std.specs.Io.KnownBytes.{Appends};
 ghost use Rattle.process_table.specs.State.{open_with};
 ghost use Rattle.kernel_calls.specs.Machine.{end_of};
@@ -48,7 +48,7 @@ pub fn run_script<R: Read, W: Write>(
 /// Runs a script on a machine as it stands, as `run_script` does on one that is booted: it carries out the script's
 /// events, writes a line for each reply, and hands back the machine.
 ///
-/// The faults are those of `run_script`, apart from `BadSize`.
+/// The faults are those of `run_script`, except `BadSize`.
 pub fn resume_script<R: Read, W: Write>(
     alloc: Global,
     core: Core,
@@ -59,6 +59,7 @@ pub fn resume_script<R: Read, W: Write>(
     ensures state { IfOk result (λ after. IfSome (R.remaining reader.old) (λ input. after.state ≡ end_of core.state (events_of input))) }
     ensures replies { OnOk result (IfSome (R.remaining reader.old) (λ input. Appends (W.contents writer.old) (W.contents writer.new) (replies_text core.state (events_of input)))) }
     ensures fault { IfErr result (λ fault. EndsBy core.state fault (R.remaining reader.old) (R.remaining reader.new) (W.contents writer.old) (W.contents writer.new)) }
+    ensures size { IfErr result (λ fault. fault ≢ ScriptFault.BadSize) }
 {
     let mut session = Session::of_core(alloc, core)?;
     let mut block = vec![in alloc; 0u8; BLOCK]?;

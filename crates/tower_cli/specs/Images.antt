@@ -10,8 +10,8 @@ use Rattle.memory_image.specs.Reading.{IsRefusal}
 use Rattle.memory_image.specs.Sound.{IsSound, StandsFor}
 use Rattle.memory_image.specs.Spelling.{Spells, spelling}
 use Rattle.memory_image.specs.declared.faults.ImageFault.TheVariants as image
-use Rattle.page_words.specs.FiniteMap as map
-use Rattle.process_table.specs.State.{open_with}
+use Rattle.image_restore.specs.Restored.{HasOldWords, IsRestored}
+use Rattle.process_table.specs.State.{State}
 use Rattle.process_table.specs.View.{View}
 use Rattle.script_run.specs.Progress.{EndsReading}
 use Rattle.script_run.specs.Script.{events_of, fault_of, replies_text}
@@ -20,19 +20,19 @@ use Rattle.script_run.specs.declared.faults.ScriptFault.TheVariants as script
 use Rattle.command_answers.specs.declared.faults.ToolFault.{ToolFault}
 use Rattle.command_answers.specs.declared.faults.ToolFault.TheVariants as tool
 
--- ---- The image of a script
+-- ---- The image of a script, from a state on
 
 -- the image represents the state that the script ends in, which is whole
-abbrev pub ShowsEnd : ℕ → Option (List ℕ) → Image → Type 0
-ShowsEnd frames remained image = IfSome remained (λ input. (fault_of input ≡ None) × StandsFor image (end_of (open_with frames) (events_of input)))
+abbrev pub ShowsEnd : State → Option (List ℕ) → Image → Type 0
+ShowsEnd begun remained image = IfSome remained (λ input. (fault_of input ≡ None) × StandsFor image (end_of begun (events_of input)))
 
 -- an image in its own encoding was written
-abbrev pub WritesImage : ℕ → Option (List ℕ) → Option (List ℕ) → Option (List ℕ) → Type 0
-WritesImage frames remained held holds = (image : Image) × ShowsEnd frames remained image × Spells (spelling image) image × Appends held holds (spelling image)
+abbrev pub WritesImage : State → Option (List ℕ) → Option (List ℕ) → Option (List ℕ) → Type 0
+WritesImage begun remained held holds = (image : Image) × ShowsEnd begun remained image × Spells (spelling image) image × Appends held holds (spelling image)
 
 -- a front of such an image was written, and at least one byte of it was not
-abbrev pub WritesFront : ℕ → Option (List ℕ) → Option (List ℕ) → Option (List ℕ) → Type 0
-WritesFront frames remained held holds = (image : Image) × ShowsEnd frames remained image × Spells (spelling image) image × AppendsFront held holds (spelling image)
+abbrev pub WritesFront : State → Option (List ℕ) → Option (List ℕ) → Option (List ℕ) → Type 0
+WritesFront begun remained held holds = (image : Image) × ShowsEnd begun remained image × Spells (spelling image) image × AppendsFront held holds (spelling image)
 
 -- the script is whole
 abbrev pub IsWhole : Option (List ℕ) → Type 0
@@ -43,30 +43,46 @@ abbrev pub HasFault : Option (List ℕ) → ScriptFault → Type 0
 HasFault remained fault = IfSome remained (λ input. fault_of input ≡ Some fault)
 
 -- the script has a reply, which there would be to write
-abbrev pub HasReplies : ℕ → Option (List ℕ) → Type 0
-HasReplies frames remained = IfSome remained (λ input. 0 < length (replies_text (open_with frames) (events_of input)))
+abbrev pub HasReplies : State → Option (List ℕ) → Type 0
+HasReplies begun remained = IfSome remained (λ input. 0 < length (replies_text begun (events_of input)))
 
 -- why a script gave no image: a fault before anything was read, the script's own first fault, or a failed read; if
 -- memory ran out, also after a whole script. Its replies are not written.
-abbrev pub EndsScript : ℕ → ScriptFault → Option (List ℕ) → Option (List ℕ) → Type 0
-EndsScript frames script.BadSize remained remains = Keeps remained remains
-EndsScript frames script.NoMemory remained remains = Keeps remained remains ⊎ IsWhole remained
-EndsScript frames (script.Malformed line) remained remains = HasFault remained (script.Malformed line)
-EndsScript frames script.TooLong remained remains = HasFault remained script.TooLong
-EndsScript frames script.ReadFailed remained remains = EndsReading (open_with frames) remained remains None None
-EndsScript frames script.WriteFailed remained remains = HasReplies frames remained
+abbrev pub EndsScript : State → ScriptFault → Option (List ℕ) → Option (List ℕ) → Type 0
+EndsScript begun script.BadSize remained remains = Keeps remained remains
+EndsScript begun script.NoMemory remained remains = Keeps remained remains ⊎ IsWhole remained
+EndsScript begun (script.Malformed line) remained remains = HasFault remained (script.Malformed line)
+EndsScript begun script.TooLong remained remains = HasFault remained script.TooLong
+EndsScript begun script.ReadFailed remained remains = EndsReading begun remained remains None None
+EndsScript begun script.WriteFailed remained remains = HasReplies begun remained
 
 -- what was written of it before this fault: nothing, or, where a write failed, a front of it
-abbrev pub EndsImage : ℕ → ScriptFault → Option (List ℕ) → Option (List ℕ) → Option (List ℕ) → Option (List ℕ) → Type 0
-EndsImage frames fault remained remains held holds = (EndsScript frames fault remained remains × Keeps held holds) ⊎ ((fault ≡ script.WriteFailed) × WritesFront frames remained held holds)
+abbrev pub EndsImage : State → ScriptFault → Option (List ℕ) → Option (List ℕ) → Option (List ℕ) → Option (List ℕ) → Type 0
+EndsImage begun fault remained remains held holds = (EndsScript begun fault remained remains × Keeps held holds) ⊎ ((fault ≡ script.WriteFailed) × WritesFront begun remained held holds)
 
 -- ---- The core of an image
 
--- the bytes encode an image, and the core's state is one that the image represents, without any offer; or the image
--- isn't sound
+-- the bytes encode an image that shows what the core does and represents its state, without any offer; or they encode
+-- one of version 2 that isn't sound
 abbrev pub Restores : List ℕ → Option View → Type 0
-Restores bytes (Some core) = (image : Image) × Spells bytes image × StandsFor image core.state × (core.state.offers ≡ map.empty)
-Restores bytes None = (image : Image) × Spells bytes image × (IsSound image → ⊥)
+Restores bytes (Some core) = (image : Image) × Spells bytes image × IsRestored core image
+Restores bytes None = (image : Image) × Spells bytes image × (image.version ≡ 2) × (IsSound image → ⊥)
+
+-- why bytes gave neither: the first reason against them, or that their image is of version 1; out of memory only if
+-- there is no reason against them
+abbrev pub EndsRestore : List ℕ → ToolFault → Type 0
+EndsRestore bytes tool.NotImage = IsRefusal bytes image.NotImage
+EndsRestore bytes tool.BadVersion = IsRefusal bytes image.BadVersion ⊎ ((image : Image) × Spells bytes image × HasOldWords image)
+EndsRestore bytes tool.BadLength = IsRefusal bytes image.BadLength
+EndsRestore bytes (tool.BadField offset) = IsRefusal bytes (image.BadField offset)
+EndsRestore bytes tool.NoMemory = IsRefusal bytes image.NoMemory
+EndsRestore bytes tool.BadSize = ⊥
+EndsRestore bytes (tool.Malformed line) = ⊥
+EndsRestore bytes tool.TooLong = ⊥
+EndsRestore bytes tool.ReadFailed = ⊥
+EndsRestore bytes tool.WriteFailed = ⊥
+EndsRestore bytes tool.RaceTurns = ⊥
+EndsRestore bytes tool.RaceFailed = ⊥
 
 -- ---- The check of an image
 

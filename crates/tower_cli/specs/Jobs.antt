@@ -1,14 +1,16 @@
 -- What a command line requests.
 --     tower_app      the program's commands, as `clap` reads them
 --     job_asked found      the job of the subcommand that the words name, and of the arguments after it
-use Rattle.std.specs.Prelude.{ℕ, ◌&&◌, ◌≤◌, true, nat_le, List, Option, Some, None, pos, codes, option_map, option_and_then, if◌then◌else◌}
+use Rattle.std.specs.Prelude.{ℕ, Bool, ◌&&◌, ◌≤◌, true, false, nat_le, List, Option, Some, None, pos, codes, option_map, option_and_then, slice_get, if◌then◌else◌}
+use Rattle.std.specs.Option.{option_map_or}
 use Rattle.std.specs.Str.{bytes_eq}
-use Rattle.clap.specs.Words.{App, Row, Rule, Text, new_app, new_rule, with_rule, with_subcommand}
+use Rattle.clap.specs.Words.{App, Row, Rule, Text, all_of, new_app, new_rule, with_rule, with_subcommand}
+use Rattle.clap.specs.declared.builder.action.ArgAction.TheVariants.{SetTrue}
 use Rattle.clap.specs.declared.builder.value_parser.ValueParser.TheVariants as parser
 use Rattle.command_answers.specs.Files.{file_argument, file_in}
 use Rattle.command_answers.specs.Options.{frames_option, frames_in, number_in}
 use Rattle.tower_cli.specs.declared.jobs.Job.{Job}
-use Rattle.tower_cli.specs.declared.jobs.Job.TheVariants.{Run, Race, Image, Check, Resume}
+use Rattle.tower_cli.specs.declared.jobs.Job.TheVariants.{Run, Race, Image, Check, Resume, ResumeImage}
 
 -- tower run [--frames N]
 abbrev pub run_app : App
@@ -22,9 +24,13 @@ image_app = with_rule (new_app (codes "image")) frames_option
 abbrev pub check_app : App
 check_app = with_rule (new_app (codes "check")) file_argument
 
--- tower resume FILE
+-- --image
+abbrev pub image_flag : Rule
+image_flag = record (new_rule (codes "image")) { long = Some (codes "image"); action = Some SetTrue }
+
+-- tower resume [--image] FILE
 abbrev pub resume_app : App
-resume_app = with_rule (new_app (codes "resume")) file_argument
+resume_app = with_rule (with_rule (new_app (codes "resume")) image_flag) file_argument
 
 -- --rounds N, 1 to 1000
 abbrev pub rounds_option : Rule
@@ -56,6 +62,7 @@ pub data Asked : Type 0 where
   an_image : ℕ → Asked
   a_check : Text → Asked
   a_resume : Text → Asked
+  a_resumed_image : Text → Asked
   a_race : ℕ → ℕ → Asked
 
 -- a job as the definitions name it
@@ -64,11 +71,20 @@ as_asked (Run frames) = a_run frames
 as_asked (Image frames) = an_image frames
 as_asked (Check file) = a_check file.now
 as_asked (Resume file) = a_resume file.now
+as_asked (ResumeImage file) = a_resumed_image file.now
 as_asked (Race frames rounds) = a_race frames rounds
 
 -- a race of so many frames, where the rounds can be played
 abbrev pub race_in : List Row → Option Asked
 race_in rows = option_and_then (λ frames. option_map (λ rounds. a_race frames rounds) (rounds_in rows)) (frames_in rows)
+
+-- whether `--image` is among the arguments
+abbrev pub asks_image : List Row → Bool
+asks_image rows = option_map_or (λ text. bytes_eq text (codes "true")) (option_and_then (λ (values : List Text). slice_get values 0) (all_of (codes "image") rows)) false
+
+-- a run on the machine of an image, for its replies or for the image of its last state
+abbrev pub resume_in : List Row → Asked
+resume_in rows = if asks_image rows then a_resumed_image (file_in rows) else a_resume (file_in rows)
 
 -- the job of a subcommand's name and of the arguments after it
 abbrev pub job_named : Text → List Row → Option Asked
@@ -77,7 +93,7 @@ job_named name rows =
     if bytes_eq name (codes "race") then race_in rows else
     if bytes_eq name (codes "image") then option_map (λ frames. an_image frames) (frames_in rows) else
     if bytes_eq name (codes "check") then Some (a_check (file_in rows)) else
-    if bytes_eq name (codes "resume") then Some (a_resume (file_in rows)) else
+    if bytes_eq name (codes "resume") then Some (resume_in rows) else
     None
 
 -- the job of the subcommand that the arguments name
@@ -91,4 +107,5 @@ HasRounds (Run frames) = Unit {0}
 HasRounds (Image frames) = Unit {0}
 HasRounds (Check file) = Unit {0}
 HasRounds (Resume file) = Unit {0}
+HasRounds (ResumeImage file) = Unit {0}
 HasRounds (Race frames rounds) = (1 ≤ rounds) × (rounds ≤ 1000)

@@ -4,10 +4,10 @@ ghost use Rattle.std.specs.Prelude.{◌≡◌, ◌≤◌, true, false, map, opti
 ghost use Rattle.clap.specs.Words.{app_of, fault_of, found_of, kind_of, rows_of, rule_of, subcommand_of, takes, with_subcommand, FailsBy};
 ghost use Rattle.clap.specs.declared.builder.command.Command.TheViews.{out-Command as fields_of};
 ghost use Rattle.command_answers.specs.Options.{frames_option, frames_in, number_in};
-ghost use Rattle.tower_cli.specs.Jobs.{tower_app, run_app, race_app, image_app, check_app, resume_app, rounds_option, playable, rounds_in, race_in, job_named, job_asked, as_asked, HasRounds};
+ghost use Rattle.tower_cli.specs.Jobs.{tower_app, run_app, race_app, image_app, check_app, resume_app, image_flag, rounds_option, playable, rounds_in, race_in, asks_image, resume_in, job_named, job_asked, as_asked, HasRounds};
 
 use clap::error::ErrorKind;
-use clap::{Arg, ArgMatches, Command, Error};
+use clap::{Arg, ArgAction, ArgMatches, Command, Error};
 use command_answers::{file_argument, file_in, frames_in, frames_option, number_in};
 use std::alloc::{AllocError, Global};
 use std::convert::AsStr;
@@ -26,6 +26,8 @@ pub enum Job<'a> {
     Check { file: &'a str },
     /// To run a script on the machine of the image in a file of that name.
     Resume { file: &'a str },
+    /// To run a script on such a machine, and write the image of the state that it ends in.
+    ResumeImage { file: &'a str },
     /// To play so many rounds of a race, 1 to 1000, each on a machine of so many frames.
     Race { frames: u32, rounds: u32 },
 }
@@ -72,7 +74,18 @@ fn check_command<'a>(alloc: Global) -> Result<Command<'a>, AllocError>
         .arg(file_argument(alloc))
 }
 
-/// `resume FILE`.
+/// `--image`.
+fn image_flag<'a>(alloc: Global) -> Arg<'a>
+    ensures rule { rule_of result ≡ image_flag }
+    ensures local { result.global ≡ false }
+{
+    Arg::new(alloc, "image")
+        .long("image")
+        .action(ArgAction::SetTrue)
+        .help("Writes the image of the last state, and no reply")
+}
+
+/// `resume [--image] FILE`.
 fn resume_command<'a>(alloc: Global) -> Result<Command<'a>, AllocError>
     ensures app { IfOk result (λ command. app_of command ≡ resume_app) }
     ensures globals { IfOk result (λ command. (fields_of command).has_globals ≡ false) }
@@ -81,6 +94,7 @@ fn resume_command<'a>(alloc: Global) -> Result<Command<'a>, AllocError>
         .about(
             "Runs a script from standard input on the machine of an image, and writes a line for each reply",
         )
+        .arg(image_flag(alloc))?
         .arg(file_argument(alloc))
 }
 
@@ -142,6 +156,29 @@ fn race_in<'a>(matches: &ArgMatches<'a>) -> Option<Job<'a>>
     Some(Job::Race { frames, rounds })
 }
 
+/// Whether `--image` is among the arguments.
+fn asks_image(matches: &ArgMatches<'_>) -> bool
+    ensures { result ≡ asks_image (rows_of (found_of matches.now)) }
+{
+    match matches.get_str("image") {
+        Some(text) => text == "true",
+        None => false,
+    }
+}
+
+/// A run on the machine of an image, for its replies or for the image of its last state.
+fn resume_in<'a>(matches: &ArgMatches<'a>) -> Job<'a>
+    ensures job { as_asked result ≡ resume_in (rows_of (found_of matches.now)) }
+    ensures rounds { HasRounds result }
+{
+    let file = file_in(matches);
+    if asks_image(matches) {
+        Job::ResumeImage { file }
+    } else {
+        Job::Resume { file }
+    }
+}
+
 /// The job of the subcommand of that name, by the arguments after it.
 fn job_named<'a>(name: &str, matches: &ArgMatches<'a>) -> Option<Job<'a>>
     ensures job { option_map as_asked result ≡ job_named name.now (rows_of (found_of matches.now)) }
@@ -161,10 +198,7 @@ fn job_named<'a>(name: &str, matches: &ArgMatches<'a>) -> Option<Job<'a>>
             let file = file_in(matches);
             Some(Job::Check { file })
         }
-        "resume" => {
-            let file = file_in(matches);
-            Some(Job::Resume { file })
-        }
+        "resume" => Some(resume_in(matches)),
         _ => None,
     }
 }

@@ -5,5 +5,5 @@
 mod images;
 mod jobs;
 
-pub use images::{check_bytes, restore_bytes, write_script_image};
+pub use images::{check_bytes, restore_bytes, write_resumed_image, write_script_image};
 pub use jobs::{Job, job_of};

@@ -1,3 +1,2 @@
 pub mod Audits
 pub mod Images
-pub mod Restored

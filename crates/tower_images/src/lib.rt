@@ -11,7 +11,7 @@ ghost use Rattle.memory_image.specs.Spelling.{Spells};
 ghost use Rattle.c_handle.specs.Handle.{IsTower};
 ghost use Rattle.tower_images.specs.Images.{image_length, SpellsCore, HasSoundImage};
 ghost use Rattle.process_table.specs.Image.{StandsFor, image_of};
-ghost use Rattle.tower_images.specs.Restored.{HasOldWords, IsRestored};
+ghost use Rattle.image_restore.specs.Restored.{HasOldWords, IsRestored};
 ghost use Rattle.tower_images.specs.Audits.{SpellsOne, FailsProcess, FailsFrame, IsNoImage};
 
 mod checking;

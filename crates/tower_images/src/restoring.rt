@@ -4,7 +4,7 @@ ghost use Rattle.std.specs.Prelude.{◌≡◌, ◌≢◌, ◌≤◌, ◌⊎◌, 
 ghost use Rattle.memory_image.specs.Sound.{IsSound};
 ghost use Rattle.process_table.specs.Image.{StandsFor, image_of};
 ghost use Rattle.tower_images.specs.Audits.{FailsFrame, FailsProcess, IsNoImage, SpellsOne};
-ghost use Rattle.tower_images.specs.Restored.{HasOldWords, IsRestored};
+ghost use Rattle.image_restore.specs.Restored.{HasOldWords, IsRestored};
 
 use crate::statuses::{NO_MEMORY, NOT_IMAGE, OLD_WORDS};
 use crate::verdicts::{TowerVerdict, tell_failed, verdict_from};

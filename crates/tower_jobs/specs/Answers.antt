@@ -1,23 +1,25 @@
 -- The answer to a command line, and what was read and written for each answer.
 --     DoesJob asked answer ..      what a job with that answer read and wrote
 --     AnswersWords words answer ..      what a command line with that answer read and wrote
-use Rattle.std.specs.Prelude.{◌≡◌, ◌⊎◌, ℕ, List, true, false, Option, Some, None, IfSome}
+use Rattle.std.specs.Prelude.{◌≡◌, ◌≢◌, ◌⊎◌, ℕ, List, true, false, Option, Some, None, IfSome}
 use Rattle.std.specs.Io.KnownBytes.{Appends, Keeps}
 use Rattle.clap.specs.Words.{HasKind, fault_of as clap_faults, subcommand_of}
 use Rattle.clap.specs.declared.error.Error.{Error}
-use Rattle.process_table.specs.State.{open_with}
+use Rattle.process_table.specs.State.{State, open_with}
 use Rattle.process_table.specs.View.{View}
 use Rattle.script_run.specs.Progress.{EndsBy}
 use Rattle.script_run.specs.Script.{events_of, replies_text}
 use Rattle.script_run.specs.declared.faults.ScriptFault.{ScriptFault}
+use Rattle.script_run.specs.declared.faults.ScriptFault.TheVariants as script
 use Rattle.command_answers.specs.Answers.{Refuses}
 use Rattle.command_answers.specs.Faults.{tool_of_script}
 use Rattle.command_answers.specs.Files.{IsRead}
 use Rattle.command_answers.specs.declared.answers.Answer.{Answer}
 use Rattle.command_answers.specs.declared.answers.Answer.TheVariants.{Done, NotSound, Failed, NotText, Refused}
+use Rattle.command_answers.specs.declared.faults.ToolFault.{ToolFault}
 use Rattle.command_answers.specs.declared.faults.ToolFault.TheVariants as tool
-use Rattle.tower_cli.specs.Images.{Checks, EndsCheck, EndsImage, IsWhole, Restores, WritesImage}
-use Rattle.tower_cli.specs.Jobs.{Asked, a_run, an_image, a_check, a_resume, a_race, job_asked, tower_app}
+use Rattle.tower_cli.specs.Images.{Checks, EndsCheck, EndsImage, EndsRestore, IsWhole, Restores, WritesImage}
+use Rattle.tower_cli.specs.Jobs.{Asked, a_run, an_image, a_check, a_resume, a_resumed_image, a_race, job_asked, tower_app}
 use Rattle.tower_jobs.specs.Races.{EndsRace, Writes}
 
 -- ---- Jobs
@@ -32,8 +34,8 @@ RunsScript frames (Refused error) remained remains held holds = ⊥
 
 -- the image of its last state was written of a whole script, or the run ended by the fault
 abbrev pub ImagesScript : ℕ → Answer → Option (List ℕ) → Option (List ℕ) → Option (List ℕ) → Option (List ℕ) → Type 0
-ImagesScript frames Done remained remains held holds = WritesImage frames remained held holds
-ImagesScript frames (Failed fault) remained remains held holds = (ended : ScriptFault) × (fault ≡ tool_of_script ended) × EndsImage frames ended remained remains held holds
+ImagesScript frames Done remained remains held holds = WritesImage (open_with frames) remained held holds
+ImagesScript frames (Failed fault) remained remains held holds = (ended : ScriptFault) × (fault ≡ tool_of_script ended) × EndsImage (open_with frames) ended remained remains held holds
 ImagesScript frames NotSound remained remains held holds = ⊥
 ImagesScript frames NotText remained remains held holds = ⊥
 ImagesScript frames (Refused error) remained remains held holds = ⊥
@@ -46,16 +48,42 @@ ChecksFile (Failed fault) remained held holds = (((fault ≡ tool.NoMemory) ⊎ 
 ChecksFile NotText remained held holds = ⊥
 ChecksFile (Refused error) remained held holds = ⊥
 
--- What was read encodes a sound image, and the replies were written of a whole script, from a state that the image
--- represents, without any offer. Or the image isn't sound. Or it was not read, or is refused, or the run ended by the
--- fault.
+-- what was read of a file encodes an image of which this core was made
+abbrev pub HasCore : Option (List ℕ) → View → Type 0
+HasCore file core = (bytes : List ℕ) × IsRead file bytes × Restores bytes (Some core)
+
+-- why no core came of a file: its image isn't sound; or it was not read, or what was read is refused
+abbrev pub HasNoCore : Option (List ℕ) → Answer → Type 0
+HasNoCore file NotSound = (bytes : List ℕ) × IsRead file bytes × Restores bytes None
+HasNoCore file (Failed fault) = ((fault ≡ tool.NoMemory) ⊎ (fault ≡ tool.ReadFailed)) ⊎ ((bytes : List ℕ) × IsRead file bytes × EndsRestore bytes fault)
+HasNoCore file Done = ⊥
+HasNoCore file NotText = ⊥
+HasNoCore file (Refused error) = ⊥
+
+-- the replies were written of a whole script, from a state on, or the run ended by the fault
+abbrev pub ResumesScript : State → Answer → Option (List ℕ) → Option (List ℕ) → Option (List ℕ) → Option (List ℕ) → Type 0
+ResumesScript begun Done remained remains held holds = IsWhole remained × IfSome remained (λ input. Appends held holds (replies_text begun (events_of input)))
+ResumesScript begun (Failed fault) remained remains held holds = (ended : ScriptFault) × (ended ≢ script.BadSize) × (fault ≡ tool_of_script ended) × EndsBy begun ended remained remains held holds
+ResumesScript begun NotSound remained remains held holds = ⊥
+ResumesScript begun NotText remained remains held holds = ⊥
+ResumesScript begun (Refused error) remained remains held holds = ⊥
+
+-- the image of its last state was written of a whole script, from a state on, or the run ended by the fault
+abbrev pub ImagesResumed : State → Answer → Option (List ℕ) → Option (List ℕ) → Option (List ℕ) → Option (List ℕ) → Type 0
+ImagesResumed begun Done remained remains held holds = WritesImage begun remained held holds
+ImagesResumed begun (Failed fault) remained remains held holds = (ended : ScriptFault) × (ended ≢ script.BadSize) × (fault ≡ tool_of_script ended) × EndsImage begun ended remained remains held holds
+ImagesResumed begun NotSound remained remains held holds = ⊥
+ImagesResumed begun NotText remained remains held holds = ⊥
+ImagesResumed begun (Refused error) remained remains held holds = ⊥
+
+-- No core came of the file, and nothing was read of the script or written. Or a core came of it, from whose state the
+-- script ran.
 abbrev pub ResumesFile : Answer → Option (List ℕ) → Option (List ℕ) → Option (List ℕ) → Option (List ℕ) → Option (List ℕ) → Type 0
-ResumesFile Done file remained remains held holds = (bytes : List ℕ) × IsRead file bytes × (core : View) × Restores bytes (Some core) × IsWhole remained × IfSome remained (λ input. Appends held holds (replies_text core.state (events_of input)))
-ResumesFile NotSound file remained remains held holds = (bytes : List ℕ) × IsRead file bytes × Restores bytes None × Keeps remained remains × Keeps held holds
-ResumesFile (Failed fault) file remained remains held holds = (Keeps remained remains × Keeps held holds)
-    ⊎ ((bytes : List ℕ) × IsRead file bytes × (core : View) × Restores bytes (Some core) × (ended : ScriptFault) × (fault ≡ tool_of_script ended) × EndsBy core.state ended remained remains held holds)
-ResumesFile NotText file remained remains held holds = ⊥
-ResumesFile (Refused error) file remained remains held holds = ⊥
+ResumesFile answer file remained remains held holds = (HasNoCore file answer × Keeps remained remains × Keeps held holds) ⊎ ((core : View) × HasCore file core × ResumesScript core.state answer remained remains held holds)
+
+-- No core came of the file, as above. Or a core came of it, and the script ran for the image of its last state.
+abbrev pub ImagesFile : Answer → Option (List ℕ) → Option (List ℕ) → Option (List ℕ) → Option (List ℕ) → Option (List ℕ) → Type 0
+ImagesFile answer file remained remains held holds = (HasNoCore file answer × Keeps remained remains × Keeps held holds) ⊎ ((core : View) × HasCore file core × ImagesResumed core.state answer remained remains held holds)
 
 -- all rounds were played and their text written, or the race ended by the fault
 abbrev pub PlaysRace : ℕ → ℕ → Answer → Option (List ℕ) → Option (List ℕ) → Type 0
@@ -71,6 +99,7 @@ DoesJob (a_run frames) answer remained remains held holds = RunsScript frames an
 DoesJob (an_image frames) answer remained remains held holds = ImagesScript frames answer remained remains held holds
 DoesJob (a_check file) answer remained remains held holds = ChecksFile answer None held holds
 DoesJob (a_resume file) answer remained remains held holds = ResumesFile answer None remained remains held holds
+DoesJob (a_resumed_image file) answer remained remains held holds = ImagesFile answer None remained remains held holds
 DoesJob (a_race frames rounds) answer remained remains held holds = PlaysRace frames rounds answer held holds
 
 -- ---- Command lines

@@ -1,11 +1,12 @@
-//! The five jobs, each with the answer that comes of it.
+//! The jobs, each with the answer that comes of it.
 
-ghost use Rattle.std.specs.Prelude.{◌≤◌, None, map};
-ghost use Rattle.tower_jobs.specs.Answers.{AnswersWords, ChecksFile, DoesJob, ImagesScript, PlaysRace, ResumesFile, RunsScript};
+ghost use Rattle.std.specs.Prelude.{◌≤◌, None, IfOk, IfErr, map};
+ghost use Rattle.tower_jobs.specs.Answers.{AnswersWords, ChecksFile, DoesJob, HasCore, HasNoCore, ImagesFile, ImagesResumed, ImagesScript, PlaysRace, ResumesFile, ResumesScript, RunsScript};
 ghost use Rattle.tower_cli.specs.Jobs.{HasRounds, as_asked};
 
 use crate::races::race;
 use command_answers::{Answer, ToolFault, bytes_of, refuse};
+use kernel_calls::Core;
 use script_run::{resume_script, run_script};
 use std::alloc::Global;
 use std::convert::AsStr;
@@ -14,7 +15,7 @@ use std::fs::Files;
 use std::io::{Read, Write};
 use std::sync::Wait;
 use std::thread::Threads;
-use tower_cli::{Job, check_bytes, job_of, restore_bytes, write_script_image};
+use tower_cli::{Job, check_bytes, job_of, restore_bytes, write_resumed_image, write_script_image};
 
 /// Runs a script on a machine of so many frames, and writes its replies.
 fn run_replies<I: Read, O: Write>(
@@ -72,31 +73,65 @@ fn check_named<R: AllocGlobal + Files, O: Write>(rt: &R, name: &str, output: &mu
     }
 }
 
-/// Runs a script on the machine of the image that a file has, and writes its replies.
-fn resume_file<F: Read + Drop, I: Read, O: Write>(
-    alloc: Global,
-    file: F,
-    input: &mut I,
-    output: &mut O,
-) -> Answer
-    ensures { ResumesFile result (F.remaining file) (I.remaining input.old) (I.remaining input.new) (O.contents output.old) (O.contents output.new) }
+/// The core of the image that a file has, or why there is none. Of the file no more is read than one byte more than the
+/// largest image has.
+fn core_in<F: Read + Drop>(alloc: Global, file: F) -> Result<Core, Answer>
+    ensures core { IfOk result (HasCore (F.remaining file)) }
+    ensures none { IfErr result (HasNoCore (F.remaining file)) }
 {
     let bytes = match bytes_of(alloc, file) {
         Ok(bytes) => bytes,
-        Err(fault) => return Answer::Failed(fault),
+        Err(fault) => return Err(Answer::Failed(fault)),
     };
-    let core = match restore_bytes(alloc, bytes.as_slice()) {
-        Ok(Some(core)) => core,
-        Ok(None) => return Answer::NotSound,
-        Err(fault) => return Answer::Failed(fault),
-    };
+    match restore_bytes(alloc, bytes.as_slice()) {
+        Ok(Some(core)) => Ok(core),
+        Ok(None) => Err(Answer::NotSound),
+        Err(fault) => Err(Answer::Failed(fault)),
+    }
+}
+
+/// The core of the image in the file of that name; ReadFailed where it can't be opened.
+fn core_named<R: AllocGlobal + Files>(rt: &R, name: &str) -> Result<Core, Answer>
+    ensures core { IfOk result (HasCore None) }
+    ensures none { IfErr result (HasNoCore None) }
+{
+    match fs::open(rt, name) {
+        Ok(file) => core_in(rt.alloc(), file),
+        Err(_) => Err(Answer::Failed(ToolFault::ReadFailed)),
+    }
+}
+
+/// Runs a script on a core, and writes its replies.
+fn resume_replies<I: Read, O: Write>(
+    alloc: Global,
+    core: Core,
+    input: &mut I,
+    output: &mut O,
+) -> Answer
+    ensures { ResumesScript core.state result (I.remaining input.old) (I.remaining input.new) (O.contents output.old) (O.contents output.new) }
+{
     match resume_script(alloc, core, input, output) {
         Ok(_) => Answer::Done,
         Err(fault) => Answer::Failed(ToolFault::from(fault)),
     }
 }
 
-/// Runs a script on the machine of the image in the file of that name; ReadFailed where it can't be opened.
+/// Runs a script on a core, and writes the image of its last state.
+fn resume_image<I: Read, O: Write>(
+    alloc: Global,
+    core: Core,
+    input: &mut I,
+    output: &mut O,
+) -> Answer
+    ensures { ImagesResumed core.state result (I.remaining input.old) (I.remaining input.new) (O.contents output.old) (O.contents output.new) }
+{
+    match write_resumed_image(alloc, core, input, output) {
+        Ok(()) => Answer::Done,
+        Err(fault) => Answer::Failed(ToolFault::from(fault)),
+    }
+}
+
+/// Runs a script on the machine of the image in the file of that name, and writes its replies.
 fn resume_named<R: AllocGlobal + Files, I: Read, O: Write>(
     rt: &R,
     name: &str,
@@ -105,9 +140,24 @@ fn resume_named<R: AllocGlobal + Files, I: Read, O: Write>(
 ) -> Answer
     ensures { ResumesFile result None (I.remaining input.old) (I.remaining input.new) (O.contents output.old) (O.contents output.new) }
 {
-    match fs::open(rt, name) {
-        Ok(file) => resume_file(rt.alloc(), file, input, output),
-        Err(_) => Answer::Failed(ToolFault::ReadFailed),
+    match core_named(rt, name) {
+        Ok(core) => resume_replies(rt.alloc(), core, input, output),
+        Err(answer) => answer,
+    }
+}
+
+/// Runs a script on such a machine, and writes the image of its last state.
+fn image_named<R: AllocGlobal + Files, I: Read, O: Write>(
+    rt: &R,
+    name: &str,
+    input: &mut I,
+    output: &mut O,
+) -> Answer
+    ensures { ImagesFile result None (I.remaining input.old) (I.remaining input.new) (O.contents output.old) (O.contents output.new) }
+{
+    match core_named(rt, name) {
+        Ok(core) => resume_image(rt.alloc(), core, input, output),
+        Err(answer) => answer,
     }
 }
 
@@ -143,6 +193,7 @@ fn answer_job<R: AllocGlobal + Files + Threads + Wait + Sync, I: Read, O: Write>
         Job::Image { frames } => write_image_of(rt.alloc(), input, output, frames),
         Job::Check { file } => check_named(rt, file, output),
         Job::Resume { file } => resume_named(rt, file, input, output),
+        Job::ResumeImage { file } => image_named(rt, file, input, output),
         Job::Race { frames, rounds } => play_race(rt, output, frames, rounds),
     }
 }

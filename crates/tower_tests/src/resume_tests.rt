@@ -1,6 +1,7 @@
 //! Scripts that resume on the machine of an image, by the command line.
 
 use crate::command_lines::{Ended, check_ended, check_nothing_done, end_of};
+use crate::comparing::{same, same_bytes};
 use crate::images::{image_after, opening, opening_of_version, opening_with_quota};
 use std::fs;
 use std::fs::Files;
@@ -15,16 +16,49 @@ const REST: &str = "0 0 load 40000000 4\n0 0 map 40000 rw\n0 1 accept 0 40000 40
 
 const REPLIES: &str = "value 00000007\nrefused Mapped\nrefused NoOffer\nquota 15 3 5\n";
 
+/// The outcome of words with a script.
+fn outcome<R: AllocGlobal + Files + Threads + Wait + Abort + Sync>(
+    rt: &R,
+    words: &[&str],
+    script: &str,
+) -> Ended {
+    let mut output = Vec::new(rt.alloc());
+    let answer = answer(rt, words, &mut script.as_bytes(), &mut output);
+    end_of(rt, "tower", &answer, output)
+}
+
 /// The outcome of `resume` with a file's name and a script.
 fn resume<R: AllocGlobal + Files + Threads + Wait + Abort + Sync>(
     rt: &R,
     name: &str,
     script: &str,
 ) -> Ended {
-    let mut output = Vec::new(rt.alloc());
-    let words = ["tower", "resume", name];
-    let answer = answer(rt, &words, &mut script.as_bytes(), &mut output);
-    end_of(rt, "tower", &answer, output)
+    outcome(rt, &["tower", "resume", name], script)
+}
+
+/// The outcome of `resume --image` on a file of these bytes.
+fn image_resumed<R: AllocGlobal + Files + Threads + Wait + Abort + Sync>(
+    rt: &R,
+    bytes: &[u8],
+    script: &str,
+) -> Ended {
+    let name = "imaged.by.a.test.image";
+    fs::write(rt, name, bytes).ok().expect(rt, "a file");
+    let ended = outcome(rt, &["tower", "resume", "--image", name], script);
+    fs::remove_file(rt, name).ok().expect(rt, "no file");
+    ended
+}
+
+/// The image of a run that resumes on a file of these bytes has these bytes.
+fn check_image<R: AllocGlobal + Files + Threads + Wait + Abort + Sync>(
+    rt: &R,
+    bytes: &[u8],
+    script: &str,
+    expected: &[u8],
+) {
+    let ended = image_resumed(rt, bytes, script);
+    same(rt, &ended.status, &0);
+    same_bytes(rt, &ended.output, expected);
 }
 
 /// A script that resumes on a file of these bytes ends with this status, and these texts.
@@ -75,10 +109,29 @@ fn no_script_resumes_on_another_file(rt: HostRuntime) {
     check_ended(&rt, &missing, 1, "", "tower: read failed\n");
 }
 
+/// Without a script it is the file itself. Frames are taken as in one run, if none was freed.
+#[test]
+fn the_image_of_a_resumed_run_is_written(rt: HostRuntime) {
+    let image = image_after(&rt, FRONT);
+    let whole = concat!("0 0 store 40000000 4 7\n0 0 spawn 5\n", "0 1 store 40000000 4 8\n");
+    check_image(&rt, &image, "", &image);
+    check_image(&rt, &image, "0 1 store 40000000 4 8\n", &image_after(&rt, whole));
+}
+
+#[test]
+fn no_image_of_a_resumed_run_is_written(rt: HostRuntime) {
+    let image = opening(&rt);
+    let version = "tower: unknown image version\n";
+    let malformed = image_resumed(&rt, &image, "0 0 quota\n0 0 map\n");
+    let unsound = image_resumed(&rt, &opening_with_quota(&rt, 16), REST);
+    let old = image_resumed(&rt, &opening_of_version(&rt, 1), REST);
+    check_ended(&rt, &malformed, 2, "", "tower: line 2 is malformed\n");
+    check_ended(&rt, &unsound, 3, "", "");
+    check_ended(&rt, &old, 2, "", version);
+}
+
 #[test]
 fn resume_requires_the_name_of_a_file(rt: HostRuntime) {
     let words = ["tower", "resume"];
-    let mut output = Vec::new(rt.alloc());
-    let answer = answer(&rt, &words, &mut REST.as_bytes(), &mut output);
-    check_nothing_done(&rt, &end_of(&rt, "tower", &answer, output), 2, &words);
+    check_nothing_done(&rt, &outcome(&rt, &words, REST), 2, &words);
 }

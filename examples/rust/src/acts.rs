@@ -57,7 +57,7 @@ pub struct Holder {
 /// The pending offers of a process in the order of pages and targets, as [`Core::offers`] returns them.
 #[derive(Clone, Debug)]
 pub struct Offers<'a> {
-    core: &'a Core,
+    core: &'a Core<'a>,
     pid: Pid,
     next: Option<(Page, u32)>,
 }
@@ -78,7 +78,7 @@ impl FusedIterator for Offers<'_> {}
 /// The dirty pages of a process in ascending order, as [`Core::dirty_pages`] returns them.
 #[derive(Clone, Debug)]
 pub struct DirtyPages<'a> {
-    core: &'a Core,
+    core: &'a Core<'a>,
     pid: Pid,
     next: Option<u32>,
 }
@@ -106,7 +106,7 @@ fn cause_of(told: &raw::Reply) -> Option<Cause> {
     }
 }
 
-impl Core {
+impl Core<'_> {
     /// Returns a process's children in order of their numbers; none if it is not live.
     #[must_use]
     pub fn children(&self, pid: Pid) -> Processes {
@@ -252,12 +252,7 @@ impl Core {
     /// # Errors
     ///
     /// The cause for which an Info of the page is refused; then nothing changes.
-    pub fn take_back(
-        &mut self,
-        pid: Pid,
-        page: Page,
-        lost: &mut [Holder],
-    ) -> Result<usize, Cause> {
+    pub fn take_back(&mut self, pid: Pid, page: Page, lost: &mut [Holder]) -> Result<usize, Cause> {
         if lost.is_empty() {
             return self.take_some(pid, page, lost);
         }

@@ -135,6 +135,15 @@ impl Core<'static> {
             raw::tower_boot_wide(frames, handle)
         })
     }
+
+    /// The core in a handle to which a call of the library gave one.
+    #[cfg(feature = "images")]
+    pub(crate) fn of_handle(handle: raw::Tower) -> Core<'static> {
+        Core {
+            handle: UnsafeCell::new(handle),
+            block: PhantomData,
+        }
+    }
 }
 
 impl Core<'_> {

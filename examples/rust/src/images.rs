@@ -1,13 +1,15 @@
-//! The image of a core, and the check of images, from the archive of `crates/tower_images`.
+//! The image of a core, the check of images, and a core made of one, from the archive of `crates/tower_images`.
 
 extern crate alloc;
 
+use crate::VERSION;
 use crate::alone::alone;
-use crate::core::Core;
+use crate::core::{Core, version};
 use crate::raw;
 use crate::words::{Frame, Pid, pid_of, told};
 use ::core::error::Error;
 use ::core::fmt;
+use ::core::ptr::null_mut;
 use alloc::vec::Vec;
 
 /// Memory ran out for a check.
@@ -113,6 +115,46 @@ impl From<NoMemory> for ImageFault {
     }
 }
 
+/// Why no core is made of an image.
+#[derive(Clone, Copy, Debug, PartialEq, Eq, Hash)]
+pub enum RestoreFault {
+    /// The library's version is not that of the header for which this crate was written.
+    OtherVersion {
+        /// The library's version, as [`version`] returns it.
+        library: u32,
+    },
+    /// The bytes encode no image.
+    Refused(ImageFault),
+    /// The image has the words of version 1.
+    OldWords,
+    /// The image isn't sound, by this verdict.
+    NotSound(Verdict),
+    /// Memory ran out for the image, its check or the core.
+    NoMemory,
+}
+
+impl fmt::Display for RestoreFault {
+    fn fmt(&self, to: &mut fmt::Formatter<'_>) -> fmt::Result {
+        match self {
+            RestoreFault::OtherVersion { library } => {
+                write!(to, "the library is of version {library}, and not {VERSION}")
+            }
+            RestoreFault::Refused(fault) => fault.fmt(to),
+            RestoreFault::OldWords => to.write_str("the image is of version 1"),
+            RestoreFault::NotSound(verdict) => write!(to, "the image is not sound: {verdict}"),
+            RestoreFault::NoMemory => NoMemory.fmt(to),
+        }
+    }
+}
+
+impl Error for RestoreFault {}
+
+impl From<NoMemory> for RestoreFault {
+    fn from(NoMemory: NoMemory) -> RestoreFault {
+        RestoreFault::NoMemory
+    }
+}
+
 /// Returns the result of a check; None if the bytes are no image.
 fn verdict_of(status: u32, raw: raw::Verdict) -> Result<Option<Verdict>, NoMemory> {
     match status {
@@ -153,6 +195,40 @@ pub fn check_image(bytes: &[u8]) -> Result<Verdict, ImageFault> {
     let status =
         alone(|| unsafe { raw::tower_check_bytes(bytes.as_ptr(), bytes.len(), &raw mut raw) });
     verdict_of(status, raw)?.ok_or_else(|| fault_of(raw))
+}
+
+impl Core<'static> {
+    /// Makes a core of the image that bytes encode, whatever wrote them. Its state is the one that the image represents,
+    /// without any offer, and its image has the same bytes.
+    ///
+    /// # Errors
+    ///
+    /// `OtherVersion` if the linked library's version is not [`VERSION`]. `Refused` if the bytes encode no image, with
+    /// the first reason against them. `OldWords` if the image is of version 1. `NotSound` if it isn't sound, with the
+    /// verdict of its check. `NoMemory` if memory ran out for it.
+    pub fn restore(bytes: &[u8]) -> Result<Core<'static>, RestoreFault> {
+        if version() != VERSION {
+            return Err(RestoreFault::OtherVersion { library: version() });
+        }
+        let mut handle = raw::Tower {
+            live: false,
+            core: null_mut(),
+        };
+        let mut raw = raw::Verdict::default();
+        // SAFETY: the handle is all zeros, and nothing else has it; the pointer and the length are the slice's, whose
+        // pointer is never null; all lie apart.
+        let (begins, count) = (bytes.as_ptr(), bytes.len());
+        let status =
+            alone(|| unsafe { raw::tower_restore(begins, count, &raw mut handle, &raw mut raw) });
+        match status {
+            0 => Ok(Core::of_handle(handle)),
+            6 => Err(RestoreFault::OldWords),
+            _ => Err(match verdict_of(status, raw)? {
+                Some(verdict) => RestoreFault::NotSound(verdict),
+                None => RestoreFault::Refused(fault_of(raw)),
+            }),
+        }
+    }
 }
 
 impl Core<'_> {

@@ -2,9 +2,9 @@
 //!
 //! [`Core`] has all calls and queries of the library that `crates/tower_c` builds. What they do is proved up
 //! to that library's exports (docs/C-LIBRARY.md). This crate turns types into the library's numbers and back. It is not
-//! proved; `cargo test` tests it. The feature `images` adds the image and the checks of `crates/tower_images`, and
-//! `blocks` cores over blocks of the caller's. The crate's `unsafe` blocks are those of `src/acts.rs`, `src/core.rs`, `src/memory.rs`,
-//! `src/images.rs`, `src/blocks.rs`, `src/heap.rs` and `src/supply.rs`.
+//! proved; `cargo test` tests it. The feature `images` adds the images of `crates/tower_images`, their check and
+//! `Core::restore`, and `blocks` cores over blocks of the caller's. The crate's `unsafe` blocks are those of
+//! `src/acts.rs`, `src/core.rs`, `src/memory.rs`, `src/images.rs`, `src/blocks.rs`, `src/heap.rs` and `src/supply.rs`.
 //!
 //! ```
 //! use tower::{Call, Core, Event, Page, Pid, Reply, Size, Vaddr};
@@ -48,7 +48,7 @@ pub use blocks::block_bytes;
 pub use calls::{Info, Usage};
 pub use core::{BootFault, Core, UnequalLengths, version};
 #[cfg(feature = "images")]
-pub use images::{CoreImageFault, ImageFault, NoMemory, Verdict, check_image};
+pub use images::{CoreImageFault, ImageFault, NoMemory, RestoreFault, Verdict, check_image};
 pub use memory::{Mapped, Pages, Stopped};
 pub use words::{
     Access, Call, Cause, Container, Ended, Event, FRAME_BYTES, Failure, Frame, Page, Pid, Reply,

@@ -206,12 +206,8 @@ unsafe extern "C" {
         moved: *mut usize,
     ) -> bool;
     pub fn tower_clean(tower: *mut Tower, pid: u32, page: u32, dirty: *mut bool) -> bool;
-    pub fn tower_end(
-        tower: *mut Tower,
-        pid: u32,
-        exited: *mut Processes,
-        told: *mut Reply,
-    ) -> bool;
+    pub fn tower_end(tower: *mut Tower, pid: u32, exited: *mut Processes, told: *mut Reply)
+    -> bool;
     pub fn tower_take_back(
         tower: *mut Tower,
         pid: u32,
@@ -259,4 +255,10 @@ unsafe extern "C" {
     ) -> u32;
     pub fn tower_check(tower: *const Tower, verdict: *mut Verdict) -> u32;
     pub fn tower_check_bytes(bytes: *const u8, byte_count: usize, verdict: *mut Verdict) -> u32;
+    pub fn tower_restore(
+        bytes: *const u8,
+        byte_count: usize,
+        tower: *mut Tower,
+        verdict: *mut Verdict,
+    ) -> u32;
 }

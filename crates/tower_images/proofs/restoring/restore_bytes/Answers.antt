@@ -2,7 +2,7 @@ use Rattle.image_restore.specs.Failing.{NamesClause}
 use Rattle.image_restore.proofs.FailLemmas.{unsound}
 use Rattle.std.proofs.Common.{subst}
 use Rattle.memory_image.specs.Sound.{IsSound}
-use Rattle.tower_images.specs.Restored.{HasOldWords}
+use Rattle.image_restore.specs.Restored.{HasOldWords}
 use Rattle.tower_images.proofs.TellLemmas.{is_alone, ok_or_not, one_fault}
 use Rattle.tower_images.proofs.restoring.restore_bytes.Goals as goal
 

@@ -1,0 +1,36 @@
+/* A core restored over a block of its caller's: tower_restore of tower_images.h over a block of tower_region.h. c/region.c
+ * and c/region_images.c have it. What both headers require holds here too, that of the one lock included.
+ */
+#ifndef TOWER_REGION_IMAGES_H
+#define TOWER_REGION_IMAGES_H
+
+#include "tower_images.h"
+#include "tower_region.h"
+
+#ifdef __cplusplus
+extern "C" {
+#endif
+
+/* How many bytes a block needs for a core of an image of that many frames: in addition to a booted core's the check's,
+ * which the core does not use afterwards. */
+#define TOWER_RESTORE_BLOCK_BYTES(frames) (TOWER_BLOCK_BYTES(frames) + ((size_t)(frames) * 16 + 4095) / 4096 * 4096)
+
+/* A status in addition to those of tower_restore. The block is as TOWER_BAD_BLOCK says, or has too few bytes for an
+ * image of that length, or shares a byte with the image. */
+#define TOWER_RESTORE_BAD_BLOCK 7
+
+/* Restores a core over a block, from the image that bytes encode. With any status but TOWER_RESTORED the block stays the
+ * caller's. Its bytes are unchanged at TOWER_RESTORE_HAS_CORE and TOWER_RESTORE_BAD_BLOCK, and may have changed at any
+ * other. tower_free frees the core. */
+TOWER_NODISCARD uint32_t tower_restore_over(const uint8_t *bytes, size_t byte_count, struct tower *tower,
+                                            struct tower_verdict *verdict, void *block, size_t size);
+
+/* The name of a status of tower_restore_over; "" for a number that is no status. */
+static inline const char *tower_restore_over_status_name(uint32_t status) {
+    return status == TOWER_RESTORE_BAD_BLOCK ? "BadBlock" : tower_restore_status_name(status);
+}
+
+#ifdef __cplusplus
+}
+#endif
+#endif
