@@ -91,9 +91,6 @@ open_writes s p page =
     ap (λ (x : Option Cell). unwrap_or (option_map (λ (c : Cell). c.write) x) false)
     (get-inserted s.spaces (at_page p page) (record (cell_or_fresh s.spaces (at_page p page)) { write = true }))
 
-fresh_there : (s : State) (slot : Slot) → is_mapped s slot ≡ false → cell_or_fresh s.spaces slot ≡ fresh slot true
-fresh_there s slot none = ap (λ (x : Option Cell). unwrap_or x (fresh slot true)) (no_value (map.get s.spaces slot) none)
-
 with_right : (c : Cell) → c.write ≡ true → c ≡ record c { write = true }
 with_right c h = λ i. record c { write = h i }
 
@@ -118,48 +115,8 @@ open_before s p page there right =
 
 -- ---- What opens it
 
-unmapped_right : (s : State) (slot : Slot) → is_mapped s slot ≡ false → is_writable_at s slot ≡ false
-unmapped_right s slot none = by (map.get s.spaces slot) none
-  where
-    by : (x : Option Cell) → is_some x ≡ false → unwrap_or (option_map (λ (c : Cell). c.write) x) false ≡ false
-    by None h = refl
-    by (Some c) h = cc
-
 pub opens_nothing : (s : State) (p page : ℕ) → is_writable_at s (at_page p page) ≡ true → opening s p page ≡ []
 opens_nothing s p page right = ap (λ b. if b then [] else if is_mapped s (at_page p page) then protect_of p page true ∷ [] else map_of p page true ∷ []) right
-
-pub opens_right : (s : State) (p page : ℕ) → is_mapped s (at_page p page) ≡ true → is_writable_at s (at_page p page) ≡ false → opening s p page ≡ protect_of p page true ∷ []
-opens_right s p page there right = λ i. if right i then [] else if there i then protect_of p page true ∷ [] else map_of p page true ∷ []
-
-pub opens_page : (s : State) (p page : ℕ) → is_mapped s (at_page p page) ≡ false → opening s p page ≡ map_of p page true ∷ []
-opens_page s p page none =
-    let right = unmapped_right s (at_page p page) none in
-    λ i. if right i then [] else if none i then protect_of p page true ∷ [] else map_of p page true ∷ []
-
-none_either : (b : Bool) → ◌≡◌ {A = Ended} (if b then end.Nothing else end.Nothing) end.Nothing
-none_either true = refl
-none_either false = refl
-
-pub opening_right : (s : State) (p page : ℕ) → is_mapped s (at_page p page) ≡ true → is_writable_at s (at_page p page) ≡ false → IsOpening s p page (protect_of p page true)
-opening_right s p page there right = record {
-  first = opens_right s p page there right;
-  after = λ done. next-goes s (protect_of p page true) done;
-  ends = λ v. none_either (completes (answer v.state (protect_of p page true)));
-}
-
-pub opening_page : (s : State) (p page : ℕ) → is_mapped s (at_page p page) ≡ false → IsOpening s p page (map_of p page true)
-opening_page s p page none = record {
-  first = opens_page s p page none;
-  after = λ done. next-goes s (map_of p page true) done
-      ∙ (λ i. record s { spaces = map.insert s.spaces (at_page p page) (record (sym (fresh_there s (at_page p page) none) i) { write = true }) });
-  ends = λ v. none_either (completes (answer v.state (map_of p page true)));
-}
-
-pub opened_by : (s t : State) (p page : ℕ) (e : Event) → IsOpening s p page e → completes (answer s e) ≡ true → t ≡ next s e → IsOpened s p page t
-opened_by s t p page e o done after = record {
-  run = subst (λ (es : List Event). IsRunTo s es t) (sym o.first) (run_one s t e done after);
-  state = after ∙ o.after done;
-}
 
 pub opened_before : (s : State) (p page : ℕ) → is_mapped s (at_page p page) ≡ true → is_writable_at s (at_page p page) ≡ true → IsOpened s p page s
 opened_before s p page there right = record {
@@ -168,13 +125,6 @@ opened_before s p page there right = record {
 }
 
 -- ---- What stores and closes it
-
-pub store_run_kept : (s t : State) (p a : ℕ) (bytes : List ℕ) (write : Bool) → write ≡ true → AreStored s p a bytes t → IsRunTo s (store_run p a bytes write) t
-store_run_kept s t p a bytes write is stored =
-    let run : store_run p a bytes write ≡ stores p a bytes =
-    ap (λ b. stores p a bytes ++ (if b then [] else protect_of p (page_number a) false ∷ [])) is ∙ append-nil (stores p a bytes)
-    in
-    subst (λ (es : List Event). IsRunTo s es t) (sym run) (record { all = stored.all; after = stored.after })
 
 pub store_run_closed : (s t u : State) (p a : ℕ) (bytes : List ℕ) (write : Bool) → write ≡ false → AreStored s p a bytes t
     → completes (answer t (protect_of p (page_number a) false)) ≡ true → u ≡ next t (protect_of p (page_number a) false) → IsRunTo s (store_run p a bytes write) u

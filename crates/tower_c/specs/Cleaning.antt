@@ -20,7 +20,7 @@ mapped_in None pid page = false
 -- accessed and dirty of a page were cleared; it was dirty or not
 pub record IsCleaned (core : View) (p page : ℕ) (dirty : Bool) (next : View) : Type 0 where
   pub mapped : is_mapped core.state (at_page p page) ≡ true
-  pub dirty : dirty ≡ is_dirty_at core.state (at_page p page)
+  pub told : dirty ≡ is_dirty_at core.state (at_page p page)
   pub state : next.state ≡ cleaned core.state (at_page p page)
   pub marks : EndsMarks (end.Page p page) core next
 

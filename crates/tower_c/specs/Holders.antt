@@ -1,5 +1,5 @@
 -- Who else has a page of a process, in numbers.
-use Rattle.std.specs.Prelude.{◌≡◌, ◌≤◌, ◌<◌, ℕ, Bool, true, false, not, if◌then◌else◌, Option, Some, None, List}
+use Rattle.std.specs.Prelude.{◌≡◌, ◌≤◌, ◌<◌, ℕ, true, false, not, if◌then◌else◌, Option, Some, None, List}
 use Rattle.page_words.specs.Addresses.{IsUserPage, is_user_page}
 use Rattle.address_space.specs.Spaces.{at_page}
 use Rattle.process_table.specs.State.{State, is_live, is_mapped}

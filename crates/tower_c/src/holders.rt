@@ -83,16 +83,23 @@ pub extern "C" fn tower_next_holder(
     }
 }
 
+/// A slot, as numbers.
+fn holder_from(holder: &Holder) -> TowerHolder
+    ensures { holder_of result ≡ holder.now }
+{
+    TowerHolder {
+        pid: u32::from(holder.pid.number()),
+        page: holder.page.0,
+    }
+}
+
 /// Writes slots as numbers.
 fn list(holders: &[Holder], lost: &mut [TowerHolder])
     requires { length lost.old ≡ length holders.now }
     ensures { map holder_of lost.new ≡ holders.now }
 {
     for (i, holder) in holders.iter().enumerate() {
-        lost[i] = TowerHolder {
-            pid: u32::from(holder.pid.number()),
-            page: holder.page.0,
-        };
+        lost[i] = holder_from(holder);
     }
 }
 
