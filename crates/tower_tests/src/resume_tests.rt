@@ -113,9 +113,17 @@ fn no_script_resumes_on_another_file(rt: HostRuntime) {
 #[test]
 fn the_image_of_a_resumed_run_is_written(rt: HostRuntime) {
     let image = image_after(&rt, FRONT);
-    let whole = concat!("0 0 store 40000000 4 7\n0 0 spawn 5\n", "0 1 store 40000000 4 8\n");
+    let whole = concat!(
+        "0 0 store 40000000 4 7\n0 0 spawn 5\n",
+        "0 1 store 40000000 4 8\n"
+    );
     check_image(&rt, &image, "", &image);
-    check_image(&rt, &image, "0 1 store 40000000 4 8\n", &image_after(&rt, whole));
+    check_image(
+        &rt,
+        &image,
+        "0 1 store 40000000 4 8\n",
+        &image_after(&rt, whole),
+    );
 }
 
 #[test]
