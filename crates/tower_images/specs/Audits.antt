@@ -1,5 +1,5 @@
 -- The result of a check of bytes, in numbers.
-use Rattle.std.specs.Prelude.{◌≡◌, ℕ, ◌<◌, List, None}
+use Rattle.std.specs.Prelude.{◌≡◌, ℕ, ◌<◌, List, Some, None}
 use Rattle.std.specs.Option.{option_map}
 use Rattle.memory_image.specs.declared.faults.ImageFault.{ImageFault}
 use Rattle.memory_image.specs.declared.faults.ImageFault.TheVariants as fault
