@@ -107,8 +107,8 @@ static void run_all(bool beside, uint32_t replies[TENANTS], uint32_t sums[TENANT
         EXPECT(tower_end(&tower, bad, &exited, &told) && told.kind == TOWER_REFUSED && told.first == TOWER_NO_PROCESS);
         pthread_mutex_unlock(&lock);
     }
+    for (int i = 0; i < TENANTS; i++) EXPECT(pthread_join(threads[i], NULL) == 0);
     for (int i = 0; i < TENANTS; i++) {
-        EXPECT(pthread_join(threads[i], NULL) == 0);
         replies[i] = tenants[i].replies;
         sums[i] = sum_of(&tower, tenants[i].pid);
     }

@@ -24,7 +24,9 @@ pub struct TowerProcesses {
     pub pids: [u32; 64],
 }
 
-/// Writes numbers of processes in the first places. The other places stay.
+/// Writes numbers of processes in the first places. The other places stay. As a call of its own it keeps its callers'
+/// arrays above the stack's end.
+#[inline(never)]
 fn list(pids: &[Pid; 64], count: usize, list: &mut TowerProcesses)
     requires { count ≤ 64 }
     ensures pids { pids_in list.new ≡ take count pids.now }
