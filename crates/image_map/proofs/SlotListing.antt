@@ -24,6 +24,7 @@ use Rattle.address_space.specs.ImageWords.{is_lazy_word, own_frame}
 use Rattle.memory_image.proofs.References.{same_some}
 use Rattle.image_check.specs.Told.{fails_nothing, verdict_on}
 use Rattle.image_check.specs.Verdict.{is_table_of}
+use Rattle.image_check.proofs.Agreement.{widened}
 use Rattle.image_check.proofs.ToldLemmas.{sound_is_told}
 use Rattle.image_map.specs.declared.runs.Run.{Run}
 use Rattle.image_map.specs.Runs.{pages_of, runs_of, own_table, own_if, runs_in, runs_at, pages_in}
@@ -55,7 +56,7 @@ module _ (image : Image) (p : ℕ) where
       ∙ sym (through (run_line image) (runs_at image p) a n)
 
   limit-is : IsImage image → IsSound image → limit image ≡ 1024
-  limit-is I sound = ap (λ b. if b then 1024 else frames image) ((sound_is_told image I).1 sound)
+  limit-is I sound = ap (λ b. if b then 1024 else frames image) ((sound_is_told image (widened image I)).1 sound)
 
   pub process-lines : IsImage image → IsSound image → pages_text image (limit image) p ≡ flat_map (run_line image) (runs_by image p)
   unfolding pages_text runs_by
