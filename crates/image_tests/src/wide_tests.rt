@@ -12,14 +12,14 @@ use std::process::Abort;
 const FRAMES: u32 = 5000;
 
 /// A wide core whose root has stored to so many pages.
-fn filled<R: AllocGlobal + Abort>(rt: &R, pages: u32) -> Core {
+fn filled<R: AllocGlobal + Abort>(rt: &R, pages: u16) -> Core {
     let core = Core::boot_wide(rt.alloc(), FRAMES);
     let mut core = core.ok().expect(rt, "a wide core");
     for page in 0..pages {
         store(
             &mut core,
             process(rt, 0),
-            Vaddr(0x4000_0000 + 4096 * page),
+            Vaddr(0x4000_0000 + 4096 * u32::from(page)),
             7,
         );
     }
