@@ -14,7 +14,7 @@ use Rattle.page_words.specs.FiniteSet as set
 use Rattle.page_words.specs.FiniteSet.{Set}
 use Rattle.page_words.proofs.MapLemmas.{retain-insert_other}
 use Rattle.page_words.proofs.OptionLemmas.{some_value, is_some-map}
-use Rattle.address_space.specs.Spaces.{Slot, Cell, at_page, fresh, cell_or_fresh, cost, cost_of, pages_of, regions_of, need, access_need}
+use Rattle.address_space.specs.Spaces.{Slot, Cell, at_page, fresh, cell_or_fresh, cost, cost_of, pages_of, regions_of, access_need}
 use Rattle.address_space.proofs.costs.Costs.{same_pages}
 use Rattle.quota_tree.specs.Book.{Member, given, quota_of, number_of_children, next_number}
 use Rattle.quota_tree.proofs.Sums.{given-remove, number-remove}

@@ -9,7 +9,7 @@ use Rattle.std.proofs.lemmas.List.Elements.{All-nil, All-cons, All-head, All-tai
 use Rattle.page_words.specs.Addresses.{byte_count, covered, page_number, second_page, is_user_page, IsUserPage}
 use Rattle.page_words.specs.declared.addresses.Size.{Size}
 use Rattle.page_words.specs.FiniteMap as map
-use Rattle.address_space.specs.Spaces.{Slot, Cell, cell_or_fresh, fresh, cost, need, at_page, slot_at}
+use Rattle.address_space.specs.Spaces.{Slot, Cell, cell_or_fresh, fresh, cost, at_page, slot_at}
 use Rattle.quota_tree.specs.Book.{Book, given, quota_of, next_number, number_of_children}
 use Rattle.page_sharing.specs.Offers.{offer_key, pending}
 use Rattle.table_walk.specs.declared.Access.{Access}

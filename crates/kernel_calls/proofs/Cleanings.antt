@@ -1,5 +1,5 @@
 -- What clearing accessed and dirty of a slot leaves and breaks.
-use Rattle.std.proofs.Common.{◌≡◌, ◌≢◌, ℕ, ◌^◌, ◌<◌, not, Bool, true, false, List, [], ◌∷◌, refl, sym, ap, ◌∙◌, is_some, Option, Some, None, unwrap_or, arith, inl, inr}
+use Rattle.std.proofs.Common.{◌≡◌, ◌≢◌, ℕ, ◌^◌, ◌<◌, not, Bool, true, false, [], ◌∷◌, refl, sym, ap, ◌∙◌, is_some, Option, Some, None, unwrap_or, arith, inl, inr}
 use Rattle.std.specs.Prelude.{if◌then◌else◌}
 use Rattle.std.specs.Option.{option_map}
 use Rattle.page_words.specs.FiniteMap as map

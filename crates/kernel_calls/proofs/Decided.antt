@@ -18,12 +18,11 @@ use Rattle.page_words.specs.declared.addresses.Size.{Size}
 use Rattle.table_walk.specs.declared.Access.{Access}
 use Rattle.table_walk.specs.declared.Access.TheVariants.{Read, Write}
 use Rattle.kernel_calls.specs.Machine.{answer, answer_of, after, next, completes, refused_or, planned_or}
-use Rattle.kernel_calls.specs.Decisions.{judged_of, decision_of, plan_of_call, plan_of_event, refused_plan, charge_in, charge_after, tested, spawned}
+use Rattle.kernel_calls.specs.Decisions.{judged_of, plan_of_call, plan_of_event, refused_plan, charge_in, charge_after, tested, spawned}
 use Rattle.kernel_calls.proofs.Charges.{map_charge, spawn_lives, fork_lives, fork_charge}
 use Rattle.kernel_calls.specs.declared.calls.Call.{Call}
 use Rattle.kernel_calls.specs.declared.calls.Call.TheVariants as call
 use Rattle.kernel_calls.specs.declared.calls.Event.{Event}
-use Rattle.kernel_calls.specs.declared.calls.Decision.{Decision}
 use Rattle.kernel_calls.specs.declared.calls.Reply.{Reply}
 use Rattle.kernel_calls.specs.declared.calls.Reply.TheVariants as reply
 
@@ -40,7 +39,7 @@ goes-refused : (x : Option Cause) (r : Reply) → completes r ≡ true → goes_
 goes-refused (Some k) r h = refl
 goes-refused None r h = sym h
 
-goes-call : (v : View) (p : ℕ) (c : Call) → goes_on (plan_of_call v p c) ≡ completes (answer_of v.state p c)
+pub goes-call : (v : View) (p : ℕ) (c : Call) → goes_on (plan_of_call v p c) ≡ completes (answer_of v.state p c)
 goes-call v p (call.Load addr size) = goes-at v p addr size Read _ refl
 goes-call v p (call.Store addr size value) = goes-at v p addr size Write _ refl
 goes-call v p (call.Map page write) = goes-refused _ _ refl
@@ -62,40 +61,11 @@ goes-event v e = by (is_live v.state e.pid)
     by true = goes-call v e.pid e.call
     by false = refl
 
--- where what is planned of an event goes on or not, so does the answer
-pub goes-by : (v : View) (e : Event) (x : Plan) (b : Bool) → x ≡ plan_of_event v e → goes_on x ≡ b → completes (answer v.state e) ≡ b
-goes-by v e x b is h = sym (goes-event v e) ∙ sym (ap goes_on is) ∙ h
-
--- where a decision's plan goes on or not, so does the answer
-pub goes-decided : (v : View) (d : Decision) (b : Bool) → d ≡ decision_of v d.event → goes_on d.plan ≡ b → completes (answer v.state d.event) ≡ b
-goes-decided v d b is h = sym (goes-event v d.event) ∙ sym (ap (λ (x : Decision). goes_on x.plan) is) ∙ h
-
 pub next-stays : (s : State) (e : Event) → completes (answer s e) ≡ false → next s e ≡ s
 next-stays s e h = ap (λ b. if b then after s e.pid e.call else s) h
 
 pub next-goes : (s : State) (e : Event) → completes (answer s e) ≡ true → next s e ≡ after s e.pid e.call
 next-goes s e h = ap (λ b. if b then after s e.pid e.call else s) h
-
--- a call for a child that goes on is told the child that its test gives
-goes-child : (live : Bool) (x : Option Cause) (child : ℕ) → goes_on (if live then refused_plan x else plan.Refused cause.NoProcess) ≡ true
-    → ((if live then refused_or x (reply.Child child) else reply.Refused cause.NoProcess) ≡ reply.Child child) × (child_unless (if live then x else Some cause.NoProcess) child ≡ Ok child)
-goes-child true None child h = (refl, refl)
-goes-child true (Some k) child h = cc
-goes-child false x child h = cc
-
-pub spawn-goes : (v : View) (e : Event) (quota : ℕ) → e.call ≡ call.Spawn quota → goes_on (plan_of_event v e) ≡ true → (answer v.state e ≡ reply.Child (child_of v.state)) × (spawn_answer v.state e.pid quota ≡ Ok (child_of v.state))
-spawn-goes v e quota is g =
-    let both = goes-child (is_live v.state e.pid) (spawn_refusal v.state e.pid quota) (child_of v.state) (sym (ap (λ c. goes_on (if is_live v.state e.pid then plan_of_call v e.pid c else plan.Refused cause.NoProcess)) is) ∙ g) in
-    (ap (λ c. if is_live v.state e.pid then answer_of v.state e.pid c else reply.Refused cause.NoProcess) is ∙ both.0, both.1)
-
-pub fork-goes : (v : View) (e : Event) (quota : ℕ) → e.call ≡ call.Fork quota → goes_on (plan_of_event v e) ≡ true → (answer v.state e ≡ reply.Child (child_of v.state)) × (fork_answer v.state e.pid quota ≡ Ok (child_of v.state))
-fork-goes v e quota is g =
-    let both = goes-child (is_live v.state e.pid) (fork_refusal v.state e.pid quota) (child_of v.state) (sym (ap (λ c. goes_on (if is_live v.state e.pid then plan_of_call v e.pid c else plan.Refused cause.NoProcess)) is) ∙ g) in
-    (ap (λ c. if is_live v.state e.pid then answer_of v.state e.pid c else reply.Refused cause.NoProcess) is ∙ both.0, both.1)
-
--- two names of one child
-pub same-child : (r : Reply) (x y : ℕ) → r ≡ reply.Child x → r ≡ reply.Child y → x ≡ y
-same-child r x y h k = cc
 
 -- the reply to a call that is done or refused, by what its test answers
 abbrev pub done_by : Result ℕ Cause → Reply

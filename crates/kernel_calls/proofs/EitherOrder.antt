@@ -18,13 +18,12 @@ use Rattle.process_table.specs.State.{State, is_live, child_of}
 use Rattle.process_table.specs.WellFormed.{IsWellFormed}
 use Rattle.process_table.proofs.CellLaws.{get-inserted_other}
 use Rattle.kernel_calls.specs.Authority.{HaveTheSame, LooksSame, Sees, IsUnseen, IsQuietCall, is_offered, found}
-use Rattle.kernel_calls.specs.Beside.{only, InEitherOrder, AccessesBeside, OrdersEndTheSame}
+use Rattle.kernel_calls.specs.Beside.{only, InEitherOrder, AccessesBeside, OrdersEndTheSame, is_access}
 use Rattle.process_table.specs.Calls.{accept_refusal, offered, fork_refusal}
 use Rattle.process_table.proofs.ApartOthers.{child_free, no_page}
 use Rattle.process_table.proofs.Forks.{may_fork}
 use Rattle.process_table.proofs.Refusals.{may_accept}
 use Rattle.kernel_calls.specs.Machine.{answer, answer_of, after, next, completes}
-use Rattle.kernel_calls.specs.Places.{is_access}
 use Rattle.kernel_calls.specs.declared.calls.Call.{Call}
 use Rattle.kernel_calls.specs.declared.calls.Call.TheVariants as call
 use Rattle.kernel_calls.specs.declared.calls.Event.{Event}

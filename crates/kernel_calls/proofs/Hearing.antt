@@ -1,26 +1,5 @@
 -- Members of a set that make the same calls in two runs get the same replies, if outsiders use no channel.
-use Rattle.std.proofs.Common.{
-  ◌≡◌,
-  ℕ,
-  ◌&&◌,
-  ◌||◌,
-  Bool,
-  true,
-  false,
-  if◌then◌else◌,
-  List,
-  [],
-  ◌∷◌,
-  Option,
-  refl,
-  sym,
-  ap,
-  subst,
-  ◌∙◌,
-  is_some,
-  inl,
-  inr,
-}
+use Rattle.std.proofs.Common.{◌≡◌, ℕ, ◌&&◌, ◌||◌, Bool, true, false, if◌then◌else◌, List, [], ◌∷◌, refl, sym, ap, subst, ◌∙◌, is_some, inl, inr}
 use Rattle.address_space.specs.Spaces.{Slot, is_of}
 use Rattle.page_sharing.specs.Offers.{offer_key}
 use Rattle.process_table.specs.State.{State, is_live}
@@ -41,7 +20,7 @@ use Rattle.kernel_calls.specs.Authority.{
   KeepsWithin,
 }
 use Rattle.kernel_calls.specs.Families.{IsFamily, FamiliesHearTheirOwn, FamiliesEndTheSame}
-use Rattle.kernel_calls.specs.Isolation.{Exchange, exchanges}
+use Rattle.kernel_calls.specs.Isolation.{exchanges}
 use Rattle.kernel_calls.specs.Machine.{answer, next, end_of}
 use Rattle.kernel_calls.specs.declared.calls.Event.{Event}
 use Rattle.kernel_calls.proofs.Outsiders.{outsiders_unseen}

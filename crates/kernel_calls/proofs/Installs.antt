@@ -2,11 +2,10 @@
 use Rattle.std.proofs.Common.{◌≡◌, ℕ, ◌+◌, ◌<◌, ◌≤◌, ◌&&◌, Bool, true, false, not, length, List, [], ◌∷◌, ◌++◌, refl, sym, ap, subst, ◌∙◌, is_some, Option, Some, None, unwrap_or, inl, inr}
 use Rattle.std.specs.Prelude.{if◌then◌else◌}
 use Rattle.std.specs.Option.{option_map}
-use Rattle.std.proofs.lemmas.List.{append-nil}
 use Rattle.page_words.specs.FiniteMap as map
 use Rattle.page_words.specs.Addresses.{page_number, offset_number}
 use Rattle.page_words.proofs.MapLemmas.{same_map}
-use Rattle.page_words.proofs.OptionLemmas.{some_value, no_value}
+use Rattle.page_words.proofs.OptionLemmas.{some_value}
 use Rattle.page_words.proofs.SetLemmas.{same_cases}
 use Rattle.address_space.specs.Spaces.{Slot, slot_order, Cell, fresh, cell_or_fresh, is_slot, at_page, slot_at, set_bytes, write_at}
 use Rattle.address_space.specs.Image.{takes_stores}
@@ -19,15 +18,13 @@ use Rattle.process_table.specs.WellFormed.{IsWellFormed}
 use Rattle.process_table.specs.declared.causes.Cause.TheVariants as cause
 use Rattle.process_table.proofs.CellLaws.{get-inserted, get-inserted_other}
 use Rattle.process_table.proofs.Placed.{page_is_user}
-use Rattle.kernel_calls.specs.Installed.{map_of, protect_of, is_writable_at, opening, store_run, IsRunTo, IsOpening, IsOpened}
+use Rattle.kernel_calls.specs.Installed.{map_of, protect_of, is_writable_at, opening, store_run, IsRunTo, IsOpened}
 use Rattle.kernel_calls.specs.Machine.{answer, next, end_of, completes, refused_or}
 use Rattle.kernel_calls.specs.Transfers.{stores, carried, AreStored}
 use Rattle.kernel_calls.specs.Translations.{ended_by, is_ended, is_all_of}
 use Rattle.kernel_calls.specs.declared.calls.Event.{Event}
 use Rattle.kernel_calls.specs.declared.calls.Reply.TheVariants as reply
-use Rattle.kernel_calls.specs.declared.translations.Ended.{Ended}
 use Rattle.kernel_calls.specs.declared.translations.Ended.TheVariants as end
-use Rattle.kernel_calls.proofs.Decided.{next-goes}
 use Rattle.kernel_calls.proofs.Runs.{end_of-append}
 use Rattle.kernel_calls.proofs.TransferLemmas.{carried-append}
 use Rattle.kernel_calls.proofs.TransferSteps.{AreSmall, part_stored}

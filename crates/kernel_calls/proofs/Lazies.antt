@@ -1,5 +1,5 @@
 -- Which pages calls leave lazy.
-use Rattle.std.proofs.Common.{◌≡◌, ℕ, Bool, true, false, refl, ap, sym, subst, ◌∙◌, Result, Ok, Err, is_ok}
+use Rattle.std.proofs.Common.{◌≡◌, ℕ, Bool, true, false, refl, ap, sym, subst, ◌∙◌, Result, Ok, Err}
 use Rattle.std.specs.Prelude.{IsOk}
 use Rattle.page_words.specs.declared.addresses.Pid.{Pid}
 use Rattle.address_space.specs.Image.{is_lazy_at}
@@ -14,13 +14,6 @@ use Rattle.kernel_calls.specs.declared.calls.Call.TheVariants as call
 use Rattle.kernel_calls.specs.declared.calls.Event.{Event}
 use Rattle.kernel_calls.specs.declared.calls.Reply.{Reply}
 use Rattle.kernel_calls.specs.declared.calls.Reply.TheVariants as reply
-
--- what is told no map and no fork that completes
-pub stopped_leaves : (v w : View) (e : Event) (r : Reply) → completes r ≡ false → LeavesLazy v e r w
-stopped_leaves v w e r stops = record {
-  mapped = λ page write asks done. absurd (let k : true ≡ false = sym (ap completes done) ∙ stops in cc);
-  copied = λ quota child page asks done. absurd (let k : true ≡ false = sym (ap completes done) ∙ stops in cc);
-}
 
 -- a map that gives its page no frame
 pub map_leaves : (v w : View) (e : Event) (page : ℕ) (write : Bool) (r : Reply) → e.call ≡ call.Map page write

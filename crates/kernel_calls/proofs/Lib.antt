@@ -1,3 +1,4 @@
+pub mod Allowed
 pub mod Availability
 pub mod Beside
 pub mod Births

@@ -48,7 +48,7 @@ use Rattle.address_space.specs.Spaces.{
   at_page,
 }
 use Rattle.address_space.proofs.costs.Copied.{copied-other}
-use Rattle.quota_tree.specs.Book.{Member, is_child, given, quota_of, number_of_children, next_number}
+use Rattle.quota_tree.specs.Book.{Member, is_child, number_of_children, next_number}
 use Rattle.quota_tree.proofs.BookFacts.{get-insert_other}
 use Rattle.quota_tree.proofs.Sums.{given-insert, number-insert}
 use Rattle.page_sharing.specs.Offers.{OfferKey, Offers, offer_order, offer_key}

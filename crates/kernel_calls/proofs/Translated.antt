@@ -2,7 +2,7 @@
 use Rattle.std.proofs.Common.{◌≡◌, ◌<◌, ◌^◌, ℕ, Bool, true, false, not, ◌&&◌, ◌||◌, ◌==◌, refl, ap, sym, ◌∙◌, subst, inl, inr, Option, Some, None, eqb-true, eq-eqb}
 use Rattle.std.specs.Prelude.{◌⊎◌, if◌then◌else◌, is_some, MatchBool, Ok}
 use Rattle.std.specs.Option.{option_map, option_and_then, unwrap_or}
-use Rattle.page_words.specs.Addresses.{IsUserPage, page_number, slot_number, index_number, second_page}
+use Rattle.page_words.specs.Addresses.{page_number, slot_number, index_number, second_page}
 use Rattle.page_words.specs.declared.addresses.Size.{Size}
 use Rattle.page_words.specs.FiniteMap as map
 use Rattle.page_words.proofs.MapLemmas.{same-true, same_itself}
@@ -26,10 +26,8 @@ use Rattle.fault_handler.specs.declared.plans.PageStep.TheVariants as step
 use Rattle.fault_handler.specs.declared.plans.Plan.{Plan}
 use Rattle.fault_handler.proofs.Settled.{ready}
 use Rattle.kernel_calls.specs.Machine.{answer, answer_of, next, completes}
-use Rattle.kernel_calls.specs.Decisions.{decision_of, plan_of_call, plan_of_event}
-use Rattle.kernel_calls.specs.declared.calls.Decision.{Decision}
-use Rattle.process_table.proofs.Refusals.{may_accept, may_unmap}
-use Rattle.process_table.proofs.SharingLaws.{giver_user}
+use Rattle.kernel_calls.specs.Decisions.{plan_of_call, plan_of_event}
+use Rattle.process_table.proofs.Refusals.{may_unmap}
 use Rattle.kernel_calls.specs.Walked.{finds_call, finds_event}
 use Rattle.fault_handler.specs.declared.plans.Plan.TheVariants as plan
 use Rattle.kernel_calls.specs.Translations.{
@@ -52,7 +50,7 @@ use Rattle.kernel_calls.specs.declared.calls.Call.TheVariants as call
 use Rattle.kernel_calls.specs.declared.calls.Event.{Event}
 use Rattle.kernel_calls.specs.declared.calls.Reply.TheVariants as reply
 use Rattle.kernel_calls.specs.declared.translations.Ended.TheVariants as end
-use Rattle.kernel_calls.proofs.Decided.{goes-event, goes-decided, next-stays, next-goes}
+use Rattle.kernel_calls.proofs.Decided.{goes-event, next-stays, next-goes}
 use Rattle.kernel_calls.proofs.Flags.{IsFlag, has, not_refused, own, right_is_flag, Spared, keeps_call}
 
 -- ---- Tests
@@ -429,17 +427,6 @@ accessed_ends_none v e found h = by (completes (answer v.state e)) refl
     by true is = call_ends_none v e.pid e.call found
         (sym (ap (λ b. takes_no_frame (if b then plan_of_call v e.pid e.call else plan.Refused cause.NoProcess))
         (live_answer v.state e is).0) ∙ h)
-
--- ---- What is accepted is of the user range
-
-pub accept_user : (v : View) (d : Decision) (giver giver_page page : ℕ) → IsWellFormed v.state
-    → d ≡ decision_of v d.event → goes_on d.plan ≡ true → d.event.call ≡ call.Accept giver giver_page page
-    → IsUserPage giver_page
-accept_user v d giver giver_page page w decided goes accepts =
-    let done = (live_answer v.state d.event (goes-decided v d true decided goes)).1 in
-    let allowed = not_refused _ _ (sym (ap (λ c. completes (answer_of v.state d.event.pid c)) accepts) ∙ done) in
-    giver_user v.state d.event.pid giver giver_page w
-    (may_accept v.state d.event.pid giver giver_page page allowed).there
 
 -- ---- What is ended had a walk
 

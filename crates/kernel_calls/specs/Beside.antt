@@ -1,15 +1,22 @@
 -- An access and an event of another process, if neither shows to the other: the order makes no difference.
-use Rattle.std.specs.Prelude.{◌≡◌, ◌≢◌, ℕ, ◌==◌, Bool, true}
+use Rattle.std.specs.Prelude.{◌≡◌, ◌≢◌, ℕ, ◌==◌, Bool, true, false}
 use Rattle.process_table.specs.State.{State}
 use Rattle.process_table.specs.WellFormed.{IsWellFormed}
 use Rattle.kernel_calls.specs.Authority.{IsQuiet, HaveTheSame}
 use Rattle.kernel_calls.specs.Machine.{answer, next}
-use Rattle.kernel_calls.specs.Places.{is_access}
+use Rattle.kernel_calls.specs.declared.calls.Call.{Call}
+use Rattle.kernel_calls.specs.declared.calls.Call.TheVariants as call
 use Rattle.kernel_calls.specs.declared.calls.Event.{Event}
 
 -- one process alone
 abbrev pub only : ℕ → ℕ → Bool
 only p q = q == p
+
+-- a load or a store
+abbrev pub is_access : Call → Bool
+is_access (call.Load addr size) = true
+is_access (call.Store addr size value) = true
+is_access _ = false
 
 -- o is a load or a store of another process, in pages that the event's process doesn't see. The event uses no channel
 -- to that process: it touches no page that the process sees, takes none of its offers, and is no exit of its kin.

@@ -1,5 +1,5 @@
 -- Dirty and accessed of a slot: which slots have them, and what clearing them would change.
-use Rattle.std.proofs.Common.{◌≡◌, ◌≢◌, ℕ, Bool, true, false, List, ◌∷◌, Some, unwrap_or}
+use Rattle.std.proofs.Common.{◌≡◌, ◌≢◌, ℕ, Bool, true, false, List, Some, unwrap_or}
 use Rattle.std.specs.Option.{option_map}
 use Rattle.page_words.specs.FiniteMap as map
 use Rattle.address_space.specs.Spaces.{Slot, Cell, cell_or_fresh}
@@ -10,7 +10,7 @@ use Rattle.process_table.specs.WellFormed.{IsWellFormed}
 use Rattle.kernel_calls.specs.Authority.{LooksSame}
 use Rattle.kernel_calls.specs.Machine.{answer}
 use Rattle.kernel_calls.specs.TakenBack.{info_of_page}
-use Rattle.kernel_calls.specs.Translations.{TranslationsStay, SlotsStay, DirectoriesStay, TablesStay, TablesMap, Ends, Kept, Keeping, IsRead, AreRead, is_ended, left_by}
+use Rattle.kernel_calls.specs.Translations.{TranslationsStay, SlotsStay, DirectoriesStay, TablesStay, TablesMap, Ends, Kept, Keeping, AreRead, is_ended, left_by}
 use Rattle.kernel_calls.specs.declared.translations.Ended.{Ended}
 
 -- whether dirty of a slot is set; a slot that is not mapped has none

@@ -15,7 +15,6 @@ use Rattle.fault_handler.specs.declared.plans.Plan.TheVariants as plan
 use Rattle.table_walk.specs.declared.Access.{Access}
 use Rattle.table_walk.specs.declared.Access.TheVariants.{Read, Write}
 use Rattle.kernel_calls.specs.Machine.{answer, next}
-use Rattle.kernel_calls.specs.Places.{places_of}
 use Rattle.kernel_calls.specs.declared.decisions.Judgement.{Judgement}
 use Rattle.kernel_calls.specs.declared.calls.Call.{Call}
 use Rattle.kernel_calls.specs.declared.calls.Call.TheVariants as call
@@ -61,9 +60,9 @@ charge_after s e = charge_in (next s e) e.pid
 abbrev pub judged_of : View → Event → Judgement
 judged_of v e = record { plan = plan_of_event v e; reply = answer v.state e; used_after = charge_after v.state e }
 
--- with the event, and what stands at its pages
+-- with the event
 abbrev pub decision_of : View → Event → Decision
-decision_of v e = record { event = e; plan = plan_of_event v e; reply = answer v.state e; used_after = charge_after v.state e; places = places_of v e }
+decision_of v e = record { event = e; plan = plan_of_event v e; reply = answer v.state e; used_after = charge_after v.state e }
 
 -- ---- By the test of a call
 

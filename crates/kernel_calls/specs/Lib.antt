@@ -14,7 +14,6 @@ pub mod Laws
 pub mod Lazy
 pub mod Machine
 pub mod Pages
-pub mod Places
 pub mod TakenBack
 pub mod Processors
 pub mod Transfers

@@ -2,7 +2,7 @@
 -- keeps them has to invalidate them. A translation is what a walk gives for a page of a process: a frame, and whether
 -- it allows writes.
 use Rattle.std.specs.Prelude.{◌⊎◌}
-use Rattle.std.proofs.Common.{◌≡◌, ◌≢◌, ◌==◌, ◌<◌, ◌^◌, ℕ, Bool, true, false, not, ◌&&◌, ◌||◌, if◌then◌else◌, List, [], ◌∷◌, Option, Some, None, Ok}
+use Rattle.std.proofs.Common.{◌≡◌, ◌==◌, ◌<◌, ◌^◌, ℕ, Bool, true, false, not, ◌&&◌, ◌||◌, if◌then◌else◌, List, [], ◌∷◌, Option, Some, None, Result, Ok, Err}
 use Rattle.page_words.specs.FiniteMap as map
 use Rattle.page_words.specs.Addresses.{page_number, slot_number, second_page}
 use Rattle.page_words.specs.declared.addresses.Size.{Size}
@@ -15,6 +15,7 @@ use Rattle.address_space.specs.Spaces.{Slot, Cell, at_page, slot_at, is_slot, is
 use Rattle.process_table.specs.Image.{memory_of, image_of, StandsFor}
 use Rattle.process_table.specs.State.{State}
 use Rattle.process_table.specs.View.{View}
+use Rattle.process_table.specs.declared.causes.Cause.{Cause}
 use Rattle.fault_handler.specs.Plans.{plan_at}
 use Rattle.fault_handler.specs.declared.plans.PageStep.{PageStep}
 use Rattle.fault_handler.specs.declared.plans.PageStep.TheVariants as step
@@ -68,6 +69,11 @@ of_call v p (call.Protect page write) = if not write && takes_stores v.state.spa
 of_call v p (call.Accept giver giver_page page) = if is_lazy_at (memory_of v) (at_page giver giver_page) then end.Page giver giver_page else end.Nothing
 of_call v p call.Exit = end.Space p
 of_call v p _ = end.Nothing
+
+-- what a call ends whose test finds nothing against it
+abbrev pub if_allowed : Result ℕ Cause → Ended → Ended
+if_allowed (Ok charge) ended = ended
+if_allowed (Err cause) ended = end.Nothing
 
 -- a refusal or a fault ends none
 abbrev pub ended_by : View → Event → Ended

@@ -1,7 +1,7 @@
 //! Calls, events, replies and decisions.
 use fault_handler::Plan;
 use page_words::{Page, Pid, Size, Vaddr};
-use process_table::{Cause, Places};
+use process_table::Cause;
 
 /// What a process asks of the kernel.
 #[derive(Clone, Copy, Debug, PartialEq, Eq)]
@@ -125,6 +125,4 @@ pub struct Decision {
     pub reply: Reply,
     /// The charge of the event's process after it, in frames; 0 where it is not live then.
     pub used_after: u32,
-    /// The places of an access's pages.
-    pub(crate) places: Places,
 }

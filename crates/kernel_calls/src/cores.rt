@@ -9,7 +9,6 @@ ghost use Rattle.address_space.specs.Walks.{WalksAgree};
 ghost use Rattle.address_space.specs.ByWalk.{with_walked};
 ghost use Rattle.process_table.specs.State.{open_with, container_of, is_live, is_mapped};
 ghost use Rattle.process_table.specs.Parts.{after_loads, after_stores};
-ghost use Rattle.fault_handler.specs.declared.plans.Plan.TheVariants as plan;
 ghost use Rattle.page_words.specs.FiniteMap as finite_map;
 ghost use Rattle.page_sharing.specs.Offers.{offer_key, offer_number};
 ghost use Rattle.process_table.specs.Restored.{image_in, RootIsItsParent};
@@ -18,7 +17,7 @@ ghost use Rattle.process_table.specs.WellFormed.{IsWellFormed, total};
 ghost use Rattle.address_space.specs.Image.{LeavesRoom, takes_stores};
 ghost use Rattle.address_space.specs.Spaces.{zeros, at_page, slot_at, byte_at};
 ghost use Rattle.phys_memory.specs.Bytes.{frame_bytes};
-ghost use Rattle.fault_handler.specs.Plans.{goes_on, takes_no_frame};
+ghost use Rattle.fault_handler.specs.Plans.{takes_no_frame};
 ghost use Rattle.kernel_calls.specs.Authority.{HearTheirOwn, KeepsBorders};
 ghost use Rattle.kernel_calls.specs.Cleaned.{is_dirty_at, cleaned, EndsMarks};
 ghost use Rattle.kernel_calls.specs.Effects.{IsServed};
@@ -26,34 +25,29 @@ ghost use Rattle.kernel_calls.specs.Families.{IsUnreached};
 ghost use Rattle.kernel_calls.specs.Isolation.{IsIsolated};
 ghost use Rattle.kernel_calls.specs.Lazy.{LeavesLazy};
 ghost use Rattle.kernel_calls.specs.Pages.{page_in};
-ghost use Rattle.kernel_calls.specs.Places.{is_access, places_of};
-ghost use Rattle.kernel_calls.specs.Machine.{answer, after, next, answers, end_of, completes, none_completes};
+ghost use Rattle.kernel_calls.specs.Machine.{answer, next, answers, end_of, completes, none_completes};
 ghost use Rattle.kernel_calls.specs.Decisions.{decision_of, charge_in, charge_after, plan_of_event};
 ghost use Rattle.kernel_calls.specs.declared.translations.Ended.TheVariants as end;
-ghost use Rattle.kernel_calls.specs.Gone.{gone_of_call, gone_by};
+ghost use Rattle.kernel_calls.specs.Gone.{gone_by};
 ghost use Rattle.kernel_calls.specs.Translations.{EndsInOrder, ended_by, EndAlong, Ends};
 ghost use Rattle.kernel_calls.specs.Walked.{finds_event, reply_found, bytes_accessed};
 ghost use Rattle.kernel_calls.specs.Kept.{ServesEvent, StoresMarked, bytes_kept};
-ghost use Rattle.kernel_calls.specs.declared.calls.Call.TheVariants as call;
 ghost use Rattle.kernel_calls.specs.declared.calls.Reply.TheVariants as reply;
 
-use crate::calls::{Call, Decision, Event, Outcome, Reply};
+use crate::calls::{Decision, Event, Outcome, Reply};
 use crate::decisions::{decided, judge};
 use crate::pages::{self, PageState};
-use crate::places::{is_access, look};
 use crate::replies::reply_once;
 use crate::translations::{self, Ended};
 use crate::{BootFault, WideFault, walked};
 use alloc_table::Role;
-use fault_handler::{Plan, settle_at};
 use page_sharing::Offer;
 use page_words::{Frame, Page, Pid, Vaddr, WIDE_FRAMES, in_user_range, page_of};
 use phys_memory::Memory;
-use process_table::{Places, Processes};
+use process_table::Processes;
 use quota_tree::{Account, Container};
 use std::alloc::Global;
 use std::marker::Model;
-use table_walk::Access;
 
 /// The core: processes, their spaces, quotas and offers, over one memory.
 #[derive(Drop)]
@@ -69,136 +63,6 @@ impl Model for Core {
     ghost coded = { view_code };
 
     ghost view = { λ c. c.processes };
-}
-
-/// Carries out an access that is neither refused nor a fault, by what stands at its pages.
-#[inline(always)]
-fn complete_access(processes: &mut Processes, event: &Event, plan: &Plan, places: &Places)
-    requires access { is_access event.now.call ≡ true }
-    requires decided { plan.now ≡ plan_of_event processes.old event.now }
-    requires completes { goes_on plan.now ≡ true }
-    requires places { places.now ≡ places_of processes.old event.now }
-    ensures state { processes.new.state ≡ after processes.old.state event.now.pid event.now.call }
-    ensures stay { FramesStay (gone_of_call event.now.pid event.now.call) (memory_of processes.old) (memory_of processes.new) }
-{
-    let pid = event.pid;
-    match event.call {
-        Call::Load { addr, size } => {
-            let read = Access::Read;
-            settle_at(processes, plan, pid, addr, size, read, 0, places);
-        }
-        Call::Store { addr, size, value } => {
-            let write = Access::Write;
-            settle_at(processes, plan, pid, addr, size, write, value, places);
-        }
-        _ => unreachable!(),
-    }
-}
-
-/// The child that a reply names.
-#[inline(always)]
-fn child_of(told: &Reply) -> Pid
-    requires { (child : ℕ) × (told.now ≡ reply.Child child) }
-    ensures { told.now ≡ reply.Child result }
-{
-    match told {
-        Reply::Child(child) => *child,
-        _ => unreachable!(),
-    }
-}
-
-/// Carries out any other call that is not refused, by its reply.
-#[inline(always)]
-fn complete_call(processes: &mut Processes, event: &Event, told: &Reply)
-    requires call { is_access event.now.call ≡ false }
-    requires told { told.now ≡ answer processes.old.state event.now }
-    requires completes { goes_on (plan_of_event processes.old event.now) ≡ true }
-    ensures state { processes.new.state ≡ after processes.old.state event.now.pid event.now.call }
-    ensures stay { FramesStay (gone_of_call event.now.pid event.now.call) (memory_of processes.old) (memory_of processes.new) }
-    ensures lazy { LeavesLazy processes.old event.now told.now processes.new }
-{
-    let pid = event.pid;
-    match event.call {
-        Call::Map { page, write } => processes.map(pid, page, write),
-        Call::Unmap { page } => processes.unmap(pid, page),
-        Call::Protect { page, write } => processes.protect(pid, page, write),
-        Call::Info { .. } => {}
-        Call::Offer {
-            page,
-            target,
-            write,
-        } => processes.offer(pid, page, target, write),
-        Call::Withdraw { page, target } => processes.withdraw(pid, page, target),
-        Call::Accept {
-            giver,
-            giver_page,
-            page,
-        } => processes.accept(pid, giver, giver_page, page),
-        Call::Spawn { quota } => {
-            processes.spawn_as(pid, quota, child_of(told));
-        }
-        Call::Fork { quota } => {
-            processes.fork_as(pid, quota, child_of(told));
-        }
-        Call::Exit => processes.exit(pid),
-        Call::Quota => {}
-        Call::Load { .. } => unreachable!(),
-        Call::Store { .. } => unreachable!(),
-    }
-}
-
-/// Carries out an access by its plan, and by what stands at its pages.
-#[inline(always)]
-fn carry_access(processes: &mut Processes, event: &Event, plan: &Plan, places: &Places)
-    requires access { is_access event.now.call ≡ true }
-    requires decided { plan.now ≡ plan_of_event processes.old event.now }
-    requires places { places.now ≡ places_of processes.old event.now }
-    ensures state { processes.new.state ≡ next processes.old.state event.now }
-    ensures stay { FramesStay (gone_by processes.old.state event.now) (memory_of processes.old) (memory_of processes.new) }
-    ensures kept { completes (answer processes.old.state event.now) ≡ false → processes.new ≡ processes.old }
-    ensures lazy { LeavesLazy processes.old event.now (answer processes.old.state event.now) processes.new }
-{
-    match plan {
-        Plan::Refused(_) => {}
-        Plan::Fault(_) => {}
-        Plan::Ready { .. } => complete_access(processes, event, plan, places),
-    }
-}
-
-/// Carries out any other call by its plan and its reply.
-#[inline(always)]
-fn carry_call(processes: &mut Processes, event: &Event, plan: &Plan, told: &Reply)
-    requires call { is_access event.now.call ≡ false }
-    requires told { told.now ≡ answer processes.old.state event.now }
-    requires decided { plan.now ≡ plan_of_event processes.old event.now }
-    ensures state { processes.new.state ≡ next processes.old.state event.now }
-    ensures stay { FramesStay (gone_by processes.old.state event.now) (memory_of processes.old) (memory_of processes.new) }
-    ensures kept { completes (answer processes.old.state event.now) ≡ false → processes.new ≡ processes.old }
-    ensures lazy { LeavesLazy processes.old event.now told.now processes.new }
-{
-    match plan {
-        Plan::Refused(_) => (),
-        Plan::Fault(_) => (),
-        Plan::Ready { .. } => complete_call(processes, event, told),
-    }
-}
-
-/// Carries out an event by its plan, an access by what stands at its pages, any other call by its reply.
-#[inline(always)]
-fn carry(processes: &mut Processes, event: &Event, plan: &Plan, told: &Reply, places: &Places)
-    requires told { told.now ≡ answer processes.old.state event.now }
-    requires decided { plan.now ≡ plan_of_event processes.old event.now }
-    requires places { places.now ≡ places_of processes.old event.now }
-    ensures state { processes.new.state ≡ next processes.old.state event.now }
-    ensures stay { FramesStay (gone_by processes.old.state event.now) (memory_of processes.old) (memory_of processes.new) }
-    ensures kept { completes (answer processes.old.state event.now) ≡ false → processes.new ≡ processes.old }
-    ensures lazy { LeavesLazy processes.old event.now told.now processes.new }
-{
-    if is_access(event) {
-        carry_access(processes, event, plan, places);
-    } else {
-        carry_call(processes, event, plan, told);
-    }
 }
 
 /// What a process is charged for; 0 where it is not live.
@@ -272,9 +136,8 @@ impl Core {
         ensures reply { result.reply ≡ answer self.now.state event.now }
         ensures charge { result.used_after ≡ charge_after self.now.state event.now }
     {
-        let places = look(&self.processes, event);
-        let judged = judge(&self.processes, event, &places);
-        decided(event, &judged, &places)
+        let judged = judge(&self.processes, event);
+        decided(event, &judged)
     }
 
     /// Which cached translations an event ends: a processor that keeps what its walks gave has to invalidate these
@@ -283,8 +146,7 @@ impl Core {
         ensures { result ≡ ended_by self.now event.now }
     {
         self.stands();
-        let decision = self.decide(event);
-        translations::ended_by(&self.processes, &decision)
+        translations::ended_by(&self.processes, event)
     }
 
     /// Carries out what was decided on this state.
@@ -297,29 +159,7 @@ impl Core {
         ensures kept { completes decision.reply ≡ false → self.new ≡ self.old }
         ensures lazy { LeavesLazy self.old decision.event decision.reply self.new }
     {
-        self.follow(&decision);
-        decision.reply
-    }
-
-    /// Carries out what was decided on this state.
-    #[inline(never)]
-    fn follow(&mut self, decision: &Decision)
-        requires { decision.now ≡ decision_of self.old decision.now.event }
-        ensures state { self.new.state ≡ next self.old.state decision.now.event }
-        ensures stands { StandsFor (image_of self.new) self.new.state }
-        ensures ends { Ends (ended_by self.old decision.now.event) self.old self.new }
-        ensures kept { completes decision.now.reply ≡ false → self.new ≡ self.old }
-        ensures lazy { LeavesLazy self.old decision.now.event decision.now.reply self.new }
-    {
-        self.stands();
-        carry(
-            &mut self.processes,
-            &decision.event,
-            &decision.plan,
-            &decision.reply,
-            &decision.places,
-        );
-        self.stands();
+        self.step(&decision.event)
     }
 
     /// The reply to an event, which is carried out.

@@ -13,7 +13,6 @@ mod installing;
 mod laws;
 mod pages;
 mod peeking;
-mod places;
 mod replies;
 mod taking;
 mod transfers;

@@ -7,14 +7,14 @@ ghost use Rattle.address_space.specs.Image.{is_lazy_at, takes_stores};
 ghost use Rattle.process_table.specs.Image.{memory_of};
 ghost use Rattle.process_table.specs.WellFormed.{IsWellFormed};
 ghost use Rattle.kernel_calls.specs.declared.translations.Ended.TheVariants as end;
-ghost use Rattle.fault_handler.specs.Plans.{goes_on};
-ghost use Rattle.kernel_calls.specs.Decisions.{decision_of};
-ghost use Rattle.kernel_calls.specs.Translations.{page_filled, second_filled, of_pages, of_plan, of_call, ended_by};
+ghost use Rattle.kernel_calls.specs.declared.calls.Call.TheVariants as call;
+ghost use Rattle.kernel_calls.specs.Translations.{page_filled, second_filled, of_pages, of_plan, if_allowed, ended_by};
 
-use crate::calls::{Call, Decision};
-use fault_handler::{PageStep, Plan};
+use crate::calls::{Call, Event};
+use fault_handler::{PageStep, Plan, plan};
 use page_words::{Page, Pid, Size, Vaddr, page_of, second_page};
-use process_table::Processes;
+use process_table::{Cause, Processes};
+use table_walk::Access;
 
 /// The cached translations that an event ends: a processor that caches them has to invalidate these.
 #[derive(Clone, Copy, Debug, PartialEq, Eq)]
@@ -76,12 +76,27 @@ fn by_plan(pid: Pid, address: Vaddr, size: Size, plan: &Plan) -> Ended
     }
 }
 
-/// What a Protect ends: the translation of a page that let writes through, where it lets none from then on.
-fn by_protect(processes: &Processes, pid: Pid, page: Page, write: bool) -> Ended
-    requires user { IsUserPage page }
-    ensures { result ≡ (if not write && takes_stores processes.now.state.spaces (memory_of processes.now) (at_page pid page) then end.Page pid page else end.Nothing) }
+/// What a store ends: the translations of the lazy pages that it fills, where it completes.
+fn by_store(processes: &Processes, event: &Event, address: Vaddr, size: Size, value: u32) -> Ended
+    requires { event.now.call ≡ call.Store address size value }
+    ensures { result ≡ ended_by processes.now event.now }
 {
-    let place = processes.spaces().place(pid, page);
+    let pid = event.pid;
+    if !processes.live(pid) {
+        return Ended::Nothing;
+    }
+    let plan = plan(processes, pid, address, size, Access::Write);
+    by_plan(pid, address, size, &plan)
+}
+
+/// What a Protect of a page of the user range ends, where it completes: the translation of a page that let writes
+/// through, where it lets none from then on.
+fn by_protect(processes: &Processes, pid: Pid, page: Page, write: bool) -> Ended
+    ensures { IsUserPage page → result ≡ (if not write && takes_stores processes.now.state.spaces (memory_of processes.now) (at_page pid page) then end.Page pid page else end.Nothing) }
+{
+    let Some(place) = processes.place(pid, page) else {
+        return Ended::Nothing;
+    };
     processes.tells(pid, page, &place);
     if !write && place.takes_stores() {
         Ended::Page { pid, page }
@@ -90,12 +105,14 @@ fn by_protect(processes: &Processes, pid: Pid, page: Page, write: bool) -> Ended
     }
 }
 
-/// What an Accept ends: the translation of the giver's page, where that is lazy, as it gets its frame then.
+/// What an Accept of a page of the user range ends, where it completes: the translation of the giver's page, where that
+/// is lazy, as it gets its frame then.
 fn by_accept(processes: &Processes, giver: Pid, giver_page: Page) -> Ended
-    requires user { IsUserPage giver_page }
-    ensures { result ≡ (if is_lazy_at (memory_of processes.now) (at_page giver giver_page) then end.Page giver giver_page else end.Nothing) }
+    ensures { IsUserPage giver_page → result ≡ (if is_lazy_at (memory_of processes.now) (at_page giver giver_page) then end.Page giver giver_page else end.Nothing) }
 {
-    let place = processes.spaces().place(giver, giver_page);
+    let Some(place) = processes.place(giver, giver_page) else {
+        return Ended::Nothing;
+    };
     processes.tells(giver, giver_page, &place);
     if place.is_lazy() {
         Ended::Page {
@@ -107,24 +124,40 @@ fn by_accept(processes: &Processes, giver: Pid, giver_page: Page) -> Ended
     }
 }
 
-/// What a call that completes ends.
-fn by_call(processes: &Processes, decision: &Decision) -> Ended
-    requires decided { decision.now ≡ decision_of processes.now decision.now.event }
-    requires completes { goes_on decision.now.plan ≡ true }
-    requires well_formed { IsWellFormed processes.now.state }
-    ensures { result ≡ of_call processes.now decision.now.event.pid decision.now.event.call }
+/// What a call ends, if its test finds nothing against it.
+fn if_allowed(test: Result<u32, Cause>, ended: Ended) -> Ended
+    ensures { result ≡ if_allowed test ended }
 {
-    let pid = decision.event.pid;
-    match decision.event.call {
-        Call::Store { addr, size, .. } => by_plan(pid, addr, size, &decision.plan),
-        Call::Unmap { page } => Ended::Page { pid, page },
-        Call::Protect { page, write } => { by_protect(processes, pid, page, write) }
+    match test {
+        Ok(_) => ended,
+        Err(_) => Ended::Nothing,
+    }
+}
+
+/// What an event ends.
+pub fn ended_by(processes: &Processes, event: &Event) -> Ended
+    requires { IsWellFormed processes.now.state }
+    ensures { result ≡ ended_by processes.now event.now }
+{
+    let pid = event.pid;
+    match event.call {
+        Call::Store { addr, size, value } => by_store(processes, event, addr, size, value),
+        Call::Unmap { page } => {
+            if_allowed(processes.can_unmap(pid, page), Ended::Page { pid, page })
+        }
+        Call::Protect { page, write } => if_allowed(
+            processes.can_protect(pid, page, write),
+            by_protect(processes, pid, page, write),
+        ),
         Call::Accept {
             giver,
             giver_page,
-            ..
-        } => by_accept(processes, giver, giver_page),
-        Call::Exit => Ended::Space { pid },
+            page,
+        } => if_allowed(
+            processes.can_accept(pid, giver, giver_page, page),
+            by_accept(processes, giver, giver_page),
+        ),
+        Call::Exit => if_allowed(processes.can_exit(pid), Ended::Space { pid }),
         Call::Load { .. } => Ended::Nothing,
         Call::Map { .. } => Ended::Nothing,
         Call::Info { .. } => Ended::Nothing,
@@ -133,18 +166,5 @@ fn by_call(processes: &Processes, decision: &Decision) -> Ended
         Call::Spawn { .. } => Ended::Nothing,
         Call::Fork { .. } => Ended::Nothing,
         Call::Quota => Ended::Nothing,
-    }
-}
-
-/// What an event ends, as it was decided.
-pub fn ended_by(processes: &Processes, decision: &Decision) -> Ended
-    requires decided { decision.now ≡ decision_of processes.now decision.now.event }
-    requires well_formed { IsWellFormed processes.now.state }
-    ensures { result ≡ ended_by processes.now decision.now.event }
-{
-    match decision.plan {
-        Plan::Refused(_) => Ended::Nothing,
-        Plan::Fault(_) => Ended::Nothing,
-        Plan::Ready { .. } => by_call(processes, decision),
     }
 }

@@ -1,5 +1,5 @@
 -- What pages cost a process more, by what it needs for them.
-use Rattle.std.proofs.Common.{◌≡◌, ℕ, ◌+◌, ◌-◌, ◌∙◌, Bool, false, List, [], ◌∷◌, ap, arith}
+use Rattle.std.proofs.Common.{◌≡◌, ℕ, ◌+◌, ◌-◌, ◌∙◌, false, List, [], ◌∷◌, ap, arith}
 use Rattle.std.specs.Prelude.{if◌then◌else◌}
 use Rattle.page_words.specs.Addresses.{touched}
 use Rattle.page_words.specs.declared.addresses.Size.{Size}

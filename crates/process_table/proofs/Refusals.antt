@@ -10,7 +10,7 @@ use Rattle.address_space.proofs.costs.Totals.{cost-joined}
 use Rattle.page_sharing.specs.Offers.{offer_key, pending}
 use Rattle.process_table.specs.State.{State, is_live, is_mapped, overdrawn}
 use Rattle.process_table.specs.Calls.{map_refusal, unmap_refusal, protect_refusal, offer_refusal, accept_refusal, offered, after_map, after_accept}
-use Rattle.process_table.specs.TestAnswers.{first_cause, number_unless, map_answer, accept_answer}
+use Rattle.process_table.specs.TestAnswers.{first_cause, number_unless, done_unless, map_answer, accept_answer}
 use Rattle.process_table.specs.declared.causes.Cause.{Cause}
 use Rattle.process_table.specs.declared.causes.Cause.TheVariants.{NoProcess, BadPage, Mapped, Quota, NoOffer}
 use Rattle.std.proofs.lemmas.Bool.{not-false}
@@ -114,6 +114,11 @@ no_cause s p cause number ok = by (is_live s p) cause ok refl refl
     by true None h live is = (live, is)
     by true (Some c) h live is = cc
     by false x h live is = cc
+
+-- a call whose test answers a number is done
+pub is_done : (x : Option Cause) (number : ℕ) → IsOk (number_unless x number) → IsOk (done_unless x)
+is_done None number ok = ok
+is_done (Some cause) number ok = ok
 
 -- the charge that the test of a map answers
 pub map-charge : (s : State) (p page charge : ℕ) → is_live s p ≡ true → map_refusal s p page ≡ None → charge ≡ cost s.spaces p + need s.spaces p page → map_answer s p page ≡ Ok charge

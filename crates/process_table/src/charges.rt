@@ -79,29 +79,6 @@ pub fn charge_with(
     }
 }
 
-/// What a live process is charged for once a page is gone, or the cause against it: NotMapped. The container is the
-/// process's, and the place the page's.
-#[inline(always)]
-pub fn charge_without(
-    processes: &Processes,
-    container: &Container,
-    pid: Pid,
-    page: Page,
-    place: &Place,
-) -> Result<u32, Cause>
-    requires container { container_of processes.now.state pid ≡ Some container.now }
-    requires user { IsUserPage page }
-    requires place { place.now ≡ place_in processes.now.directories processes.now.bytes pid page }
-    ensures { result ≡ (if is_mapped processes.now.state (at_page pid page) then Ok (cost (without processes.now.state.spaces (is_slot pid page)) pid) else Err cause.NotMapped) }
-{
-    processes.tells(pid, page, place);
-    if place.is_mapped() {
-        Ok(container.used - processes.spaces().relief_at(pid, page, place))
-    } else {
-        Err(Cause::NotMapped)
-    }
-}
-
 /// What a live process is charged for once the pages that an access touches are mapped.
 pub fn charge_at(processes: &Processes, pid: Pid, address: Vaddr, size: Size) -> u32
     requires live { is_live processes.now.state pid ≡ true }

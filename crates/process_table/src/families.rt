@@ -51,24 +51,14 @@ impl Processes {
         }
     }
 
-    /// The number that a live process's child of that quota would have, as `spawn_test` gives it. The container is the
-    /// process's.
-    pub fn child_test(&self, container: &Container, pid: Pid, quota: u32) -> Result<Pid, Cause>
+    /// The number that a live process's child of that quota would have, or the first cause against it: BadQuota,
+    /// TableFull, Quota. The container is the process's.
+    fn child_test(&self, container: &Container, pid: Pid, quota: u32) -> Result<Pid, Cause>
         requires container { container_of self.now.state pid ≡ Some container.now }
         requires live { is_live self.now.state pid ≡ true }
         ensures { result ≡ spawn_answer self.now.state pid quota }
     {
         child_number(&self.quotas, container, pid, quota)
-    }
-
-    /// The number that a live process's child of that quota would have, or the first cause against it: BadQuota,
-    /// TableFull, Quota.
-    pub fn spawn_test(&self, pid: Pid, quota: u32) -> Result<Pid, Cause>
-        requires live { is_live self.now.state pid ≡ true }
-        ensures { result ≡ spawn_answer self.now.state pid quota }
-    {
-        let container = self.container(pid).unwrap();
-        self.child_test(&container, pid, quota)
     }
 
     /// Makes a child of a process that may have it, with that quota and an empty space, and gives its
@@ -79,13 +69,11 @@ impl Processes {
         ensures state { self.new.state ≡ after_spawn self.old.state pid quota }
         ensures stay { FramesStay none_goes (memory_of self.old) (memory_of self.new) }
     {
-        let child = self.can_spawn(pid, quota).unwrap();
-        self.spawn_as(pid, quota, child);
-        child
+        self.try_spawn(pid, quota).unwrap()
     }
 
     /// Makes a child as `spawn` does, with the number that the test returned.
-    pub fn spawn_as(&mut self, pid: Pid, quota: u32, child: Pid)
+    fn spawn_as(&mut self, pid: Pid, quota: u32, child: Pid)
         requires { spawn_answer self.old.state pid quota ≡ Ok child }
         ensures state { self.new.state ≡ after_spawn self.old.state pid quota }
         ensures stay { FramesStay none_goes (memory_of self.old) (memory_of self.new) }
@@ -120,21 +108,11 @@ impl Processes {
     pub fn can_fork(&self, pid: Pid, quota: u32) -> Result<Pid, Cause>
         ensures { result ≡ fork_answer self.now.state pid quota }
     {
-        match self.container(pid) {
-            Some(container) => self.fork_test(&container, pid, quota),
-            None => Err(Cause::NoProcess),
-        }
-    }
-
-    /// The number that a live process's copy with that quota would have, or the first cause against it: BadQuota,
-    /// TableFull, TooSmall (the quota is less than the process costs), Quota. The container is the process's.
-    pub fn fork_test(&self, container: &Container, pid: Pid, quota: u32) -> Result<Pid, Cause>
-        requires container { container_of self.now.state pid ≡ Some container.now }
-        requires live { is_live self.now.state pid ≡ true }
-        ensures { result ≡ fork_answer self.now.state pid quota }
-    {
+        let Some(container) = self.container(pid) else {
+            return Err(Cause::NoProcess);
+        };
         copy_number(
-            self.child_test(container, pid, quota),
+            self.child_test(&container, pid, quota),
             quota < container.used,
         )
     }
@@ -148,13 +126,11 @@ impl Processes {
         ensures stay { FramesStay none_goes (memory_of self.old) (memory_of self.new) }
         ensures lazy { (page : ℕ) → is_lazy_at (memory_of self.new) (at_page result page) ≡ is_lazy_at (memory_of self.old) (at_page pid page) }
     {
-        let copy = self.can_fork(pid, quota).unwrap();
-        self.fork_as(pid, quota, copy);
-        copy
+        self.try_fork(pid, quota).unwrap()
     }
 
     /// Makes a copy as `fork` does, with the number that the test returned.
-    pub fn fork_as(&mut self, pid: Pid, quota: u32, copy: Pid)
+    fn fork_as(&mut self, pid: Pid, quota: u32, copy: Pid)
         requires { fork_answer self.old.state pid quota ≡ Ok copy }
         ensures state { self.new.state ≡ after_fork self.old.state pid quota }
         ensures stay { FramesStay none_goes (memory_of self.old) (memory_of self.new) }
@@ -192,19 +168,9 @@ impl Processes {
     pub fn can_exit(&self, pid: Pid) -> Result<u32, Cause>
         ensures { result ≡ exit_answer self.now.state pid }
     {
-        match self.container(pid) {
-            Some(container) => self.exit_test(&container, pid),
-            None => Err(Cause::NoProcess),
-        }
-    }
-
-    /// That a live process that exits is charged nothing then, or the first cause against it: RootExit, HasChildren.
-    /// The container is the process's.
-    pub fn exit_test(&self, container: &Container, pid: Pid) -> Result<u32, Cause>
-        requires container { container_of self.now.state pid ≡ Some container.now }
-        requires live { is_live self.now.state pid ≡ true }
-        ensures { result ≡ exit_answer self.now.state pid }
-    {
+        let Some(container) = self.container(pid) else {
+            return Err(Cause::NoProcess);
+        };
         if pid.number() == 0 {
             Err(Cause::RootExit)
         } else if container.children > 0 {

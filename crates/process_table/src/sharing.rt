@@ -4,7 +4,7 @@ ghost use Rattle.std.specs.Prelude.{◌≡◌, true, false, Some, None, IsOk, Is
 ghost use Rattle.page_words.specs.Addresses.{IsUserPage};
 ghost use Rattle.address_space.specs.Spaces.{at_page};
 ghost use Rattle.page_sharing.specs.Offers.{offer_key, pending};
-ghost use Rattle.process_table.specs.State.{is_live, is_mapped, overdrawn, container_of};
+ghost use Rattle.process_table.specs.State.{is_live, is_mapped, overdrawn};
 ghost use Rattle.process_table.specs.Calls.{after_offer, after_withdraw, after_accept, offer_refusal, withdraw_refusal};
 ghost use Rattle.process_table.specs.TestAnswers.{offer_answer, withdraw_answer, accept_answer, first_cause, done_unless};
 ghost use Rattle.process_table.specs.Image.{memory_of};
@@ -20,7 +20,6 @@ use crate::processes::Processes;
 use address_space::Place;
 use page_sharing::{OfferFault, Offers};
 use page_words::{Page, Pid, in_user_range};
-use quota_tree::Container;
 
 /// Why no further offer of that page to that process may be pending, where none may.
 fn pending_check(offers: &Offers, pid: Pid, page: Page, target: Pid) -> Option<Cause>
@@ -41,13 +40,14 @@ impl Processes {
     pub fn can_offer(&self, pid: Pid, page: Page, target: Pid, write: bool) -> Result<u32, Cause>
         ensures { result ≡ offer_answer self.now.state pid page target write }
     {
-        match self.container(pid) {
-            Some(container) => {
-                let place = self.place(pid, page);
-                self.offer_test(&container, pid, page, target, write, &place)
-            }
-            None => Err(Cause::NoProcess),
-        }
+        let Some(container) = self.container(pid) else {
+            return Err(Cause::NoProcess);
+        };
+        let place = self.place(pid, page);
+        charge_or(
+            container.used,
+            self.offer_check(pid, page, target, write, &place),
+        )
     }
 
     /// Why a live process may not offer a page, where it may not. The place is the page's.
@@ -78,29 +78,6 @@ impl Processes {
         } else {
             pending_check(self.offers(), pid, page, target)
         }
-    }
-
-    /// Returns the charge of a live process once it has offered a page, or the first cause against it: BadPage,
-    /// NotMapped, SelfOffer, NoTarget, Rights, OfferPending, TooManyOffers. Rights comes if the offer has the right to
-    /// write, and the process may not have it. The container is the process's, and the place the page's.
-    pub fn offer_test(
-        &self,
-        container: &Container,
-        pid: Pid,
-        page: Page,
-        target: Pid,
-        write: bool,
-        place: &Option<Place>,
-    ) -> Result<u32, Cause>
-        requires container { container_of self.now.state pid ≡ Some container.now }
-        requires live { is_live self.now.state pid ≡ true }
-        requires place { place.now ≡ place_at self.now pid page }
-        ensures { result ≡ offer_answer self.now.state pid page target write }
-    {
-        charge_or(
-            container.used,
-            self.offer_check(pid, page, target, write, place),
-        )
     }
 
     /// Makes an offer that the process may make, with the right to write or without it.
@@ -140,7 +117,7 @@ impl Processes {
         ensures { result ≡ withdraw_answer self.now.state pid page target }
     {
         match self.container(pid) {
-            Some(container) => self.withdraw_test(&container, pid, page, target),
+            Some(container) => charge_or(container.used, self.withdraw_check(pid, page, target)),
             None => Err(Cause::NoProcess),
         }
     }
@@ -158,29 +135,13 @@ impl Processes {
         }
     }
 
-    /// What a live process would be charged for once it has withdrawn an offer, or the first cause against it:
-    /// BadPage, NoOffer. The container is the process's.
-    pub fn withdraw_test(
-        &self,
-        container: &Container,
-        pid: Pid,
-        page: Page,
-        target: Pid,
-    ) -> Result<u32, Cause>
-        requires container { container_of self.now.state pid ≡ Some container.now }
-        requires live { is_live self.now.state pid ≡ true }
-        ensures { result ≡ withdraw_answer self.now.state pid page target }
-    {
-        charge_or(container.used, self.withdraw_check(pid, page, target))
-    }
-
     /// Takes back an offer that is pending.
     pub fn withdraw(&mut self, pid: Pid, page: Page, target: Pid)
         requires { IsOk (withdraw_answer self.old.state pid page target) }
         ensures state { self.new.state ≡ after_withdraw self.old.state pid page target }
         ensures stay { FramesStay none_goes (memory_of self.old) (memory_of self.new) }
     {
-        self.offers.take(pid, page, target).unwrap();
+        let _ = self.try_withdraw(pid, page, target);
     }
 
     /// Takes back an offer, where nothing is against it; else the first cause against it, as `can_withdraw` gives it,
@@ -206,6 +167,7 @@ impl Processes {
 
     /// What a process would be charged for once it has accepted an offer at a page of its own, or the
     /// first cause against it: NoProcess, BadPage (the own page), NoOffer, Mapped, Quota.
+    #[tactic(auto, using(crate::proofs::Refusals::test_accept))]
     pub fn can_accept(
         &self,
         pid: Pid,
@@ -215,39 +177,16 @@ impl Processes {
     ) -> Result<u32, Cause>
         ensures { result ≡ accept_answer self.now.state pid giver giver_page page }
     {
-        match self.container(pid) {
-            Some(container) => {
-                let place = self.place(pid, page);
-                self.accept_test(&container, pid, giver, giver_page, page, &place)
-            }
-            None => Err(Cause::NoProcess),
-        }
-    }
-
-    /// What a live process would be charged for once it has accepted an offer, or the first cause against it: BadPage
-    /// (the own page), NoOffer, Mapped, Quota. The container is the process's, and the place its own page's.
-    #[tactic(auto, using(crate::proofs::Refusals::test_accept))]
-    pub fn accept_test(
-        &self,
-        container: &Container,
-        pid: Pid,
-        giver: Pid,
-        giver_page: Page,
-        page: Page,
-        place: &Option<Place>,
-    ) -> Result<u32, Cause>
-        requires container { container_of self.now.state pid ≡ Some container.now }
-        requires live { is_live self.now.state pid ≡ true }
-        requires place { place.now ≡ place_at self.now pid page }
-        ensures { result ≡ accept_answer self.now.state pid giver giver_page page }
-    {
-        let Some(place) = place else {
+        let Some(container) = self.container(pid) else {
+            return Err(Cause::NoProcess);
+        };
+        let Some(place) = self.place(pid, page) else {
             return Err(Cause::BadPage);
         };
         if self.offers().get(giver, giver_page, pid).is_none() {
             return Err(Cause::NoOffer);
         }
-        charge_with(self, container, pid, page, place)
+        charge_with(self, &container, pid, page, &place)
     }
 
     /// Accepts an offer that the process may accept: its page is the giver's page too from now on, with

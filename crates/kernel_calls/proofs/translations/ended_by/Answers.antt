@@ -1,23 +1,37 @@
-use Rattle.std.proofs.Common.{true, false, ap, sym, ◌∙◌}
-use Rattle.std.specs.Prelude.{if◌then◌else◌}
-use Rattle.fault_handler.specs.Plans.{goes_on}
-use Rattle.kernel_calls.specs.Translations.{of_call}
+use Rattle.std.proofs.Common.{refl, ap, ◌∙◌}
+use Rattle.process_table.specs.Calls.{unmap_refusal, exit_refusal}
+use Rattle.kernel_calls.specs.Translations.{if_allowed}
+use Rattle.kernel_calls.specs.declared.calls.Call.TheVariants as call
 use Rattle.kernel_calls.specs.declared.translations.Ended.TheVariants as end
-use Rattle.kernel_calls.proofs.Decided.{goes-decided}
+use Rattle.kernel_calls.proofs.Allowed.{allowed, protect_ended, accept_ended, nothing_ended}
 use Rattle.kernel_calls.proofs.translations.ended_by.Goals as goal
 
-pub returns-in-Refused : goal.returns-in-Refused
-returns-in-Refused c = sym (ap (λ b. if b then of_call c.args.processes.now c.args.decision.now.event.pid
-    c.args.decision.now.event.call else end.Nothing)
-    (goes-decided c.args.processes.now c.args.decision.now false c.requires.decided (ap goes_on c.in-Refused.is)))
+pub returns-in-Unmap : goal.returns-in-Unmap
+returns-in-Unmap c =
+    let v = c.args.processes.now in
+    let p = c.args.event.now.pid in
+    c.if_allowed.ensures ∙ ap (λ t. if_allowed t (end.Page p c.in-Unmap.page)) c.can_unmap.ensures
+    ∙ allowed v c.args.event.now (call.Unmap c.in-Unmap.page) (unmap_refusal v.state p c.in-Unmap.page) _ (end.Page p c.in-Unmap.page) c.in-Unmap.is refl (λ none. refl)
 
-pub returns-in-Fault : goal.returns-in-Fault
-returns-in-Fault c = sym (ap (λ b. if b then of_call c.args.processes.now c.args.decision.now.event.pid
-    c.args.decision.now.event.call else end.Nothing)
-    (goes-decided c.args.processes.now c.args.decision.now false c.requires.decided (ap goes_on c.in-Fault.is)))
+pub returns-in-Exit : goal.returns-in-Exit
+returns-in-Exit c =
+    let v = c.args.processes.now in
+    let p = c.args.event.now.pid in
+    c.if_allowed-in-Exit.ensures ∙ ap (λ t. if_allowed t (end.Space p)) c.can_exit.ensures
+    ∙ allowed v c.args.event.now call.Exit (exit_refusal v.state p) 0 (end.Space p) c.in-Exit.is refl (λ none. refl)
 
-pub returns-in-Ready : goal.returns-in-Ready
-returns-in-Ready c = c.by_call.ensures ∙ sym (ap
-    (λ b. if b then of_call c.args.processes.now c.args.decision.now.event.pid c.args.decision.now.event.call
-    else end.Nothing) (goes-decided c.args.processes.now c.args.decision.now true c.requires.decided
-    (ap goes_on c.in-Ready.is)))
+pub returns-in-Protect : goal.returns-in-Protect
+returns-in-Protect c =
+    c.if_allowed-in-Protect.ensures ∙ ap (λ t. if_allowed t c.by_protect.result) c.can_protect.ensures
+    ∙ protect_ended c.args.processes.now c.args.event.now c.in-Protect.page c.in-Protect.write c.by_protect.result c.in-Protect.is c.by_protect.ensures
+
+pub returns-in-Accept : goal.returns-in-Accept
+returns-in-Accept c =
+    c.if_allowed-in-Accept.ensures ∙ ap (λ t. if_allowed t c.by_accept.result) c.can_accept.ensures
+    ∙ accept_ended c.args.processes.now c.args.event.now c.in-Accept.giver c.in-Accept.giver_page c.in-Accept.page c.by_accept.result c.requires c.in-Accept.is c.by_accept.ensures
+
+pub returns-in-Spawn : goal.returns-in-Spawn
+returns-in-Spawn c = nothing_ended c.args.processes.now c.args.event.now (call.Spawn c.in-Spawn.quota) c.in-Spawn.is refl
+
+pub returns-in-Fork : goal.returns-in-Fork
+returns-in-Fork c = nothing_ended c.args.processes.now c.args.event.now (call.Fork c.in-Fork.quota) c.in-Fork.is refl
