@@ -12,6 +12,8 @@ mod kernel_tests;
 #[cfg(test)]
 mod lazy_tests;
 #[cfg(test)]
+mod load_tests;
+#[cfg(test)]
 mod page_tests;
 #[cfg(test)]
 mod plan_tests;

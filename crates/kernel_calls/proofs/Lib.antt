@@ -60,5 +60,9 @@ pub mod Views
 pub mod WalkedReplies
 pub mod Writings
 pub mod Lists
+pub mod LoadedPages
+pub mod LoadNeeds
+pub mod LoadedBytes
+pub mod LoadSteps
 pub mod StoresEnd
 pub mod TakenTwice

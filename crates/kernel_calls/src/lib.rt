@@ -11,6 +11,7 @@ mod cores;
 mod decisions;
 mod installing;
 mod laws;
+mod loading;
 mod pages;
 mod peeking;
 mod places;
