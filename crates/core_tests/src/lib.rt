@@ -8,6 +8,8 @@ mod act_tests;
 #[cfg(test)]
 mod common;
 #[cfg(test)]
+mod frame_tests;
+#[cfg(test)]
 mod kernel_tests;
 #[cfg(test)]
 mod lazy_tests;

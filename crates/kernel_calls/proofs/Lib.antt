@@ -21,6 +21,7 @@ pub mod Families
 pub mod FamilyEnds
 pub mod FamilySteps
 pub mod FlagChanges
+pub mod FrameWriters
 pub mod Flags
 pub mod GivenUp
 pub mod Hearing

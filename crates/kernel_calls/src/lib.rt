@@ -22,6 +22,7 @@ mod translations;
 mod turns;
 mod walked;
 mod worked;
+mod writing;
 
 pub use alloc_table::Role;
 pub use calls::{Call, Decision, Event, Outcome, Reply};
