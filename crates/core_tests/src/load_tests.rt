@@ -32,7 +32,7 @@ fn with_child<R: AllocGlobal + Abort>(rt: &R, quota: u32) -> Core {
     core
 }
 
-/// A load of the six bytes is told this.
+/// A load of the six bytes has this result.
 fn load(
     rt: &impl Abort,
     core: &mut Core,

@@ -1,12 +1,10 @@
 -- Which frames an event may write, by their roles.
-use Rattle.std.proofs.Common.{◌≡◌, ◌≢◌, ◌⊎◌, ℕ, ◌/◌, ◌+◌, ◌≤◌, ◌<◌, ◌==◌, ◌&&◌, Bool, true, false, not, refl, sym, ap, subst, ◌∙◌, is_some, Option, Some, None, unwrap_or, inl, inr, arith}
-use Rattle.std.specs.Prelude.{◌↔◌, IsTrue, if◌then◌else◌, nat_le, nat_lt, slice_get}
-use Rattle.std.specs.Option.{option_map, option_and_then}
-use Rattle.std.proofs.lemmas.Bool.{cases_lt, eqb-true, eq-eqb, leb-true, ltb-true}
+use Rattle.std.proofs.Common.{◌≡◌, ◌⊎◌, ℕ, ◌+◌, ◌≤◌, ◌<◌, ◌==◌, ◌&&◌, Bool, true, false, not, refl, sym, ap, subst, ◌∙◌, Option, Some, None, inl, inr, arith}
+use Rattle.std.specs.Prelude.{◌↔◌, IsTrue, slice_get}
+use Rattle.std.specs.Option.{option_and_then}
+use Rattle.std.proofs.lemmas.Bool.{cases_lt, eqb-true, eq-eqb}
 use Rattle.std.proofs.lemmas.Option.{same_Some}
-use Rattle.page_words.specs.Addresses.{slot_number, index_number, IsUserPage}
-use Rattle.page_words.specs.Words.{frame_number, is_present, is_lazy}
-use Rattle.page_words.specs.FiniteMap as map
+use Rattle.page_words.specs.Addresses.{slot_number}
 use Rattle.alloc_table.specs.declared.Role.{Role}
 use Rattle.alloc_table.specs.declared.Role.TheVariants.{Reserved, Free, Directory, Table, Page}
 use Rattle.address_space.specs.Image as memory
@@ -21,7 +19,7 @@ use Rattle.process_table.specs.State.{is_mapped}
 use Rattle.process_table.specs.View.{View}
 use Rattle.process_table.proofs.CellLaws.{both_true}
 use Rattle.kernel_calls.specs.Processors.{IsCore}
-use Rattle.kernel_calls.specs.Written.{TakesLazy, IsOf, LeadsToTaken, MayWrite}
+use Rattle.kernel_calls.specs.Written.{TakesLazy, MayWrite}
 use Rattle.kernel_calls.specs.declared.calls.Call.{Call}
 use Rattle.kernel_calls.specs.declared.calls.Call.TheVariants as call
 use Rattle.kernel_calls.specs.declared.calls.Event.{Event}
@@ -67,34 +65,6 @@ module _ (v : View) (e : Event) (f : ℕ) (sound : memory.IsSoundImage (memory_o
   pub by_role : (r : Role) → slice_get v.roles f ≡ Some r → (b : Bool) → (IsTrue b ↔ CanBe v e f r) → IsTrue b ↔ MayWrite v e f
   by_role r is b told = (λ h. may_be r is (told.0 h), λ m. told.1 (can_be r is m))
 
--- ---- Lazy pages
-
--- no region but those of the user range has a table
-no_table : (v : View) (p s : ℕ) → is_user_slot s ≡ false → table_at (memory_of v) p s ≡ None
-no_table v p s is = by (directory_at (memory_of v) p)
-  where
-    by : (x : Option ℕ) → option_and_then (λ d. named_by s (word_of (memory_of v) d s)) x ≡ None
-    by None = refl
-    by (Some d) = ap (λ b. if b && is_present (word_of (memory_of v) d s) then Some (frame_number (word_of (memory_of v) d s)) else None) is
-
-no_word : (v : View) (slot : Slot) → (IsUserPage slot.page → ⊥) → page_word (memory_of v) slot ≡ None
-no_word v slot outside = by (is_user_slot (slot_number slot.page)) refl
-  where
-    by : (b : Bool) → is_user_slot (slot_number slot.page) ≡ b → page_word (memory_of v) slot ≡ None
-    by false is =
-        ap (option_and_then (λ t. present_word (memory_of v) t (word_of (memory_of v) t (index_number slot.page)))) (no_table v slot.pid (slot_number slot.page) is)
-    by true is =
-        let b = both_true (nat_le 256 (slot_number slot.page)) (nat_lt (slot_number slot.page) 960) is in
-        let low = leb-true 256 (slot_number slot.page) b.0 in
-        let high = ltb-true (slot_number slot.page) 960 b.1 in
-        absurd (outside (omega (arith, low), omega (arith, high)))
-
-pub not_lazy_outside : (v : View) (p page : ℕ) → (IsUserPage page → ⊥) → is_lazy_at (memory_of v) (at_page p page) ≡ false
-not_lazy_outside v p page outside = ap (λ (x : Option ℕ). unwrap_or (option_map is_lazy x) false) (no_word v (at_page p page) outside)
-
-pub not_lazy_bare : (v : View) → IsCore v → (p page : ℕ) → is_mapped v.state (at_page p page) ≡ false → is_lazy_at (memory_of v) (at_page p page) ≡ false
-not_lazy_bare v core p page none = ap (λ (x : Option ℕ). unwrap_or (option_map is_lazy x) false) (unmapped_slot v core (at_page p page) none)
-
 -- ---- Pages on a frame
 
 pub no_frame_bare : (v : View) → IsCore v → (p page f : ℕ) → is_mapped v.state (at_page p page) ≡ false → page_frame (memory_of v) (at_page p page) ≡ Some f → ⊥
@@ -135,9 +105,6 @@ on_frame v stands walks ways slot d g f way = (to, from)
 -- none of the pages below has the frame
 pub record SearchedTo (v : View) (p f at : ℕ) : Type 0 where
   pub none : (page : ℕ) → page < at → page_frame (memory_of v) (at_page p page) ≡ Some f → ⊥
-
-pub searched_none : (v : View) (p f : ℕ) → SearchedTo v p f 0
-searched_none v p f = record { none = λ page l is. omega (arith, l) }
 
 pub searched_on : (v : View) → IsCore v → (p f at found : ℕ) → SearchedTo v p f at
     → ((other : ℕ) → at ≤ other → other < found → is_mapped v.state (at_page p other) ≡ false)
@@ -185,27 +152,3 @@ takes v e giver page own is q same b lazy = (to, from)
     from t =
         let at : page ≡ t.1.giver_page = ap page_of (sym is ∙ t.1.call) in
         lazy ∙ (λ i. is_lazy_at (memory_of v) (at_page (same i) (at i))) ∙ t.1.lazy
-
-pub takes_in : (v : View) (e : Event) (giver page own : ℕ) → e.call ≡ call.Accept giver page own → (q region : ℕ) → slot_number page ≡ region → (b : Bool)
-    → (IsTrue b ↔ ((r : ℕ) × TakesLazy v e q r)) → IsTrue b ↔ TakesLazy v e q region
-takes_in v e giver page own is q region same b told = (to, from)
-  where
-    to : IsTrue b → TakesLazy v e q region
-    to h =
-        let t = told.0 h in
-        let at : page ≡ t.1.giver_page = ap page_of (sym is ∙ t.1.call) in
-        record {
-          giver_page = t.1.giver_page;
-          page = t.1.page;
-          call = t.1.call;
-          inside = ap slot_number (sym at) ∙ same;
-          lazy = t.1.lazy;
-        }
-
-    from : TakesLazy v e q region → IsTrue b
-    from t = told.1 (region, t)
-
--- no event takes a page of another region
-pub takes_not_in : (v : View) (e : Event) (giver page own : ℕ) → e.call ≡ call.Accept giver page own → (q region : ℕ) → slot_number page ≢ region
-    → TakesLazy v e q region → ⊥
-takes_not_in v e giver page own is q region apart t = apart (ap slot_number (ap page_of (sym is ∙ t.call)) ∙ t.inside)

@@ -118,10 +118,6 @@ pub record Counting (S : Spaces) (p a n at done need : ℕ) : Type 0 where
   pub behind_one : 0 < k → 0 < done
   pub paid : cost (with_pages S p (range_with_len (page_number a) k)) p ≡ cost S p + need
 
-pub counting_none : (S : Spaces) (p a n : ℕ) → Counting S p a n a 0 0
-counting_none S p a n =
-    record { k = 0; all = (let m : n ≡ n - 0 = omega arith in ap (pages_under a) m); here = λ l. omega arith; first = λ e. refl; behind_one = λ l. absurd (omega (arith, l)); paid = omega arith }
-
 pub counting_on : (S : Spaces) (p a n at done need c more : ℕ) (b : Bool) → Counting S p a n at done need → done < n → 0 < c → c ≤ n - done
     → offset_number at + c ≤ 4096 → (c < n - done → offset_number at + c ≡ 4096) → (done ≡ 0 → b ≡ true) → (0 < done → b ≡ false)
     → more ≡ behind S p (page_number at) b → Counting S p a n (at + c) (done + c) (need + more)

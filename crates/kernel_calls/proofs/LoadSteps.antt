@@ -1,23 +1,23 @@
 -- The loop that loads page by page: one page more.
-use Rattle.std.proofs.Common.{◌≡◌, ◌≢◌, ℕ, ◌+◌, ◌-◌, ◌<◌, ◌≤◌, Bool, true, false, length, take, drop, List, ◌++◌, refl, sym, ap, subst, ◌∙◌, is_some, Option, Some, unwrap_or, inl, inr, arith}
+use Rattle.std.proofs.Common.{◌≡◌, ◌≢◌, ℕ, ◌+◌, ◌-◌, ◌<◌, ◌≤◌, Bool, true, false, length, take, drop, List, ◌++◌, refl, sym, ap, subst, ◌∙◌, Some, inl, inr, arith}
 use Rattle.std.specs.Prelude.{slice_index}
 use Rattle.std.proofs.lemmas.Bool.{cases_lt, cases_eq}
-use Rattle.std.proofs.Math.Seq.{take-add, take-length}
+use Rattle.std.proofs.Math.Seq.{take-add}
 use Rattle.std.proofs.lemmas.List.{length-take-le, length-drop, get_or-take, get_or-drop}
 use Rattle.page_words.specs.Addresses.{page_number, offset_number}
 use Rattle.page_words.specs.FiniteSet as set
 use Rattle.page_words.proofs.Accesses.{page_stays}
 use Rattle.address_space.specs.Spaces.{Slot, slot_order, at_page, slot_at, write_at, byte_at}
-use Rattle.process_table.specs.State.{State, is_mapped}
+use Rattle.process_table.specs.State.{State}
 use Rattle.process_table.specs.View.{View}
 use Rattle.process_table.specs.WellFormed.{IsWellFormed}
 use Rattle.kernel_calls.specs.Authority.{shares}
 use Rattle.kernel_calls.specs.Cleaned.{EndsMarks}
-use Rattle.kernel_calls.specs.Installed.{is_writable_at, installed, Installs}
+use Rattle.kernel_calls.specs.Installed.{installed, Installs}
 use Rattle.kernel_calls.specs.Loaded.{Loads, no_page, page_more, IsLastThere}
 use Rattle.kernel_calls.specs.declared.translations.Ended.TheVariants as end
 use Rattle.kernel_calls.proofs.CommutingStores.{group_at}
-use Rattle.kernel_calls.proofs.LoadedBytes.{written_inside, written_outside, Outside, bytes_in, right_in, mapped_right, shares_group, page_long, alike, installed_groups, installed_rights, installed_right, own_written, beside_written}
+use Rattle.kernel_calls.proofs.LoadedBytes.{written_inside, written_outside, Outside, bytes_in, right_in, shares_group, page_long, alike, installed_groups, installed_rights, installed_right, own_written, beside_written}
 
 -- an install of one page
 pub record Installed (u w : View) (p at : ℕ) (part : List ℕ) (write : Bool) : Type 0 where
@@ -185,20 +185,3 @@ module _ (v u w : View) (p a at done c k : ℕ) (write : Bool) (bytes part : Lis
 
   pub loading_on : Loading v w p a write bytes (done + c)
   loading_on = record { loads = loads_on; groups = groups_on; rights = rights_on; bytes_there = bytes_on }
-
--- ---- All pages
-
--- all bytes were loaded
-pub record IsLoaded (v w : View) (p a : ℕ) (write : Bool) (bytes : List ℕ) : Type 0 where
-  pub loads : Loads p a write v bytes w
-  pub bytes_there : (i : ℕ) → i < length bytes → IsLastThere v.state p a (length bytes) i → byte_at w.state.spaces p (a + i) ≡ slice_index bytes i
-  pub rights : (i : ℕ) → i < length bytes → is_writable_at w.state (slot_at p (a + i)) ≡ write
-  pub mapped : (i : ℕ) → i < length bytes → is_mapped w.state (slot_at p (a + i)) ≡ true
-
-pub loading_all : (v w : View) (p a done : ℕ) (write : Bool) (bytes : List ℕ) → Loading v w p a write bytes done → done ≡ length bytes → IsLoaded v w p a write bytes
-loading_all v w p a done write bytes l all = record {
-  loads = subst (λ xs. Loads p a write v xs w) (ap (λ n. take n bytes) all ∙ take-length bytes) l.loads;
-  bytes_there = λ i below last. l.bytes_there i (omega (arith, below, all)) (λ j up down. last j up (omega (arith, down, all)));
-  rights = λ i below. ap (λ (x : Option Bool). unwrap_or x false) (l.rights i (omega (arith, below, all)));
-  mapped = λ i below. mapped_right w.state.spaces (slot_at p (a + i)) ∙ ap is_some (l.rights i (omega (arith, below, all)));
-}

@@ -1,5 +1,5 @@
 -- What stands where bytes were loaded: the bytes, and the right of each page.
-use Rattle.std.proofs.Common.{◌≡◌, ◌≢◌, ◌⊎◌, ℕ, ◌+◌, ◌-◌, ◌<◌, ◌≤◌, ◌||◌, Bool, true, false, length, take, drop, List, ◌++◌, refl, sym, ap, ◌∙◌, is_some, Option, Some, None, unwrap_or, inl, inr, arith}
+use Rattle.std.proofs.Common.{◌≡◌, ◌≢◌, ◌⊎◌, ℕ, ◌+◌, ◌-◌, ◌<◌, ◌≤◌, ◌||◌, Bool, true, false, length, take, drop, List, ◌++◌, refl, sym, ap, ◌∙◌, Option, Some, None, unwrap_or, inl, inr, arith}
 use Rattle.std.specs.Prelude.{if◌then◌else◌, slice_index}
 use Rattle.std.specs.Option.{option_map}
 use Rattle.std.proofs.lemmas.List.{length-take-le, length-append, get_or_append_left, get_or-append-add, get_or-append_right, get_or-take, get_or-drop}
@@ -51,13 +51,6 @@ bytes_in S q = (cell_or_fresh S q).bytes
 
 abbrev pub right_in : Spaces → Slot → Option Bool
 right_in S q = option_map (λ (c : Cell). c.write) (map.get S q)
-
-pub mapped_right : (S : Spaces) (q : Slot) → map.contains_key S q ≡ is_some (right_in S q)
-mapped_right S q = by (map.get S q)
-  where
-    by : (x : Option Cell) → is_some x ≡ is_some (option_map (λ (c : Cell). c.write) x)
-    by None = refl
-    by (Some c) = refl
 
 group_protected : (S : Spaces) (slot : Slot) (write : Bool) (q : Slot) → group_at (protected S slot write) q ≡ group_at S q
 group_protected S slot write q = elim (same_cases slot_order q slot) [

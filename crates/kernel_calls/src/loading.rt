@@ -155,9 +155,9 @@ impl Core {
     /// with the right that `write` says: all of them, or none. Each processor that cached the pages' translations
     /// invalidates them. Where a process has one page at two of these addresses, the byte that comes last stays.
     ///
-    /// NoProcess where the process is not live, BadPage where a page is not of the user range, Rights where the process
-    /// may not make a mapped page writable, Quota where it has no room for the pages that are not mapped: the first of
-    /// these. Then nothing changes. All pages are looked at before the first is changed.
+    /// Otherwise nothing changes, and the error is the first cause. NoProcess comes before BadPage, where a page is not of
+    /// the user range. Next is Rights, where the process may not make a mapped page writable. The last is Quota, where it
+    /// has no room for the pages that are not mapped.
     pub fn load_bytes(
         &mut self,
         pid: Pid,

@@ -1,4 +1,4 @@
-use Rattle.std.proofs.Common.{◌+◌, ◌≡◌, ◌∙◌, ℕ, true, false, sym, ap, subst, arith}
+use Rattle.std.proofs.Common.{◌+◌, ◌≡◌, ◌∙◌, ℕ, true, false, sym, subst, arith}
 use Rattle.kernel_calls.specs.Processors.{IsCore}
 use Rattle.kernel_calls.proofs.FrameWriters.{SearchedTo, searched_on, searched_all}
 use Rattle.kernel_calls.proofs.cores.Core.has_on.Goals as goal
