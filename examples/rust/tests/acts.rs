@@ -122,7 +122,10 @@ fn bytes_are_loaded_into_all_pages_or_none() {
     let small = core.spawn(pid, 3).unwrap();
     let bytes: Vec<u8> = (0..6000u32).map(|number| number as u8).collect();
     let start = Vaddr(address(0).0 + 100);
-    assert_eq!(core.load_bytes(small, start, &bytes, true), Err(Cause::Quota));
+    assert_eq!(
+        core.load_bytes(small, start, &bytes, true),
+        Err(Cause::Quota)
+    );
     assert_eq!(core.quota(small).unwrap().used, 1);
     assert_eq!(core.load_bytes(pid, start, &bytes, false), Ok(()));
     let mut found = vec![0; bytes.len()];
@@ -146,7 +149,10 @@ fn an_event_may_write_the_frames_of_its_process_and_free_ones() {
     let by = |pid, call| Event { cpu: 0, pid, call };
     let quota = by(taker, Call::Quota);
     assert_eq!(core.may_write(&quota, directory), Some(false));
-    assert_eq!(core.may_write(&by(giver, Call::Quota), directory), Some(true));
+    assert_eq!(
+        core.may_write(&by(giver, Call::Quota), directory),
+        Some(true)
+    );
     let accept = by(
         taker,
         Call::Accept {
