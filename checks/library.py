@@ -92,7 +92,7 @@ def built(folder, *archives):
     library = ctypes.CDLL(made)
     for name in ("step", "step_ending", "ends", "run", "run_until", "read", "write", "next_page", "directory",
                  "container", "role", "walk", "copy_frame", "memory", "children", "next_offer", "next_holder",
-                 "next_dirty", "peek", "clean", "end", "take_back"):
+                 "next_dirty", "peek", "clean", "end", "take_back", "load_bytes", "may_write"):
         getattr(library, "tower_" + name).restype = ctypes.c_bool
     return library
 
@@ -315,6 +315,18 @@ class Core:
         held, moved = (ctypes.c_uint8 * max(1, count))(), ctypes.c_size_t(99)
         self.acts("peek", number, address, held, ctypes.c_size_t(count), ctypes.byref(moved))
         return bytes(held[:moved.value])
+
+    def load_bytes(self, number, address, data, write):
+        """The reply to a load of bytes into a process's pages."""
+        told = Answer(99, 99, 99, 99, True, True, True, True)
+        held = (ctypes.c_uint8 * max(1, len(data)))(*data)
+        self.acts("load_bytes", number, address, held, ctypes.c_size_t(len(data)), ctypes.c_bool(write), ctypes.byref(told))
+        return reply_of(told)
+
+    def may_write(self, numbers, frame):
+        """Whether an event may write a frame, or None if the numbers are no event or there is no such frame."""
+        may = ctypes.c_bool(False)
+        return may.value if self.acts("may_write", ctypes.byref(numbers), frame, ctypes.byref(may)) else None
 
     def clean(self, number, page):
         """Whether a page that was cleaned was dirty, or None if it is not mapped."""

@@ -424,6 +424,16 @@ TOWER_NODISCARD bool tower_write(struct tower *tower, uint32_t pid, uint32_t add
  * are no event; then nothing is written. */
 TOWER_NODISCARD bool tower_ends(const struct tower *tower, const struct tower_event *event, struct tower_ended *ended);
 
+/* Whether an event may write a frame, if it were the next one, whatever its reply is. It may write frames that are free,
+ * the directory, the tables and the pages of its process, and, if it is a TOWER_ACCEPT of a lazy page, the giver's
+ * directory and that page's table. The frames that it frees are among them. Every other frame stays as it is, except that
+ * accessed may be set in a directory's words. Whoever keeps something by frames, as an emulator keeps translated code,
+ * drops what it keeps of those frames. It changes nothing of the core. For a frame of a page it looks up the pages that
+ * the process has mapped, up to that one, and for another frame one page at most. False if the handle has no core, the
+ * numbers are no event or there is no such frame; then nothing is written. */
+TOWER_NODISCARD bool tower_may_write(const struct tower *tower, const struct tower_event *event, uint32_t frame,
+                                     bool *may);
+
 /* Carries out one event, as tower_step does, and reports the cached translations that tower_ends would have reported
  * before it. A kernel whose processors cache what their walks gave invalidates these, on all processors, before the
  * next access or event. An event that was refused, faulted or was no event ends nothing. False if the handle has no
@@ -508,6 +518,21 @@ TOWER_NODISCARD bool tower_next_dirty(const struct tower *tower, uint32_t pid, u
  * pid is no process's number, no byte is copied. False if the handle has no core; then nothing is written. */
 TOWER_NODISCARD bool tower_peek(const struct tower *tower, uint32_t pid, uint32_t address, uint8_t *bytes,
                                 size_t byte_count, size_t *moved);
+
+/* Puts bytes into a process's memory from an address on, whatever right the process has there: all of them, or none. A
+ * page that is not mapped is mapped, and one that may not be written to gets that right for the time. Each page is left
+ * with the right that `write` says. It is a run of the process's own events, Map, Protect and Store. `told` becomes
+ * TOWER_DONE. Then a kernel whose processors cache translations invalidates those of the process's pages from the first
+ * byte's page to the last byte's, before the next access or event.
+ *
+ * `told` becomes TOWER_REFUSED with the first of these causes: TOWER_NO_PROCESS; TOWER_BAD_PAGE if a page is not of the
+ * user range; TOWER_RIGHTS if a page is mapped and the process may never write to it; TOWER_OVER_QUOTA if the process has
+ * no room for the pages that are not mapped. It becomes TOWER_NO_EVENT if pid is no process's number. Then nothing else
+ * changes. If the process has one page at two of the addresses, the byte that comes last stays.
+ *
+ * False if the handle has no core; then nothing is written. */
+TOWER_NODISCARD bool tower_load_bytes(struct tower *tower, uint32_t pid, uint32_t address, const uint8_t *bytes,
+                                      size_t byte_count, bool write, struct tower_reply *told);
 
 /* Clears accessed and dirty of a mapped page, and reports whether it was dirty. It is no event: an Info of the page shows
  * it, and a log of events doesn't have it. A kernel whose processors cache translations invalidates the page's before
@@ -628,6 +653,13 @@ TOWER_NODISCARD static inline bool tower_write_inline(struct tower *tower, uint3
     return tower_write(tower, pid, address, byte_count || bytes ? bytes : &byte, byte_count, moved, stop);
 }
 
+TOWER_NODISCARD static inline bool tower_load_bytes_inline(struct tower *tower, uint32_t pid, uint32_t address,
+                                                           const uint8_t *bytes, size_t byte_count, bool write,
+                                                           struct tower_reply *told) {
+    const uint8_t byte = 0;
+    return tower_load_bytes(tower, pid, address, byte_count || bytes ? bytes : &byte, byte_count, write, told);
+}
+
 TOWER_NODISCARD static inline bool tower_copy_frame_inline(const struct tower *tower, uint32_t frame, uint8_t *bytes,
                                                            size_t byte_count) {
     uint8_t byte = 0;
@@ -647,6 +679,7 @@ TOWER_NODISCARD static inline bool tower_take_back_inline(struct tower *tower, u
     return tower_take_back(tower, pid, page, lost_count || lost ? lost : &holder, lost_count, count, told);
 }
 
+#define tower_load_bytes tower_load_bytes_inline
 #define tower_peek tower_peek_inline
 #define tower_take_back tower_take_back_inline
 #define tower_run tower_run_inline

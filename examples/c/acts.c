@@ -1,7 +1,9 @@
 /* What a kernel does for its processes. It ends a tenant that misbehaves, with its children, while four threads run other
  * tenants, whose replies and bytes are those of a run without it. It takes a page back, and the walk of its former holder
- * faults. It copies what changed of a tenant's memory by its dirty pages, and the copy is the whole. It lists children and
- * offers. It ends with status 0 if all goes as expected, and otherwise prints the line of what does not. */
+ * faults. It copies what changed of a tenant's memory by its dirty pages, and the copy is the whole. It loads a program into
+ * a tenant, or nothing of it. It keeps sums by frames, and drops those of the frames that an event may write, so that none
+ * is stale. It lists children and offers. It ends with status 0 if all goes as expected, and otherwise prints the line of
+ * what does not. */
 #include <pthread.h>
 #include <stdio.h>
 #include <stdlib.h>
@@ -179,6 +181,96 @@ static void copy_what_changed(struct tower *tower) {
     EXPECT(tower_peek(tower, pid, ADDRESS(PAGES) - 4, whole, sizeof whole, &moved) && moved == 4);
 }
 
+/* ---- A program that is loaded */
+
+static void load_a_program(struct tower *tower) {
+    static uint8_t program[2 * TOWER_FRAME_BYTES + 100], found[sizeof program];
+    enum { FRAMES_OF_THREE = 5 }; /* the directory, a table and three pages */
+    const uint32_t pid = child_of(tower, tower_spawn(0, FRAMES_OF_THREE - 1)), start = ADDRESS(0) + 50;
+    struct tower_container container;
+    struct tower_reply told;
+    size_t moved;
+    for (size_t at = 0; at < sizeof program; at++) program[at] = (uint8_t)(at * 7 + 1);
+    EXPECT(tower_load_bytes(tower, pid, start, program, sizeof program, false, &told));
+    EXPECT(told.kind == TOWER_REFUSED && told.first == TOWER_OVER_QUOTA);
+    EXPECT(tower_container(tower, pid, &container) && container.used == 1);
+    const uint32_t other = child_of(tower, tower_spawn(0, FRAMES_OF_THREE));
+    does(tower, tower_map(other, PAGE(1), TOWER_READ_ONLY));
+    EXPECT(tower_load_bytes(tower, other, start, program, sizeof program, false, &told) && told.kind == TOWER_DONE);
+    EXPECT(tower_peek(tower, other, start, found, sizeof found, &moved) && moved == sizeof found);
+    EXPECT(memcmp(program, found, sizeof found) == 0);
+    EXPECT(tower_do(tower, tower_store(other, start, 1, 0), &told) == TOWER_OUTCOME_FAULT);
+    EXPECT(tower_load_bytes(tower, other, start, program, 10, true, &told) && told.kind == TOWER_DONE);
+    does(tower, tower_store(other, start, 1, 0));
+    EXPECT(tower_load_bytes(tower, other, 0xeffffff0, program, 17, true, &told) && told.first == TOWER_BAD_PAGE);
+    EXPECT(tower_load_bytes(tower, 63, start, program, 1, true, &told) && told.first == TOWER_NO_PROCESS);
+    EXPECT(tower_load_bytes(tower, 64, start, program, 1, true, &told) && told.kind == TOWER_NO_EVENT);
+    EXPECT(tower_load_bytes(tower, other, start, NULL, 0, true, &told) && told.kind == TOWER_DONE);
+}
+
+/* ---- What is kept by frames */
+
+enum { SUMMED = 64 };
+
+struct sums {
+    bool kept[SUMMED];
+    uint32_t of[SUMMED];
+};
+
+static uint32_t sum_of_frame(struct tower *tower, uint32_t frame) {
+    static uint8_t bytes[TOWER_FRAME_BYTES];
+    uint32_t sum = 0;
+    EXPECT(tower_copy_frame(tower, frame, bytes, sizeof bytes));
+    for (size_t at = 0; at < sizeof bytes; at++) sum = mixed(sum, bytes[at]);
+    return sum;
+}
+
+/* Drops the sums of the frames that an event may write, and carries it out. Each sum that is kept is still right. Returns
+ * how many are. Then all frames are summed again. */
+static unsigned step_with_sums(struct tower *tower, struct sums *sums, struct tower_event event) {
+    unsigned left = 0;
+    bool may;
+    for (uint32_t frame = 0; frame < SUMMED; frame++)
+        if (sums->kept[frame]) {
+            EXPECT(tower_may_write(tower, &event, frame, &may));
+            sums->kept[frame] = !may;
+        }
+    does(tower, event);
+    for (uint32_t frame = 0; frame < SUMMED; frame++) {
+        if (sums->kept[frame]) {
+            EXPECT(sums->of[frame] == sum_of_frame(tower, frame));
+            left++;
+        }
+        sums->kept[frame] = true;
+        sums->of[frame] = sum_of_frame(tower, frame);
+    }
+    return left;
+}
+
+static void keep_by_frames(void) {
+    struct tower tower = TOWER_NONE;
+    static struct sums sums;
+    bool may;
+    EXPECT(tower_boot(SUMMED, &tower) == TOWER_BOOTED);
+    const uint32_t giver = child_of(&tower, tower_spawn(0, 20)), taker = child_of(&tower, tower_spawn(0, 20));
+    does(&tower, tower_store(giver, ADDRESS(0), 4, 77));
+    does(&tower, tower_map(giver, PAGE(1), TOWER_READ_WRITE));
+    does(&tower, tower_offer(giver, PAGE(0), taker, TOWER_READ_WRITE));
+    does(&tower, tower_offer(giver, PAGE(1), taker, TOWER_READ_WRITE));
+    step_with_sums(&tower, &sums, tower_quota(0));
+    /* Frame 0, the directory of the root, and the directory, the table and the page of the giver. */
+    EXPECT(step_with_sums(&tower, &sums, tower_store(taker, ADDRESS(9), 4, 1)) == 5);
+    /* The page with a frame stays the giver's. */
+    EXPECT(step_with_sums(&tower, &sums, tower_accept(taker, giver, PAGE(0), PAGE(4))) == 5);
+    /* The giver's directory and table lead to the lazy page, which gets its frame. */
+    EXPECT(step_with_sums(&tower, &sums, tower_accept(taker, giver, PAGE(1), PAGE(5))) == 2);
+    /* Both pages are also the taker's now. What is left is frame 0, the root's directory, and what leads to the pages. */
+    EXPECT(step_with_sums(&tower, &sums, tower_exit(taker)) == 4);
+    const struct tower_event event = tower_quota(0);
+    EXPECT(!tower_may_write(&tower, &event, SUMMED, &may));
+    tower_free(&tower);
+}
+
 /* ---- Without a core */
 
 static void ask_none(struct tower *tower) {
@@ -194,6 +286,9 @@ static void ask_none(struct tower *tower) {
     EXPECT(!tower_next_offer(tower, 0, 0, 0, &offer) && !tower_next_holder(tower, 0, PAGE(0), 1, 0, &number));
     EXPECT(!tower_take_back(tower, 0, PAGE(0), &holder, 1, &count, &told) && !tower_clean(tower, 0, PAGE(0), &dirty));
     EXPECT(!tower_next_dirty(tower, 0, 0, &number) && !tower_peek(tower, 0, ADDRESS(0), &byte, 1, &count));
+    const struct tower_event event = tower_quota(0);
+    byte = 0;
+    EXPECT(!tower_load_bytes(tower, 0, ADDRESS(0), &byte, 1, true, &told) && !tower_may_write(tower, &event, 0, &dirty));
 }
 
 int main(void) {
@@ -203,7 +298,10 @@ int main(void) {
     EXPECT(tower_boot(FRAMES, &tower) == TOWER_BOOTED);
     take_a_page_back(&tower);
     copy_what_changed(&tower);
+    load_a_program(&tower);
+    keep_by_frames();
     tower_free(&tower);
-    printf("acts: %d tenants in threads, one ended next to them; a page taken back; a copy by dirty pages\n", TENANTS);
+    printf("acts: %d tenants in threads, one ended next to them; a page taken back; a copy by dirty pages; a program loaded; "
+           "sums by frames\n", TENANTS);
     return 0;
 }

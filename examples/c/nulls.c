@@ -49,6 +49,10 @@ WRAP(bool, tower_take_back,
      (struct tower *tower, uint32_t pid, uint32_t page, struct tower_holder *lost, size_t places, size_t *count,
       struct tower_reply *told),
      (tower, pid, page, lost, places, count, told), note(lost))
+WRAP(bool, tower_load_bytes,
+     (struct tower *tower, uint32_t pid, uint32_t address, const uint8_t *bytes, size_t count, bool write,
+      struct tower_reply *told),
+     (tower, pid, address, bytes, count, write, told), note(bytes))
 WRAP(bool, tower_copy_frame, (const struct tower *tower, uint32_t frame, uint8_t *bytes, size_t count),
      (tower, frame, bytes, count), note(bytes))
 WRAP(uint32_t, tower_image, (const struct tower *tower, uint8_t *bytes, size_t count, size_t *size),
@@ -74,12 +78,13 @@ int main(void) {
     EXPECT(tower_write(&tower, 64, 0, NULL, 0, &count, &stop) && count == 0 && stop.kind == TOWER_NO_EVENT);
     EXPECT(tower_peek(&tower, 0, 0, NULL, 0, &count) && count == 0);
     EXPECT(tower_take_back(&tower, 0, 0, NULL, 0, &count, &stop) && count == 0 && stop.first == TOWER_BAD_PAGE);
+    EXPECT(tower_load_bytes(&tower, 0, 0, NULL, 0, true, &stop) && stop.kind == TOWER_DONE);
     EXPECT(!tower_copy_frame(&tower, 0, NULL, 0));
     EXPECT(tower_image(&tower, NULL, 0, &size) == TOWER_IMAGE_TOO_SHORT && size == TOWER_IMAGE_LENGTH(FRAMES));
     EXPECT(tower_check_bytes(NULL, 0, &verdict) == TOWER_NOT_IMAGE && verdict.clause == TOWER_FAULT_NOT_IMAGE);
     EXPECT(tower_restore(NULL, 0, &other, &verdict) == TOWER_NOT_IMAGE && !other.live);
     EXPECT(tower_run(&tower, &quota, 1, &reply, 1) && reply.kind == TOWER_USAGE && reply.second == 1);
-    EXPECT(calls == 14 && nulls == 0);
+    EXPECT(calls == 15 && nulls == 0);
     tower_free(&tower);
     puts("nulls: NULL with a count of 0 reaches no function of the archives");
     return 0;

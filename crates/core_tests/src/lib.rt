@@ -8,9 +8,13 @@ mod act_tests;
 #[cfg(test)]
 mod common;
 #[cfg(test)]
+mod frame_tests;
+#[cfg(test)]
 mod kernel_tests;
 #[cfg(test)]
 mod lazy_tests;
+#[cfg(test)]
+mod load_tests;
 #[cfg(test)]
 mod page_tests;
 #[cfg(test)]

@@ -62,7 +62,7 @@ module _ (v : View) (stands : StandsFor (image_of v) v.state) (walks : WalksAgre
     pub mapped : map.get v.state.spaces slot ≡ Some cell
     pub agrees : CellStands (memory_of v) slot word cell
 
-  led : (slot : Slot) (d f : ℕ) → way_of (memory_of v) slot ≡ Some (d, f) → Led slot f
+  pub led : (slot : Slot) (d f : ℕ) → way_of (memory_of v) slot ≡ Some (d, f) → Led slot f
   led slot d f way =
       let a = from_map frame_number (page_word (memory_of v) slot) f (way_parts (memory_of v) slot d f way).names in
       let c = way_mapped v stands walks ways slot d f way in record {

@@ -22,6 +22,7 @@ pub mod Families
 pub mod FamilyEnds
 pub mod FamilySteps
 pub mod FlagChanges
+pub mod FrameWriters
 pub mod Flags
 pub mod GivenUp
 pub mod Hearing
@@ -61,5 +62,9 @@ pub mod Views
 pub mod WalkedReplies
 pub mod Writings
 pub mod Lists
+pub mod LoadedPages
+pub mod LoadNeeds
+pub mod LoadedBytes
+pub mod LoadSteps
 pub mod StoresEnd
 pub mod TakenTwice

@@ -285,7 +285,7 @@ mapped_slot v core slot h = by (page_word (memory_of v) slot) refl (map.get v.st
     by (Some word) is (Some c) there k s = record { word = word; there = is; cell = c; mapped = there; stands = s }
 
 -- one that isn't mapped has no word
-unmapped_slot : (v : View) → IsCore v → (slot : Slot) → is_some (map.get v.state.spaces slot) ≡ false
+pub unmapped_slot : (v : View) → IsCore v → (slot : Slot) → is_some (map.get v.state.spaces slot) ≡ false
     → page_word (memory_of v) slot ≡ None
 unmapped_slot v core slot h = by (page_word (memory_of v) slot) refl (map.get v.state.spaces slot) h (core.image.memory.cells slot)
   where

@@ -11,6 +11,7 @@ pub mod Installed
 pub mod Isolation
 pub mod Kept
 pub mod Laws
+pub mod Loaded
 pub mod Lazy
 pub mod Machine
 pub mod Pages

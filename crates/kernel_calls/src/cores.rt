@@ -15,7 +15,7 @@ ghost use Rattle.process_table.specs.Restored.{image_in, RootIsItsParent};
 ghost use Rattle.process_table.specs.Image.{StandsFor, IsSoundImage, image_of, memory_of};
 ghost use Rattle.process_table.specs.WellFormed.{IsWellFormed, total};
 ghost use Rattle.address_space.specs.Image.{LeavesRoom, takes_stores};
-ghost use Rattle.address_space.specs.Spaces.{zeros, at_page, slot_at, byte_at};
+ghost use Rattle.address_space.specs.Spaces.{zeros, need, at_page, slot_at, byte_at};
 ghost use Rattle.phys_memory.specs.Bytes.{frame_bytes};
 ghost use Rattle.fault_handler.specs.Plans.{takes_no_frame};
 ghost use Rattle.kernel_calls.specs.Authority.{HearTheirOwn, KeepsBorders};
@@ -484,6 +484,16 @@ impl Core {
         ensures { result ≡ page_in self.now pid page }
     {
         pages::state_of(&self.processes, pid, page)
+    }
+
+    /// What a page of the user range that is not mapped costs a process: 1 where it has a page in the region of 1,024
+    /// pages, else 2.
+    pub(crate) fn need_at(&self, pid: Pid, page: Page) -> u32
+        requires user { IsUserPage page }
+        ensures value { result ≡ need self.now.state.spaces pid page }
+        ensures most { result ≤ 2 }
+    {
+        pages::need_at(&self.processes, pid, page)
     }
 
     /// Returns a process's first pending offer from a page and a target on, in the order of pages, and of targets for one

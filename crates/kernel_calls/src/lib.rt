@@ -11,6 +11,7 @@ mod cores;
 mod decisions;
 mod installing;
 mod laws;
+mod loading;
 mod pages;
 mod peeking;
 mod replies;
@@ -20,6 +21,7 @@ mod translations;
 mod turns;
 mod walked;
 mod worked;
+mod writing;
 
 pub use alloc_table::Role;
 pub use calls::{Call, Decision, Event, Outcome, Reply};

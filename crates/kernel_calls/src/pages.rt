@@ -1,7 +1,8 @@
 //! The place of a page of a process, and what it shows without a call.
 
-ghost use Rattle.std.specs.Prelude.{◌≡◌};
+ghost use Rattle.std.specs.Prelude.{◌≡◌, ◌≤◌};
 ghost use Rattle.page_words.specs.Addresses.{IsUserPage};
+ghost use Rattle.address_space.specs.Spaces.{need};
 ghost use Rattle.kernel_calls.specs.Pages.{page_in};
 
 use address_space::Cell;
@@ -32,4 +33,15 @@ pub fn state_of(processes: &Processes, pid: Pid, page: Page) -> Option<PageState
         }),
         None => None,
     }
+}
+
+/// What a page of the user range that is not mapped costs a process.
+pub fn need_at(processes: &Processes, pid: Pid, page: Page) -> u32
+    requires user { IsUserPage page }
+    ensures value { result ≡ need processes.now.state.spaces pid page }
+    ensures most { result ≤ 2 }
+{
+    let place = processes.spaces().place(pid, page);
+    processes.tells(pid, page, &place);
+    place.need()
 }

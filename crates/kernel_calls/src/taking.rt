@@ -48,7 +48,7 @@ fn is_slot(pid: Pid, page: Page, other: Pid, other_page: Page) -> bool
 }
 
 /// Whether two frames are one, and not frame 0.
-fn are_one(frame: Frame, other: Frame) -> bool
+pub(crate) fn are_one(frame: Frame, other: Frame) -> bool
     ensures { result ≡ (not (frame == 0) && (frame == other)) }
 {
     frame.0 != 0 && frame == other

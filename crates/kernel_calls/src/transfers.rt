@@ -78,6 +78,7 @@ pub(crate) fn count_in_page(address: Vaddr, left: usize) -> usize
     ensures within { offset_number address + result ≤ 4096 }
     ensures some { 0 < result }
     ensures most { result ≤ left }
+    ensures whole { result < left → offset_number address + result ≡ 4096 }
 {
     let room = 4096 - offset_of(address) as usize;
     room.min(left)

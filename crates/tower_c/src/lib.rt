@@ -16,12 +16,14 @@ ghost use Rattle.kernel_calls.specs.Translations.{Ends};
 mod cleaning;
 mod families;
 mod holders;
+mod loading;
 mod memory;
 mod numbers;
 mod pages;
 mod pending;
 mod runs;
 mod transfers;
+mod writing;
 
 pub use c_handle::{Passes, Tower};
 use c_handle::{put, take};
@@ -29,6 +31,7 @@ pub use cleaning::{tower_clean, tower_next_dirty, tower_peek};
 pub use families::{TowerProcesses, tower_children, tower_end};
 pub use holders::{TowerHolder, tower_next_holder, tower_take_back};
 use kernel_calls::{Core, Ended, WideFault};
+pub use loading::tower_load_bytes;
 pub use memory::{TowerMemory, tower_memory};
 use numbers::{
     access_from, container_from, ended_from, event_from, no_event, pid_from, role_from, told_from,
@@ -42,6 +45,7 @@ pub use runs::tower_run_until;
 use std::alloc::Global;
 use table_walk::walk;
 pub use transfers::{tower_read, tower_write};
+pub use writing::tower_may_write;
 
 /// The library's version, 0.2.0.
 const VERSION: u32 = 200;

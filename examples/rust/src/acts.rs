@@ -207,6 +207,37 @@ impl Core<'_> {
         moved
     }
 
+    /// Puts bytes into a process's memory from an address on, whatever right the process has there, and leaves each page
+    /// with the right that `write` says: all of them, or none. A kernel whose processors cache translations invalidates
+    /// those of the pages. If the process has one page at two of the addresses, the byte that comes last stays.
+    ///
+    /// # Errors
+    ///
+    /// The first of `NoProcess`, `BadPage` if a page is not of the user range, `Rights` if a page is mapped and the process
+    /// may never write to it, and `Quota` if it has no room for the pages that are not mapped; then nothing changes.
+    pub fn load_bytes(
+        &mut self,
+        pid: Pid,
+        addr: Vaddr,
+        bytes: &[u8],
+        write: bool,
+    ) -> Result<(), Cause> {
+        let mut told = raw::Reply::default();
+        // SAFETY: as for `clean`; the pointer and the length are the slice's.
+        unsafe {
+            raw::tower_load_bytes(
+                self.handle_mut(),
+                pid.number().into(),
+                addr.0,
+                bytes.as_ptr(),
+                bytes.len(),
+                write,
+                &raw mut told,
+            )
+        };
+        cause_of(&told).map_or(Ok(()), Err)
+    }
+
     /// Clears accessed and dirty of a page, and returns whether it was dirty; None if the process has not mapped it. It
     /// is no event. A kernel whose processors cache translations invalidates the page's.
     #[must_use = "the page may not be mapped"]

@@ -176,6 +176,18 @@ impl Core<'_> {
         ended.into()
     }
 
+    /// Returns whether an event may write a frame, if it were the next one; None if there is no such frame. What it frees is
+    /// among them. Whoever keeps something by frames, as an emulator keeps translated code, drops what it keeps of those.
+    #[must_use]
+    pub fn may_write(&self, event: &Event, frame: Frame) -> Option<bool> {
+        let mut may = false;
+        // SAFETY: as for `ends`.
+        let is_there = unsafe {
+            raw::tower_may_write(self.handle.get(), &event.into(), frame.0, &raw mut may)
+        };
+        is_there.then_some(may)
+    }
+
     /// Carries out one event, and returns its reply and which cached translations it ended. A kernel whose processors
     /// cache what walks gave invalidates these, on all processors, before the next access or event. Only the reply is
     /// for the process.

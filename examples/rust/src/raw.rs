@@ -205,6 +205,15 @@ unsafe extern "C" {
         byte_count: usize,
         moved: *mut usize,
     ) -> bool;
+    pub fn tower_load_bytes(
+        tower: *mut Tower,
+        pid: u32,
+        address: u32,
+        bytes: *const u8,
+        byte_count: usize,
+        write: bool,
+        told: *mut Reply,
+    ) -> bool;
     pub fn tower_clean(tower: *mut Tower, pid: u32, page: u32, dirty: *mut bool) -> bool;
     pub fn tower_end(tower: *mut Tower, pid: u32, exited: *mut Processes, told: *mut Reply)
     -> bool;
@@ -218,6 +227,12 @@ unsafe extern "C" {
         told: *mut Reply,
     ) -> bool;
     pub fn tower_ends(tower: *const Tower, event: *const Event, ended: *mut Ended) -> bool;
+    pub fn tower_may_write(
+        tower: *const Tower,
+        event: *const Event,
+        frame: u32,
+        may: *mut bool,
+    ) -> bool;
     pub fn tower_step_ending(
         tower: *mut Tower,
         event: *const Event,

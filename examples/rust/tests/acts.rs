@@ -1,6 +1,6 @@
 //! Tests of what a kernel does for its processes.
 
-use tower::{Cause, Core, Holder, Offer, Page, Pid, Size, Vaddr};
+use tower::{Call, Cause, Core, Event, Frame, Holder, Offer, Page, Pid, Role, Size, Vaddr};
 
 /// The first user page.
 const FIRST: u32 = 0x40000;
@@ -114,4 +114,59 @@ fn dirty_pages_are_seen_copied_and_cleaned() {
     assert_eq!(core.clean(pid, page(2)), Some(false));
     assert_eq!(core.clean(pid, page(3)), None);
     assert_eq!(core.next_dirty(pid, Page(0)), Some(page(9)));
+}
+
+#[test]
+fn bytes_are_loaded_into_all_pages_or_none() {
+    let (mut core, pid, _) = core_with_two();
+    let small = core.spawn(pid, 3).unwrap();
+    let bytes: Vec<u8> = (0..6000u32).map(|number| number as u8).collect();
+    let start = Vaddr(address(0).0 + 100);
+    assert_eq!(
+        core.load_bytes(small, start, &bytes, true),
+        Err(Cause::Quota)
+    );
+    assert_eq!(core.quota(small).unwrap().used, 1);
+    assert_eq!(core.load_bytes(pid, start, &bytes, false), Ok(()));
+    let mut found = vec![0; bytes.len()];
+    assert_eq!(core.peek(pid, start, &mut found), bytes.len());
+    assert_eq!(found, bytes);
+    assert!(!core.info(pid, page(1)).unwrap().write);
+    assert_eq!(core.load_bytes(pid, address(1), &[7], true), Ok(()));
+    assert!(core.info(pid, page(1)).unwrap().write);
+    let outside = core.load_bytes(pid, Vaddr(0x3fff_ffff), &[1, 2], true);
+    assert_eq!(outside, Err(Cause::BadPage));
+    assert_eq!(core.load_bytes(pid, Vaddr(0), &[], true), Ok(()));
+}
+
+#[test]
+fn an_event_may_write_the_frames_of_its_process_and_free_ones() {
+    let (mut core, giver, taker) = core_with_two();
+    core.store(giver, address(0), Size::Four, 77).unwrap();
+    core.map(giver, page(1), true).unwrap();
+    core.offer(giver, page(1), taker, true).unwrap();
+    let directory = core.directory(giver).unwrap();
+    let by = |pid, call| Event { cpu: 0, pid, call };
+    let quota = by(taker, Call::Quota);
+    assert_eq!(core.may_write(&quota, directory), Some(false));
+    assert_eq!(
+        core.may_write(&by(giver, Call::Quota), directory),
+        Some(true)
+    );
+    let accept = by(
+        taker,
+        Call::Accept {
+            giver,
+            giver_page: page(1),
+            page: page(5),
+        },
+    );
+    assert_eq!(core.may_write(&accept, directory), Some(true));
+    let free = (0..256)
+        .map(Frame)
+        .find(|&frame| core.role(frame) == Some(Role::Free))
+        .unwrap();
+    assert_eq!(core.may_write(&quota, free), Some(true));
+    assert_eq!(core.may_write(&quota, Frame(0)), Some(false));
+    assert_eq!(core.may_write(&quota, Frame(256)), None);
 }

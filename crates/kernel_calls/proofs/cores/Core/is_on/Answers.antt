@@ -1,0 +1,15 @@
+use Rattle.std.proofs.Common.{sym, subst}
+use Rattle.std.specs.Prelude.{◌↔◌, IsTrue}
+use Rattle.address_space.specs.Image.{page_frame}
+use Rattle.address_space.specs.Spaces.{at_page}
+use Rattle.process_table.specs.Image.{memory_of}
+use Rattle.std.proofs.Common.{◌≡◌, Bool, Some}
+use Rattle.kernel_calls.proofs.FrameWriters.{on_frame}
+use Rattle.kernel_calls.proofs.cores.Core.is_on.Goals as goal
+
+pub returns-in-Some : goal.returns-in-Some
+returns-in-Some c =
+    let v = c.args.self.now in
+    let way = c.in-Some.ensures.way in
+    subst (λ (b : Bool). IsTrue b ↔ (page_frame (memory_of v) (at_page c.args.pid c.args.page) ≡ Some c.args.frame)) (sym c.are_one.ensures)
+    (on_frame v c.stands.ensures.image c.stands.ensures.walks c.stands.ensures.ways (at_page c.args.pid c.args.page) way.0 c.in-Some.found c.args.frame way.1)

@@ -1,0 +1,16 @@
+use Rattle.std.proofs.Common.{◌≡◌, ◌+◌, ◌-◌, ◌≤◌}
+use Rattle.std.specs.List.{list_all}
+use Rattle.page_words.specs.Addresses.{is_user_page}
+use Rattle.kernel_calls.specs.Loaded.{pages_under}
+use Rattle.kernel_calls.proofs.loading.are_user.Given as goal
+
+-- the pages so far pass the test, so that those left decide
+abbrev pub invariant-loop-done : goal.invariant-loop-done
+invariant-loop-done l = record {
+  place : l.at ≡ l.fn.address + l.done;
+  within : l.done ≤ l.count;
+  rest : list_all is_user_page (pages_under l.fn.address l.count) ≡ list_all is_user_page (pages_under l.at (l.count - l.done));
+}
+
+abbrev pub decreases-loop-done : goal.decreases-loop-done
+decreases-loop-done l = l.count - l.done
