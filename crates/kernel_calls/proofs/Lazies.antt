@@ -1,5 +1,5 @@
 -- Which pages calls leave lazy.
-use Rattle.std.proofs.Common.{◌≡◌, ℕ, Bool, true, false, refl, ap, sym, subst, ◌∙◌, Result, Ok, Err}
+use Rattle.std.proofs.Common.{◌≡◌, ℕ, Bool, true, refl, ap, sym, subst, ◌∙◌, Result, Ok, Err}
 use Rattle.std.specs.Prelude.{IsOk}
 use Rattle.page_words.specs.declared.addresses.Pid.{Pid}
 use Rattle.address_space.specs.Image.{is_lazy_at}
@@ -9,7 +9,6 @@ use Rattle.process_table.specs.View.{View}
 use Rattle.process_table.specs.declared.causes.Cause.{Cause}
 use Rattle.kernel_calls.specs.Decisions.{done_told, child_told}
 use Rattle.kernel_calls.specs.Lazy.{LeavesLazy}
-use Rattle.kernel_calls.specs.Machine.{completes}
 use Rattle.kernel_calls.specs.declared.calls.Call.TheVariants as call
 use Rattle.kernel_calls.specs.declared.calls.Event.{Event}
 use Rattle.kernel_calls.specs.declared.calls.Reply.{Reply}
