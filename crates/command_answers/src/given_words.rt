@@ -1,6 +1,9 @@
 //! The words of the command line.
 
-use std::alloc::AllocError;
+ghost use Rattle.std.specs.Prelude.{◌≡◌, IfOk, IfErr};
+ghost use Rattle.std.specs.Vec.Iter.{into_iter_items};
+
+use std::alloc::{AllocError, Global};
 use std::error::Error;
 use std::rt::Env;
 use std::{env, fmt, io};
@@ -59,8 +62,16 @@ impl From<io::Error> for WordsFault {
     }
 }
 
-/// The words of the command line, the program's name first.
+/// The words that the host gave, all and in order.
+fn gathered(alloc: Global, given: env::Args) -> Result<Vec<String>, WordsFault>
+    ensures words { IfOk result (λ words. words.items ≡ into_iter_items given) }
+    ensures fault { IfErr result (λ fault. fault ≡ WordsFault.NoMemory) }
+{
+    Ok(given.collect(alloc)?)
+}
+
+/// The words of the command line, the program's name first. No clause can say which words the host gives.
 pub fn words<R: AllocGlobal + Env>(rt: &R) -> Result<Vec<String>, WordsFault> {
-    let words = env::args(rt)?;
-    Ok(words.collect(rt.alloc())?)
+    let given = env::args(rt)?;
+    gathered(rt.alloc(), given)
 }

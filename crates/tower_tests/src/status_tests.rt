@@ -64,11 +64,23 @@ fn check_refused<R: AllocGlobal + Files + Threads + Wait + Abort + Sync>(rt: &R,
     check_nothing_done(rt, &run(rt, words, ""), 2, words);
 }
 
+/// Standard error begins with this text, once these words were refused.
+fn check_told<R: AllocGlobal + Files + Threads + Wait + Abort + Sync>(
+    rt: &R,
+    words: &[&str],
+    text: &str,
+) {
+    let ended = run(rt, words, "");
+    assert!(rt; ended.errors.starts_with(text.as_bytes()));
+}
+
 #[test]
 fn refused_words_end_with_status_2(rt: HostRuntime) {
     check_refused(&rt, &["tower"]);
     check_refused(&rt, &["tower", "walk"]);
     check_refused(&rt, &["tower", "help"]);
+    let text = "error: unrecognized subcommand 'walk'";
+    check_told(&rt, &["tower", "walk"], text);
 }
 
 /// The outcome of a check of a file with these bytes.
