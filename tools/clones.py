@@ -17,6 +17,11 @@ def own_files(root):
     return sorted(name for name in {*names} - {""} if (root / name).is_file())
 
 
+def documents(root):
+    """The paths of the documents among them."""
+    return [root / name for name in own_files(root) if name.endswith(".md")]
+
+
 def cloned(root, folder):
     """Makes a repository in `folder` with copies of these files, all committed."""
     clone = folder / "hujplavin"
