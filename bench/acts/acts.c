@@ -1,12 +1,13 @@
 /* Measures what a kernel does for its processes, in microseconds: the end of a family, a page taken back from other
- * slots, and the next dirty page behind clean ones. The best of several runs, each on a core of its own. */
+ * slots, the next dirty page behind clean ones, bytes loaded into new pages, and whether an event may write a frame. The
+ * best of several runs, each on a core of its own. */
 #include <stdio.h>
 #include <stdlib.h>
 #include <time.h>
 
 #include "tower.h"
 
-enum { FRAMES = 16384, RUNS = 7, SLOTS = 1000 };
+enum { FRAMES = 16384, RUNS = 7, SLOTS = 1000, LOADED = 1000 };
 
 static struct tower tower = TOWER_NONE;
 
@@ -77,12 +78,39 @@ static double next_dirty(uint32_t count) {
     return now() - start;
 }
 
+/* Bytes for so many pages, none of which is mapped. */
+static double loaded(uint32_t count) {
+    static uint8_t bytes[LOADED * TOWER_FRAME_BYTES];
+    struct tower_reply told;
+    const double start = now();
+    need(tower_load_bytes(&tower, 0, address_of(0), bytes, (size_t)count * TOWER_FRAME_BYTES, false, &told));
+    need(told.kind == TOWER_DONE);
+    return now() - start;
+}
+
+/* A question about the frame of the last of so many pages. */
+static double may_write(uint32_t count) {
+    const struct tower_event event = tower_quota(0);
+    struct tower_walk walk;
+    bool may;
+    for (uint32_t number = 0; number < count; number++) {
+        done(tower_store(0, address_of(number), 4, 7));
+    }
+    need(tower_walk(&tower, 0, address_of(count - 1), false, &walk) && walk.kind == TOWER_WALK_FRAME);
+    const double start = now();
+    need(tower_may_write(&tower, &event, walk.frame, &may) && may);
+    return now() - start;
+}
+
 int main(void) {
     const struct { const char *what; double (*measure)(uint32_t); uint32_t count; } rows[] = {
         {"the end of %u processes", end_of, 1}, {"the end of %u processes", end_of, 8},
         {"the end of %u processes", end_of, 63}, {"a page taken back from %u slots", taken_back, 1},
         {"a page taken back from %u slots", taken_back, 64}, {"a page taken back from %u slots", taken_back, SLOTS},
-        {"the next dirty page, the last of %u", next_dirty, 10000}};
+        {"the next dirty page, the last of %u", next_dirty, 10000}, {"a load into %u new pages", loaded, 1},
+        {"a load into %u new pages", loaded, 64}, {"a load into %u new pages", loaded, LOADED},
+        {"whether the frame of the last page of %u may be written", may_write, 1},
+        {"whether the frame of the last page of %u may be written", may_write, 10000}};
     for (size_t row = 0; row < sizeof rows / sizeof *rows; row++) {
         double best = 1e9;
         for (int i = 0; i < RUNS; i++) {
