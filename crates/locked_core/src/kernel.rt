@@ -32,6 +32,9 @@ use std::sync::{Mutex, MutexGuard, Wait};
 /// How often a lock that is held is looked at before a thread sleeps for it.
 const LOOKS: u32 = 16;
 
+// (no clause can limit how long a thread polls)
+const _: () = prove!(LOOKS <= 64);
+
 /// A kernel that has booted, and that no type names yet. Contracts see its sizes, and its names: which book its history
 /// is written in, which is empty, which ledger counts its calls, and which core it opens with. End it by `open`.
 pub struct Blank<G: Gate + Drop> {

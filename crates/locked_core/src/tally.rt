@@ -1,7 +1,7 @@
 //! What counts the calls of each CPU: a ledger of one part for each. None of this has bytes, except for the number of a
 //! CPU.
 
-ghost use Rattle.std.specs.Prelude.{◌≡◌, ◌≢◌, ◌+◌, ◌<◌, List, ℕ, true, false, slice_index_or, slice_set, replicate};
+ghost use Rattle.std.specs.Prelude.{◌≡◌, ◌≢◌, ◌+◌, ◌<◌, List, ℕ, true, false, length, slice_index_or, slice_set, replicate};
 
 use crate::book::Name;
 use std::marker::{Model, PhantomData};
@@ -45,7 +45,9 @@ impl Model for Blanks {
 
 impl Blanks {
     /// Eight ledgers of one part each.
-    pub fn new() -> Blanks {
+    pub fn new() -> Blanks
+        ensures { length result ≡ 8 }
+    {
         Blanks {
             zero: Blank::new(1),
             one: Blank::new(1),
