@@ -1,0 +1,160 @@
+#include "regions.h"
+
+#include <stdio.h>
+#include <stdlib.h>
+#include <string.h>
+#include <sys/mman.h>
+
+#include "need.h"
+#include "tower.h"
+#include "wrong.h"
+
+enum { PAGES = TOWER_LAST_PAGE - TOWER_FIRST_PAGE + 1 };
+
+static int memory_file = -1;
+
+void windows_begin(int file) {
+    memory_file = file;
+}
+
+/* ---- The window */
+
+void window_open(struct engine *it) {
+    void *window = mmap(NULL, (size_t)PAGES * PAGE_BYTES, PROT_NONE, MAP_PRIVATE | MAP_ANONYMOUS | MAP_NORESERVE, -1, 0);
+    need(window != MAP_FAILED, "there is address space for a window");
+    it->window = window;
+}
+
+void window_close(struct engine *it) {
+    munmap(it->window, (size_t)PAGES * PAGE_BYTES);
+}
+
+static uint8_t *place_of(const struct engine *it, uint32_t page) {
+    return it->window + (size_t)(page - TOWER_FIRST_PAGE) * PAGE_BYTES;
+}
+
+/* The host's own page tables have the page's right as well: what may not be written, the emulator can't write. */
+static void show(const struct engine *it, uint32_t page, uint32_t frame, bool write) {
+    int rights = write ? PROT_READ | PROT_WRITE : PROT_READ;
+    void *at = mmap(place_of(it, page), PAGE_BYTES, rights, MAP_SHARED | MAP_FIXED, memory_file, (off_t)frame * PAGE_BYTES);
+    need(at != MAP_FAILED, "a frame is shown in a window");
+}
+
+static void hide(const struct engine *it, uint32_t page) {
+    void *at = mmap(place_of(it, page), PAGE_BYTES, PROT_NONE, MAP_PRIVATE | MAP_ANONYMOUS | MAP_NORESERVE | MAP_FIXED, -1, 0);
+    need(at != MAP_FAILED, "a page of a window is taken out");
+}
+
+/* ---- The emulator's regions */
+
+static uint64_t begin_of(const struct region *it) {
+    return (uint64_t)it->first * PAGE_BYTES;
+}
+
+static size_t bytes_of(const struct region *it) {
+    return (size_t)it->count * PAGE_BYTES;
+}
+
+static void enter(struct engine *it, struct region region) {
+    uint32_t rights = region.write ? UC_PROT_ALL : UC_PROT_READ | UC_PROT_EXEC;
+    need_uc(uc_mem_map_ptr(it->uc, begin_of(&region), bytes_of(&region), rights, place_of(it, region.first)), "a page");
+    it->regions[it->region_count++] = region;
+}
+
+/* The emulator keeps what it translated of a region, and would run it for the next one: it is dropped first. */
+static struct region leave(struct engine *it, uint32_t index) {
+    struct region region = it->regions[index];
+    if (wrong != WRONG_CODE) {
+        need_uc(uc_ctl_remove_cache(it->uc, begin_of(&region), begin_of(&region) + bytes_of(&region)), "translated code");
+    }
+    need_uc(uc_mem_unmap(it->uc, begin_of(&region), bytes_of(&region)), "a page that is taken out");
+    it->regions[index] = it->regions[--it->region_count];
+    return region;
+}
+
+static bool has(const struct region *it, uint32_t page) {
+    return page - it->first < it->count;
+}
+
+static uint32_t index_of(const struct engine *it, uint32_t page) {
+    uint32_t index = 0;
+    while (index < it->region_count && !has(&it->regions[index], page)) {
+        index++;
+    }
+    return index;
+}
+
+const struct region *engine_region(const struct engine *it, uint32_t page) {
+    uint32_t index = index_of(it, page);
+    return index < it->region_count ? &it->regions[index] : NULL;
+}
+
+/* The code that runs stays: its region is not the victim. */
+static void make_room(struct engine *it) {
+    uint32_t running = engine_eip(it) / PAGE_BYTES;
+    while (it->region_count >= MOST_REGIONS) {
+        uint32_t victim = it->next_victim++ % it->region_count;
+        if (has(&it->regions[victim], running) || has(&it->regions[victim], running + 1)) {
+            continue;
+        }
+        struct region gone = leave(it, victim);
+        for (uint32_t i = 0; i < gone.count; i++) {
+            hide(it, gone.first + i);
+        }
+    }
+}
+
+/* A page that may be written joins a neighbour that may: the emulator's time grows with the number of regions. */
+static struct region joined(struct engine *it, struct region region) {
+    for (uint32_t i = 0; region.write && i < it->region_count; i++) {
+        const struct region *near = &it->regions[i];
+        bool is_before = near->first + near->count == region.first, is_after = region.first + region.count == near->first;
+        if (near->write && (is_before || is_after) && near->count < MOST_RUN) {
+            struct region other = leave(it, i);
+            region.first = is_before ? other.first : region.first;
+            region.count += other.count;
+            break;
+        }
+    }
+    return region;
+}
+
+void engine_put(struct engine *it, uint32_t page, uint32_t frame, bool write) {
+    show(it, page, frame, write);
+    struct region region = joined(it, (struct region){page, 1, write});
+    make_room(it);
+    enter(it, region);
+}
+
+/* Only its right changes for the emulator, which is in the middle of a store there. */
+void engine_allow(struct engine *it, uint32_t page, uint32_t frame) {
+    uint32_t index = index_of(it, page);
+    need(index < it->region_count && it->regions[index].count == 1, "a page without the right is a region");
+    show(it, page, frame, true);
+    need_uc(uc_mem_protect(it->uc, begin_of(&it->regions[index]), PAGE_BYTES, UC_PROT_ALL), "a page's right");
+    it->regions[index].write = true;
+}
+
+void engine_out(struct engine *it, uint32_t page) {
+    uint32_t index = index_of(it, page);
+    if (index == it->region_count) {
+        return;
+    }
+    struct region all = leave(it, index);
+    hide(it, page);
+    if (page > all.first) {
+        enter(it, (struct region){all.first, page - all.first, all.write});
+    }
+    if (all.first + all.count > page + 1) {
+        make_room(it);
+        enter(it, (struct region){page + 1, all.first + all.count - page - 1, all.write});
+    }
+}
+
+void engine_empty(struct engine *it) {
+    while (it->region_count && !it->is_broken) {
+        leave(it, it->region_count - 1);
+    }
+    window_close(it);
+    window_open(it);
+}
