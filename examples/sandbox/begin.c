@@ -48,19 +48,19 @@ static const char *why_of(const struct tower_reply *refused) {
     }
 }
 
-void tenant_begin(const char *name, const char *path, uint32_t quota, uint32_t argument) {
-    struct tower_reply child = kernel_event(tower_spawn(0, quota));
+void tenant_begin(const struct asked *asked) {
+    struct tower_reply child = kernel_event(tower_spawn(0, asked->quota));
     struct placing placing = {child.first, child.kind == TOWER_CHILD ? (struct tower_reply){.kind = TOWER_NO_EVENT} : child};
     struct registers start = {.eip = 0, .eflags = 0x202, .mxcsr = 0x1f80, .control = 0x37f, .tags = 0xffff,
                               .segments = {0x23, 0x23, 0x23, 0x23}};
     start.general[EAX] = placing.pid;
-    start.general[EBX] = argument;
+    start.general[EBX] = asked->argument;
     start.general[ESP] = STACK_TOP;
-    if (child.kind == TOWER_CHILD && loads(path, &placing, &start.eip)) {
-        tenant_enter(placing.pid, name, &start);
+    if (child.kind == TOWER_CHILD && loads(asked->path, &placing, &start.eip)) {
+        tenant_enter(placing.pid, asked->name, &start, asked->nanoseconds);
         return;
     }
-    printf("[%s] not begun: %s\n", name, why_of(&placing.refused));
+    printf("[%s] not begun: %s\n", asked->name, why_of(&placing.refused));
     if (child.kind == TOWER_CHILD) {
         kernel_event(tower_exit(placing.pid));
     }

@@ -46,7 +46,7 @@ static struct tower_reply fork_tenant(uint32_t pid, const struct tower_event *ev
         engine_registers(&kernel.engines[pid], &registers);
         registers.general[EAX] = TOWER_DONE;
         registers.general[EBX] = registers.general[ECX] = registers.general[EDX] = registers.general[ESI] = 0;
-        tenant_enter(reply.first, child_name(pid), &registers);
+        tenant_enter(reply.first, child_name(pid), &registers, tenants[pid].most);
     }
     return reply;
 }

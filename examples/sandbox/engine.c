@@ -9,7 +9,7 @@
 #include "regions.h"
 
 static struct listener listener;
-static struct engine *volatile running; /* for what Unicorn's hooks and signals say */
+static struct engine *running; /* for what Unicorn's hooks say */
 static volatile sig_atomic_t may_give_up;
 static sigjmp_buf giving_up;
 
@@ -116,9 +116,9 @@ static bool on_access(uc_engine *uc, uc_mem_type type, uint64_t address, int siz
     return is_there;
 }
 
-static void on_instruction(uc_engine *uc, uint64_t address, uint32_t size, void *data) {
+static void on_step(uc_engine *uc, uint64_t address, uint32_t size, void *data) {
     (void)uc, (void)address, (void)size, (void)data;
-    listener.instruction();
+    listener.step();
 }
 
 static uint32_t on_in(uc_engine *uc, uint32_t port, int size, void *data) {
@@ -154,9 +154,7 @@ static void add_hooks(struct engine *it) {
     hook_instruction(it, (void *)on_out, UC_X86_INS_OUT);
     hook_instruction(it, (void *)on_system_call, UC_X86_INS_SYSCALL);
     hook_instruction(it, (void *)on_system_call, UC_X86_INS_SYSENTER);
-    if (listener.instruction) {
-        hook(it, UC_HOOK_CODE, (void *)on_instruction);
-    }
+    hook(it, listener.of_each_instruction ? UC_HOOK_CODE : UC_HOOK_BLOCK, (void *)on_step);
 }
 
 /* ---- Into user mode */
@@ -263,10 +261,4 @@ const char *engine_run(struct engine *it) {
 
 void engine_stop(struct engine *it) {
     uc_emu_stop(it->uc);
-}
-
-void engine_interrupt(void) {
-    if (running) {
-        uc_emu_stop(running->uc);
-    }
 }

@@ -8,12 +8,13 @@
 #include <stdint.h>
 #include <unicorn/unicorn.h>
 
-enum { PAGE_BYTES = 4096, MOST_REGIONS = 256, MOST_RUN = 128 };
+enum { PAGE_BYTES = 4096, MOST_REGIONS = 128, MOST_RUN = 1024 };
 
 /* Consecutive pages in the engine, with one right. */
 struct region {
     uint32_t first, count;
     bool write;
+    bool fetched; /* its page came by a fetch, and couldn't be written since */
 };
 
 struct engine {
@@ -42,7 +43,10 @@ struct listener {
     void (*call)(void);
     bool (*access)(enum access kind, uint32_t address, uint32_t size, uint64_t value);
     void (*stray)(const char *what, uint32_t eip); /* an exception, or an instruction that no tenant may use */
-    void (*instruction)(void);                     /* or NULL: before each instruction, which takes long */
+    /* Before each block of instructions, or before each instruction, which takes long. Only there may a run that goes on
+     * be stopped, apart from a call: elsewhere the emulator loses EIP. */
+    void (*step)(void);
+    bool of_each_instruction;
 };
 
 /* The core's block is memory of a file, which each window maps page by page. Once, before any engine. */
@@ -55,10 +59,8 @@ bool engine_is_open(const struct engine *it);
 
 /* Runs until engine_stop, from the registers as they are. Returns the emulator's error, or NULL. */
 const char *engine_run(struct engine *it);
-/* Ends the run at the next instruction, or at the end of a block. */
+/* Ends the run before the instruction or block that comes. For the listener's functions. */
 void engine_stop(struct engine *it);
-/* The same of the engine that runs, if any: for signal handlers. */
-void engine_interrupt(void);
 
 void engine_registers(const struct engine *it, struct registers *to);
 void engine_set_registers(struct engine *it, const struct registers *from);

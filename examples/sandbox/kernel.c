@@ -126,14 +126,16 @@ static bool finds_frame(uint32_t pid, uint32_t address, bool is_store, struct to
 }
 
 /* The page of an access that the core has carried out. It may be written in the engine only if it is dirty. */
-static void fill(uint32_t pid, uint32_t page, bool is_store) {
+static void fill(uint32_t pid, uint32_t page, enum access kind) {
     struct engine *engine = &kernel.engines[pid];
+    bool is_store = kind == ACCESS_STORE;
     struct tower_walk walk;
     struct tower_page found;
     uint32_t at = 0;
     need(finds_frame(pid, page << 12, is_store, &walk), "a walk finds the page of an access");
     need(tower_next_page(&kernel.core, pid, page, &at, &found) && at == page, "the page of an access is mapped");
-    bool write = found.write && (found.dirty || (wrong == WRONG_EARLY && !found.lazy));
+    bool is_allowed = found.write && (found.dirty || (wrong == WRONG_EARLY && !found.lazy));
+    bool is_fetch = kind == ACCESS_FETCH, write = is_allowed && !is_fetch;
     if (found.holders > 1) {
         take_from_others(pid, page, write);
     }
@@ -141,7 +143,7 @@ static void fill(uint32_t pid, uint32_t page, bool is_store) {
     if (engine_region(engine, page)) {
         engine_allow(engine, page, walk.frame);
     } else {
-        engine_put(engine, page, walk.frame, write);
+        engine_put(engine, page, walk.frame, write, is_fetch);
     }
 }
 
@@ -163,7 +165,7 @@ struct tower_reply kernel_access(uint32_t pid, enum access kind, uint32_t addres
         reply = kernel_event(is_store ? tower_store(pid, address + done, part, bytes) : tower_load(pid, address + done, part));
     }
     if (tower_outcome_of(&reply) == TOWER_OUTCOME_DONE) {
-        fill(pid, address >> 12, is_store);
+        fill(pid, address >> 12, kind);
         reply = (struct tower_reply){.kind = TOWER_DONE};
     }
     kernel.access_pid = NO_PROCESS;

@@ -89,9 +89,45 @@ const struct region *engine_region(const struct engine *it, uint32_t page) {
     return index < it->region_count ? &it->regions[index] : NULL;
 }
 
+static int by_first(const void *one, const void *other) {
+    const struct region *a = one, *b = other;
+    return a->first < b->first ? -1 : a->first > b->first;
+}
+
+/* How many regions from this one on are neighbours that may be written. */
+static uint32_t run_of(const struct region *regions, uint32_t left) {
+    uint32_t count = 1, pages = regions[0].count;
+    while (count < left && regions[0].write && regions[count].write && pages + regions[count].count <= MOST_RUN &&
+           regions[count - 1].first + regions[count - 1].count == regions[count].first) {
+        pages += regions[count++].count;
+    }
+    return count;
+}
+
+/* Neighbours that may be written become one region: pages that were loaded before they were stored to. */
+static void join_all(struct engine *it) {
+    struct region old[MOST_REGIONS];
+    uint32_t all = it->region_count;
+    memcpy(old, it->regions, sizeof old);
+    qsort(old, all, sizeof *old, by_first);
+    for (uint32_t i = 0, count; i < all; i += count) {
+        struct region whole = {old[i].first, 0, true, false};
+        count = run_of(&old[i], all - i);
+        for (uint32_t j = i; count > 1 && j < i + count; j++) {
+            whole.count += leave(it, index_of(it, old[j].first)).count;
+        }
+        if (count > 1) {
+            enter(it, whole);
+        }
+    }
+}
+
 /* The code that runs stays: its region is not the victim. */
 static void make_room(struct engine *it) {
     uint32_t running = engine_eip(it) / PAGE_BYTES;
+    if (it->region_count >= MOST_REGIONS) {
+        join_all(it);
+    }
     while (it->region_count >= MOST_REGIONS) {
         uint32_t victim = it->next_victim++ % it->region_count;
         if (has(&it->regions[victim], running) || has(&it->regions[victim], running + 1)) {
@@ -119,11 +155,19 @@ static struct region joined(struct engine *it, struct region region) {
     return region;
 }
 
-void engine_put(struct engine *it, uint32_t page, uint32_t frame, bool write) {
+void engine_put(struct engine *it, uint32_t page, uint32_t frame, bool write, bool is_fetch) {
     show(it, page, frame, write);
-    struct region region = joined(it, (struct region){page, 1, write});
+    struct region region = joined(it, (struct region){page, 1, write, is_fetch});
     make_room(it);
     enter(it, region);
+}
+
+/* A fetch from a page that wasn't there leaves one translated instruction, which neither a store there nor
+ * uc_ctl_remove_cache drops. A region that comes and goes does. */
+static void forget_fetched(struct engine *it) {
+    static uint8_t page[PAGE_BYTES] __attribute__((aligned(PAGE_BYTES)));
+    need_uc(uc_mem_map_ptr(it->uc, 0, PAGE_BYTES, UC_PROT_NONE, page), "a page that comes");
+    need_uc(uc_mem_unmap(it->uc, 0, PAGE_BYTES), "a page that goes");
 }
 
 /* Only its right changes for the emulator, which is in the middle of a store there. */
@@ -131,8 +175,12 @@ void engine_allow(struct engine *it, uint32_t page, uint32_t frame) {
     uint32_t index = index_of(it, page);
     need(index < it->region_count && it->regions[index].count == 1, "a page without the right is a region");
     show(it, page, frame, true);
+    if (it->regions[index].fetched) {
+        forget_fetched(it);
+    }
     need_uc(uc_mem_protect(it->uc, begin_of(&it->regions[index]), PAGE_BYTES, UC_PROT_ALL), "a page's right");
     it->regions[index].write = true;
+    it->regions[index].fetched = false;
 }
 
 void engine_out(struct engine *it, uint32_t page) {
@@ -143,11 +191,11 @@ void engine_out(struct engine *it, uint32_t page) {
     struct region all = leave(it, index);
     hide(it, page);
     if (page > all.first) {
-        enter(it, (struct region){all.first, page - all.first, all.write});
+        enter(it, (struct region){all.first, page - all.first, all.write, false});
     }
     if (all.first + all.count > page + 1) {
         make_room(it);
-        enter(it, (struct region){page + 1, all.first + all.count - page - 1, all.write});
+        enter(it, (struct region){page + 1, all.first + all.count - page - 1, all.write, false});
     }
 }
 

@@ -4,8 +4,9 @@
 
 #include "engine.h"
 
-/* Puts a page that the engine lacks, on a frame. If there are too many regions, another one is taken out first. */
-void engine_put(struct engine *it, uint32_t page, uint32_t frame, bool write);
+/* Puts a page that the engine lacks, on a frame. If there are too many regions, another one is taken out first. A page that
+ * a fetch asks for may not be written at first. */
+void engine_put(struct engine *it, uint32_t page, uint32_t frame, bool write, bool is_fetch);
 /* The engine has the page without the right to write: it gets that right, and maybe another frame. */
 void engine_allow(struct engine *it, uint32_t page, uint32_t frame);
 /* Takes a page out, with what was translated of it. Nothing happens if the engine lacks it. */

@@ -17,11 +17,11 @@
 #include "wrong.h"
 
 static const char usage[] =
-    "usage: sandbox [--frames N] [--seconds N] [--turn N] [--after N] [--save FILE] [--count]\n"
-    "               {--load FILE | [--quota N] [NAME=]PROGRAM[:ARGUMENT]...}\n"
+    "usage: sandbox [--frames N] [--turn N] [--after N] [--save FILE] [--count]\n"
+    "               {--load FILE | [--quota N] [--seconds N] [NAME=]PROGRAM[:ARGUMENT]...}\n"
     "--frames N   the core's frames, 16 to 4096: 4096 by default\n"
-    "--quota N    the quota of the programs after it, in frames: 64 by default\n"
-    "--seconds N  processor time after which a tenant is ended: 10 by default\n"
+    "--quota N    the quota of each program after it, in frames: 64 by default\n"
+    "--seconds N  processor time after which a program after it is ended: 10 by default\n"
     "--turn N     turns of N instructions, which are then counted one by one\n"
     "--after N    stops all tenants once N instructions are executed\n"
     "--save FILE  if tenants are left at that stop, or at SIGINT or SIGTERM, stores them\n"
@@ -30,9 +30,10 @@ static const char usage[] =
 
 static struct {
     uint32_t frames, quota;
+    uint64_t seconds;
     const char *save, *load;
     bool counts;
-} options = {.frames = TOWER_MAX_FRAMES, .quota = 64};
+} options = {.frames = TOWER_MAX_FRAMES, .quota = 64, .seconds = 10};
 
 static uint64_t number(const char *text) {
     char *end;
@@ -58,10 +59,13 @@ static enum wrong wrong_of(const char *word) {
 static bool take_option(const char *word, const char *value) {
     if (strcmp(word, "--frames") == 0) {
         options.frames = (uint32_t)number(value);
+        if (options.frames < TOWER_MIN_FRAMES || options.frames > TOWER_MAX_FRAMES) {
+            fail("frames must be 16 to 4096", "");
+        }
     } else if (strcmp(word, "--quota") == 0) {
         options.quota = (uint32_t)number(value);
     } else if (strcmp(word, "--seconds") == 0) {
-        limits.nanoseconds = number(value) * 1000000000;
+        options.seconds = number(value);
     } else if (strcmp(word, "--turn") == 0) {
         limits.turn = number(value);
     } else if (strcmp(word, "--after") == 0) {
@@ -80,11 +84,10 @@ static bool take_option(const char *word, const char *value) {
 
 /* [NAME=]PROGRAM[:ARGUMENT]. The name is the file's, without its folder and without .elf, if there is none. */
 static void begin(const char *of) {
-    static char word[4096];
+    static char word[4096], name[4096];
     snprintf(word, sizeof word, "%s", of);
     char *equals = strchr(word, '='), *path = equals ? equals + 1 : word, *colon = strchr(path, ':');
     uint32_t argument = colon ? (uint32_t)number(colon + 1) : 0;
-    static char name[4096];
     if (colon) {
         *colon = 0;
     }
@@ -100,7 +103,7 @@ static void begin(const char *of) {
     if (strlen(name) > 30 || !*name) {
         fail("a name of 1 to 30 letters is needed", of);
     }
-    tenant_begin(name, path, options.quota, argument);
+    tenant_begin(&(struct asked){name, path, options.quota, argument, options.seconds * 1000000000});
 }
 
 /* The core's memory is still sound, although the emulator wrote there. */

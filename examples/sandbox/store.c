@@ -116,7 +116,7 @@ static void enter_records(const struct record *records, uint32_t count) {
             !memchr(records[i].tenant.name, 0, MOST_NAME)) {
             fail("no file of --save", "a tenant in it is wrong");
         }
-        tenant_enter(pid, records[i].tenant.name, &records[i].tenant.start);
+        tenant_enter(pid, records[i].tenant.name, &records[i].tenant.start, records[i].tenant.most);
         tenants[pid].spent = records[i].tenant.spent;
         tenants[pid].children = records[i].tenant.children;
         tenants[pid].text = records[i].tenant.text;

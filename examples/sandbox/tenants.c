@@ -15,14 +15,14 @@ enum { MOST_WHY = 128, NO_CALL = 255 };
 
 struct tenant tenants[TOWER_PROCESSES];
 struct queue queue;
-struct limits limits = {.nanoseconds = 10000000000};
+struct limits limits;
 uint32_t current = NO_PROCESS;
 enum wrong wrong;
 
 static char why[MOST_WHY]; /* the running tenant has to end, or "" */
 static bool turn_over;
 static uint64_t executed, turn_ends;
-static volatile sig_atomic_t is_stopping, tick;
+static volatile sig_atomic_t is_stopping, is_tick;
 static struct {
     uint64_t turns, calls, faults;
 } counts;
@@ -58,8 +58,8 @@ const char *child_name(uint32_t pid) {
     return name;
 }
 
-void tenant_enter(uint32_t pid, const char *name, const struct registers *registers) {
-    tenants[pid] = (struct tenant){.runs = true, .start = *registers};
+void tenant_enter(uint32_t pid, const char *name, const struct registers *registers, uint64_t nanoseconds) {
+    tenants[pid] = (struct tenant){.runs = true, .start = *registers, .most = nanoseconds};
     snprintf(tenants[pid].name, MOST_NAME, "%s", name);
     queue.pids[queue.count++] = (uint8_t)pid;
 }
@@ -158,6 +158,12 @@ static void on_call(void) {
     engine_set_words(engine, (struct words){reply.kind, bools, reply.first, reply.second, reply.third});
 }
 
+static void on_block(void) {
+    if (is_tick || is_stopping) {
+        tenant_end_turn();
+    }
+}
+
 static void on_instruction(void) {
     if (executed >= turn_ends || is_stopping) {
         tenant_end_turn();
@@ -170,14 +176,12 @@ static void on_instruction(void) {
 
 static void on_tick(int number) {
     (void)number;
-    tick = 1;
-    engine_interrupt();
+    is_tick = 1;
 }
 
 static void on_stop(int number) {
     (void)number;
     is_stopping = 1;
-    engine_interrupt();
 }
 
 static void handle(int number, void (*handler)(int)) {
@@ -187,7 +191,7 @@ static void handle(int number, void (*handler)(int)) {
 
 void tenants_begin(void) {
     bool counts_instructions = limits.turn || limits.after;
-    struct listener listener = {on_call, on_access, on_stray, counts_instructions ? on_instruction : NULL};
+    struct listener listener = {on_call, on_access, on_stray, counts_instructions ? on_instruction : on_block, counts_instructions};
     engines_begin(kernel.file, listener);
     handle(SIGINT, on_stop);
     handle(SIGTERM, on_stop);
@@ -213,7 +217,7 @@ static void begin_turn(uint32_t pid) {
     counts.turns++;
     current = pid;
     turn_over = false;
-    tick = 0;
+    is_tick = 0;
     why[0] = 0;
     turn_ends = executed + (left < length ? left : length);
     if (!engine_is_open(&kernel.engines[pid])) {
@@ -229,11 +233,11 @@ static void end_turn(uint32_t pid, const char *error) {
         engine_close(&kernel.engines[pid]);
     } else if (*why) {
         tenant_end(pid, why);
-    } else if (error || !(turn_over || tick || is_stopping)) {
+    } else if (error || !turn_over) {
         char line[MOST_WHY];
         snprintf(line, sizeof line, "ended: %s", error ? error : "the emulator stopped");
         tenant_end(pid, line);
-    } else if (tenants[pid].spent > limits.nanoseconds) {
+    } else if (tenants[pid].spent > tenants[pid].most) {
         tenant_end(pid, "ended: its time is over");
     } else {
         queue.pids[queue.count++] = (uint8_t)pid;

@@ -14,7 +14,7 @@ enum { MOST_NAME = 48, MOST_TEXT = 1 << 16 };
 struct tenant {
     char name[MOST_NAME];
     struct registers start; /* of an engine that isn't open yet */
-    uint64_t spent;         /* processor time, in nanoseconds */
+    uint64_t spent, most;   /* processor time, and how much it may use, in nanoseconds */
     uint32_t children;      /* that it began so far: they are named by it */
     uint32_t text;          /* bytes of its output */
     bool runs;
@@ -30,18 +30,23 @@ struct queue {
 extern struct queue queue;
 
 struct limits {
-    uint64_t nanoseconds; /* of processor time that a tenant may use */
-    uint64_t turn;        /* instructions of a turn; 0: turns end by time, and instructions aren't counted */
-    uint64_t after;       /* all tenants stop once so many instructions are executed; 0: they don't */
+    uint64_t turn;  /* instructions of a turn; 0: turns end by time, and instructions aren't counted */
+    uint64_t after; /* all tenants stop once so many instructions are executed; 0: they don't */
 };
 extern struct limits limits;
 
 /* Once, before the first turn. */
 void tenants_begin(void);
-/* A child of process 0 with that quota, into which the program is loaded, in begin.c. Otherwise one line says why not. */
-void tenant_begin(const char *name, const char *path, uint32_t quota, uint32_t argument);
-/* A tenant of these registers waits for its first turn. */
-void tenant_enter(uint32_t pid, const char *name, const struct registers *registers);
+/* What is said of a program on the command line. */
+struct asked {
+    const char *name, *path;
+    uint32_t quota, argument;
+    uint64_t nanoseconds;
+};
+/* A child of process 0, into which the program is loaded, in begin.c. Otherwise one line says why not. */
+void tenant_begin(const struct asked *asked);
+/* A tenant waits for its first turn, with that much processor time. */
+void tenant_enter(uint32_t pid, const char *name, const struct registers *registers, uint64_t nanoseconds);
 /* Runs turns until no tenant waits, or until `after` or a signal. Returns whether tenants are left. */
 bool tenants_run(void);
 

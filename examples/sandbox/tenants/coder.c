@@ -1,4 +1,5 @@
-/* Writes functions and calls them: in place, on a page that comes again, and through a page that its child shares. */
+/* Writes functions and calls them: in place, on a page that comes again, by the machine's Store, and through a page that its
+ * child shares. */
 #include "tenant.h"
 
 static uint8_t shared[4096] __attribute__((aligned(4096)));
@@ -32,6 +33,23 @@ static void alone(void) {
         sum += run(mine);
     }
     tell("on a page that comes again: # (10100)", sum);
+    sum = 0;
+    for (uint32_t i = 1; i <= 100; i++) {
+        ask(TOWER_STORE, 2, MINE + 1, 3 * i, 0); /* the number in it */
+        sum += run(mine);
+        unmap(0x49000);
+        *(volatile uint32_t *)0x49000000 = i;
+        sum += run(mine);
+    }
+    tell("by the machine's Store: # (30300)", sum);
+    sum = 0;
+    for (uint32_t i = 1; i <= 100; i++) {
+        ask(TOWER_STORE, 2, MINE + 1, i, 0);
+        sum += run(mine);
+        write_function(mine, 500 * i);
+        sum += run(mine);
+    }
+    tell("by both: # (2530050)", sum);
     unmap(page_of(mine));
 }
 

@@ -15,7 +15,10 @@ static uint32_t sum_of(const volatile uint8_t *bytes) {
 
 static void child_runs(uint32_t parent) {
     number += 20;
+    tell("a byte that the child has: #", many[1024]);
+    tell_reply("its page: ", info(page_of(many)));
     many[512] = 77;
+    tell_reply("its page, once it was stored to: ", info(page_of(many)));
     while (accept(parent, page_of(many), AT).kind != TOWER_DONE) {
         yield();
     }
