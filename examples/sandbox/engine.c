@@ -117,8 +117,12 @@ static bool on_access(uc_engine *uc, uc_mem_type type, uint64_t address, int siz
 }
 
 static void on_step(uc_engine *uc, uint64_t address, uint32_t size, void *data) {
-    (void)uc, (void)address, (void)size, (void)data;
-    listener.step();
+    (void)address, (void)size, (void)data;
+    if (running->is_unsettled) {
+        uc_emu_stop(uc);
+    } else {
+        listener.step();
+    }
 }
 
 static uint32_t on_in(uc_engine *uc, uint32_t port, int size, void *data) {
@@ -245,20 +249,26 @@ bool engine_is_open(const struct engine *it) {
 }
 
 const char *engine_run(struct engine *it) {
+    volatile uc_err error = UC_ERR_OK;
     running = it;
+    it->is_stopping = false;
     if (sigsetjmp(giving_up, 1)) {
         may_give_up = false;
         running = NULL;
         it->is_broken = true;
         return "the emulator gave up";
     }
-    may_give_up = true;
-    uc_err error = uc_emu_start(it->uc, engine_eip(it), 0, 0, 0);
-    may_give_up = false;
+    do {
+        engine_settle(it);
+        may_give_up = true;
+        error = uc_emu_start(it->uc, engine_eip(it), 0, 0, 0);
+        may_give_up = false;
+    } while (error == UC_ERR_OK && !it->is_stopping && it->is_unsettled);
     running = NULL;
     return error == UC_ERR_OK ? NULL : uc_strerror(error);
 }
 
 void engine_stop(struct engine *it) {
+    it->is_stopping = true;
     uc_emu_stop(it->uc);
 }

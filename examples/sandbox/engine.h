@@ -8,13 +8,13 @@
 #include <stdint.h>
 #include <unicorn/unicorn.h>
 
-enum { PAGE_BYTES = 4096, MOST_REGIONS = 128, MOST_RUN = 1024 };
+enum { PAGE_BYTES = 4096, MANY_REGIONS = 96, MOST_REGIONS = 128, MOST_RUN = 1024 };
 
 /* Consecutive pages in the engine, with one right. */
 struct region {
     uint32_t first, count;
     bool write;
-    bool fetched; /* its page came by a fetch, and couldn't be written since */
+    bool gains, goes; /* when the engine settles, it gets the right to write, or is taken out */
 };
 
 struct engine {
@@ -22,7 +22,8 @@ struct engine {
     uint8_t *window; /* the host's addresses of the user range: at each page that the engine has, its frame */
     struct region regions[MOST_REGIONS];
     uint32_t region_count, next_victim;
-    bool is_broken;  /* the emulator gave up: it runs no more */
+    bool is_unsettled; /* it stops before the next block, and settles */
+    bool is_stopping, is_broken; /* engine_stop was called; the emulator gave up, and runs no more */
 };
 
 /* All that a tenant can change of a processor. */
@@ -38,7 +39,7 @@ enum { EAX, ECX, EDX, EBX, ESP, EBP, ESI, EDI };
 enum access { ACCESS_LOAD, ACCESS_STORE, ACCESS_FETCH };
 
 /* What the running tenant does. `access` is an access of a page that the engine lacks, or a store to one that it has
- * without that right; it returns whether engine_put or engine_allow was called for the page. */
+ * without that right; it returns whether the page is there now, with the bytes of the store. */
 struct listener {
     void (*call)(void);
     bool (*access)(enum access kind, uint32_t address, uint32_t size, uint64_t value);

@@ -11,7 +11,7 @@
 #include "tower_region_images.h"
 #include "wrong.h"
 
-struct kernel kernel = {.core = TOWER_NONE, .file = -1, .access_pid = NO_PROCESS};
+struct kernel kernel = {.core = TOWER_NONE, .file = -1, .accessing = NO_PROCESS};
 
 /* ---- The block */
 
@@ -47,10 +47,13 @@ void kernel_close(void) {
 
 /* ---- What is taken out of engines */
 
-/* The emulator can't lose the page of an access in its middle: kernel_access gives it the new frame. */
 static void take_out(uint32_t pid, uint32_t page) {
-    bool is_accessed = pid == kernel.access_pid && page == kernel.access_page;
-    if (engine_is_open(&kernel.engines[pid]) && !is_accessed) {
+    if (!engine_is_open(&kernel.engines[pid])) {
+        return;
+    }
+    if (pid == kernel.accessing) {
+        engine_out_later(&kernel.engines[pid], page);
+    } else {
         engine_out(&kernel.engines[pid], page);
     }
 }
@@ -61,8 +64,10 @@ static void take_all_out(uint32_t pid) {
     }
 }
 
+/* The pages that an access has ended are those of its own bytes: kernel_access puts them on their new frames. */
 static void invalidate(const struct tower_ended *ended) {
-    if (wrong == WRONG_KEPT && ended->kind != TOWER_ENDS_SPACE) {
+    bool is_kept = wrong == WRONG_KEPT && ended->kind != TOWER_ENDS_SPACE;
+    if (is_kept || ended->pid == kernel.accessing) {
         return;
     }
     if (ended->kind == TOWER_ENDS_SPACE) {
@@ -102,7 +107,9 @@ static bool is_shared(uint32_t pid, uint32_t page) {
 
 /* Bytes of the page were written by the core. */
 static void page_written(uint32_t pid, uint32_t page) {
-    take_out(pid, page);
+    if (pid != kernel.accessing) {
+        take_out(pid, page);
+    }
     if (is_shared(pid, page)) {
         take_from_others(pid, page, true);
     }
@@ -126,24 +133,27 @@ static bool finds_frame(uint32_t pid, uint32_t address, bool is_store, struct to
 }
 
 /* The page of an access that the core has carried out. It may be written in the engine only if it is dirty. */
-static void fill(uint32_t pid, uint32_t page, enum access kind) {
-    struct engine *engine = &kernel.engines[pid];
-    bool is_store = kind == ACCESS_STORE;
+static void fill(uint32_t pid, uint32_t page, bool is_fetch) {
     struct tower_walk walk;
     struct tower_page found;
     uint32_t at = 0;
-    need(finds_frame(pid, page << 12, is_store, &walk), "a walk finds the page of an access");
+    need(finds_frame(pid, page << 12, false, &walk), "a walk finds the page of an access");
     need(tower_next_page(&kernel.core, pid, page, &at, &found) && at == page, "the page of an access is mapped");
-    bool is_allowed = found.write && (found.dirty || (wrong == WRONG_EARLY && !found.lazy));
-    bool is_fetch = kind == ACCESS_FETCH, write = is_allowed && !is_fetch;
+    bool write = found.write && (found.dirty || (wrong == WRONG_EARLY && !found.lazy));
     if (found.holders > 1) {
         take_from_others(pid, page, write);
     }
     kernel.fills++;
-    if (engine_region(engine, page)) {
-        engine_allow(engine, page, walk.frame);
-    } else {
-        engine_put(engine, page, walk.frame, write, is_fetch);
+    engine_put(&kernel.engines[pid], page, walk.frame, write, is_fetch);
+}
+
+/* A page that the core has stored to: if the engine has it, and can't write it, it may be on another frame by now. */
+static void renew(uint32_t pid, uint32_t page) {
+    const struct region *region = engine_region(&kernel.engines[pid], page);
+    struct tower_walk walk;
+    if (region && !region->write) {
+        need(finds_frame(pid, page << 12, true, &walk), "a walk finds the page of a store");
+        engine_allow(&kernel.engines[pid], page, walk.frame);
     }
 }
 
@@ -157,18 +167,23 @@ struct tower_reply kernel_access(uint32_t pid, enum access kind, uint32_t addres
     struct tower_reply reply = {.kind = TOWER_DONE};
     struct tower_walk walk;
     bool is_told = wrong != WRONG_UNTOLD || is_store || !finds_frame(pid, address, false, &walk);
-    kernel.access_pid = pid;
-    kernel.access_page = address >> 12;
+    kernel.accessing = pid;
     for (uint32_t done = 0, part; is_told && done < size && tower_outcome_of(&reply) == TOWER_OUTCOME_DONE; done += part) {
+        uint32_t at = address + done, bytes = (uint32_t)(value >> 8 * done);
         part = part_of(size - done);
-        uint32_t bytes = (uint32_t)(value >> 8 * done);
-        reply = kernel_event(is_store ? tower_store(pid, address + done, part, bytes) : tower_load(pid, address + done, part));
+        reply = kernel_event(is_store ? tower_store(pid, at, part, bytes) : tower_load(pid, at, part));
+        if (is_store && reply.kind == TOWER_DONE) {
+            renew(pid, at >> 12);
+            renew(pid, (at + part - 1) >> 12);
+        }
     }
     if (tower_outcome_of(&reply) == TOWER_OUTCOME_DONE) {
-        fill(pid, address >> 12, kind);
+        if (!engine_region(&kernel.engines[pid], address >> 12)) {
+            fill(pid, address >> 12, kind == ACCESS_FETCH);
+        }
         reply = (struct tower_reply){.kind = TOWER_DONE};
     }
-    kernel.access_pid = NO_PROCESS;
+    kernel.accessing = NO_PROCESS;
     return reply;
 }
 

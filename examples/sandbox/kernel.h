@@ -13,7 +13,7 @@ struct kernel {
     size_t bytes;
     int file;
     struct engine engines[TOWER_PROCESSES];
-    uint32_t access_pid, access_page; /* the emulator is in the middle of an access of that page; NO_PROCESS */
+    uint32_t accessing; /* the process whose engine is in the middle of an access; NO_PROCESS */
     uint64_t events, fills;
 };
 extern struct kernel kernel;

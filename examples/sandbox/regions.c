@@ -111,7 +111,7 @@ static void join_all(struct engine *it) {
     memcpy(old, it->regions, sizeof old);
     qsort(old, all, sizeof *old, by_first);
     for (uint32_t i = 0, count; i < all; i += count) {
-        struct region whole = {old[i].first, 0, true, false};
+        struct region whole = {.first = old[i].first, .count = 0, .write = true};
         count = run_of(&old[i], all - i);
         for (uint32_t j = i; count > 1 && j < i + count; j++) {
             whole.count += leave(it, index_of(it, old[j].first)).count;
@@ -122,12 +122,9 @@ static void join_all(struct engine *it) {
     }
 }
 
-/* The code that runs stays: its region is not the victim. */
+/* In the middle of an access: the code that runs stays. */
 static void make_room(struct engine *it) {
     uint32_t running = engine_eip(it) / PAGE_BYTES;
-    if (it->region_count >= MOST_REGIONS) {
-        join_all(it);
-    }
     while (it->region_count >= MOST_REGIONS) {
         uint32_t victim = it->next_victim++ % it->region_count;
         if (has(&it->regions[victim], running) || has(&it->regions[victim], running + 1)) {
@@ -145,7 +142,7 @@ static struct region joined(struct engine *it, struct region region) {
     for (uint32_t i = 0; region.write && i < it->region_count; i++) {
         const struct region *near = &it->regions[i];
         bool is_before = near->first + near->count == region.first, is_after = region.first + region.count == near->first;
-        if (near->write && (is_before || is_after) && near->count < MOST_RUN) {
+        if (near->write && !near->goes && (is_before || is_after) && near->count < MOST_RUN) {
             struct region other = leave(it, i);
             region.first = is_before ? other.first : region.first;
             region.count += other.count;
@@ -155,32 +152,71 @@ static struct region joined(struct engine *it, struct region region) {
     return region;
 }
 
+/* The emulator keeps a translated instruction of a fetch from a page that wasn't there, which no store drops. It is gone
+ * once the engine has settled. */
 void engine_put(struct engine *it, uint32_t page, uint32_t frame, bool write, bool is_fetch) {
     show(it, page, frame, write);
-    struct region region = joined(it, (struct region){page, 1, write, is_fetch});
+    struct region region = joined(it, (struct region){.first = page, .count = 1, .write = write});
     make_room(it);
     enter(it, region);
+    it->is_unsettled |= is_fetch || it->region_count > MANY_REGIONS;
 }
 
-/* A fetch from a page that wasn't there leaves one translated instruction, which neither a store there nor
- * uc_ctl_remove_cache drops. A region that comes and goes does. */
-static void forget_fetched(struct engine *it) {
+/* The emulator finds nothing changed but the host's page: another region, or another right, would move what it has in its
+ * hands. It then drops its store, or makes it once more. */
+void engine_allow(struct engine *it, uint32_t page, uint32_t frame) {
+    uint32_t index = index_of(it, page);
+    need(index < it->region_count && it->regions[index].count == 1, "a page without the right is a region");
+    show(it, page, frame, true);
+    it->regions[index].gains = true;
+    it->is_unsettled = true;
+}
+
+void engine_out_later(struct engine *it, uint32_t page) {
+    uint32_t index = index_of(it, page);
+    if (index < it->region_count) {
+        it->regions[index].goes = true;
+        it->is_unsettled = true;
+    }
+}
+
+/* The emulator forgets what it found by addresses when a region comes and goes. */
+static void forget_addresses(struct engine *it) {
     static uint8_t page[PAGE_BYTES] __attribute__((aligned(PAGE_BYTES)));
     need_uc(uc_mem_map_ptr(it->uc, 0, PAGE_BYTES, UC_PROT_NONE, page), "a page that comes");
     need_uc(uc_mem_unmap(it->uc, 0, PAGE_BYTES), "a page that goes");
 }
 
-/* Only its right changes for the emulator, which is in the middle of a store there. */
-void engine_allow(struct engine *it, uint32_t page, uint32_t frame) {
-    uint32_t index = index_of(it, page);
-    need(index < it->region_count && it->regions[index].count == 1, "a page without the right is a region");
-    show(it, page, frame, true);
-    if (it->regions[index].fetched) {
-        forget_fetched(it);
+static void take_region_out(struct engine *it, uint32_t index) {
+    struct region gone = leave(it, index);
+    for (uint32_t i = 0; i < gone.count; i++) {
+        hide(it, gone.first + i);
     }
-    need_uc(uc_mem_protect(it->uc, begin_of(&it->regions[index]), PAGE_BYTES, UC_PROT_ALL), "a page's right");
-    it->regions[index].write = true;
-    it->regions[index].fetched = false;
+}
+
+void engine_settle(struct engine *it) {
+    bool is_unsettled = it->is_unsettled;
+    it->is_unsettled = false;
+    for (uint32_t i = 0; is_unsettled && i < it->region_count;) {
+        if (it->regions[i].goes) {
+            take_region_out(it, i);
+        } else if (it->regions[i].gains) {
+            struct region region = leave(it, i);
+            enter(it, joined(it, (struct region){.first = region.first, .count = 1, .write = true}));
+            i = 0; /* the regions have another order */
+        } else {
+            i++;
+        }
+    }
+    if (it->region_count > MANY_REGIONS) {
+        join_all(it);
+    }
+    while (it->region_count > MANY_REGIONS) {
+        take_region_out(it, it->next_victim++ % it->region_count);
+    }
+    if (is_unsettled && wrong != WRONG_FIRST) {
+        forget_addresses(it);
+    }
 }
 
 void engine_out(struct engine *it, uint32_t page) {
@@ -191,11 +227,11 @@ void engine_out(struct engine *it, uint32_t page) {
     struct region all = leave(it, index);
     hide(it, page);
     if (page > all.first) {
-        enter(it, (struct region){all.first, page - all.first, all.write, false});
+        enter(it, (struct region){.first = all.first, .count = page - all.first, .write = all.write});
     }
     if (all.first + all.count > page + 1) {
         make_room(it);
-        enter(it, (struct region){page + 1, all.first + all.count - page - 1, all.write, false});
+        enter(it, (struct region){.first = page + 1, .count = all.first + all.count - page - 1, .write = all.write});
     }
 }
 

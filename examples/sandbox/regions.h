@@ -4,13 +4,17 @@
 
 #include "engine.h"
 
-/* Puts a page that the engine lacks, on a frame. If there are too many regions, another one is taken out first. A page that
- * a fetch asks for may not be written at first. */
+/* The emulator is in the middle of an access of a page that the engine lacks: puts it on a frame. */
 void engine_put(struct engine *it, uint32_t page, uint32_t frame, bool write, bool is_fetch);
-/* The engine has the page without the right to write: it gets that right, and maybe another frame. */
+/* The emulator is in the middle of a store, and the engine has the page without that right. The page is on that frame from
+ * now on, which has the bytes of the store. */
 void engine_allow(struct engine *it, uint32_t page, uint32_t frame);
+/* The emulator is in the middle of an access of another page: this one is taken out when the engine settles. */
+void engine_out_later(struct engine *it, uint32_t page);
 /* Takes a page out, with what was translated of it. Nothing happens if the engine lacks it. */
 void engine_out(struct engine *it, uint32_t page);
+/* Between two runs: does what was put off in the middle of an access. */
+void engine_settle(struct engine *it);
 
 /* Takes all out. */
 void engine_empty(struct engine *it);

@@ -46,7 +46,7 @@ static uint64_t number(const char *text) {
 }
 
 static enum wrong wrong_of(const char *word) {
-    static const char *const words[] = {"nothing", "kept", "early", "untold", "code", "alias"};
+    static const char *const words[] = {"nothing", "kept", "early", "untold", "code", "first", "alias"};
     for (uint32_t i = 0; i < sizeof words / sizeof *words; i++) {
         if (strcmp(word, words[i]) == 0) {
             return (enum wrong)i;

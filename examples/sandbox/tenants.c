@@ -235,7 +235,7 @@ static void end_turn(uint32_t pid, const char *error) {
         tenant_end(pid, why);
     } else if (error || !turn_over) {
         char line[MOST_WHY];
-        snprintf(line, sizeof line, "ended: %s", error ? error : "the emulator stopped");
+        snprintf(line, sizeof line, "ended: %s at %08x", error ? error : "the emulator stopped", engine_eip(&kernel.engines[pid]));
         tenant_end(pid, line);
     } else if (tenants[pid].spent > tenants[pid].most) {
         tenant_end(pid, "ended: its time is over");

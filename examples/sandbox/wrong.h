@@ -8,6 +8,7 @@ enum wrong {
     WRONG_EARLY,  /* a page may be written before dirty is set */
     WRONG_UNTOLD, /* the core gets no event of an access whose walk finds a frame: accessed isn't set */
     WRONG_CODE,   /* what was translated of a page stays when the page is taken out */
+    WRONG_FIRST,  /* the instruction that a fetch from a page that wasn't there left stays */
     WRONG_ALIAS,  /* a store to a shared page leaves it in other engines, with what they translated of it */
 };
 extern enum wrong wrong;
