@@ -127,18 +127,18 @@ static void on_step(uc_engine *uc, uint64_t address, uint32_t size, void *data) 
 
 static uint32_t on_in(uc_engine *uc, uint32_t port, int size, void *data) {
     (void)uc, (void)port, (void)size, (void)data;
-    listener.stray("a port", engine_eip(running));
+    listener.outlaw("a port");
     return 0;
 }
 
 static void on_out(uc_engine *uc, uint32_t port, int size, uint32_t value, void *data) {
     (void)uc, (void)port, (void)size, (void)value, (void)data;
-    listener.stray("a port", engine_eip(running));
+    listener.outlaw("a port");
 }
 
 static void on_system_call(uc_engine *uc, void *data) {
     (void)uc, (void)data;
-    listener.stray("another system call", engine_eip(running));
+    listener.outlaw("another system call");
 }
 
 static void hook(struct engine *it, int kind, void *function) {

@@ -43,7 +43,8 @@ enum access { ACCESS_LOAD, ACCESS_STORE, ACCESS_FETCH };
 struct listener {
     void (*call)(void);
     bool (*access)(enum access kind, uint32_t address, uint32_t size, uint64_t value);
-    void (*stray)(const char *what, uint32_t eip); /* an exception, or an instruction that no tenant may use */
+    void (*stray)(const char *what, uint32_t eip); /* an exception, or an interrupt that is no call */
+    void (*outlaw)(const char *what); /* an instruction that no tenant may use, although it raises no exception */
     /* Before each block of instructions, or before each instruction, which takes long. Only there may a run that goes on
      * be stopped, apart from a call: elsewhere the emulator loses EIP. */
     void (*step)(void);

@@ -118,6 +118,12 @@ static void on_stray(const char *what, uint32_t eip) {
     condemn(line);
 }
 
+static void on_outlaw(const char *what) {
+    char line[MOST_WHY];
+    snprintf(line, sizeof line, "ended: %s", what);
+    condemn(line);
+}
+
 static bool on_access(enum access kind, uint32_t address, uint32_t size, uint64_t value) {
     static const char *const names[] = {"load", "store", "fetch"};
     char line[MOST_WHY];
@@ -191,7 +197,7 @@ static void handle(int number, void (*handler)(int)) {
 
 void tenants_begin(void) {
     bool counts_instructions = limits.turn || limits.after;
-    struct listener listener = {on_call, on_access, on_stray, counts_instructions ? on_instruction : on_block, counts_instructions};
+    struct listener listener = {on_call, on_access, on_stray, on_outlaw, counts_instructions ? on_instruction : on_block, counts_instructions};
     engines_begin(kernel.file, listener);
     handle(SIGINT, on_stop);
     handle(SIGTERM, on_stop);
