@@ -21,7 +21,7 @@ static const char usage[] =
     "               {--load FILE | [--quota N] [--seconds N] [NAME=]PROGRAM[:ARGUMENT]...}\n"
     "--frames N   the core's frames, 16 to 4096: 4096 by default\n"
     "--quota N    the quota of each program after it, in frames: 64 by default\n"
-    "--seconds N  processor time after which a program after it is ended: 10 by default\n"
+    "--seconds N  processor time after which a program after it, or any of --load, is ended: 10 by default\n"
     "--turn N     turns of N instructions, which are then counted one by one\n"
     "--after N    stops all tenants once N instructions are executed\n"
     "--save FILE  if tenants are left at that stop, or at SIGINT or SIGTERM, stores them\n"
@@ -30,10 +30,10 @@ static const char usage[] =
 
 static struct {
     uint32_t frames, quota;
-    uint64_t seconds;
+    uint64_t nanoseconds, most_loaded;
     const char *save, *load;
     bool counts;
-} options = {.frames = TOWER_MAX_FRAMES, .quota = 64, .seconds = 10};
+} options = {.frames = TOWER_MAX_FRAMES, .quota = 64, .nanoseconds = 10000000000, .most_loaded = UINT64_MAX};
 
 static uint64_t number(const char *text) {
     char *end;
@@ -65,7 +65,7 @@ static bool take_option(const char *word, const char *value) {
     } else if (strcmp(word, "--quota") == 0) {
         options.quota = (uint32_t)number(value);
     } else if (strcmp(word, "--seconds") == 0) {
-        options.seconds = number(value);
+        options.most_loaded = options.nanoseconds = number(value) * 1000000000;
     } else if (strcmp(word, "--turn") == 0) {
         limits.turn = number(value);
     } else if (strcmp(word, "--after") == 0) {
@@ -103,7 +103,7 @@ static void begin(const char *of) {
     if (strlen(name) > 30 || !*name) {
         fail("a name of 1 to 30 letters is needed", of);
     }
-    tenant_begin(&(struct asked){name, path, options.quota, argument, options.seconds * 1000000000});
+    tenant_begin(&(struct asked){name, path, options.quota, argument, options.nanoseconds});
 }
 
 /* The core's memory is still sound, although the emulator wrote there. */
@@ -157,7 +157,7 @@ int main(int count, char **words) {
         return 2;
     }
     if (options.load) {
-        store_load(options.load);
+        store_load(options.load, options.most_loaded);
     }
     tenants_begin();
     double from = seconds();

@@ -109,14 +109,15 @@ static void restore_core(FILE *file, size_t length) {
     }
 }
 
-static void enter_records(const struct record *records, uint32_t count) {
+static void enter_records(const struct record *records, uint32_t count, uint64_t nanoseconds) {
     for (uint32_t i = 0; i < count; i++) {
         uint32_t pid = records[i].pid;
         if (pid == 0 || pid >= TOWER_PROCESSES || !kernel_is_live(pid) || tenants[pid].runs ||
             !memchr(records[i].tenant.name, 0, MOST_NAME)) {
             fail("no file of --save", "a tenant in it is wrong");
         }
-        tenant_enter(pid, records[i].tenant.name, &records[i].tenant.start, records[i].tenant.most);
+        uint64_t most = records[i].tenant.most;
+        tenant_enter(pid, records[i].tenant.name, &records[i].tenant.start, most < nanoseconds ? most : nanoseconds);
         tenants[pid].spent = records[i].tenant.spent;
         tenants[pid].children = records[i].tenant.children;
         tenants[pid].text = records[i].tenant.text;
@@ -134,7 +135,7 @@ static void offer_again(const struct pending *offers, uint32_t count) {
     }
 }
 
-void store_load(const char *path) {
+void store_load(const char *path, uint64_t nanoseconds) {
     static struct pending offers[MOST_OFFERS];
     static struct record records[TOWER_PROCESSES];
     struct head head;
@@ -149,7 +150,7 @@ void store_load(const char *path) {
     take(file, records, head.tenants * sizeof *records);
     take(file, offers, head.offers * sizeof *offers);
     restore_core(file, head.image);
-    enter_records(records, head.tenants);
+    enter_records(records, head.tenants, nanoseconds);
     offer_again(offers, head.offers);
     fclose(file);
 }

@@ -17,8 +17,8 @@ struct tenant {
     uint64_t spent, most;   /* processor time, and how much it may use, in nanoseconds */
     uint32_t children;      /* that it began so far: they are named by it */
     uint32_t text;          /* bytes of its output */
-    bool runs;
-    bool is_in_line;        /* its output doesn't end with a line feed */
+    uint8_t runs;           /* 0: it has ended, or never began */
+    uint8_t is_in_line;     /* 0: its output ends with a line feed */
 };
 extern struct tenant tenants[TOWER_PROCESSES];
 
