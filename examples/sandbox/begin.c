@@ -50,12 +50,15 @@ static const char *why_of(const struct tower_reply *refused) {
 
 void tenant_begin(const struct asked *asked) {
     struct tower_reply child = kernel_event(tower_spawn(0, asked->quota));
-    struct placing placing = {child.first, child.kind == TOWER_CHILD ? (struct tower_reply){.kind = TOWER_NO_EVENT} : child};
+    struct placing placing = {.pid = child.first, .refused = child};
     struct registers start = {.eip = 0, .eflags = 0x202, .mxcsr = 0x1f80, .control = 0x37f, .tags = 0xffff,
                               .segments = {0x23, 0x23, 0x23, 0x23}};
     start.general[EAX] = placing.pid;
     start.general[EBX] = asked->argument;
     start.general[ESP] = STACK_TOP;
+    if (child.kind == TOWER_CHILD) {
+        placing.refused = (struct tower_reply){.kind = TOWER_NO_EVENT};
+    }
     if (child.kind == TOWER_CHILD && loads(asked->path, &placing, &start.eip)) {
         tenant_enter(placing.pid, asked->name, &start, asked->nanoseconds);
         return;

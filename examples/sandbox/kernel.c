@@ -2,6 +2,7 @@
 #include "kernel.h"
 
 #include <stdlib.h>
+#include <string.h>
 #include <sys/mman.h>
 #include <unistd.h>
 
@@ -125,6 +126,7 @@ struct tower_reply kernel_event(struct tower_event event) {
         page_written(event.pid, event.first >> 12);
         page_written(event.pid, (event.first + event.flag - 1) >> 12);
     }
+    kernel_check();
     return reply;
 }
 
@@ -143,7 +145,6 @@ static void fill(uint32_t pid, uint32_t page, bool is_fetch) {
     if (found.holders > 1) {
         take_from_others(pid, page, write);
     }
-    kernel.fills++;
     engine_put(&kernel.engines[pid], page, walk.frame, write, is_fetch);
 }
 
@@ -184,6 +185,7 @@ struct tower_reply kernel_access(uint32_t pid, enum access kind, uint32_t addres
         reply = (struct tower_reply){.kind = TOWER_DONE};
     }
     kernel.accessing = NO_PROCESS;
+    kernel_check();
     return reply;
 }
 
@@ -196,6 +198,7 @@ struct tower_reply kernel_end(uint32_t pid, struct tower_processes *exited) {
     for (uint32_t i = 0; i < exited->count; i++) {
         take_all_out(exited->pids[i]);
     }
+    kernel_check();
     return told;
 }
 
@@ -210,6 +213,7 @@ struct tower_reply kernel_take_back(uint32_t pid, uint32_t page) {
             take_out(lost[i].pid, lost[i].page);
         }
     }
+    kernel_check();
     return told;
 }
 
@@ -227,6 +231,32 @@ size_t kernel_write(uint32_t pid, uint32_t address, const void *bytes, size_t co
     need(!engine_is_open(&kernel.engines[pid]), "a process without an engine");
     need(tower_write(&kernel.core, pid, address, bytes, count, &moved, stop), "a core writes");
     return moved;
+}
+
+/* ---- What the engines have */
+
+static bool is_what_walks_read(uint32_t pid, const struct region *region) {
+    for (uint32_t page = region->first; page < region->first + region->count; page++) {
+        struct tower_walk walk;
+        struct tower_page found;
+        uint32_t at = 0;
+        if (!finds_frame(pid, page << 12, region->write, &walk) ||
+            !tower_next_page(&kernel.core, pid, page, &at, &found) || (region->write && !found.dirty) ||
+            memcmp(engine_bytes(&kernel.engines[pid], page), kernel.memory + (size_t)walk.frame * PAGE_BYTES, PAGE_BYTES)) {
+            return false;
+        }
+    }
+    return true;
+}
+
+void kernel_check(void) {
+    for (uint32_t pid = 0; kernel.checks && kernel.accessing == NO_PROCESS && pid < TOWER_PROCESSES; pid++) {
+        const struct engine *engine = &kernel.engines[pid];
+        for (uint32_t i = 0; engine_is_open(engine) && i < engine->region_count; i++) {
+            need(is_what_walks_read(pid, &engine->regions[i]), "an engine has what the walks read");
+        }
+        kernel.checked += pid == 0;
+    }
 }
 
 /* ---- Queries */

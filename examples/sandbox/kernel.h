@@ -14,7 +14,8 @@ struct kernel {
     int file;
     struct engine engines[TOWER_PROCESSES];
     uint32_t accessing; /* the process whose engine is in the middle of an access; NO_PROCESS */
-    uint64_t events, fills;
+    bool checks; /* after each event and access: kernel_check */
+    uint64_t events, checked;
 };
 extern struct kernel kernel;
 
@@ -41,6 +42,9 @@ bool kernel_descend(uint32_t pid, uint32_t page);
 /* Bytes of a process's, out and in. Return how many were moved; `stop` is what stopped them. */
 size_t kernel_read(uint32_t pid, uint32_t address, void *bytes, size_t count, struct tower_reply *stop);
 size_t kernel_write(uint32_t pid, uint32_t address, const void *bytes, size_t count, struct tower_reply *stop);
+
+/* All that the engines have is what the walks read: a page that may be written is dirty, and the bytes are the frame's. */
+void kernel_check(void);
 
 bool kernel_is_live(uint32_t pid);
 bool kernel_is_child(uint32_t pid, uint32_t parent);

@@ -33,6 +33,10 @@ static uint8_t *place_of(const struct engine *it, uint32_t page) {
     return it->window + (size_t)(page - TOWER_FIRST_PAGE) * PAGE_BYTES;
 }
 
+const uint8_t *engine_bytes(const struct engine *it, uint32_t page) {
+    return place_of(it, page);
+}
+
 /* The host's own page tables have the page's right as well: what may not be written, the emulator can't write. */
 static void show(const struct engine *it, uint32_t page, uint32_t frame, bool write) {
     int rights = write ? PROT_READ | PROT_WRITE : PROT_READ;
@@ -41,7 +45,8 @@ static void show(const struct engine *it, uint32_t page, uint32_t frame, bool wr
 }
 
 static void hide(const struct engine *it, uint32_t page) {
-    void *at = mmap(place_of(it, page), PAGE_BYTES, PROT_NONE, MAP_PRIVATE | MAP_ANONYMOUS | MAP_NORESERVE | MAP_FIXED, -1, 0);
+    int flags = MAP_PRIVATE | MAP_ANONYMOUS | MAP_NORESERVE | MAP_FIXED;
+    void *at = mmap(place_of(it, page), PAGE_BYTES, PROT_NONE, flags, -1, 0);
     need(at != MAP_FAILED, "a page of a window is taken out");
 }
 

@@ -19,6 +19,9 @@ void engine_settle(struct engine *it);
 /* Takes all out. */
 void engine_empty(struct engine *it);
 
+/* A page's bytes, if the engine has it. */
+const uint8_t *engine_bytes(const struct engine *it, uint32_t page);
+
 /* The region with that page, or NULL. */
 const struct region *engine_region(const struct engine *it, uint32_t page);
 

@@ -17,7 +17,7 @@
 #include "wrong.h"
 
 static const char usage[] =
-    "usage: sandbox [--frames N] [--turn N] [--after N] [--save FILE] [--count]\n"
+    "usage: sandbox [--frames N] [--turn N] [--after N] [--save FILE] [--check] [--count]\n"
     "               {--load FILE | [--quota N] [--seconds N] [NAME=]PROGRAM[:ARGUMENT]...}\n"
     "--frames N   the core's frames, 16 to 4096: 4096 by default\n"
     "--quota N    the quota of each program after it, in frames: 64 by default\n"
@@ -26,6 +26,7 @@ static const char usage[] =
     "--after N    stops all tenants once N instructions are executed\n"
     "--save FILE  if tenants are left at that stop, or at SIGINT or SIGTERM, stores them\n"
     "--load FILE  resumes what --save stored\n"
+    "--check      checks after each event that all engines have is what the walks read\n"
     "--count      prints at the end what was counted\n";
 
 static struct {
@@ -134,6 +135,8 @@ static void begin_all(int count, char **words) {
     for (int i = 1; i < count; i++) {
         if (strcmp(words[i], "--count") == 0) {
             options.counts = true;
+        } else if (strcmp(words[i], "--check") == 0) {
+            kernel.checks = true;
         } else if (strncmp(words[i], "--", 2) != 0) {
             if (!kernel.core.live) {
                 kernel_boot(options.frames);

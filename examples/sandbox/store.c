@@ -35,8 +35,10 @@ static uint32_t list_offers(struct pending *list) {
     uint32_t count = 0;
     for (uint32_t giver = 0; giver < TOWER_PROCESSES; giver++) {
         struct tower_offer offer = {0};
-        for (uint32_t target = 0; tower_next_offer(&kernel.core, giver, offer.page, target, &offer); target = offer.target + 1) {
+        uint32_t target = 0;
+        while (tower_next_offer(&kernel.core, giver, offer.page, target, &offer)) {
             list[count++] = (struct pending){giver, offer};
+            target = offer.target + 1;
         }
     }
     return count;
@@ -109,11 +111,21 @@ static void restore_core(FILE *file, size_t length) {
     }
 }
 
+static bool is_name(const char *name) {
+    size_t length = strnlen(name, MOST_NAME);
+    for (size_t i = 0; i < length; i++) {
+        if (name[i] <= ' ' || name[i] > '~') {
+            return false;
+        }
+    }
+    return length < MOST_NAME;
+}
+
 static void enter_records(const struct record *records, uint32_t count, uint64_t nanoseconds) {
     for (uint32_t i = 0; i < count; i++) {
         uint32_t pid = records[i].pid;
         if (pid == 0 || pid >= TOWER_PROCESSES || !kernel_is_live(pid) || tenants[pid].runs ||
-            !memchr(records[i].tenant.name, 0, MOST_NAME)) {
+            !is_name(records[i].tenant.name)) {
             fail("no file of --save", "a tenant in it is wrong");
         }
         uint64_t most = records[i].tenant.most;

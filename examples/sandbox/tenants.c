@@ -144,6 +144,10 @@ static bool on_access(enum access kind, uint32_t address, uint32_t size, uint64_
     return false;
 }
 
+static uint32_t bools_of(const struct tower_reply *reply) {
+    return (uint32_t)reply->write | (uint32_t)reply->may << 1 | (uint32_t)reply->accessed << 2 | (uint32_t)reply->dirty << 3;
+}
+
 static void on_call(void) {
     struct engine *engine = &kernel.engines[current];
     if (*why || !tenants[current].runs) {
@@ -160,8 +164,7 @@ static void on_call(void) {
     };
     counts.calls++;
     struct tower_reply reply = tenant_call(current, &event);
-    uint32_t bools = (uint32_t)reply.write | (uint32_t)reply.may << 1 | (uint32_t)reply.accessed << 2 | (uint32_t)reply.dirty << 3;
-    engine_set_words(engine, (struct words){reply.kind, bools, reply.first, reply.second, reply.third});
+    engine_set_words(engine, (struct words){reply.kind, bools_of(&reply), reply.first, reply.second, reply.third});
 }
 
 static void on_block(void) {
@@ -197,7 +200,9 @@ static void handle(int number, void (*handler)(int)) {
 
 void tenants_begin(void) {
     bool counts_instructions = limits.turn || limits.after;
-    struct listener listener = {on_call, on_access, on_stray, on_outlaw, counts_instructions ? on_instruction : on_block, counts_instructions};
+    struct listener listener = {.call = on_call, .access = on_access, .stray = on_stray, .outlaw = on_outlaw};
+    listener.step = counts_instructions ? on_instruction : on_block;
+    listener.of_each_instruction = counts_instructions;
     engines_begin(kernel.file, listener);
     handle(SIGINT, on_stop);
     handle(SIGTERM, on_stop);
@@ -241,7 +246,8 @@ static void end_turn(uint32_t pid, const char *error) {
         tenant_end(pid, why);
     } else if (error || !turn_over) {
         char line[MOST_WHY];
-        snprintf(line, sizeof line, "ended: %s at %08x", error ? error : "the emulator stopped", engine_eip(&kernel.engines[pid]));
+        uint32_t eip = engine_eip(&kernel.engines[pid]);
+        snprintf(line, sizeof line, "ended: %s at %08x", error ? error : "the emulator stopped", eip);
         tenant_end(pid, line);
     } else if (tenants[pid].spent > tenants[pid].most) {
         tenant_end(pid, "ended: its time is over");
@@ -272,7 +278,7 @@ bool tenants_run(void) {
 }
 
 void print_counts(double seconds) {
-    fprintf(stderr, "%.3f s; %llu turns, %llu calls, %llu page faults, %llu events, %llu instructions counted\n", seconds,
-            (unsigned long long)counts.turns, (unsigned long long)counts.calls, (unsigned long long)counts.faults,
-            (unsigned long long)kernel.events, (unsigned long long)executed);
+    fprintf(stderr, "%.3f s; %llu turns, %llu calls, %llu page faults, %llu events, %llu instructions counted, %llu checks\n",
+            seconds, (unsigned long long)counts.turns, (unsigned long long)counts.calls, (unsigned long long)counts.faults,
+            (unsigned long long)kernel.events, (unsigned long long)executed, (unsigned long long)kernel.checked);
 }

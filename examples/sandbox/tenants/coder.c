@@ -1,5 +1,5 @@
-/* Writes functions and calls them: in place, on a page that comes again, by the machine's Store, and through a page that its
- * child shares. */
+/* Writes functions and calls them: in place, on a page that comes again, by the machine's Store, and through a page that
+ * its child shares. */
 #include "tenant.h"
 
 static uint8_t shared[4096] __attribute__((aligned(4096)));

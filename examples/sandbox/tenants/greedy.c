@@ -1,4 +1,4 @@
-/* Asks for more than its quota: by calls first, which are refused with the cause, and then by stores, at which it ends. */
+/* Requests more than its quota: by calls first, which are refused with the cause, and then by stores, at which it ends. */
 #include "tenant.h"
 
 void tenant(uint32_t self, uint32_t argument) {
