@@ -244,6 +244,7 @@ void engine_empty(struct engine *it) {
     while (it->region_count && !it->is_broken) {
         leave(it, it->region_count - 1);
     }
+    it->region_count = 0; /* an engine that gave up is only closed */
     window_close(it);
     window_open(it);
 }
