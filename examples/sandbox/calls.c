@@ -1,0 +1,97 @@
+/* What a tenant's call does. */
+#include "calls.h"
+
+#include <string.h>
+
+#include "kernel.h"
+#include "tenants.h"
+
+enum { MOST_PIECE = 4096 };
+static const struct tower_reply no_event = {.kind = TOWER_NO_EVENT}, done = {.kind = TOWER_DONE};
+
+static struct tower_reply refused(uint32_t cause) {
+    return (struct tower_reply){.kind = TOWER_REFUSED, .first = cause};
+}
+
+/* 64 KiB of a tenant's text are taken, and no more. */
+static struct tower_reply write_text(uint32_t pid, uint32_t address, uint32_t count) {
+    static char piece[MOST_PIECE];
+    struct tower_reply stop = no_event;
+    if (count > MOST_PIECE || tenants[pid].text + count > MOST_TEXT) {
+        return no_event;
+    }
+    tenant_text(pid, piece, kernel_read(pid, address, piece, count, &stop));
+    return stop;
+}
+
+/* The first offer to the process, of givers and pages from these on. */
+static struct tower_reply offered(uint32_t pid, uint32_t giver, uint32_t page) {
+    for (; giver < TOWER_PROCESSES; giver++, page = 0) {
+        struct tower_offer offer;
+        for (uint32_t target = 0; tower_next_offer(&kernel.core, giver, page, target, &offer);) {
+            if (offer.target == pid) {
+                return (struct tower_reply){TOWER_CHILD, giver, offer.page, offer.write, false, false, false, false};
+            }
+            page = offer.page;
+            target = offer.target + 1;
+        }
+    }
+    return refused(TOWER_NO_OFFER);
+}
+
+static struct tower_reply fork_tenant(uint32_t pid, const struct tower_event *event) {
+    struct tower_reply reply = kernel_event(*event);
+    if (reply.kind == TOWER_CHILD) {
+        struct registers registers;
+        engine_registers(&kernel.engines[pid], &registers);
+        registers.general[EAX] = TOWER_DONE;
+        registers.general[EBX] = registers.general[ECX] = registers.general[EDX] = registers.general[ESI] = 0;
+        tenant_enter(reply.first, child_name(pid), &registers, tenants[pid].most);
+    }
+    return reply;
+}
+
+/* Children that run nothing end with their parent: a spawn made them, and no program is in them. */
+static struct tower_reply exit_tenant(uint32_t pid, const struct tower_event *event) {
+    for (uint32_t child = 1; child < TOWER_PROCESSES; child++) {
+        struct tower_processes exited;
+        if (kernel_is_child(child, pid) && !tenants[child].runs) {
+            kernel_end(child, &exited);
+        }
+    }
+    struct tower_reply reply = kernel_event(*event);
+    if (reply.kind == TOWER_DONE) {
+        tenant_gone(pid);
+    }
+    return reply;
+}
+
+static struct tower_reply end_child(uint32_t pid, uint32_t child) {
+    if (child >= TOWER_PROCESSES || !kernel_is_child(child, pid)) {
+        return refused(TOWER_NO_PROCESS);
+    }
+    tenant_end(child, "ended: its parent ended it");
+    return done;
+}
+
+struct tower_reply tenant_call(uint32_t pid, const struct tower_event *event) {
+    switch (event->call) {
+    case CALL_YIELD:
+        tenant_end_turn();
+        return done;
+    case CALL_WRITE:
+        return write_text(pid, event->first, event->second);
+    case CALL_OFFERED:
+        return offered(pid, event->first, event->second);
+    case CALL_END:
+        return end_child(pid, event->first);
+    case CALL_TAKE_BACK:
+        return kernel_descend(pid, event->first) ? kernel_take_back(pid, event->first) : refused(TOWER_RIGHTS);
+    case TOWER_FORK:
+        return fork_tenant(pid, event);
+    case TOWER_EXIT:
+        return exit_tenant(pid, event);
+    default:
+        return kernel_event(*event);
+    }
+}

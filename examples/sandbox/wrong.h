@@ -1,0 +1,16 @@
+/* The wrong sandboxes, each of which the check has to find. */
+#ifndef WRONG_H
+#define WRONG_H
+
+enum wrong {
+    WRONG_NOTHING,
+    WRONG_KEPT,   /* a page that an event ended stays in the engine */
+    WRONG_EARLY,  /* a page may be written before dirty is set */
+    WRONG_UNTOLD, /* the core gets no event of an access whose walk finds a frame: accessed isn't set */
+    WRONG_CODE,   /* what was translated of a page stays when the page is taken out */
+    WRONG_FIRST,  /* the instruction that a fetch from a page that wasn't there left stays */
+    WRONG_ALIAS,  /* a store to a shared page leaves it in other engines, with what they translated of it */
+};
+extern enum wrong wrong;
+
+#endif
