@@ -53,7 +53,8 @@ pub fn byte_of(memory: &Memory, frame: Frame, at: u32) -> u8
 /// Sets three flags of a page's entry. A word that stays as it is isn't written.
 pub fn set_flags(memory: &mut Memory, found: &Found, write: bool, accessed: bool, dirty: bool)
     requires lies { LiesIn memory.old found.now }
-    ensures entry { EntryIs memory.old found.now (record found.now.entry { write = write; accessed = accessed; dirty = dirty }) memory.new }
+    ensures entry { EntryIs memory.old found.now (record found.now.entry
+        { write = write; accessed = accessed; dirty = dirty }) memory.new }
     ensures length { length memory.new ≡ length memory.old }
 {
     let entry = found.entry;
@@ -86,7 +87,8 @@ pub fn load(memory: &mut Memory, found: &Found, at: u32, size: Size) -> u32
 fn put_byte(memory: &mut Memory, frame: Frame, at: u32, value: u32)
     requires frame { Inside memory.old frame }
     requires inside { at < 4096 }
-    ensures frames { frame_bytes memory.new ≡ with_frame (frame_bytes memory.old) frame (write_at (frame_bytes memory.old frame) at (bytes_of 1 value)) }
+    ensures frames { frame_bytes memory.new ≡ with_frame (frame_bytes memory.old) frame
+        (write_at (frame_bytes memory.old frame) at (bytes_of 1 value)) }
     ensures length { length memory.new ≡ length memory.old }
 {
     memory.write_byte(place_of(frame, at), (value % 256) as u8);
@@ -96,7 +98,8 @@ fn put_byte(memory: &mut Memory, frame: Frame, at: u32, value: u32)
 fn put_word(memory: &mut Memory, frame: Frame, at: u32, value: u32)
     requires frame { Inside memory.old frame }
     requires inside { at + 4 ≤ 4096 }
-    ensures frames { frame_bytes memory.new ≡ with_frame (frame_bytes memory.old) frame (write_at (frame_bytes memory.old frame) at (bytes_of 4 value)) }
+    ensures frames { frame_bytes memory.new ≡ with_frame (frame_bytes memory.old) frame
+        (write_at (frame_bytes memory.old frame) at (bytes_of 4 value)) }
     ensures length { length memory.new ≡ length memory.old }
 {
     memory.write_word(place_of(frame, at), value);
@@ -106,7 +109,8 @@ fn put_word(memory: &mut Memory, frame: Frame, at: u32, value: u32)
 fn put_bytes(memory: &mut Memory, frame: Frame, at: u32, size: Size, value: u32)
     requires frame { Inside memory.old frame }
     requires inside { at + byte_count size ≤ 4096 }
-    ensures frames { frame_bytes memory.new ≡ with_frame (frame_bytes memory.old) frame (write_at (frame_bytes memory.old frame) at (bytes_of (byte_count size) value)) }
+    ensures frames { frame_bytes memory.new ≡ with_frame (frame_bytes memory.old) frame
+        (write_at (frame_bytes memory.old frame) at (bytes_of (byte_count size) value)) }
     ensures length { length memory.new ≡ length memory.old }
 {
     match size {
@@ -147,7 +151,8 @@ pub fn set_right(memory: &mut Memory, found: &Found, write: bool)
 /// Clears accessed and dirty of a page.
 pub fn clear_marks(memory: &mut Memory, found: &Found)
     requires lies { LiesIn memory.old found.now }
-    ensures entry { EntryIs memory.old found.now (record found.now.entry { accessed = false; dirty = false }) memory.new }
+    ensures entry { EntryIs memory.old found.now (record found.now.entry { accessed = false; dirty = false })
+        memory.new }
     ensures length { length memory.new ≡ length memory.old }
 {
     set_flags(memory, found, found.entry.write, false, false);
@@ -172,7 +177,8 @@ impl Spaces {
         requires least { page ≤ page_number address }
         requires most { page_number address ≤ page + 1 }
         requires first { first.now ≡ place_in self.now.directories self.now.bytes pid page }
-        requires second { page_number address ≢ page → second.now ≡ place_in self.now.directories self.now.bytes pid (page + 1) }
+        requires second { page_number address ≢ page → second.now
+            ≡ place_in self.now.directories self.now.bytes pid (page + 1) }
         ensures { result ≡ byte_at self.now.spaces pid address }
     {
         if page_of(address) == page {
@@ -189,7 +195,8 @@ impl Spaces {
         requires least { page ≤ page_number address }
         requires most { page_number (address + 1) ≤ page + 1 }
         requires first { first.now ≡ place_in self.now.directories self.now.bytes pid page }
-        requires second { page_number (address + 1) ≢ page → second.now ≡ place_in self.now.directories self.now.bytes pid (page + 1) }
+        requires second { page_number (address + 1) ≢ page
+            → second.now ≡ place_in self.now.directories self.now.bytes pid (page + 1) }
         ensures value { result ≡ byte_at self.now.spaces pid address + 256 * byte_at self.now.spaces pid (address + 1) }
         ensures bound { result < 2 ^ 16 }
     {
@@ -211,7 +218,8 @@ impl Spaces {
     ) -> u32
         requires user { EachTouched address size IsUserPage }
         requires first { first.now ≡ place_in self.now.directories self.now.bytes pid (page_number address) }
-        requires second { 4096 < offset_number address + byte_count size → second.now ≡ place_in self.now.directories self.now.bytes pid (page_number address + 1) }
+        requires second { 4096 < offset_number address + byte_count size
+            → second.now ≡ place_in self.now.directories self.now.bytes pid (page_number address + 1) }
         ensures { result ≡ number_of self.now.spaces pid (covered address size) }
     {
         let page = page_of(address);
@@ -259,7 +267,8 @@ impl Spaces {
     ) -> u32
         requires user { EachTouched address size IsUserPage }
         requires first { first.now ≡ place_in self.now.directories self.now.bytes pid (page_number address) }
-        requires second { second.now ≡ option_map (place_in self.now.directories self.now.bytes pid) (second_page address size) }
+        requires second { second.now ≡ option_map (place_in self.now.directories self.now.bytes pid)
+            (second_page address size) }
         ensures { result ≡ number_of self.now.spaces pid (covered address size) }
     {
         if let Some(value) = self.number_at(pid, address, size, first) {
@@ -274,7 +283,8 @@ impl Spaces {
     /// The number at an address of mapped pages, one or two by where the bytes lie; accessed is set in the slot of
     /// each.
     pub fn read(&mut self, pid: Pid, address: Vaddr, size: Size) -> u32
-        requires mapped { EachTouched address size (λ page. is_some (map.get self.old.spaces (at_page pid page)) ≡ true) }
+        requires mapped { EachTouched address size (λ page. is_some (map.get self.old.spaces (at_page pid page))
+            ≡ true) }
         requires user { EachTouched address size IsUserPage }
         ensures value { result ≡ number_of self.old.spaces pid (covered address size) }
         ensures spaces { self.new.spaces ≡ all_accessed self.old.spaces pid (touched address size) }
@@ -296,10 +306,12 @@ impl Spaces {
         first: &Place,
         second: &Option<Place>,
     ) -> u32
-        requires mapped { EachTouched address size (λ page. is_some (map.get self.old.spaces (at_page pid page)) ≡ true) }
+        requires mapped { EachTouched address size (λ page. is_some (map.get self.old.spaces (at_page pid page))
+            ≡ true) }
         requires user { EachTouched address size IsUserPage }
         requires first { first.now ≡ place_in self.old.directories self.old.bytes pid (page_number address) }
-        requires second { second.now ≡ option_map (place_in self.old.directories self.old.bytes pid) (second_page address size) }
+        requires second { second.now ≡ option_map (place_in self.old.directories self.old.bytes pid)
+            (second_page address size) }
         ensures value { result ≡ number_of self.old.spaces pid (covered address size) }
         ensures spaces { self.new.spaces ≡ all_accessed self.old.spaces pid (touched address size) }
         ensures stay { FramesStay none_goes (image_of self.old) (image_of self.new) }
@@ -325,7 +337,8 @@ impl Spaces {
         first: &Place,
         second: &Place,
     ) -> u32
-        requires mapped { EachTouched address size (λ page. is_some (map.get self.old.spaces (at_page pid page)) ≡ true) }
+        requires mapped { EachTouched address size (λ page. is_some (map.get self.old.spaces (at_page pid page))
+            ≡ true) }
         requires user { EachTouched address size IsUserPage }
         requires first { first.now ≡ place_in self.old.directories self.old.bytes pid (page_number address) }
         requires behind { second_page address size ≡ Some behind }
@@ -345,7 +358,8 @@ impl Spaces {
     /// Stores through mapped slots that aren't lazy, one or two by where the bytes lie, and sets accessed and
     /// dirty in each.
     pub fn write(&mut self, pid: Pid, address: Vaddr, size: Size, value: u32)
-        requires mapped { EachTouched address size (λ page. is_some (map.get self.old.spaces (at_page pid page)) ≡ true) }
+        requires mapped { EachTouched address size (λ page. is_some (map.get self.old.spaces (at_page pid page))
+            ≡ true) }
         requires user { EachTouched address size IsUserPage }
         requires real { EachTouched address size (λ page. is_lazy_at (image_of self.old) (at_page pid page) ≡ false) }
         ensures spaces { self.new.spaces ≡ all_stored self.old.spaces pid address (bytes_of (byte_count size) value) }
@@ -368,11 +382,13 @@ impl Spaces {
         first: &Place,
         second: &Option<Place>,
     )
-        requires mapped { EachTouched address size (λ page. is_some (map.get self.old.spaces (at_page pid page)) ≡ true) }
+        requires mapped { EachTouched address size (λ page. is_some (map.get self.old.spaces (at_page pid page))
+            ≡ true) }
         requires user { EachTouched address size IsUserPage }
         requires real { EachTouched address size (λ page. is_lazy_at (image_of self.old) (at_page pid page) ≡ false) }
         requires first { first.now ≡ place_in self.old.directories self.old.bytes pid (page_number address) }
-        requires second { second.now ≡ option_map (place_in self.old.directories self.old.bytes pid) (second_page address size) }
+        requires second { second.now ≡ option_map (place_in self.old.directories self.old.bytes pid)
+            (second_page address size) }
         ensures spaces { self.new.spaces ≡ all_stored self.old.spaces pid address (bytes_of (byte_count size) value) }
         ensures stay { FramesStay none_goes (image_of self.old) (image_of self.new) }
         ensures directories { self.new.directories ≡ self.old.directories }
@@ -398,7 +414,8 @@ impl Spaces {
         first: &Place,
         second: &Place,
     )
-        requires mapped { EachTouched address size (λ page. is_some (map.get self.old.spaces (at_page pid page)) ≡ true) }
+        requires mapped { EachTouched address size (λ page. is_some (map.get self.old.spaces (at_page pid page))
+            ≡ true) }
         requires user { EachTouched address size IsUserPage }
         requires real { EachTouched address size (λ page. is_lazy_at (image_of self.old) (at_page pid page) ≡ false) }
         requires first { first.now ≡ place_in self.old.directories self.old.bytes pid (page_number address) }

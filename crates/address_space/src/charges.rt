@@ -45,7 +45,9 @@ fn sum(tables: u32, pages: u32) -> u32
 /// How many tables a directory has, one for each region of 1,024 pages in which its process has a page.
 fn tables(memory: &Memory, directory: Frame) -> u32
     requires { IsPageMap memory.now directory }
-    ensures { (directories : List (Option ℕ)) (roles : List RoleValue) (p : ℕ) → IsSpaces directories memory.now roles → directory_of directories p ≡ Some directory → result ≡ set.len (regions_of (pages_of (spaces_in directories memory.now) p)) }
+    ensures { (directories : List (Option ℕ)) (roles : List RoleValue) (p : ℕ) → IsSpaces directories memory.now roles
+        → directory_of directories p ≡ Some directory
+        → result ≡ set.len (regions_of (pages_of (spaces_in directories memory.now) p)) }
 {
     let mut tables = 0;
     for slot in FIRST_SLOT..SLOT_END {

@@ -58,10 +58,13 @@ pub fn next_left(memory: &Memory, table: Frame, first: u32, left: u32) -> Option
     requires inside { 4096 * table + 4096 ≤ length memory.now }
     requires left { left ≡ words_left memory.now table first }
     ensures within { IfSome result (λ listed. (first ≤ listed.index) × (listed.index < 1024)) }
-    ensures entry { IfSome result (λ listed. word_entry (word_in (frame_bytes memory.now table) listed.index) ≡ Some listed.entry) }
-    ensures least { IfSome result (λ listed. (index : ℕ) → first ≤ index → index < listed.index → word_entry (word_in (frame_bytes memory.now table) index) ≡ None) }
+    ensures entry { IfSome result (λ listed. word_entry (word_in (frame_bytes memory.now table) listed.index)
+        ≡ Some listed.entry) }
+    ensures least { IfSome result (λ listed. (index : ℕ) → first ≤ index → index < listed.index
+        → word_entry (word_in (frame_bytes memory.now table) index) ≡ None) }
     ensures left { IfSome result (λ listed. left ≡ words_left memory.now table (listed.index + 1) + 1) }
-    ensures none { IfNone result ((index : ℕ) → first ≤ index → index < 1024 → word_entry (word_in (frame_bytes memory.now table) index) ≡ None) }
+    ensures none { IfNone result ((index : ℕ) → first ≤ index → index < 1024
+        → word_entry (word_in (frame_bytes memory.now table) index) ≡ None) }
 {
     if left == 0 {
         return None;
@@ -85,8 +88,11 @@ impl Spaces {
         requires linked { linked ≡ table_of (frame_bytes self.old.bytes) target (slot_number page) }
         requires user { IsUserPage page }
         requires unmapped { map.get self.old.spaces (at_page to page) ≡ None }
-        requires room { 1 + total_cost self.old.directories self.old.spaces + need self.old.spaces to page ≤ length self.old.roles }
-        ensures copied { (from source : ℕ) → directory_of self.old.directories from ≡ Some source → entry_at (frame_bytes self.old.bytes) source page ≡ Some entry → PageCopied self.old.directories from to page self.old.bytes self.old.roles self.new.bytes self.new.roles }
+        requires room { 1 + total_cost self.old.directories self.old.spaces + need self.old.spaces to page
+            ≤ length self.old.roles }
+        ensures copied { (from source : ℕ) → directory_of self.old.directories from ≡ Some source
+            → entry_at (frame_bytes self.old.bytes) source page ≡ Some entry
+            → PageCopied self.old.directories from to page self.old.bytes self.old.roles self.new.bytes self.new.roles }
         ensures table { table_of (frame_bytes self.new.bytes) target (slot_number page) ≡ Some result }
         ensures directories { self.new.directories ≡ self.old.directories }
     {
@@ -103,7 +109,9 @@ impl Spaces {
         requires copying { IsCopying self.old.directories to slot table self.old.bytes self.old.roles }
         requires target { directory_of self.old.directories to ≡ Some target }
         requires slot { slot < 960 }
-        ensures copied { (from source : ℕ) (bytes : List ℕ) (roles : List RoleValue) → CopyIn self.old.directories from source to slot table 0 bytes roles self.old.bytes self.old.roles → CopyIn self.old.directories from source to slot table 1024 bytes roles self.new.bytes self.new.roles }
+        ensures copied { (from source : ℕ) (bytes : List ℕ) (roles : List RoleValue)
+            → CopyIn self.old.directories from source to slot table 0 bytes roles self.old.bytes self.old.roles
+            → CopyIn self.old.directories from source to slot table 1024 bytes roles self.new.bytes self.new.roles }
         ensures directories { self.new.directories ≡ self.old.directories }
     {
         let mut left = count_at(&self.counts, table);
@@ -123,10 +131,12 @@ impl Spaces {
         requires from { is_some (directory_of self.old.directories from) ≡ true }
         requires live { is_some (directory_of self.old.directories to) ≡ true }
         requires empty { (page : ℕ) → map.get self.old.spaces (at_page to page) ≡ None }
-        requires room { cost self.old.spaces from + total_cost self.old.directories self.old.spaces ≤ length self.old.roles }
+        requires room { cost self.old.spaces from + total_cost self.old.directories self.old.spaces
+            ≤ length self.old.roles }
         ensures spaces { self.new.spaces ≡ copied self.old.spaces from to }
         ensures stay { FramesStay none_goes (image_of self.old) (image_of self.new) }
-        ensures lazy { (page : ℕ) → is_lazy_at (image_of self.new) (at_page to page) ≡ is_lazy_at (image_of self.old) (at_page from page) }
+        ensures lazy { (page : ℕ) → is_lazy_at (image_of self.new) (at_page to page)
+            ≡ is_lazy_at (image_of self.old) (at_page from page) }
         ensures directories { self.new.directories ≡ self.old.directories }
         ensures frames { length self.new.roles ≡ length self.old.roles }
     {

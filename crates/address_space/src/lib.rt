@@ -58,7 +58,13 @@ impl Model for Spaces {
 
     ghost coded = { view_code };
 
-    ghost view = { λ s. record { spaces = spaces_in s.directories s.memory; directories = s.directories; bytes = s.memory; roles = s.frames } };
+    ghost view = { λ s. record {
+      spaces = spaces_in s.directories s.memory;
+      directories = s.directories;
+      bytes =
+          s.memory;
+      roles = s.frames;
+    } };
 
     ghost invariant = { λ s. AreCountedSpaces s.directories s.memory s.frames s.counts.items };
 }
@@ -205,7 +211,8 @@ impl Spaces {
         ensures walks { WalksAgree (image_of self.now) self.now.spaces }
         ensures ways { WaysAgree (image_of self.now) }
         ensures costs { 1 + total_cost self.now.directories self.now.spaces ≤ length self.now.roles }
-        ensures each { (p : ℕ) → is_some (directory_of self.now.directories p) ≡ true → 1 + cost self.now.spaces p ≤ length self.now.roles }
+        ensures each { (p : ℕ) → is_some (directory_of self.now.directories p) ≡ true
+            → 1 + cost self.now.spaces p ≤ length self.now.roles }
         ensures few { length self.now.roles ≤ WIDE_FRAMES }
         ensures used { LeavesRoom (image_of self.now) (total_cost self.now.directories self.now.spaces) }
         ensures places { PlacesTell (image_of self.now) self.now.spaces }

@@ -28,9 +28,11 @@ impl Spaces {
         requires live { is_some (directory_of self.old.directories pid) ≡ true }
         requires user { IsUserPage page }
         requires unmapped { map.get self.old.spaces (at_page pid page) ≡ None }
-        requires room { 1 + total_cost self.old.directories self.old.spaces + need self.old.spaces pid page ≤ length self.old.roles }
+        requires room { 1 + total_cost self.old.directories self.old.spaces + need self.old.spaces pid page
+            ≤ length self.old.roles }
         requires place { place.now ≡ place_in self.old.directories self.old.bytes pid page }
-        ensures spaces { self.new.spaces ≡ map.insert self.old.spaces (at_page pid page) (fresh (at_page pid page) write) }
+        ensures spaces { self.new.spaces ≡ map.insert self.old.spaces (at_page pid page)
+            (fresh (at_page pid page) write) }
         ensures stay { FramesStay none_goes (image_of self.old) (image_of self.new) }
         ensures lazy { is_lazy_at (image_of self.new) (at_page pid page) ≡ true }
         ensures directories { self.new.directories ≡ self.old.directories }
@@ -58,8 +60,10 @@ impl Spaces {
         requires live { is_some (directory_of self.old.directories pid) ≡ true }
         requires user { IsUserPage page }
         requires unmapped { map.get self.old.spaces (at_page pid page) ≡ None }
-        requires room { 1 + total_cost self.old.directories self.old.spaces + need self.old.spaces pid page ≤ length self.old.roles }
-        ensures spaces { self.new.spaces ≡ map.insert self.old.spaces (at_page pid page) (fresh (at_page pid page) write) }
+        requires room { 1 + total_cost self.old.directories self.old.spaces + need self.old.spaces pid page
+            ≤ length self.old.roles }
+        ensures spaces { self.new.spaces ≡ map.insert self.old.spaces (at_page pid page)
+            (fresh (at_page pid page) write) }
         ensures stay { FramesStay none_goes (image_of self.old) (image_of self.new) }
         ensures lazy { is_lazy_at (image_of self.new) (at_page pid page) ≡ true }
         ensures directories { self.new.directories ≡ self.old.directories }
@@ -87,7 +91,8 @@ impl Spaces {
         requires user { IsUserPage page }
         requires unmapped { map.get self.old.spaces (at_page pid page) ≡ None }
         requires real { is_lazy_at (image_of self.old) (at_page giver giver_page) ≡ false }
-        requires room { 1 + total_cost self.old.directories self.old.spaces + need self.old.spaces pid page ≤ length self.old.roles }
+        requires room { 1 + total_cost self.old.directories self.old.spaces + need self.old.spaces pid page
+            ≤ length self.old.roles }
         requires place { given.now ≡ place_in self.old.directories self.old.bytes giver giver_page }
         requires own { own.now ≡ place_in self.old.directories self.old.bytes pid page }
         ensures spaces { self.new.spaces ≡ joined self.old.spaces (at_page giver giver_page) (at_page pid page) right }
@@ -120,7 +125,8 @@ impl Spaces {
         requires user { IsUserPage page }
         requires unmapped { map.get self.old.spaces (at_page pid page) ≡ None }
         requires real { is_lazy_at (image_of self.old) (at_page giver giver_page) ≡ false }
-        requires room { 1 + total_cost self.old.directories self.old.spaces + need self.old.spaces pid page ≤ length self.old.roles }
+        requires room { 1 + total_cost self.old.directories self.old.spaces + need self.old.spaces pid page
+            ≤ length self.old.roles }
         ensures spaces { self.new.spaces ≡ joined self.old.spaces (at_page giver giver_page) (at_page pid page) right }
         ensures stay { FramesStay none_goes (image_of self.old) (image_of self.new) }
         ensures directories { self.new.directories ≡ self.old.directories }
@@ -146,7 +152,8 @@ pub fn give_table(
     requires map { IsPageMap memory.old directory }
     requires role { slice_get frames.old directory ≡ Some (Role.Directory pid) }
     requires size { length memory.old ≡ 4096 * length frames.old }
-    requires room { table_need (table_of (frame_bytes memory.old) directory (slot_number page)) ≤ free_frames frames.old }
+    requires room { table_need (table_of (frame_bytes memory.old) directory (slot_number page))
+        ≤ free_frames frames.old }
     ensures { TableReady memory.old frames.old pid directory (slot_number page) result memory.new frames.new }
 {
     if let Some(table) = linked {
@@ -174,7 +181,14 @@ pub fn fresh_entry(write: bool) -> PageEntry
 
 /// The entry of a page that joins the group on a frame.
 pub fn joined_entry(frame: Frame, right: bool) -> PageEntry
-    ensures { result ≡ record { frame = frame; write = right; may = right; accessed = false; dirty = false; lazy = false } }
+    ensures { result ≡ record {
+      frame = frame;
+      write = right;
+      may = right;
+      accessed = false;
+      dirty = false;
+      lazy = false;
+    } }
 {
     PageEntry {
         frame,

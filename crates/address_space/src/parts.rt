@@ -49,7 +49,8 @@ fn put_part(memory: &mut Memory, frame: Frame, at: u32, part: &[u8])
     requires frame { Inside memory.old frame }
     requires place { at < 4096 }
     requires inside { at + length part.now ≤ 4096 }
-    ensures frames { frame_bytes memory.new ≡ with_frame (frame_bytes memory.old) frame (write_at (frame_bytes memory.old frame) at part.now) }
+    ensures frames { frame_bytes memory.new ≡ with_frame (frame_bytes memory.old) frame
+        (write_at (frame_bytes memory.old frame) at part.now) }
     ensures length { length memory.new ≡ length memory.old }
 {
     memory.write_bytes(place_of(frame, at), part);
@@ -73,7 +74,8 @@ impl Spaces {
         requires within { offset_number address + length out.old ≤ 4096 }
         requires user { IsUserPage (page_number address) }
         ensures mapped { result ≡ finite_map.contains_key self.old.spaces (slot_at pid address) }
-        ensures bytes { result ≡ true → out.new ≡ map (byte_at self.old.spaces pid) (range_with_len address (length out.old)) }
+        ensures bytes { result ≡ true → out.new ≡ map (byte_at self.old.spaces pid)
+            (range_with_len address (length out.old)) }
         ensures spaces { result ≡ true → self.new.spaces ≡ accessed self.old.spaces (slot_at pid address) }
         ensures stay { FramesStay none_goes (image_of self.old) (image_of self.new) }
         ensures directories { self.new.directories ≡ self.old.directories }
@@ -95,7 +97,8 @@ impl Spaces {
         requires within { offset_number address + length part.now ≤ 4096 }
         requires user { IsUserPage (page_number address) }
         ensures done { result ≡ takes_stores self.old.spaces (image_of self.old) (slot_at pid address) }
-        ensures spaces { result ≡ true → self.new.spaces ≡ stored self.old.spaces (slot_at pid address) (offset_number address) part.now }
+        ensures spaces { result ≡ true → self.new.spaces
+            ≡ stored self.old.spaces (slot_at pid address) (offset_number address) part.now }
         ensures stay { FramesStay none_goes (image_of self.old) (image_of self.new) }
         ensures directories { self.new.directories ≡ self.old.directories }
         ensures roles { self.new.roles ≡ self.old.roles }
@@ -118,13 +121,17 @@ impl Spaces {
         requires mapped { is_some (finite_map.get self.old.spaces (slot_at pid address)) ≡ true }
         requires real { is_lazy_at (image_of self.old) (slot_at pid address) ≡ false }
         requires place { place.now ≡ place_in self.old.directories self.old.bytes pid (page_number address) }
-        ensures spaces { self.new.spaces ≡ stored self.old.spaces (slot_at pid address) (offset_number address) part.now }
+        ensures spaces { self.new.spaces ≡ stored self.old.spaces (slot_at pid address)
+            (offset_number address) part.now }
         ensures stay { FramesStay none_goes (image_of self.old) (image_of self.new) }
         ensures directories { self.new.directories ≡ self.old.directories }
         ensures roles { self.new.roles ≡ self.old.roles }
-        ensures mapped { (slot : Slot) → finite_map.contains_key self.new.spaces slot ≡ finite_map.contains_key self.old.spaces slot }
+        ensures mapped { (slot : Slot) → finite_map.contains_key self.new.spaces slot
+            ≡ finite_map.contains_key self.old.spaces slot }
         ensures lazy { (slot : Slot) → is_lazy_at (image_of self.new) slot ≡ is_lazy_at (image_of self.old) slot }
-        ensures beside { (other : ℕ) → other ≢ page_number address → place_in self.new.directories self.new.bytes pid other ≡ place_in self.old.directories self.old.bytes pid other }
+        ensures beside { (other : ℕ) → other ≢ page_number address
+            → place_in self.new.directories self.new.bytes pid other
+            ≡ place_in self.old.directories self.old.bytes pid other }
     {
         let memory = &mut self.memory;
         let found = place.found().unwrap();

@@ -132,7 +132,9 @@ impl Place {
     /// Returns what the process needs for the page once it has mapped another, whose place was found before. If that
     /// page was not mapped and is in the same region of 1,024 pages, the region has a table by then.
     pub fn need_behind(&self, page: Page, first: &Place, first_page: Page) -> u32
-        ensures value { result ≡ (if is_some (found_of self.now) then 0 else (if not (is_some (found_of first.now)) && (slot_number first_page == slot_number page) then 1 else need_of self.now)) }
+        ensures value { result ≡ (if is_some (found_of self.now) then 0
+            else (if not (is_some (found_of first.now)) && (slot_number first_page == slot_number page) then 1
+            else need_of self.now)) }
         ensures most { result ≤ 2 }
     {
         if self.is_mapped() {
@@ -164,7 +166,14 @@ fn place_behind(memory: &Memory, table: Option<Frame>, page: Page) -> Place
 /// The cell of a mapped page, by its entry.
 fn cell_of(frames: &FrameTable, entry: &PageEntry) -> Cell
     requires real { entry.now.lazy ≡ false → IsPageBelow frames.now entry.now.frame 4294967295 }
-    ensures flags { result ≡ record { write = entry.now.write; may = entry.now.may; accessed = entry.now.accessed; dirty = entry.now.dirty; holders = result.holders } }
+    ensures flags { result ≡ record {
+      write = entry.now.write;
+      may = entry.now.may;
+      accessed = entry.now.accessed;
+      dirty
+          = entry.now.dirty;
+      holders = result.holders;
+    } }
     ensures lazy { entry.now.lazy ≡ true → result.holders ≡ 1 }
     ensures page { entry.now.lazy ≡ false → slice_get frames.now entry.now.frame ≡ Some (Role.Page result.holders) }
 {
@@ -211,7 +220,9 @@ impl Spaces {
         ensures stay { FramesStay none_goes (image_of self.old) (image_of self.new) }
         ensures directories { self.new.directories ≡ self.old.directories }
         ensures roles { self.new.roles ≡ self.old.roles }
-        ensures beside { (other : ℕ) → other ≢ page_number address → place_in self.new.directories self.new.bytes pid other ≡ place_in self.old.directories self.old.bytes pid other }
+        ensures beside { (other : ℕ) → other ≢ page_number address
+            → place_in self.new.directories self.new.bytes pid other
+            ≡ place_in self.old.directories self.old.bytes pid other }
     {
         let memory = &mut self.memory;
         let found = place.found().unwrap();
@@ -227,12 +238,15 @@ impl Spaces {
         requires user { IsUserPage (page_number address) }
         requires real { is_lazy_at (image_of self.old) (slot_at pid address) ≡ false }
         requires place { place.now ≡ place_in self.old.directories self.old.bytes pid (page_number address) }
-        ensures spaces { self.new.spaces ≡ stored self.old.spaces (slot_at pid address) (offset_number address) (bytes_of (byte_count size) value) }
+        ensures spaces { self.new.spaces ≡ stored self.old.spaces (slot_at pid address) (offset_number address)
+            (bytes_of (byte_count size) value) }
         ensures stay { FramesStay none_goes (image_of self.old) (image_of self.new) }
         ensures directories { self.new.directories ≡ self.old.directories }
         ensures roles { self.new.roles ≡ self.old.roles }
         ensures lazy { (slot : Slot) → is_lazy_at (image_of self.new) slot ≡ is_lazy_at (image_of self.old) slot }
-        ensures beside { (other : ℕ) → other ≢ page_number address → place_in self.new.directories self.new.bytes pid other ≡ place_in self.old.directories self.old.bytes pid other }
+        ensures beside { (other : ℕ) → other ≢ page_number address
+            → place_in self.new.directories self.new.bytes pid other
+            ≡ place_in self.old.directories self.old.bytes pid other }
     {
         let memory = &mut self.memory;
         let found = place.found().unwrap();
@@ -339,9 +353,12 @@ impl Spaces {
         ensures stay { FramesStay (of_lazy pid page) (image_of self.old) (image_of self.new) }
         ensures directories { self.new.directories ≡ self.old.directories }
         ensures real { is_lazy_at (image_of self.new) (at_page pid page) ≡ false }
-        ensures others { (slot : Slot) → is_lazy_at (image_of self.old) slot ≡ false → is_lazy_at (image_of self.new) slot ≡ false }
+        ensures others { (slot : Slot) → is_lazy_at (image_of self.old) slot ≡ false
+            → is_lazy_at (image_of self.new) slot ≡ false }
         ensures frames { length self.new.roles ≡ length self.old.roles }
-        ensures beside { (p other : ℕ) → at_page p other ≢ at_page pid page → place_in self.new.directories self.new.bytes p other ≡ place_in self.old.directories self.old.bytes p other }
+        ensures beside { (p other : ℕ) → at_page p other ≢ at_page pid page
+            → place_in self.new.directories self.new.bytes p other
+            ≡ place_in self.old.directories self.old.bytes p other }
         ensures place { result ≡ place_in self.new.directories self.new.bytes pid page }
     {
         self.stands();
@@ -363,7 +380,8 @@ impl Spaces {
         ensures stay { FramesStay (of_lazy pid page) (image_of self.old) (image_of self.new) }
         ensures directories { self.new.directories ≡ self.old.directories }
         ensures real { is_lazy_at (image_of self.new) (at_page pid page) ≡ false }
-        ensures others { (slot : Slot) → is_lazy_at (image_of self.old) slot ≡ false → is_lazy_at (image_of self.new) slot ≡ false }
+        ensures others { (slot : Slot) → is_lazy_at (image_of self.old) slot ≡ false
+            → is_lazy_at (image_of self.new) slot ≡ false }
         ensures frames { length self.new.roles ≡ length self.old.roles }
     {
         let place = self.place(pid, page);
@@ -393,7 +411,8 @@ impl Spaces {
         requires mapped { is_some (map.get self.old.spaces (at_page pid page)) ≡ true }
         requires user { IsUserPage page }
         requires place { place.now ≡ place_in self.old.directories self.old.bytes pid page }
-        ensures spaces { self.new.spaces ≡ map.insert self.old.spaces (at_page pid page) (record (cell_or_fresh self.old.spaces (at_page pid page)) { accessed = false; dirty = false }) }
+        ensures spaces { self.new.spaces ≡ map.insert self.old.spaces (at_page pid page)
+            (record (cell_or_fresh self.old.spaces (at_page pid page)) { accessed = false; dirty = false }) }
         ensures stay { FramesStay none_goes (image_of self.old) (image_of self.new) }
         ensures directories { self.new.directories ≡ self.old.directories }
         ensures roles { self.new.roles ≡ self.old.roles }
@@ -444,8 +463,10 @@ impl Spaces {
         ensures mapped { IfSome result (λ page. map.contains_key self.now.spaces (at_page pid page) ≡ true) }
         ensures user { IfSome result IsUserPage }
         ensures from { IfSome result (λ page. from ≤ page) }
-        ensures least { IfSome result (λ page. (other : ℕ) → from ≤ other → other < page → map.contains_key self.now.spaces (at_page pid other) ≡ false) }
-        ensures none { IfNone result ((other : ℕ) → from ≤ other → map.contains_key self.now.spaces (at_page pid other) ≡ false) }
+        ensures least { IfSome result (λ page. (other : ℕ) → from ≤ other → other < page
+            → map.contains_key self.now.spaces (at_page pid other) ≡ false) }
+        ensures none { IfNone result ((other : ℕ) → from ≤ other
+            → map.contains_key self.now.spaces (at_page pid other) ≡ false) }
     {
         let Some(directory) = space_of(&self.directories, pid) else {
             return None;

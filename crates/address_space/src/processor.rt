@@ -40,7 +40,8 @@ impl Spaces {
 
     /// Whether the walk of the second page finds a frame, where an access has a second page.
     fn finds_second(&self, pid: Pid, address: Vaddr, size: Size, access: Access) -> bool
-        ensures { result ≡ unwrap_or (option_map (λ page. finds_at (image_of self.now) pid access (start_number page)) (second_page address size)) true }
+        ensures { result ≡ unwrap_or (option_map (λ page. finds_at (image_of self.now) pid access (start_number page))
+            (second_page address size)) true }
     {
         match second_page(address, size) {
             Some(second) => second.0 < PAGES && self.finds_at(pid, start_of(second), access),
@@ -60,14 +61,17 @@ impl Spaces {
     /// end of the walks, and sets accessed in the words that lead to each page. `read` makes the same load.
     pub fn load_by_walk(&mut self, pid: Pid, address: Vaddr, size: Size) -> u32
         requires { finds (image_of self.old) pid address size Access.Read ≡ true }
-        ensures found { (directory : ℕ) → directory_of self.old.directories pid ≡ Some directory → result ≡ number_found self.old.bytes directory address size }
+        ensures found { (directory : ℕ) → directory_of self.old.directories pid ≡ Some directory
+            → result ≡ number_found self.old.bytes directory address size }
         ensures value { result ≡ number_of self.old.spaces pid (covered address size) }
-        ensures mapped { EachTouched address size (λ page. is_some (map.get self.old.spaces (at_page pid page)) ≡ true) }
+        ensures mapped { EachTouched address size (λ page. is_some (map.get self.old.spaces (at_page pid page))
+            ≡ true) }
         ensures spaces { self.new.spaces ≡ all_accessed self.old.spaces pid (touched address size) }
         ensures stay { FramesStay none_goes (image_of self.old) (image_of self.new) }
         ensures directories { self.new.directories ≡ self.old.directories }
         ensures roles { self.new.roles ≡ self.old.roles }
-        ensures bytes { (directory : ℕ) → directory_of self.old.directories pid ≡ Some directory → self.new.bytes ≡ after_walked_load self.old.bytes directory address (second_page address size) }
+        ensures bytes { (directory : ℕ) → directory_of self.old.directories pid ≡ Some directory
+            → self.new.bytes ≡ after_walked_load self.old.bytes directory address (second_page address size) }
     {
         let directory = home(&self.directories, pid);
         let value = found_number(&self.memory, directory, address, size);
@@ -86,10 +90,14 @@ impl Spaces {
         requires fits { address + 1 < 2 ^ 32 }
         ensures address { result.0 ≡ address + 1 }
         ensures value { result.1 ≡ value / 256 }
-        ensures spaces { self.new.spaces ≡ stored self.old.spaces (slot_at pid address) (offset_number address) (value % 256 ∷ []) }
+        ensures spaces { self.new.spaces ≡ stored self.old.spaces (slot_at pid address) (offset_number address)
+            (value % 256 ∷ []) }
         ensures stay { FramesStay none_goes (image_of self.old) (image_of self.new) }
-        ensures bytes { (directory : ℕ) → directory_of self.old.directories pid ≡ Some directory → self.new.bytes ≡ slice_set (marked self.old.bytes directory address Access.Write) (byte_place self.old.bytes directory address) (value % 256) }
-        ensures finds { (kind : Access) (at : ℕ) → finds_at (image_of self.new) pid kind at ≡ finds_at (image_of self.old) pid kind at }
+        ensures bytes { (directory : ℕ) → directory_of self.old.directories pid ≡ Some directory
+            → self.new.bytes ≡ slice_set (marked self.old.bytes directory address Access.Write)
+            (byte_place self.old.bytes directory address) (value % 256) }
+        ensures finds { (kind : Access) (at : ℕ) → finds_at (image_of self.new) pid kind at
+            ≡ finds_at (image_of self.old) pid kind at }
         ensures directories { self.new.directories ≡ self.old.directories }
         ensures roles { self.new.roles ≡ self.old.roles }
     {
@@ -100,11 +108,13 @@ impl Spaces {
 
     /// Stores where the walk of each byte leads, byte by byte.
     fn store_through(&mut self, pid: Pid, address: Vaddr, size: Size, value: u32)
-        requires finds { (i : ℕ) → i < byte_count size → finds_at (image_of self.old) pid Access.Write (address + i) ≡ true }
+        requires finds { (i : ℕ) → i < byte_count size → finds_at (image_of self.old) pid Access.Write (address + i)
+            ≡ true }
         requires fits { address + byte_count size < 2 ^ 32 }
         ensures spaces { self.new.spaces ≡ all_stored self.old.spaces pid address (bytes_of (byte_count size) value) }
         ensures stay { FramesStay none_goes (image_of self.old) (image_of self.new) }
-        ensures bytes { (directory : ℕ) → directory_of self.old.directories pid ≡ Some directory → self.new.bytes ≡ after_walked_store self.old.bytes directory address (bytes_of (byte_count size) value) }
+        ensures bytes { (directory : ℕ) → directory_of self.old.directories pid ≡ Some directory
+            → self.new.bytes ≡ after_walked_store self.old.bytes directory address (bytes_of (byte_count size) value) }
         ensures directories { self.new.directories ≡ self.old.directories }
         ensures roles { self.new.roles ≡ self.old.roles }
     {
@@ -129,12 +139,14 @@ impl Spaces {
     /// lead to each byte are marked, and it is written where they lead. It is the store that `write` makes.
     pub fn store_by_walk(&mut self, pid: Pid, address: Vaddr, size: Size, value: u32)
         requires { finds (image_of self.old) pid address size Access.Write ≡ true }
-        ensures takes { EachTouched address size (λ page. takes_stores self.old.spaces (image_of self.old) (at_page pid page) ≡ true) }
+        ensures takes { EachTouched address size (λ page. takes_stores self.old.spaces (image_of self.old)
+            (at_page pid page) ≡ true) }
         ensures spaces { self.new.spaces ≡ all_stored self.old.spaces pid address (bytes_of (byte_count size) value) }
         ensures stay { FramesStay none_goes (image_of self.old) (image_of self.new) }
         ensures directories { self.new.directories ≡ self.old.directories }
         ensures roles { self.new.roles ≡ self.old.roles }
-        ensures bytes { (directory : ℕ) → directory_of self.old.directories pid ≡ Some directory → self.new.bytes ≡ after_walked_store self.old.bytes directory address (bytes_of (byte_count size) value) }
+        ensures bytes { (directory : ℕ) → directory_of self.old.directories pid ≡ Some directory
+            → self.new.bytes ≡ after_walked_store self.old.bytes directory address (bytes_of (byte_count size) value) }
     {
         let _ = &self.memory;
         self.store_through(pid, address, size, value);
@@ -148,7 +160,8 @@ impl Spaces {
         ensures stay { FramesStay none_goes (image_of self.old) (image_of self.new) }
         ensures directories { self.new.directories ≡ self.old.directories }
         ensures roles { self.new.roles ≡ self.old.roles }
-        ensures bytes { (directory : ℕ) → directory_of self.old.directories pid ≡ Some directory → self.new.bytes ≡ with_walked self.old.bytes directory page walked }
+        ensures bytes { (directory : ℕ) → directory_of self.old.directories pid ≡ Some directory
+            → self.new.bytes ≡ with_walked self.old.bytes directory page walked }
     {
         let directory = home(&self.directories, pid);
         set_word_walked(&mut self.memory, directory, page, walked);
@@ -193,7 +206,9 @@ fn found_two(memory: &Memory, directory: Frame, address: Vaddr) -> u32
     requires first { IsOk (walk_of memory.now directory address Access.Read) }
     requires second { IsOk (walk_of memory.now directory (address + 1) Access.Read) }
     requires fits { address + 1 < 2 ^ 32 }
-    ensures value { result ≡ slice_index memory.now (byte_place memory.now directory address) + 256 * slice_index memory.now (byte_place memory.now directory (address + 1)) }
+    ensures value { result ≡ slice_index memory.now
+        (byte_place memory.now directory address) + 256 * slice_index memory.now
+        (byte_place memory.now directory (address + 1)) }
     ensures bound { result < 2 ^ 16 }
 {
     of_two(
@@ -222,10 +237,13 @@ pub fn found_number(memory: &Memory, directory: Frame, address: Vaddr, size: Siz
 /// Sets accessed and dirty in the words of a store, and writes the lowest byte of a number where they lead.
 pub fn put_byte_found(memory: &mut Memory, directory: Frame, address: Vaddr, value: u32)
     requires found { IsOk (walk_of memory.old directory address Access.Write) }
-    requires apart { ForOk (walk_of memory.old directory address Access.Write) (StandsApart memory.old directory address) }
-    ensures bytes { memory.new ≡ slice_set (marked memory.old directory address Access.Write) (byte_place memory.old directory address) (value % 256) }
+    requires apart { ForOk (walk_of memory.old directory address Access.Write)
+        (StandsApart memory.old directory address) }
+    ensures bytes { memory.new ≡ slice_set (marked memory.old directory address Access.Write)
+        (byte_place memory.old directory address) (value % 256) }
     ensures length { length memory.new ≡ length (marked memory.old directory address Access.Write) }
-    ensures walks { (other at : ℕ) (kind : Access) → walk_of (marked memory.old directory address Access.Write) other at kind ≡ walk_of memory.old other at kind }
+    ensures walks { (other at : ℕ) (kind : Access)
+        → walk_of (marked memory.old directory address Access.Write) other at kind ≡ walk_of memory.old other at kind }
 {
     let place = found_place(memory, directory, address, Access::Write);
     mark(memory, directory, address, Access::Write);
@@ -277,11 +295,15 @@ impl Spaces {
         requires fits { address + 1 < 2 ^ 32 }
         ensures address { result.0 ≡ address + 1 }
         ensures value { result.1 ≡ value / 256 }
-        ensures spaces { self.new.spaces ≡ stored self.old.spaces (slot_at pid address) (offset_number address) (value % 256 ∷ []) }
+        ensures spaces { self.new.spaces ≡ stored self.old.spaces (slot_at pid address) (offset_number address)
+            (value % 256 ∷ []) }
         ensures stay { FramesStay none_goes (image_of self.old) (image_of self.new) }
-        ensures bytes { (directory : ℕ) → directory_of self.old.directories pid ≡ Some directory → self.new.bytes ≡ slice_set self.old.bytes (byte_place self.old.bytes directory address) (value % 256) }
-        ensures walks { (directory at : ℕ) (kind : Access) → directory_of self.old.directories pid ≡ Some directory → at < 2 ^ 32 → walk_of self.new.bytes directory at kind ≡ walk_of self.old.bytes directory at kind }
-        ensures finds { (kind : Access) (at : ℕ) → finds_at (image_of self.new) pid kind at ≡ finds_at (image_of self.old) pid kind at }
+        ensures bytes { (directory : ℕ) → directory_of self.old.directories pid ≡ Some directory
+            → self.new.bytes ≡ slice_set self.old.bytes (byte_place self.old.bytes directory address) (value % 256) }
+        ensures walks { (directory at : ℕ) (kind : Access) → directory_of self.old.directories pid ≡ Some directory
+            → at < 2 ^ 32 → walk_of self.new.bytes directory at kind ≡ walk_of self.old.bytes directory at kind }
+        ensures finds { (kind : Access) (at : ℕ) → finds_at (image_of self.new) pid kind at
+            ≡ finds_at (image_of self.old) pid kind at }
         ensures marked { (slot : Slot) → is_marked self.old.spaces slot ≡ true → is_marked self.new.spaces slot ≡ true }
         ensures directories { self.new.directories ≡ self.old.directories }
         ensures roles { self.new.roles ≡ self.old.roles }
@@ -293,12 +315,15 @@ impl Spaces {
 
     /// Stores where the walk of each byte leads, byte by byte.
     fn store_through_kept(&mut self, pid: Pid, address: Vaddr, size: Size, value: u32)
-        requires finds { (i : ℕ) → i < byte_count size → finds_at (image_of self.old) pid Access.Write (address + i) ≡ true }
+        requires finds { (i : ℕ) → i < byte_count size → finds_at (image_of self.old) pid Access.Write (address + i)
+            ≡ true }
         requires marked { (i : ℕ) → i < byte_count size → is_marked self.old.spaces (slot_at pid (address + i)) ≡ true }
         requires fits { address + byte_count size < 2 ^ 32 }
         ensures spaces { self.new.spaces ≡ all_stored self.old.spaces pid address (bytes_of (byte_count size) value) }
         ensures stay { FramesStay none_goes (image_of self.old) (image_of self.new) }
-        ensures bytes { (directory : ℕ) (frames : ℕ → ℕ) → directory_of self.old.directories pid ≡ Some directory → LeadTo self.old.bytes directory Access.Write frames address size → self.new.bytes ≡ written_at frames self.old.bytes address (bytes_of (byte_count size) value) }
+        ensures bytes { (directory : ℕ) (frames : ℕ → ℕ) → directory_of self.old.directories pid ≡ Some directory
+            → LeadTo self.old.bytes directory Access.Write frames address size
+            → self.new.bytes ≡ written_at frames self.old.bytes address (bytes_of (byte_count size) value) }
         ensures directories { self.new.directories ≡ self.old.directories }
         ensures roles { self.new.roles ≡ self.old.roles }
     {
@@ -324,12 +349,15 @@ impl Spaces {
     pub fn store_kept(&mut self, pid: Pid, address: Vaddr, size: Size, value: u32)
         requires finds { finds (image_of self.old) pid address size Access.Write ≡ true }
         requires marked { EachTouched address size (λ page. is_marked self.old.spaces (at_page pid page) ≡ true) }
-        ensures takes { EachTouched address size (λ page. takes_stores self.old.spaces (image_of self.old) (at_page pid page) ≡ true) }
+        ensures takes { EachTouched address size (λ page. takes_stores self.old.spaces (image_of self.old)
+            (at_page pid page) ≡ true) }
         ensures spaces { self.new.spaces ≡ all_stored self.old.spaces pid address (bytes_of (byte_count size) value) }
         ensures stay { FramesStay none_goes (image_of self.old) (image_of self.new) }
         ensures directories { self.new.directories ≡ self.old.directories }
         ensures roles { self.new.roles ≡ self.old.roles }
-        ensures bytes { (directory : ℕ) (frames : ℕ → ℕ) → directory_of self.old.directories pid ≡ Some directory → LeadTo self.old.bytes directory Access.Write frames address size → self.new.bytes ≡ written_at frames self.old.bytes address (bytes_of (byte_count size) value) }
+        ensures bytes { (directory : ℕ) (frames : ℕ → ℕ) → directory_of self.old.directories pid ≡ Some directory
+            → LeadTo self.old.bytes directory Access.Write frames address size
+            → self.new.bytes ≡ written_at frames self.old.bytes address (bytes_of (byte_count size) value) }
     {
         let _ = &self.memory;
         self.store_through_kept(pid, address, size, value);

@@ -30,7 +30,8 @@ fn words_of(memory: &Memory, frame: Frame, role: Role) -> u32
 fn counts_of(alloc: Global, memory: &Memory, roles: &[Role]) -> Option<Vec<u32>>
     requires size { length memory.now ≡ 4096 * length roles.now }
     requires most { length roles.now ≤ WIDE_FRAMES }
-    ensures { IfSome result (λ counts. counts.items ≡ map (counted_at memory.now roles.now) (range_with_len 0 (length roles.now))) }
+    ensures { IfSome result (λ counts. counts.items
+        ≡ map (counted_at memory.now roles.now) (range_with_len 0 (length roles.now))) }
 {
     let frames = roles.len();
     let Ok(mut counts) = Vec::with_capacity(alloc, frames) else {

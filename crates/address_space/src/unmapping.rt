@@ -48,10 +48,12 @@ impl Spaces {
     fn unmap_found(&mut self, pid: Pid, page: Page, directory: Frame, found: &Found)
         requires home { directory_of self.old.directories pid ≡ Some directory }
         requires user { IsUserPage page }
-        requires found { found_in (directory_of self.old.directories) (frame_bytes self.old.bytes) pid page ≡ Some found.now }
+        requires found { found_in (directory_of self.old.directories) (frame_bytes self.old.bytes) pid page
+            ≡ Some found.now }
         ensures spaces { self.new.spaces ≡ without self.old.spaces (is_slot pid page) }
         ensures stay { FramesStay (of_page pid page) (image_of self.old) (image_of self.new) }
-        ensures words { EntryGone (frame_bytes self.old.bytes) directory found.now.table page (frame_bytes self.new.bytes) }
+        ensures words { EntryGone (frame_bytes self.old.bytes) directory found.now.table page
+            (frame_bytes self.new.bytes) }
         ensures long { length self.new.bytes ≡ length self.old.bytes }
         ensures directories { self.new.directories ≡ self.old.directories }
         ensures frames { length self.new.roles ≡ length self.old.roles }
@@ -106,9 +108,11 @@ impl Spaces {
         ensures spaces { self.new.spaces ≡ self.old.spaces }
         ensures stay { FramesStay none_goes (image_of self.old) (image_of self.new) }
         ensures lazy { (slot : Slot) → is_lazy_at (image_of self.new) slot ≡ is_lazy_at (image_of self.old) slot }
-        ensures costs { total_cost self.new.directories self.new.spaces ≡ total_cost self.old.directories self.old.spaces + 1 }
+        ensures costs { total_cost self.new.directories self.new.spaces
+            ≡ total_cost self.old.directories self.old.spaces + 1 }
         ensures live { is_some (directory_of self.new.directories pid) ≡ true }
-        ensures others { (other : ℕ) → other ≢ pid → directory_of self.new.directories other ≡ directory_of self.old.directories other }
+        ensures others { (other : ℕ) → other ≢ pid → directory_of self.new.directories other
+            ≡ directory_of self.old.directories other }
         ensures frames { length self.new.roles ≡ length self.old.roles }
     {
         let directory = take(&mut self.frames, Role::Directory { pid });
@@ -132,7 +136,8 @@ impl Spaces {
         requires table { table_of (frame_bytes self.old.bytes) directory slot ≡ Some table }
         requires low { 256 ≤ slot }
         requires high { slot < 960 }
-        ensures dropped { (v : View) → DroppedBelow v pid (1024 * slot) self.old → DroppedBelow v pid (1024 * slot + 1024) self.new }
+        ensures dropped { (v : View) → DroppedBelow v pid (1024 * slot) self.old
+            → DroppedBelow v pid (1024 * slot + 1024) self.new }
         ensures directories { self.new.directories ≡ self.old.directories }
     {
         let mut left = count_at(&self.counts, table);
@@ -171,7 +176,8 @@ impl Spaces {
         ensures spaces { self.new.spaces ≡ self.old.spaces }
         ensures stay { FramesStay (of_process pid) (image_of self.old) (image_of self.new) }
         ensures none { directory_of self.new.directories pid ≡ None }
-        ensures others { (other : ℕ) → other ≢ pid → directory_of self.new.directories other ≡ directory_of self.old.directories other }
+        ensures others { (other : ℕ) → other ≢ pid → directory_of self.new.directories other
+            ≡ directory_of self.old.directories other }
         ensures frames { length self.new.roles ≡ length self.old.roles }
     {
         self.frames.release(directory);
@@ -185,7 +191,8 @@ impl Spaces {
         ensures spaces { self.new.spaces ≡ without self.old.spaces (is_of pid) }
         ensures stay { FramesStay (of_process pid) (image_of self.old) (image_of self.new) }
         ensures none { directory_of self.new.directories pid ≡ None }
-        ensures others { (other : ℕ) → other ≢ pid → directory_of self.new.directories other ≡ directory_of self.old.directories other }
+        ensures others { (other : ℕ) → other ≢ pid → directory_of self.new.directories other
+            ≡ directory_of self.old.directories other }
         ensures frames { length self.new.roles ≡ length self.old.roles }
     {
         let directory = home(&self.directories, pid);

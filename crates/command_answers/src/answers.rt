@@ -63,7 +63,8 @@ pub fn status_of(answer: &Answer) -> u8
 /// Writes a fault of a program's job, in a line after the program's name.
 #[tactic(auto, unfolding(crate::specs::Answers::told_line))]
 fn tell_fault<E: Write>(program: &str, fault: ToolFault, errors: &mut E) -> io::Result<()>
-    ensures { OnOk result (Appends (E.contents errors.old) (E.contents errors.new) (told_line program.now (tool_message fault))) }
+    ensures { OnOk result (Appends (E.contents errors.old) (E.contents errors.new)
+        (told_line program.now (tool_message fault))) }
 {
     let message = Message(fault);
     write!(errors, "{program}: {message}\n")
@@ -72,7 +73,8 @@ fn tell_fault<E: Write>(program: &str, fault: ToolFault, errors: &mut E) -> io::
 /// Writes why the arguments of a command line were not read, in such a line.
 #[tactic(auto, unfolding(crate::specs::Answers::told_line))]
 fn tell_words<E: Write>(program: &str, fault: WordsFault, errors: &mut E) -> io::Result<()>
-    ensures { OnOk result (Appends (E.contents errors.old) (E.contents errors.new) (told_line program.now (words_text fault))) }
+    ensures { OnOk result (Appends (E.contents errors.old) (E.contents errors.new)
+        (told_line program.now (words_text fault))) }
 {
     write!(errors, "{program}: {fault}\n")
 }

@@ -27,7 +27,8 @@ fn process(rt: &impl Abort, number: u8) -> Pid {
 /// Gives a process an empty space.
 fn begin(rt: &impl Abort, spaces: &mut Spaces, pid: Pid)
     requires room { 2 + total_cost spaces.old.directories spaces.old.spaces ≤ length spaces.old.roles }
-    ensures costs { total_cost spaces.new.directories spaces.new.spaces ≡ 1 + total_cost spaces.old.directories spaces.old.spaces }
+    ensures costs { total_cost spaces.new.directories spaces.new.spaces
+        ≡ 1 + total_cost spaces.old.directories spaces.old.spaces }
     ensures frames { length spaces.new.roles ≡ length spaces.old.roles }
 {
     assert!(rt; spaces.directory(pid).is_none());
@@ -46,7 +47,8 @@ fn end(rt: &impl Abort, spaces: &mut Spaces, pid: Pid) {
 fn map_page(rt: &impl Abort, spaces: &mut Spaces, pid: Pid, page: Page, need: u32)
     requires user { IsUserPage page }
     requires room { 3 + total_cost spaces.old.directories spaces.old.spaces ≤ length spaces.old.roles }
-    ensures costs { total_cost spaces.new.directories spaces.new.spaces ≤ 2 + total_cost spaces.old.directories spaces.old.spaces }
+    ensures costs { total_cost spaces.new.directories spaces.new.spaces
+        ≤ 2 + total_cost spaces.old.directories spaces.old.spaces }
     ensures frames { length spaces.new.roles ≡ length spaces.old.roles }
 {
     assert!(rt; pid.number() < 64);

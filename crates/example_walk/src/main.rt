@@ -21,7 +21,8 @@ const ADDRESS: Vaddr = Vaddr(0x4000_0abc);
 
 /// How the processor's walk of a process's directory ends; None where the process is not live.
 fn walked(core: &Core, pid: Pid, address: Vaddr, access: Access) -> Option<Result<Frame, WalkEnd>>
-    ensures { result ≡ option_map (λ d. walk_of core.now.bytes d address access) (directory_of core.now.directories pid) }
+    ensures { result ≡ option_map (λ d. walk_of core.now.bytes d address access)
+        (directory_of core.now.directories pid) }
 {
     let directory = core.directory(pid)?;
     Some(walk(core.memory(), directory, address, access))
@@ -73,7 +74,9 @@ impl fmt::Display for Told {
 ///
 /// An error is that of a write.
 fn show<W: Write>(writer: &mut W, core: &Core, pid: Pid, address: Vaddr) -> io::Result<()>
-    ensures { OnOk result (Appends (W.contents writer.old) (W.contents writer.new) (walk_text (option_map (λ d. walk_of core.now.bytes d address access.Write) (directory_of core.now.directories pid)) ++ 10 ∷ [])) }
+    ensures { OnOk result (Appends (W.contents writer.old) (W.contents writer.new)
+        (walk_text (option_map (λ d. walk_of core.now.bytes d address access.Write)
+        (directory_of core.now.directories pid)) ++ 10 ∷ [])) }
 {
     let end = walked(core, pid, address, Access::Write);
     writer.writeln(Told { end })

@@ -100,7 +100,8 @@ pub fn try_access(
     ensures live { IsSome result → is_live processes.old.state pid ≡ true }
     ensures plan { IsSome result ↔ plan_at processes.old pid address size access ≡ at_once }
     ensures value { IfSome result (λ value. value ≡ access_value processes.old.state pid address size access) }
-    ensures state { IsSome result → processes.new.state ≡ after_access processes.old.state pid address size access value }
+    ensures state { IsSome result → processes.new.state
+        ≡ after_access processes.old.state pid address size access value }
     ensures stay { FramesStay none_goes (memory_of processes.old) (memory_of processes.new) }
     ensures none { IsNone result → processes.new ≡ processes.old }
 {
@@ -155,7 +156,8 @@ fn settle_in_page(
     requires place { place.now ≡ place_in processes.old.directories processes.old.bytes pid (page_number address) }
     ensures value { result ≡ access_value processes.old.state pid address size access }
     ensures state { processes.new.state ≡ after_access processes.old.state pid address size access value }
-    ensures stay { FramesStay (lazy_written access pid address size) (memory_of processes.old) (memory_of processes.new) }
+    ensures stay { FramesStay (lazy_written access pid address size) (memory_of processes.old)
+        (memory_of processes.new) }
 {
     let page = page_of(address);
     let mapped = map_by_step(processes, pid, page, how, place);
@@ -184,7 +186,8 @@ fn plan_and_settle(
     requires user { IsUserPage (page_number address) }
     ensures result { result ≡ access_result processes.old pid address size access }
     ensures state { IsOk result → processes.new.state ≡ after_access processes.old.state pid address size access value }
-    ensures stay { FramesStay (lazy_written access pid address size) (memory_of processes.old) (memory_of processes.new) }
+    ensures stay { FramesStay (lazy_written access pid address size) (memory_of processes.old)
+        (memory_of processes.new) }
     ensures kept { IsErr result → processes.new ≡ processes.old }
 {
     let Some(container) = processes.container(pid) else {
@@ -212,7 +215,8 @@ fn access_over(
 ) -> Result<u32, Stop>
     ensures result { result ≡ access_result processes.old pid address size access }
     ensures state { IsOk result → processes.new.state ≡ after_access processes.old.state pid address size access value }
-    ensures stay { FramesStay (lazy_written access pid address size) (memory_of processes.old) (memory_of processes.new) }
+    ensures stay { FramesStay (lazy_written access pid address size) (memory_of processes.old)
+        (memory_of processes.new) }
     ensures kept { IsErr result → processes.new ≡ processes.old }
 {
     let Some(container) = processes.container(pid) else {
@@ -239,7 +243,8 @@ fn access_over(
 /// Why an access stops whose first byte outside the user range this is.
 #[inline(always)]
 fn stop_outside(processes: &Processes, pid: Pid, byte: Vaddr, access: Access) -> Stop
-    ensures { result ≡ (if is_live processes.now.state pid then stop.Fault (page_fault byte access false) else stop.Refused NoProcess) }
+    ensures { result ≡ (if is_live processes.now.state pid then stop.Fault (page_fault byte access false)
+        else stop.Refused NoProcess) }
 {
     if processes.live(pid) {
         Stop::Fault(PageFault::new(byte, access, false))
@@ -263,7 +268,8 @@ pub fn access(
 ) -> Result<u32, Stop>
     ensures result { result ≡ access_result processes.old pid address size access }
     ensures state { IsOk result → processes.new.state ≡ after_access processes.old.state pid address size access value }
-    ensures stay { FramesStay (lazy_written access pid address size) (memory_of processes.old) (memory_of processes.new) }
+    ensures stay { FramesStay (lazy_written access pid address size) (memory_of processes.old)
+        (memory_of processes.new) }
     ensures kept { IsErr result → processes.new ≡ processes.old }
 {
     if let Some(byte) = outside(address, size) {

@@ -64,7 +64,8 @@ fn map_by_step(
     requires how { is_mapped processes.old.state (at_page pid page) ≡ not (maps_page how) }
     requires room { overdrawn processes.old.state pid (page ∷ []) ≡ false }
     requires place { place.now ≡ place_in processes.old.directories processes.old.bytes pid page }
-    ensures state { processes.new.state ≡ record processes.old.state { spaces = with_page processes.old.state.spaces pid page } }
+    ensures state { processes.new.state ≡ record processes.old.state
+        { spaces = with_page processes.old.state.spaces pid page } }
     ensures stay { FramesStay none_goes (memory_of processes.old) (memory_of processes.new) }
     ensures place { result ≡ place_in processes.new.directories processes.new.bytes pid page }
 {
@@ -87,9 +88,14 @@ fn map_behind(
     requires user { IsUserPage second }
     requires how { is_mapped processes.old.state (at_page pid second) ≡ not (maps_page how) }
     requires room { overdrawn processes.old.state pid (second ∷ []) ≡ false }
-    ensures state { processes.new.state ≡ record processes.old.state { spaces = with_page processes.old.state.spaces pid second } }
+    ensures state { processes.new.state ≡ record processes.old.state
+        { spaces = with_page processes.old.state.spaces pid second } }
     ensures stay { FramesStay none_goes (memory_of processes.old) (memory_of processes.new) }
-    ensures places { result ≡ record { first = place_at processes.new pid page; second = place_at processes.new pid second } }
+    ensures places { result ≡ record {
+      first = place_at processes.new pid page;
+      second = place_at processes.new pid
+          second;
+    } }
 {
     let place = processes.spaces().place(pid, second);
     let behind = map_by_step(processes, pid, second, how, &place);
@@ -113,9 +119,11 @@ fn map_pages(
     requires user { EachTouched address size IsUserPage }
     requires room { overdrawn processes.old.state pid (touched address size) ≡ false }
     requires first { is_mapped processes.old.state (at_page pid (page_number address)) ≡ not (maps_page first) }
-    requires second { option_map (λ page. is_mapped processes.old.state (at_page pid page)) (second_page address size) ≡ option_map (λ how. not (maps_page how)) second }
+    requires second { option_map (λ page. is_mapped processes.old.state (at_page pid page)) (second_page address size)
+        ≡ option_map (λ how. not (maps_page how)) second }
     requires place { place.now ≡ place_in processes.old.directories processes.old.bytes pid (page_number address) }
-    ensures state { processes.new.state ≡ record processes.old.state { spaces = with_pages processes.old.state.spaces pid (touched address size) } }
+    ensures state { processes.new.state ≡ record processes.old.state
+        { spaces = with_pages processes.old.state.spaces pid (touched address size) } }
     ensures stay { FramesStay none_goes (memory_of processes.old) (memory_of processes.new) }
     ensures places { result ≡ access_places processes.new pid address size }
 {
@@ -137,8 +145,13 @@ fn fill_behind(processes: &mut Processes, pid: Pid, page: Page, second: Page) ->
     ensures state { processes.new.state ≡ processes.old.state }
     ensures stay { FramesStay (of_lazy pid second) (memory_of processes.old) (memory_of processes.new) }
     ensures real { is_lazy_at (memory_of processes.new) (at_page pid second) ≡ false }
-    ensures others { (slot : Slot) → is_lazy_at (memory_of processes.old) slot ≡ false → is_lazy_at (memory_of processes.new) slot ≡ false }
-    ensures places { result ≡ record { first = place_at processes.new pid page; second = place_at processes.new pid second } }
+    ensures others { (slot : Slot) → is_lazy_at (memory_of processes.old) slot ≡ false
+        → is_lazy_at (memory_of processes.new) slot ≡ false }
+    ensures places { result ≡ record {
+      first = place_at processes.new pid page;
+      second = place_at processes.new pid
+          second;
+    } }
 {
     let place = processes.spaces().place(pid, second);
     let behind = processes.fill_at(pid, second, &place);
@@ -190,9 +203,12 @@ fn make_ready(
     requires plan { plan.now ≡ plan_at processes.old pid address size access }
     requires ready { goes_on plan.now ≡ true }
     requires places { places.now ≡ access_places processes.old pid address size }
-    ensures state { processes.new.state ≡ record processes.old.state { spaces = with_pages processes.old.state.spaces pid (touched address size) } }
-    ensures stay { FramesStay (lazy_written access pid address size) (memory_of processes.old) (memory_of processes.new) }
-    ensures real { access ≡ Access.Write → EachTouched address size (λ page. is_lazy_at (memory_of processes.new) (at_page pid page) ≡ false) }
+    ensures state { processes.new.state ≡ record processes.old.state
+        { spaces = with_pages processes.old.state.spaces pid (touched address size) } }
+    ensures stay { FramesStay (lazy_written access pid address size) (memory_of processes.old)
+        (memory_of processes.new) }
+    ensures real { access ≡ Access.Write → EachTouched address size
+        (λ page. is_lazy_at (memory_of processes.new) (at_page pid page) ≡ false) }
     ensures at_once { takes_no_frame plan.now ≡ true → processes.new ≡ processes.old }
     ensures places { result ≡ access_places processes.new pid address size }
 {
@@ -228,7 +244,8 @@ pub fn settle(
     requires ready { goes_on plan ≡ true }
     ensures value { result ≡ access_value processes.old.state pid address size access }
     ensures state { processes.new.state ≡ after_access processes.old.state pid address size access value }
-    ensures stay { FramesStay (lazy_written access pid address size) (memory_of processes.old) (memory_of processes.new) }
+    ensures stay { FramesStay (lazy_written access pid address size) (memory_of processes.old)
+        (memory_of processes.new) }
     ensures frames { takes_no_frame plan ≡ true → processes.new.roles ≡ processes.old.roles }
 {
     let places = processes.access_places(pid, address, size);
@@ -251,7 +268,8 @@ pub fn settle_at(
     requires places { places.now ≡ access_places processes.old pid address size }
     ensures value { result ≡ access_value processes.old.state pid address size access }
     ensures state { processes.new.state ≡ after_access processes.old.state pid address size access value }
-    ensures stay { FramesStay (lazy_written access pid address size) (memory_of processes.old) (memory_of processes.new) }
+    ensures stay { FramesStay (lazy_written access pid address size) (memory_of processes.old)
+        (memory_of processes.new) }
     ensures frames { takes_no_frame plan.now ≡ true → processes.new.roles ≡ processes.old.roles }
 {
     let places = make_ready(processes, plan, pid, address, size, access, places);
@@ -276,8 +294,10 @@ pub fn complete_by_walk(
     ensures stay { FramesStay none_goes (memory_of processes.old) (memory_of processes.new) }
     ensures directories { processes.new.directories ≡ processes.old.directories }
     ensures roles { processes.new.roles ≡ processes.old.roles }
-    ensures bytes { (directory : ℕ) → directory_of processes.old.directories pid ≡ Some directory → processes.new.bytes ≡ after_walked processes.old.bytes directory address size access value }
-    ensures found { (directory : ℕ) → directory_of processes.old.directories pid ≡ Some directory → result ≡ value_found processes.old.bytes directory address size access }
+    ensures bytes { (directory : ℕ) → directory_of processes.old.directories pid ≡ Some directory
+        → processes.new.bytes ≡ after_walked processes.old.bytes directory address size access value }
+    ensures found { (directory : ℕ) → directory_of processes.old.directories pid ≡ Some directory
+        → result ≡ value_found processes.old.bytes directory address size access }
     ensures containers { (p : ℕ) → container_of processes.new.state p ≡ container_of processes.old.state p }
 {
     processes.access_by_walk(pid, address, size, access, value)
@@ -287,14 +307,17 @@ pub fn complete_by_walk(
 /// touches are set already. Its plan completes as memory stands, so that it takes no frame.
 pub fn complete_kept(processes: &mut Processes, pid: Pid, address: Vaddr, size: Size, value: u32)
     requires finds { finds (memory_of processes.old) pid address size Access.Write ≡ true }
-    requires marked { EachTouched address size (λ page. is_marked processes.old.state.spaces (at_page pid page) ≡ true) }
+    requires marked { EachTouched address size (λ page. is_marked processes.old.state.spaces (at_page pid page)
+        ≡ true) }
     ensures live { is_live processes.old.state pid ≡ true }
     ensures plan { takes_no_frame (plan_at processes.old pid address size Access.Write) ≡ true }
     ensures state { processes.new.state ≡ after_access processes.old.state pid address size Access.Write value }
     ensures stay { FramesStay none_goes (memory_of processes.old) (memory_of processes.new) }
     ensures directories { processes.new.directories ≡ processes.old.directories }
     ensures roles { processes.new.roles ≡ processes.old.roles }
-    ensures bytes { (directory : ℕ) (frames : ℕ → ℕ) → directory_of processes.old.directories pid ≡ Some directory → LeadTo processes.old.bytes directory Access.Write frames address size → processes.new.bytes ≡ written_at frames processes.old.bytes address (bytes_of (byte_count size) value) }
+    ensures bytes { (directory : ℕ) (frames : ℕ → ℕ) → directory_of processes.old.directories pid ≡ Some directory
+        → LeadTo processes.old.bytes directory Access.Write frames address size
+        → processes.new.bytes ≡ written_at frames processes.old.bytes address (bytes_of (byte_count size) value) }
     ensures containers { (p : ℕ) → container_of processes.new.state p ≡ container_of processes.old.state p }
 {
     processes.store_kept(pid, address, size, value);

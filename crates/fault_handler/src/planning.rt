@@ -157,8 +157,10 @@ pub fn plan_by(
     requires container { container_of processes.now.state pid ≡ Some container.now }
     requires places { places.now ≡ access_places processes.now pid address size }
     ensures plan { result.plan ≡ plan_at processes.now pid address size access }
-    ensures load { goes_on result.plan ≡ true → result.charge ≡ cost (after_load processes.now.state pid address size).spaces pid }
-    ensures store { (value : ℕ) → goes_on result.plan ≡ true → result.charge ≡ cost (after_store processes.now.state pid address size value).spaces pid }
+    ensures load { goes_on result.plan ≡ true → result.charge
+        ≡ cost (after_load processes.now.state pid address size).spaces pid }
+    ensures store { (value : ℕ) → goes_on result.plan ≡ true
+        → result.charge ≡ cost (after_store processes.now.state pid address size value).spaces pid }
     ensures stays { goes_on result.plan ≡ false → result.charge ≡ cost processes.now.state.spaces pid }
 {
     planned_of(processes, pid, address, size, access, container, places)

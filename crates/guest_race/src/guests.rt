@@ -62,7 +62,8 @@ fn run_guest<N: Name, R: Wait>(
     pid: Pid,
     program: &[Instruction],
 ) -> End
-    ensures { (guest : GuestView) × HasRun (IsCpuStep N.frames) program.now turns (opening_guest cpu.old.number pid) cpu.old result guest cpu.new }
+    ensures { (guest : GuestView) × HasRun (IsCpuStep N.frames) program.now turns
+        (opening_guest cpu.old.number pid) cpu.old result guest cpu.new }
 {
     let mut guest = Guest::new(cpu.number(), pid);
     let mut port = CpuPort::new(rt, cpu, kernel);
@@ -78,7 +79,8 @@ fn play_guest<N: Name, R: Wait>(
     pid: Pid,
 ) -> (Cpu<N>, Option<RoundFault>)
     requires { (pid ≤ 1) × (cpu.number ≡ pid) }
-    ensures { IfNone result.1 ((result.0.number ≡ pid) × Halts pid (entries_of pid cpu.seen) (entries_of pid result.0.seen)) }
+    ensures { IfNone result.1 ((result.0.number ≡ pid)
+        × Halts pid (entries_of pid cpu.seen) (entries_of pid result.0.seen)) }
 {
     let program = program_of(u32::from(pid.number()));
     let mut cpu = cpu;

@@ -23,7 +23,8 @@ pub trait Referee {
     fn report<N: Name>(&mut self, monitor: &mut Monitor<N>) -> Option<Seen>
         ensures asked { IfSome result (λ s. reported self.old s.report self.new) }
         ensures later { IfSome result (λ s. StartsWith monitor.new monitor.old) }
-        ensures report { IfSome result (λ s. Legal N.frames monitor.new × (s.report ≡ report_of (state_after N.frames monitor.new))) };
+        ensures report { IfSome result (λ s. Legal N.frames monitor.new
+            × (s.report ≡ report_of (state_after N.frames monitor.new))) };
 
     /// Asks an audit, whose helpers come back and have each answered that no number is left, for its verdict.
     fn verdict(&mut self, audit: Audit, helpers: Vec<Helper>) -> Result<Verdict, AuditFault>

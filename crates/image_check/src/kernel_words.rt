@@ -15,7 +15,8 @@ fn bit(word: u32, place: u32) -> bool
 }
 
 fn is_bare_link(word: u32) -> bool
-    ensures { result ≡ are_clear word (List.◌∷◌ 3 (List.◌∷◌ 4 (List.◌∷◌ 6 (List.◌∷◌ 7 (List.◌∷◌ 8 (List.◌∷◌ 9 (List.◌∷◌ 10 (List.◌∷◌ 11 List.[])))))))) }
+    ensures { result ≡ are_clear word (List.◌∷◌ 3
+        (List.◌∷◌ 4 (List.◌∷◌ 6 (List.◌∷◌ 7 (List.◌∷◌ 8 (List.◌∷◌ 9 (List.◌∷◌ 10 (List.◌∷◌ 11 List.[])))))))) }
 {
     !bit(word, 3)
         && !bit(word, 4)
@@ -34,7 +35,8 @@ fn is_bare_entry(word: u32) -> bool
 }
 
 fn is_bare_real_entry(word: u32) -> bool
-    ensures { result ≡ are_clear word (List.◌∷◌ 3 (List.◌∷◌ 4 (List.◌∷◌ 7 (List.◌∷◌ 8 (List.◌∷◌ 10 (List.◌∷◌ 11 List.[])))))) }
+    ensures { result ≡ are_clear word (List.◌∷◌ 3
+        (List.◌∷◌ 4 (List.◌∷◌ 7 (List.◌∷◌ 8 (List.◌∷◌ 10 (List.◌∷◌ 11 List.[])))))) }
 {
     !bit(word, 3)
         && !bit(word, 4)

@@ -178,8 +178,10 @@ fn live_clause(
     process: &Process,
     found: Option<Walked>,
 ) -> Option<ProcessClause>
-    requires links { is_some found ≡ all_range (λ s. links_table image.now pid s (word_of (memory_of image.now) process.now.directory s)) 0 1024 }
-    requires right { IfSome found (λ w. w.right ≡ all_range (λ s. table_is_right image.now (table_at (memory_of image.now) pid s)) 256 704) }
+    requires links { is_some found ≡ all_range (λ s. links_table image.now pid s
+        (word_of (memory_of image.now) process.now.directory s)) 0 1024 }
+    requires right { IfSome found (λ w. w.right ≡ all_range
+        (λ s. table_is_right image.now (table_at (memory_of image.now) pid s)) 256 704) }
     requires tables { IfSome found (λ w. w.tables ≡ tables_by image.now pid) }
     requires pages { IfSome found (λ w. w.pages ≡ pages_by image.now pid) }
     requires few { IfSome found (λ w. (w.tables ≤ 704) × (w.pages ≤ 720896)) }

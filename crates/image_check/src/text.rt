@@ -94,8 +94,10 @@ fn write_process<W: Write>(
     clause: &Option<ProcessClause>,
     writer: &mut W,
 ) -> Result<(), WriteFailed>
-    ensures ok { OnOk result (Appends (W.contents writer.old) (W.contents writer.new) (process_line number clause.now)) }
-    ensures err { OnErr result (AppendsFront (W.contents writer.old) (W.contents writer.new) (process_line number clause.now)) }
+    ensures ok { OnOk result (Appends (W.contents writer.old) (W.contents writer.new)
+        (process_line number clause.now)) }
+    ensures err { OnErr result (AppendsFront (W.contents writer.old) (W.contents writer.new)
+        (process_line number clause.now)) }
 {
     match clause {
         Some(clause) => write_whole(writer, &process_line(number, *clause)),
@@ -111,7 +113,8 @@ fn write_frame<W: Write>(
     writer: &mut W,
 ) -> Result<(), WriteFailed>
     ensures ok { OnOk result (Appends (W.contents writer.old) (W.contents writer.new) (frame_line number clause.now)) }
-    ensures err { OnErr result (AppendsFront (W.contents writer.old) (W.contents writer.new) (frame_line number clause.now)) }
+    ensures err { OnErr result (AppendsFront (W.contents writer.old) (W.contents writer.new)
+        (frame_line number clause.now)) }
 {
     match clause {
         Some(clause) => write_whole(writer, &frame_line(number, *clause)),
@@ -124,8 +127,10 @@ fn write_processes<W: Write>(
     writer: &mut W,
 ) -> Result<(), WriteFailed>
     requires { length clauses.now < 2 ^ 32 }
-    ensures ok { OnOk result (Appends (W.contents writer.old) (W.contents writer.new) (lines_from process_line 0 clauses.now)) }
-    ensures err { OnErr result (AppendsFront (W.contents writer.old) (W.contents writer.new) (lines_from process_line 0 clauses.now)) }
+    ensures ok { OnOk result (Appends (W.contents writer.old) (W.contents writer.new)
+        (lines_from process_line 0 clauses.now)) }
+    ensures err { OnErr result (AppendsFront (W.contents writer.old) (W.contents writer.new)
+        (lines_from process_line 0 clauses.now)) }
 {
     for (number, clause) in clauses.iter().enumerate() {
         write_process(number as u32, clause, writer)?;
@@ -138,8 +143,10 @@ fn write_frames<W: Write>(
     writer: &mut W,
 ) -> Result<(), WriteFailed>
     requires { length clauses.now < 2 ^ 32 }
-    ensures ok { OnOk result (Appends (W.contents writer.old) (W.contents writer.new) (lines_from frame_line 0 clauses.now)) }
-    ensures err { OnErr result (AppendsFront (W.contents writer.old) (W.contents writer.new) (lines_from frame_line 0 clauses.now)) }
+    ensures ok { OnOk result (Appends (W.contents writer.old) (W.contents writer.new)
+        (lines_from frame_line 0 clauses.now)) }
+    ensures err { OnErr result (AppendsFront (W.contents writer.old) (W.contents writer.new)
+        (lines_from frame_line 0 clauses.now)) }
 {
     for (number, clause) in clauses.iter().enumerate() {
         write_frame(number as u32, clause, writer)?;
@@ -150,15 +157,18 @@ fn write_frames<W: Write>(
 /// Writes the line of a sound image.
 fn write_sound<W: Write>(writer: &mut W) -> Result<(), WriteFailed>
     ensures ok { OnOk result (Appends (W.contents writer.old) (W.contents writer.new) (codes "sound" ++ 10 ∷ [])) }
-    ensures err { OnErr result (AppendsFront (W.contents writer.old) (W.contents writer.new) (codes "sound" ++ 10 ∷ [])) }
+    ensures err { OnErr result (AppendsFront (W.contents writer.old) (W.contents writer.new)
+        (codes "sound" ++ 10 ∷ [])) }
 {
     write_whole(writer, b"sound\n")
 }
 
 /// Writes the lines of the clauses that fail.
 fn write_failing<W: Write>(verdict: &Verdict, writer: &mut W) -> Result<(), WriteFailed>
-    ensures ok { OnOk result (Appends (W.contents writer.old) (W.contents writer.new) (process_lines verdict.now ++ frame_lines verdict.now)) }
-    ensures err { OnErr result (AppendsFront (W.contents writer.old) (W.contents writer.new) (process_lines verdict.now ++ frame_lines verdict.now)) }
+    ensures ok { OnOk result (Appends (W.contents writer.old) (W.contents writer.new)
+        (process_lines verdict.now ++ frame_lines verdict.now)) }
+    ensures err { OnErr result (AppendsFront (W.contents writer.old) (W.contents writer.new)
+        (process_lines verdict.now ++ frame_lines verdict.now)) }
 {
     write_processes(verdict.processes(), writer)?;
     write_frames(verdict.frames(), writer)
@@ -171,7 +181,8 @@ impl Verdict {
     /// WriteFailed where a write fails; what was written is then a front of the text.
     pub fn write_text<W: Write>(&self, writer: &mut W) -> Result<(), WriteFailed>
         ensures ok { OnOk result (Appends (W.contents writer.old) (W.contents writer.new) (verdict_text self.now)) }
-        ensures err { OnErr result (AppendsFront (W.contents writer.old) (W.contents writer.new) (verdict_text self.now)) }
+        ensures err { OnErr result (AppendsFront (W.contents writer.old) (W.contents writer.new)
+            (verdict_text self.now)) }
     {
         if self.sound() {
             write_sound(writer)

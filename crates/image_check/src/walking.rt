@@ -74,9 +74,11 @@ fn walk_pages(
     requires table { table ≡ table_at (memory_of image.now) pid slot }
     requires room { HaveRoom maps.old 1024 }
     ensures right { result.right ≡ table_is_right image.now table }
-    ensures words { result.words ≡ count_range (λ page. is_some (page_word (memory_of image.now) (at_page pid page))) (1024 * slot) 1024 }
+    ensures words { result.words ≡ count_range (λ page. is_some (page_word (memory_of image.now) (at_page pid page)))
+        (1024 * slot) 1024 }
     ensures bound { result.words ≤ 1024 }
-    ensures maps { Adds maps.old maps.new (λ f. count_range (λ page. is_this f (frame_of image.now pid page)) (1024 * slot) 1024) }
+    ensures maps { Adds maps.old maps.new (λ f. count_range (λ page. is_this f (frame_of image.now pid page))
+        (1024 * slot) 1024) }
 {
     image.within();
     match table {
@@ -138,10 +140,12 @@ fn walk_slot(
     requires maps { HaveRoom maps.old 1024 }
     ensures right { result.right ≡ table_is_right image.now (table_at (memory_of image.now) pid slot) }
     ensures tables { result.tables ≡ counted (is_some (table_at (memory_of image.now) pid slot)) }
-    ensures pages { result.pages ≡ count_range (λ page. is_some (page_word (memory_of image.now) (at_page pid page))) (1024 * slot) 1024 }
+    ensures pages { result.pages ≡ count_range (λ page. is_some (page_word (memory_of image.now) (at_page pid page)))
+        (1024 * slot) 1024 }
     ensures few { (result.tables ≤ 1) × (result.pages ≤ 1024) }
     ensures names { Adds names.old names.new (λ f. counted (is_this f (table_at (memory_of image.now) pid slot))) }
-    ensures maps { Adds maps.old maps.new (λ f. count_range (λ page. is_this f (frame_of image.now pid page)) (1024 * slot) 1024) }
+    ensures maps { Adds maps.old maps.new (λ f. count_range (λ page. is_this f (frame_of image.now pid page))
+        (1024 * slot) 1024) }
 {
     let word = image.word(directory, slot);
     count_one(names, named_by(slot, word));
@@ -164,7 +168,8 @@ fn walk_tables(
     requires directory { directory_at (memory_of image.now) pid ≡ Some directory }
     requires names { HaveRoom names.old 704 }
     requires maps { HaveRoom maps.old 720896 }
-    ensures right { result.right ≡ all_range (λ s. table_is_right image.now (table_at (memory_of image.now) pid s)) 256 704 }
+    ensures right { result.right ≡ all_range (λ s. table_is_right image.now (table_at (memory_of image.now) pid s)) 256
+        704 }
     ensures tables { result.tables ≡ tables_by image.now pid }
     ensures pages { result.pages ≡ pages_by image.now pid }
     ensures few { (result.tables ≤ 704) × (result.pages ≤ 720896) }
@@ -220,8 +225,10 @@ pub fn walk(
     requires directory { directory_at (memory_of image.now) pid ≡ Some directory }
     requires names { HaveRoom names.old 704 }
     requires maps { HaveRoom maps.old 720896 }
-    ensures links { is_some result ≡ all_range (λ s. links_table image.now pid s (word_of (memory_of image.now) directory s)) 0 1024 }
-    ensures right { IfSome result (λ w. w.right ≡ all_range (λ s. table_is_right image.now (table_at (memory_of image.now) pid s)) 256 704) }
+    ensures links { is_some result ≡ all_range (λ s. links_table image.now pid s
+        (word_of (memory_of image.now) directory s)) 0 1024 }
+    ensures right { IfSome result (λ w. w.right ≡ all_range
+        (λ s. table_is_right image.now (table_at (memory_of image.now) pid s)) 256 704) }
     ensures tables { IfSome result (λ w. w.tables ≡ tables_by image.now pid) }
     ensures pages { IfSome result (λ w. w.pages ≡ pages_by image.now pid) }
     ensures few { IfSome result (λ w. (w.tables ≤ 704) × (w.pages ≤ 720896)) }

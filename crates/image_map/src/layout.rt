@@ -80,7 +80,8 @@ impl Scale {
     }
 
     pub(crate) fn look(self) -> Look
-        ensures { (result.side ≤ 48) × (result.label ≤ 48) × (result.upper ≤ 48) × (result.clause ≤ 48) × (result.tick ≤ 3) }
+        ensures { (result.side ≤ 48) × (result.label ≤ 48) × (result.upper ≤ 48) × (result.clause ≤ 48)
+            × (result.tick ≤ 3) }
     {
         match self {
             Scale::Large => Look {

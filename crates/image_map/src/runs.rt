@@ -76,7 +76,8 @@ fn goes_on(run: &Run, next: &Run) -> bool
 /// Joins the next run to the current one, or closes that and opens the next; the run that is current then.
 fn take_next(closed: &mut Runs, current: Run, next: &Run) -> Run
     requires { array_vec_len closed.old < 1024 }
-    ensures runs { (rest : List Run) → closed.new.items ++ runs_from result rest ≡ closed.old.items ++ runs_from current (next.now ∷ rest) }
+    ensures runs { (rest : List Run) → closed.new.items ++ runs_from result rest
+        ≡ closed.old.items ++ runs_from current (next.now ∷ rest) }
     ensures len { array_vec_len closed.new ≤ array_vec_len closed.old + 1 }
 {
     if goes_on(&current, next) {

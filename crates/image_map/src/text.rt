@@ -21,15 +21,18 @@ use text_output::write_whole;
 /// Writes the line of a run.
 fn write_run<W: Write>(image: &Image, run: &Run, writer: &mut W) -> Result<(), WriteFailed>
     ensures ok { OnOk result (Appends (W.contents writer.old) (W.contents writer.new) (run_line image.now run.now)) }
-    ensures err { OnErr result (AppendsFront (W.contents writer.old) (W.contents writer.new) (run_line image.now run.now)) }
+    ensures err { OnErr result (AppendsFront (W.contents writer.old) (W.contents writer.new)
+        (run_line image.now run.now)) }
 {
     write_whole(writer, &run_line(image, run))
 }
 
 /// Writes a line for each run.
 fn write_runs<W: Write>(image: &Image, runs: &[Run], writer: &mut W) -> Result<(), WriteFailed>
-    ensures ok { OnOk result (Appends (W.contents writer.old) (W.contents writer.new) (flat_map (run_line image.now) runs.now)) }
-    ensures err { OnErr result (AppendsFront (W.contents writer.old) (W.contents writer.new) (flat_map (run_line image.now) runs.now)) }
+    ensures ok { OnOk result (Appends (W.contents writer.old) (W.contents writer.new)
+        (flat_map (run_line image.now) runs.now)) }
+    ensures err { OnErr result (AppendsFront (W.contents writer.old) (W.contents writer.new)
+        (flat_map (run_line image.now) runs.now)) }
 {
     for place in 0..runs.len() {
         write_run(image, &runs[place], writer)?;
@@ -47,8 +50,10 @@ fn listed(runs: &[Run], most: u32) -> &[Run]
 /// Writes how many runs are not listed, where there are some.
 fn write_more<W: Write>(most: u32, runs: &[Run], writer: &mut W) -> Result<(), WriteFailed>
     requires { length runs.now ≤ 1024 }
-    ensures ok { OnOk result (Appends (W.contents writer.old) (W.contents writer.new) (more_line (length runs.now - most))) }
-    ensures err { OnErr result (AppendsFront (W.contents writer.old) (W.contents writer.new) (more_line (length runs.now - most))) }
+    ensures ok { OnOk result (Appends (W.contents writer.old) (W.contents writer.new)
+        (more_line (length runs.now - most))) }
+    ensures err { OnErr result (AppendsFront (W.contents writer.old) (W.contents writer.new)
+        (more_line (length runs.now - most))) }
 {
     let more = (runs.len() as u32).saturating_sub(most);
     write_whole(writer, &more_line(more))
@@ -62,8 +67,10 @@ fn write_table<W: Write>(
     writer: &mut W,
 ) -> Result<(), WriteFailed>
     requires { length runs.now ≤ 1024 }
-    ensures ok { OnOk result (Appends (W.contents writer.old) (W.contents writer.new) (runs_text image.now most runs.now)) }
-    ensures err { OnErr result (AppendsFront (W.contents writer.old) (W.contents writer.new) (runs_text image.now most runs.now)) }
+    ensures ok { OnOk result (Appends (W.contents writer.old) (W.contents writer.new)
+        (runs_text image.now most runs.now)) }
+    ensures err { OnErr result (AppendsFront (W.contents writer.old) (W.contents writer.new)
+        (runs_text image.now most runs.now)) }
 {
     write_runs(image, listed(runs, most), writer)?;
     write_more(most, runs, writer)
@@ -80,8 +87,10 @@ fn write_slot<W: Write>(
 ) -> Result<(), WriteFailed>
     requires directory { directory_at (memory_of image.now) pid ≡ Some directory }
     requires slot { (256 ≤ slot) × (slot < 960) }
-    ensures ok { OnOk result (Appends (W.contents writer.old) (W.contents writer.new) (slot_text image.now most pid slot)) }
-    ensures err { OnErr result (AppendsFront (W.contents writer.old) (W.contents writer.new) (slot_text image.now most pid slot)) }
+    ensures ok { OnOk result (Appends (W.contents writer.old) (W.contents writer.new)
+        (slot_text image.now most pid slot)) }
+    ensures err { OnErr result (AppendsFront (W.contents writer.old) (W.contents writer.new)
+        (slot_text image.now most pid slot)) }
 {
     let runs = runs_at(image, pid, directory, slot);
     write_table(image, most, runs.as_slice(), writer)
@@ -97,7 +106,8 @@ fn write_pages<W: Write>(
 ) -> Result<(), WriteFailed>
     requires { directory_at (memory_of image.now) pid ≡ Some directory }
     ensures ok { OnOk result (Appends (W.contents writer.old) (W.contents writer.new) (pages_text image.now most pid)) }
-    ensures err { OnErr result (AppendsFront (W.contents writer.old) (W.contents writer.new) (pages_text image.now most pid)) }
+    ensures err { OnErr result (AppendsFront (W.contents writer.old) (W.contents writer.new)
+        (pages_text image.now most pid)) }
 {
     for slot in FIRST_SLOT..SLOT_END {
         write_slot(image, most, pid, directory, slot, writer)?;
@@ -111,8 +121,10 @@ fn write_process_line<W: Write>(
     process: &Process,
     writer: &mut W,
 ) -> Result<(), WriteFailed>
-    ensures ok { OnOk result (Appends (W.contents writer.old) (W.contents writer.new) (process_line number process.now)) }
-    ensures err { OnErr result (AppendsFront (W.contents writer.old) (W.contents writer.new) (process_line number process.now)) }
+    ensures ok { OnOk result (Appends (W.contents writer.old) (W.contents writer.new)
+        (process_line number process.now)) }
+    ensures err { OnErr result (AppendsFront (W.contents writer.old) (W.contents writer.new)
+        (process_line number process.now)) }
 {
     write_whole(writer, &process_line(u32::from(number), process))
 }
@@ -134,8 +146,10 @@ fn write_live<W: Write>(
     writer: &mut W,
 ) -> Result<(), WriteFailed>
     requires { process_at image.now pid ≡ Some process.now }
-    ensures ok { OnOk result (Appends (W.contents writer.old) (W.contents writer.new) (process_text image.now most pid (Some process.now))) }
-    ensures err { OnErr result (AppendsFront (W.contents writer.old) (W.contents writer.new) (process_text image.now most pid (Some process.now))) }
+    ensures ok { OnOk result (Appends (W.contents writer.old) (W.contents writer.new)
+        (process_text image.now most pid (Some process.now))) }
+    ensures err { OnErr result (AppendsFront (W.contents writer.old) (W.contents writer.new)
+        (process_text image.now most pid (Some process.now))) }
 {
     write_process_line(pid.number(), process, writer)?;
     write_bar(process, writer)?;
@@ -150,8 +164,10 @@ fn write_process<W: Write>(
     writer: &mut W,
 ) -> Result<(), WriteFailed>
     requires { number < 64 }
-    ensures ok { OnOk result (Appends (W.contents writer.old) (W.contents writer.new) (process_text image.now most number (process_at image.now number))) }
-    ensures err { OnErr result (AppendsFront (W.contents writer.old) (W.contents writer.new) (process_text image.now most number (process_at image.now number))) }
+    ensures ok { OnOk result (Appends (W.contents writer.old) (W.contents writer.new)
+        (process_text image.now most number (process_at image.now number))) }
+    ensures err { OnErr result (AppendsFront (W.contents writer.old) (W.contents writer.new)
+        (process_text image.now most number (process_at image.now number))) }
 {
     let pid = pid_of(number);
     match image.process(pid) {
@@ -163,7 +179,8 @@ fn write_process<W: Write>(
 /// Writes the lines of all processes.
 fn write_processes<W: Write>(image: &Image, most: u32, writer: &mut W) -> Result<(), WriteFailed>
     ensures ok { OnOk result (Appends (W.contents writer.old) (W.contents writer.new) (processes_text image.now most)) }
-    ensures err { OnErr result (AppendsFront (W.contents writer.old) (W.contents writer.new) (processes_text image.now most)) }
+    ensures err { OnErr result (AppendsFront (W.contents writer.old) (W.contents writer.new)
+        (processes_text image.now most)) }
 {
     for number in 0..64 {
         write_process(image, most, number, writer)?;

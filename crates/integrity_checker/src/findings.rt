@@ -54,7 +54,8 @@ impl Findings {
     pub fn add(&mut self, other: &Findings)
         requires names { HaveRoomFor self.old.names.items other.now.names.items }
         requires maps { HaveRoomFor self.old.maps.items other.now.maps.items }
-        ensures clauses { self.new.clauses ≡ map (λ p. either (clause_at self.old.clauses p) (clause_at other.now.clauses p)) (range_with_len 0 64) }
+        ensures clauses { self.new.clauses ≡ map (λ p. either (clause_at self.old.clauses p)
+            (clause_at other.now.clauses p)) (range_with_len 0 64) }
         ensures names { Adds self.old.names.items self.new.names.items (λ f. slice_index other.now.names.items f) }
         ensures maps { Adds self.old.maps.items self.new.maps.items (λ f. slice_index other.now.maps.items f) }
     {

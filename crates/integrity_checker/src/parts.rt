@@ -42,7 +42,8 @@ impl Model for Audit {
 
     ghost view = { λ a. record { table = a.table.shared.table_id; helpers = a.about.helpers; image = a.about.image } };
 
-    ghost invariant = { λ a. (a.table.shared.key ≡ a.about) × (a.table.shared.table_id.words ≡ 1) × (0 < a.about.helpers) × (a.about.helpers ≤ 8) × (length a.room.items ≡ frames a.about.image) };
+    ghost invariant = { λ a. (a.table.shared.key ≡ a.about) × (a.table.shared.table_id.words ≡ 1)
+        × (0 < a.about.helpers) × (a.about.helpers ≤ 8) × (length a.room.items ≡ frames a.about.image) };
 }
 
 /// A helper that checks processes of an audit. Contracts see the table from which it draws, the image, the numbers that
@@ -63,7 +64,15 @@ impl Model for Helper {
 
     ghost Value = { Helping };
 
-    ghost view = { λ h. record { table = h.seat.table_id; image = h.seat.me.0.image; answered = h.seat.me.0.drawn; done = h.done } };
+    ghost view = { λ h. record {
+      table = h.seat.table_id;
+      image = h.seat.me.0.image;
+      answered = h.seat.me.0.drawn;
+      done
+          = h.done;
+    } };
 
-    ghost invariant = { λ h. (h.seat.me.0.share ≡ 1) × (h.seat.me.1 ≡ []) × (h.seat.me.0.done ≡ h.done) × AreSomeDrawn h.seat.me.0.drawn 64 × IsFound h.seat.me.0.image h.seat.me.0.drawn h.findings.clauses h.findings.names.items h.findings.maps.items };
+    ghost invariant = { λ h. (h.seat.me.0.share ≡ 1) × (h.seat.me.1 ≡ []) × (h.seat.me.0.done ≡ h.done)
+        × AreSomeDrawn h.seat.me.0.drawn 64
+        × IsFound h.seat.me.0.image h.seat.me.0.drawn h.findings.clauses h.findings.names.items h.findings.maps.items };
 }

@@ -136,7 +136,8 @@ impl Core {
         requires live { is_live self.old.state pid ≡ true }
         requires not_root { pid ≢ 0 }
         ensures family { EndsFamily self.old.state pid (take result exited.new) self.new.state }
-        ensures ended { EndAlong (exits (take result exited.new)) (spaces_of_all (take result exited.new)) self.old self.new }
+        ensures ended { EndAlong (exits (take result exited.new))
+            (spaces_of_all (take result exited.new)) self.old self.new }
         ensures few { result ≤ 64 }
         ensures rest { drop result exited.new ≡ drop result exited.old }
     {
@@ -168,7 +169,8 @@ impl Core {
         ensures refused { IsErr result → (self.new ≡ self.old) × (exited.new ≡ exited.old) }
         ensures done { pid ≢ 0 → is_live self.old.state pid ≡ true → IsOk result }
         ensures family { IfOk result (λ count. EndsFamily self.old.state pid (take count exited.new) self.new.state) }
-        ensures ended { IfOk result (λ count. EndAlong (exits (take count exited.new)) (spaces_of_all (take count exited.new)) self.old self.new) }
+        ensures ended { IfOk result (λ count. EndAlong (exits (take count exited.new))
+            (spaces_of_all (take count exited.new)) self.old self.new) }
         ensures few { IfOk result (λ count. count ≤ 64) }
         ensures rest { IfOk result (λ count. drop count exited.new ≡ drop count exited.old) }
         ensures stands { StandsFor (image_of self.new) self.new.state }

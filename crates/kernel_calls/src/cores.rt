@@ -118,7 +118,8 @@ impl Core {
         requires small { (i : ℕ) → slice_index bytes.items i < 256 }
         requires root { RootIsItsParent accounts.now }
         requires sound { IsSoundImage (image_in directories accounts.now bytes.items roles.items) }
-        ensures stands { IfOk result (λ core. StandsFor (image_in directories accounts.now bytes.items roles.items) core.state) }
+        ensures stands { IfOk result (λ core. StandsFor
+            (image_in directories accounts.now bytes.items roles.items) core.state) }
         ensures offers { IfOk result (λ core. core.state.offers ≡ finite_map.empty) }
         ensures directories { IfOk result (λ core. core.directories ≡ directories) }
         ensures bytes { IfOk result (λ core. core.bytes ≡ bytes.items) }
@@ -288,7 +289,8 @@ impl Core {
         ensures user { result ≡ true → IsUserPage (page_number address) }
         ensures mapped { IsUserPage (page_number address) → result ≡ is_mapped self.old.state (slot_at pid address) }
         ensures live { result ≡ true → is_live self.old.state pid ≡ true }
-        ensures bytes { result ≡ true → out.new ≡ map (byte_at self.old.state.spaces pid) (range_with_len address (length out.old)) }
+        ensures bytes { result ≡ true → out.new ≡ map (byte_at self.old.state.spaces pid)
+            (range_with_len address (length out.old)) }
         ensures state { result ≡ true → self.new.state ≡ after_loads self.old.state pid address }
         ensures stay { FramesStay none_goes (memory_of self.old) (memory_of self.new) }
         ensures none { result ≡ false → (self.new ≡ self.old) × (out.new ≡ out.old) }
@@ -301,8 +303,10 @@ impl Core {
     pub(crate) fn store_taken(&mut self, pid: Pid, address: Vaddr, part: &[u8]) -> bool
         requires within { offset_number address + length part.now ≤ 4096 }
         ensures user { result ≡ true → IsUserPage (page_number address) }
-        ensures done { IsUserPage (page_number address) → result ≡ takes_stores self.old.state.spaces (memory_of self.old) (slot_at pid address) }
-        ensures takes { result ≡ true → takes_stores self.old.state.spaces (memory_of self.old) (slot_at pid address) ≡ true }
+        ensures done { IsUserPage (page_number address)
+            → result ≡ takes_stores self.old.state.spaces (memory_of self.old) (slot_at pid address) }
+        ensures takes { result ≡ true → takes_stores self.old.state.spaces (memory_of self.old) (slot_at pid address)
+            ≡ true }
         ensures live { result ≡ true → is_live self.old.state pid ≡ true }
         ensures state { result ≡ true → self.new.state ≡ after_stores self.old.state pid address part.now }
         ensures stay { FramesStay none_goes (memory_of self.old) (memory_of self.new) }
@@ -326,13 +330,15 @@ impl Core {
         requires { finds_event self.old event.now ≡ true }
         ensures plan { takes_no_frame (plan_of_event self.old event.now) ≡ true }
         ensures reply { result ≡ answer self.old.state event.now }
-        ensures found { (directory : ℕ) → directory_of self.old.directories event.now.pid ≡ Some directory → result ≡ reply_found self.old.bytes directory event.now.call }
+        ensures found { (directory : ℕ) → directory_of self.old.directories event.now.pid ≡ Some directory
+            → result ≡ reply_found self.old.bytes directory event.now.call }
         ensures state { self.new.state ≡ next self.old.state event.now }
         ensures ends { Ends end.Nothing self.old self.new }
         ensures directories { self.new.directories ≡ self.old.directories }
         ensures roles { self.new.roles ≡ self.old.roles }
         ensures containers { (p : ℕ) → container_of self.new.state p ≡ container_of self.old.state p }
-        ensures bytes { (directory : ℕ) → directory_of self.old.directories event.now.pid ≡ Some directory → self.new.bytes ≡ bytes_accessed self.old.bytes directory event.now.call }
+        ensures bytes { (directory : ℕ) → directory_of self.old.directories event.now.pid ≡ Some directory
+            → self.new.bytes ≡ bytes_accessed self.old.bytes directory event.now.call }
         ensures stands { StandsFor (image_of self.new) self.new.state }
         ensures walks { WalksAgree (memory_of self.new) self.new.state.spaces }
     {
@@ -348,7 +354,8 @@ impl Core {
     pub fn finds_marked(&self, event: &Event) -> bool
         ensures find { result ≡ true → finds_event self.now event.now ≡ true }
         ensures marked { result ≡ true → StoresMarked self.now.state event.now.pid event.now.call }
-        ensures all { finds_event self.now event.now ≡ true → StoresMarked self.now.state event.now.pid event.now.call → result ≡ true }
+        ensures all { finds_event self.now event.now ≡ true → StoresMarked self.now.state event.now.pid event.now.call
+            → result ≡ true }
     {
         self.stands();
         walked::finds_marked(&self.processes, event)
@@ -368,7 +375,8 @@ impl Core {
         ensures ends { Ends end.Nothing self.old self.new }
         ensures directories { self.new.directories ≡ self.old.directories }
         ensures roles { self.new.roles ≡ self.old.roles }
-        ensures bytes { (frames : ℕ → ℕ) → ServesEvent self.old frames event.now → self.new.bytes ≡ bytes_kept frames self.old.bytes event.now.call }
+        ensures bytes { (frames : ℕ → ℕ) → ServesEvent self.old frames event.now
+            → self.new.bytes ≡ bytes_kept frames self.old.bytes event.now.call }
         ensures stands { StandsFor (image_of self.new) self.new.state }
         ensures walks { WalksAgree (memory_of self.new) self.new.state.spaces }
     {
@@ -386,7 +394,8 @@ impl Core {
         ensures ends { Ends end.Nothing self.old self.new }
         ensures directories { self.new.directories ≡ self.old.directories }
         ensures roles { self.new.roles ≡ self.old.roles }
-        ensures bytes { (directory : ℕ) → directory_of self.old.directories pid ≡ Some directory → self.new.bytes ≡ with_walked self.old.bytes directory page walked }
+        ensures bytes { (directory : ℕ) → directory_of self.old.directories pid ≡ Some directory
+            → self.new.bytes ≡ with_walked self.old.bytes directory page walked }
         ensures stands { StandsFor (image_of self.new) self.new.state }
         ensures walks { WalksAgree (memory_of self.new) self.new.state.spaces }
     {
@@ -472,8 +481,10 @@ impl Core {
         ensures mapped { IfSome result (λ page. is_mapped self.now.state (at_page pid page) ≡ true) }
         ensures user { IfSome result IsUserPage }
         ensures from { IfSome result (λ page. from ≤ page) }
-        ensures least { IfSome result (λ page. (other : ℕ) → from ≤ other → other < page → is_mapped self.now.state (at_page pid other) ≡ false) }
-        ensures none { IfNone result ((other : ℕ) → from ≤ other → is_mapped self.now.state (at_page pid other) ≡ false) }
+        ensures least { IfSome result (λ page. (other : ℕ) → from ≤ other → other < page
+            → is_mapped self.now.state (at_page pid other) ≡ false) }
+        ensures none { IfNone result ((other : ℕ) → from ≤ other
+            → is_mapped self.now.state (at_page pid other) ≡ false) }
     {
         self.processes.spaces().next_page(pid, from)
     }
@@ -496,13 +507,17 @@ impl Core {
         pages::need_at(&self.processes, pid, page)
     }
 
-    /// Returns a process's first pending offer from a page and a target on, in the order of pages, and of targets for one
-    /// page. `target` may be any number: past 63 it leads to the next page. None if no such offer is pending.
+    /// Returns a process's first pending offer from a page and a target on, in the order of pages, and of targets for
+    /// one page. `target` may be any number: past 63 it leads to the next page. None if no such offer is pending.
     pub fn next_offer(&self, pid: Pid, page: Page, target: u32) -> Option<Offer>
-        ensures pending { IfSome result (λ offer. finite_map.get self.now.state.offers (offer_key pid offer.page offer.target) ≡ Some offer.write) }
+        ensures pending { IfSome result (λ offer. finite_map.get self.now.state.offers
+            (offer_key pid offer.page offer.target) ≡ Some offer.write) }
         ensures from { IfSome result (λ offer. offer_number page target ≤ offer_number offer.page offer.target) }
-        ensures least { IfSome result (λ offer. (p t : ℕ) → offer_number page target ≤ offer_number p t → offer_number p t < offer_number offer.page offer.target → finite_map.contains_key self.now.state.offers (offer_key pid p t) ≡ false) }
-        ensures none { IfNone result ((p t : ℕ) → offer_number page target ≤ offer_number p t → finite_map.contains_key self.now.state.offers (offer_key pid p t) ≡ false) }
+        ensures least { IfSome result (λ offer. (p t : ℕ) → offer_number page target ≤ offer_number p t
+            → offer_number p t < offer_number offer.page offer.target
+            → finite_map.contains_key self.now.state.offers (offer_key pid p t) ≡ false) }
+        ensures none { IfNone result ((p t : ℕ) → offer_number page target ≤ offer_number p t
+            → finite_map.contains_key self.now.state.offers (offer_key pid p t) ≡ false) }
     {
         self.processes.offers().next(pid, page, target)
     }

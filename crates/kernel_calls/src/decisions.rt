@@ -287,7 +287,13 @@ pub(crate) fn judge(processes: &Processes, event: &Event) -> Judgement
 
 /// The decision of an event, from its judgement.
 pub(crate) fn decided(event: &Event, judged: &Judgement) -> Decision
-    ensures { result ≡ record { event = event.now; plan = judged.now.plan; reply = judged.now.reply; used_after = judged.now.used_after } }
+    ensures { result ≡ record {
+      event = event.now;
+      plan = judged.now.plan;
+      reply = judged.now.reply;
+      used_after =
+          judged.now.used_after;
+    } }
 {
     Decision {
         event: *event,

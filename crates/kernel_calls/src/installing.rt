@@ -41,7 +41,9 @@ fn protect_of(pid: Pid, page: Page, write: bool) -> Event
 impl Core {
     /// Whether a process may write to a page now; None where it is not mapped.
     fn right_at(&self, pid: Pid, page: Page) -> Option<bool>
-        ensures { MatchOption result (is_mapped self.now.state (at_page pid page) ≡ false) (λ write. (is_mapped self.now.state (at_page pid page) ≡ true) × (is_writable_at self.now.state (at_page pid page) ≡ write)) }
+        ensures { MatchOption result (is_mapped self.now.state (at_page pid page) ≡ false)
+            (λ write. (is_mapped self.now.state (at_page pid page) ≡ true)
+            × (is_writable_at self.now.state (at_page pid page) ≡ write)) }
     {
         self.stands();
         if !in_user_range(page) {
@@ -106,7 +108,8 @@ impl Core {
         requires mapped { is_mapped self.old.state (slot_at pid address) ≡ true }
         requires right { is_writable_at self.old.state (slot_at pid address) ≡ true }
         ensures run { IsRunTo self.old.state (store_run pid address part.now write) self.new.state }
-        ensures state { self.new.state ≡ closed (after_stores self.old.state pid address part.now) pid (page_number address) write }
+        ensures state { self.new.state ≡ closed (after_stores self.old.state pid address part.now) pid
+            (page_number address) write }
         ensures marks { EndsMarks (end.Page pid (page_number address)) self.old self.new }
     {
         self.store_all(pid, address, part);
@@ -121,8 +124,8 @@ impl Core {
     /// Puts bytes into one page of a process, and leaves the page with the right that `write` says. A page that is not
     /// mapped is mapped, and one that may not be written to gets that right first. It is the run of the process's own
     /// Map or Protect, of the stores of one byte each, and of a Protect that takes the right, if the page is to have
-    /// none. Each processor that cached the page's translation invalidates it. Nothing changes if the page can't be made
-    /// writable; then the result is the reply to that event.
+    /// none. Each processor that cached the page's translation invalidates it. Nothing changes if the page can't be
+    /// made writable; then the result is the reply to that event.
     pub fn install(
         &mut self,
         pid: Pid,

@@ -167,8 +167,8 @@ pub fn completes_by_kind()
 
 /// States when a call completes, and why it doesn't. Each call has a list of causes, and each cause a condition on the
 /// state. A call completes exactly if none of its causes applies and no byte of it faults. It is refused for the first
-/// cause of its list that applies. An access faults at its lowest byte outside the user range. If there is none, a Store
-/// faults at its lowest byte in a page that it may not write. It computes nothing.
+/// cause of its list that applies. An access faults at its lowest byte outside the user range. If there is none, a
+/// Store faults at its lowest byte in a page that it may not write. It computes nothing.
 pub fn calls_complete_unless_refused()
     ensures completes { CompletesUnless }
     ensures refused { RefusedByTheFirst }

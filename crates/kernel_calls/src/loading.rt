@@ -73,7 +73,9 @@ impl Core {
     /// What a page costs a process in addition, if it also maps the page before it, unless this one is the first.
     fn need_behind(&self, pid: Pid, page: Page, is_first: bool) -> usize
         requires user { IsUserPage page }
-        ensures value { result ≡ (if is_mapped self.now.state (at_page pid page) then 0 else (if not is_first && (slot_number (page - 1) == slot_number page) then 1 else need self.now.state.spaces pid page)) }
+        ensures value { result ≡ (if is_mapped self.now.state (at_page pid page) then 0
+            else (if not is_first && (slot_number (page - 1) == slot_number page) then 1
+            else need self.now.state.spaces pid page)) }
         ensures most { result ≤ 2 }
     {
         if self.page(pid, page).is_some() {
@@ -137,8 +139,10 @@ impl Core {
     fn load_parts(&mut self, pid: Pid, address: Vaddr, bytes: &[u8], write: bool)
         requires none { load_refusal self.old.state pid (pages_under address (length bytes.now)) ≡ None }
         ensures loaded { Loads pid address write self.old bytes.now self.new }
-        ensures bytes { (i : ℕ) → i < length bytes.now → IsLastThere self.old.state pid address (length bytes.now) i → byte_at self.new.state.spaces pid (address + i) ≡ slice_index bytes.now i }
-        ensures write { (i : ℕ) → i < length bytes.now → is_writable_at self.new.state (slot_at pid (address + i)) ≡ write }
+        ensures bytes { (i : ℕ) → i < length bytes.now → IsLastThere self.old.state pid address (length bytes.now) i
+            → byte_at self.new.state.spaces pid (address + i) ≡ slice_index bytes.now i }
+        ensures write { (i : ℕ) → i < length bytes.now
+            → is_writable_at self.new.state (slot_at pid (address + i)) ≡ write }
         ensures mapped { (i : ℕ) → i < length bytes.now → is_mapped self.new.state (slot_at pid (address + i)) ≡ true }
     {
         let (mut done, mut at) = (0, address);
@@ -155,9 +159,9 @@ impl Core {
     /// with the right that `write` says: all of them, or none. Each processor that cached the pages' translations
     /// invalidates them. Where a process has one page at two of these addresses, the byte that comes last stays.
     ///
-    /// Otherwise nothing changes, and the error is the first cause. NoProcess comes before BadPage, where a page is not of
-    /// the user range. Next is Rights, where the process may not make a mapped page writable. The last is Quota, where it
-    /// has no room for the pages that are not mapped.
+    /// Otherwise nothing changes, and the error is the first cause. NoProcess comes before BadPage, where a page is not
+    /// of the user range. Next is Rights, where the process may not make a mapped page writable. The last is Quota,
+    /// where it has no room for the pages that are not mapped.
     pub fn load_bytes(
         &mut self,
         pid: Pid,
@@ -165,11 +169,16 @@ impl Core {
         bytes: &[u8],
         write: bool,
     ) -> Result<(), Cause>
-        ensures refused { result ≡ done_unless (load_refusal self.old.state pid (pages_under address (length bytes.now))) }
+        ensures refused { result ≡ done_unless (load_refusal self.old.state pid
+            (pages_under address (length bytes.now))) }
         ensures loaded { IsOk result → Loads pid address write self.old bytes.now self.new }
-        ensures bytes { IsOk result → (i : ℕ) → i < length bytes.now → IsLastThere self.old.state pid address (length bytes.now) i → byte_at self.new.state.spaces pid (address + i) ≡ slice_index bytes.now i }
-        ensures write { IsOk result → (i : ℕ) → i < length bytes.now → is_writable_at self.new.state (slot_at pid (address + i)) ≡ write }
-        ensures mapped { IsOk result → (i : ℕ) → i < length bytes.now → is_mapped self.new.state (slot_at pid (address + i)) ≡ true }
+        ensures bytes { IsOk result → (i : ℕ) → i < length bytes.now
+            → IsLastThere self.old.state pid address (length bytes.now) i
+            → byte_at self.new.state.spaces pid (address + i) ≡ slice_index bytes.now i }
+        ensures write { IsOk result → (i : ℕ) → i < length bytes.now
+            → is_writable_at self.new.state (slot_at pid (address + i)) ≡ write }
+        ensures mapped { IsOk result → (i : ℕ) → i < length bytes.now
+            → is_mapped self.new.state (slot_at pid (address + i)) ≡ true }
         ensures kept { IsErr result → self.new ≡ self.old }
         ensures stands { StandsFor (image_of self.new) self.new.state }
     {

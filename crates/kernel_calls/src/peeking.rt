@@ -30,7 +30,8 @@ impl Core {
         requires within { offset_number address + length out.old ≤ 4096 }
         ensures mapped { result ≡ is_mapped self.now.state (slot_at pid address) }
         ensures user { result ≡ true → IsUserPage (page_number address) }
-        ensures bytes { result ≡ true → out.new ≡ map (byte_at self.now.state.spaces pid) (range_with_len address (length out.old)) }
+        ensures bytes { result ≡ true → out.new ≡ map (byte_at self.now.state.spaces pid)
+            (range_with_len address (length out.old)) }
         ensures none { result ≡ false → out.new ≡ out.old }
     {
         self.stands();
@@ -49,7 +50,8 @@ impl Core {
     /// No page is mapped, no flag is set, and the rest of `out` stays as it was.
     pub fn peek(&self, pid: Pid, address: Vaddr, out: &mut [u8]) -> usize
         ensures most { result ≤ length out.old }
-        ensures bytes { out.new ≡ map (byte_at self.now.state.spaces pid) (range_with_len address result) ++ drop result out.old }
+        ensures bytes { out.new ≡ map (byte_at self.now.state.spaces pid) (range_with_len address result)
+            ++ drop result out.old }
         ensures mapped { (i : ℕ) → i < result → is_mapped self.now.state (slot_at pid (address + i)) ≡ true }
         ensures stop { result < length out.old → is_mapped self.now.state (slot_at pid (address + result)) ≡ false }
     {
@@ -82,8 +84,10 @@ impl Core {
         ensures dirty { IfSome result (λ page. is_dirty_at self.now.state (at_page pid page) ≡ true) }
         ensures user { IfSome result IsUserPage }
         ensures from { IfSome result (λ page. from ≤ page) }
-        ensures least { IfSome result (λ page. (other : ℕ) → from ≤ other → other < page → is_dirty_at self.now.state (at_page pid other) ≡ false) }
-        ensures none { IfNone result ((other : ℕ) → from ≤ other → is_dirty_at self.now.state (at_page pid other) ≡ false) }
+        ensures least { IfSome result (λ page. (other : ℕ) → from ≤ other → other < page
+            → is_dirty_at self.now.state (at_page pid other) ≡ false) }
+        ensures none { IfNone result ((other : ℕ) → from ≤ other
+            → is_dirty_at self.now.state (at_page pid other) ≡ false) }
     {
         let mut at = from;
         while let Some(page) = self.next_page(pid, at) {

@@ -52,7 +52,8 @@ fn reply_access(
     requires { event.now.call ≡ call_of access address size value }
     ensures reply { result ≡ answer processes.old.state event.now }
     ensures state { processes.new.state ≡ next processes.old.state event.now }
-    ensures stay { FramesStay (gone_by processes.old.state event.now) (memory_of processes.old) (memory_of processes.new) }
+    ensures stay { FramesStay (gone_by processes.old.state event.now) (memory_of processes.old)
+        (memory_of processes.new) }
     ensures kept { completes result ≡ false → processes.new ≡ processes.old }
 {
     match fault_handler::access(processes, event.pid, address, size, access, value) {
@@ -68,7 +69,8 @@ fn reply_load(processes: &mut Processes, event: &Event, address: Vaddr, size: Si
     requires { event.now.call ≡ call.Load address size }
     ensures reply { result ≡ answer processes.old.state event.now }
     ensures state { processes.new.state ≡ next processes.old.state event.now }
-    ensures stay { FramesStay (gone_by processes.old.state event.now) (memory_of processes.old) (memory_of processes.new) }
+    ensures stay { FramesStay (gone_by processes.old.state event.now) (memory_of processes.old)
+        (memory_of processes.new) }
     ensures kept { completes result ≡ false → processes.new ≡ processes.old }
 {
     let read = Access::Read;
@@ -90,7 +92,8 @@ fn reply_store(
     requires { event.now.call ≡ call.Store address size value }
     ensures reply { result ≡ answer processes.old.state event.now }
     ensures state { processes.new.state ≡ next processes.old.state event.now }
-    ensures stay { FramesStay (gone_by processes.old.state event.now) (memory_of processes.old) (memory_of processes.new) }
+    ensures stay { FramesStay (gone_by processes.old.state event.now) (memory_of processes.old)
+        (memory_of processes.new) }
     ensures kept { completes result ≡ false → processes.new ≡ processes.old }
 {
     let write = Access::Write;
@@ -106,7 +109,8 @@ fn reply_map(processes: &mut Processes, event: &Event, page: Page, write: bool) 
     requires { event.now.call ≡ call.Map page write }
     ensures reply { result ≡ answer processes.old.state event.now }
     ensures state { processes.new.state ≡ next processes.old.state event.now }
-    ensures stay { FramesStay (gone_by processes.old.state event.now) (memory_of processes.old) (memory_of processes.new) }
+    ensures stay { FramesStay (gone_by processes.old.state event.now) (memory_of processes.old)
+        (memory_of processes.new) }
     ensures kept { completes result ≡ false → processes.new ≡ processes.old }
     ensures lazy { LeavesLazy processes.old event.now result processes.new }
 {
@@ -119,7 +123,8 @@ fn reply_unmap(processes: &mut Processes, event: &Event, page: Page) -> Reply
     requires { event.now.call ≡ call.Unmap page }
     ensures reply { result ≡ answer processes.old.state event.now }
     ensures state { processes.new.state ≡ next processes.old.state event.now }
-    ensures stay { FramesStay (gone_by processes.old.state event.now) (memory_of processes.old) (memory_of processes.new) }
+    ensures stay { FramesStay (gone_by processes.old.state event.now) (memory_of processes.old)
+        (memory_of processes.new) }
     ensures kept { completes result ≡ false → processes.new ≡ processes.old }
 {
     done_told(processes.try_unmap(event.pid, page))
@@ -131,7 +136,8 @@ fn reply_protect(processes: &mut Processes, event: &Event, page: Page, write: bo
     requires { event.now.call ≡ call.Protect page write }
     ensures reply { result ≡ answer processes.old.state event.now }
     ensures state { processes.new.state ≡ next processes.old.state event.now }
-    ensures stay { FramesStay (gone_by processes.old.state event.now) (memory_of processes.old) (memory_of processes.new) }
+    ensures stay { FramesStay (gone_by processes.old.state event.now) (memory_of processes.old)
+        (memory_of processes.new) }
     ensures kept { completes result ≡ false → processes.new ≡ processes.old }
 {
     done_told(processes.try_protect(event.pid, page, write))
@@ -149,7 +155,8 @@ fn reply_offer(
     requires { event.now.call ≡ call.Offer page target write }
     ensures reply { result ≡ answer processes.old.state event.now }
     ensures state { processes.new.state ≡ next processes.old.state event.now }
-    ensures stay { FramesStay (gone_by processes.old.state event.now) (memory_of processes.old) (memory_of processes.new) }
+    ensures stay { FramesStay (gone_by processes.old.state event.now) (memory_of processes.old)
+        (memory_of processes.new) }
     ensures kept { completes result ≡ false → processes.new ≡ processes.old }
 {
     done_told(processes.try_offer(event.pid, page, target, write))
@@ -161,7 +168,8 @@ fn reply_withdraw(processes: &mut Processes, event: &Event, page: Page, target: 
     requires { event.now.call ≡ call.Withdraw page target }
     ensures reply { result ≡ answer processes.old.state event.now }
     ensures state { processes.new.state ≡ next processes.old.state event.now }
-    ensures stay { FramesStay (gone_by processes.old.state event.now) (memory_of processes.old) (memory_of processes.new) }
+    ensures stay { FramesStay (gone_by processes.old.state event.now) (memory_of processes.old)
+        (memory_of processes.new) }
     ensures kept { completes result ≡ false → processes.new ≡ processes.old }
 {
     done_told(processes.try_withdraw(event.pid, page, target))
@@ -179,7 +187,8 @@ fn reply_accept(
     requires { event.now.call ≡ call.Accept giver giver_page page }
     ensures reply { result ≡ answer processes.old.state event.now }
     ensures state { processes.new.state ≡ next processes.old.state event.now }
-    ensures stay { FramesStay (gone_by processes.old.state event.now) (memory_of processes.old) (memory_of processes.new) }
+    ensures stay { FramesStay (gone_by processes.old.state event.now) (memory_of processes.old)
+        (memory_of processes.new) }
     ensures kept { completes result ≡ false → processes.new ≡ processes.old }
 {
     match processes.try_accept(event.pid, giver, giver_page, page) {
@@ -194,7 +203,8 @@ fn reply_spawn(processes: &mut Processes, event: &Event, quota: u32) -> Reply
     requires { event.now.call ≡ call.Spawn quota }
     ensures reply { result ≡ answer processes.old.state event.now }
     ensures state { processes.new.state ≡ next processes.old.state event.now }
-    ensures stay { FramesStay (gone_by processes.old.state event.now) (memory_of processes.old) (memory_of processes.new) }
+    ensures stay { FramesStay (gone_by processes.old.state event.now) (memory_of processes.old)
+        (memory_of processes.new) }
     ensures kept { completes result ≡ false → processes.new ≡ processes.old }
 {
     child_told(processes.try_spawn(event.pid, quota))
@@ -206,7 +216,8 @@ fn reply_fork(processes: &mut Processes, event: &Event, quota: u32) -> Reply
     requires { event.now.call ≡ call.Fork quota }
     ensures reply { result ≡ answer processes.old.state event.now }
     ensures state { processes.new.state ≡ next processes.old.state event.now }
-    ensures stay { FramesStay (gone_by processes.old.state event.now) (memory_of processes.old) (memory_of processes.new) }
+    ensures stay { FramesStay (gone_by processes.old.state event.now) (memory_of processes.old)
+        (memory_of processes.new) }
     ensures kept { completes result ≡ false → processes.new ≡ processes.old }
     ensures lazy { LeavesLazy processes.old event.now result processes.new }
 {
@@ -219,7 +230,8 @@ fn reply_exit(processes: &mut Processes, event: &Event) -> Reply
     requires { event.now.call ≡ call.Exit }
     ensures reply { result ≡ answer processes.old.state event.now }
     ensures state { processes.new.state ≡ next processes.old.state event.now }
-    ensures stay { FramesStay (gone_by processes.old.state event.now) (memory_of processes.old) (memory_of processes.new) }
+    ensures stay { FramesStay (gone_by processes.old.state event.now) (memory_of processes.old)
+        (memory_of processes.new) }
     ensures kept { completes result ≡ false → processes.new ≡ processes.old }
 {
     done_told(processes.try_exit(event.pid))
@@ -228,7 +240,8 @@ fn reply_exit(processes: &mut Processes, event: &Event) -> Reply
 /// The reply to a process that asks about a page.
 #[inline(never)]
 fn info_of(processes: &Processes, pid: Pid, page: Page) -> Reply
-    ensures { (event : Event) → event.pid ≡ pid → event.call ≡ call.Info page → result ≡ answer processes.now.state event }
+    ensures { (event : Event) → event.pid ≡ pid → event.call ≡ call.Info page
+        → result ≡ answer processes.now.state event }
 {
     let Some(place) = processes.place(pid, page) else {
         return Reply::Refused(processes.first_cause(pid, Cause::BadPage));
@@ -257,7 +270,8 @@ fn reply_quota(processes: &Processes, event: &Event) -> Reply
 pub(crate) fn reply_once(processes: &mut Processes, event: &Event) -> Reply
     ensures reply { result ≡ answer processes.old.state event.now }
     ensures state { processes.new.state ≡ next processes.old.state event.now }
-    ensures stay { FramesStay (gone_by processes.old.state event.now) (memory_of processes.old) (memory_of processes.new) }
+    ensures stay { FramesStay (gone_by processes.old.state event.now) (memory_of processes.old)
+        (memory_of processes.new) }
     ensures kept { completes result ≡ false → processes.new ≡ processes.old }
     ensures lazy { LeavesLazy processes.old event.now result processes.new }
 {

@@ -58,10 +58,12 @@ impl Core {
     /// The frame to which a page of a process leads, frame 0 where it is lazy; None where it is not mapped.
     pub(crate) fn frame_at(&self, pid: Pid, page: Page) -> Option<Frame>
         requires user { IsUserPage page }
-        ensures way { IfSome result (λ frame. (directory : ℕ) × (way_of (memory_of self.now) (at_page pid page) ≡ Some (directory, frame))) }
+        ensures way { IfSome result (λ frame. (directory : ℕ)
+            × (way_of (memory_of self.now) (at_page pid page) ≡ Some (directory, frame))) }
         ensures mapped { IfSome result (λ _. is_mapped self.now.state (at_page pid page) ≡ true) }
         ensures inside { IfSome result (λ frame. 4096 * frame + 4096 ≤ length self.now.bytes) }
-        ensures bytes { IfSome result (λ frame. frame_bytes self.now.bytes frame ≡ (cell_or_fresh self.now.state.spaces (at_page pid page)).bytes) }
+        ensures bytes { IfSome result (λ frame. frame_bytes self.now.bytes frame
+            ≡ (cell_or_fresh self.now.state.spaces (at_page pid page)).bytes) }
         ensures none { IfNone result (is_mapped self.now.state (at_page pid page) ≡ false) }
     {
         self.stands();
@@ -97,11 +99,14 @@ impl Core {
     /// it has it at none. It looks up each page that the process has mapped from there on.
     pub fn next_beside(&self, pid: Pid, page: Page, holder: Pid, from: Page) -> Option<Page>
         requires user { IsUserPage page }
-        ensures found { IfSome result (λ found. is_beside self.now.state (at_page pid page) (at_page holder found) ≡ true) }
+        ensures found { IfSome result (λ found. is_beside self.now.state (at_page pid page) (at_page holder found)
+            ≡ true) }
         ensures user { IfSome result IsUserPage }
         ensures from { IfSome result (λ found. from ≤ found) }
-        ensures least { IfSome result (λ found. (other : ℕ) → from ≤ other → other < found → is_beside self.now.state (at_page pid page) (at_page holder other) ≡ false) }
-        ensures none { IfNone result ((other : ℕ) → from ≤ other → is_beside self.now.state (at_page pid page) (at_page holder other) ≡ false) }
+        ensures least { IfSome result (λ found. (other : ℕ) → from ≤ other → other < found
+            → is_beside self.now.state (at_page pid page) (at_page holder other) ≡ false) }
+        ensures none { IfNone result ((other : ℕ) → from ≤ other
+            → is_beside self.now.state (at_page pid page) (at_page holder other) ≡ false) }
     {
         self.stands();
         let mut at = from;
@@ -146,9 +151,12 @@ impl Core {
     ) -> usize
         requires user { IsUserPage page }
         requires room { start ≤ length lost.old }
-        ensures taking { (v : View) → Taking v self.old (at_page pid page) (take start lost.old) → Taking v self.new (at_page pid page) (take result lost.new) }
-        ensures clear { result < length lost.old → (other : ℕ) → is_beside self.new.state (at_page pid page) (at_page holder other) ≡ false }
-        ensures others { (slot : Slot) → is_beside self.old.state (at_page pid page) slot ≡ false → is_beside self.new.state (at_page pid page) slot ≡ false }
+        ensures taking { (v : View) → Taking v self.old (at_page pid page) (take start lost.old)
+            → Taking v self.new (at_page pid page) (take result lost.new) }
+        ensures clear { result < length lost.old → (other : ℕ)
+            → is_beside self.new.state (at_page pid page) (at_page holder other) ≡ false }
+        ensures others { (slot : Slot) → is_beside self.old.state (at_page pid page) slot ≡ false
+            → is_beside self.new.state (at_page pid page) slot ≡ false }
         ensures room { result ≤ length lost.old }
         ensures more { start ≤ result }
         ensures rest { drop result lost.new ≡ drop result lost.old }
@@ -208,9 +216,9 @@ impl Core {
 
     /// Takes a page back from all others that have it: the run of the Unmaps of every other slot of its group, each of
     /// which is done. Then the group has only this slot. `lost` gets the slots that lost it, in that order, and the
-    /// result is how many did; its other places stay. Each processor that cached their translations invalidates them. If `lost` is full,
-    /// others may still have the page: call again. A group has fewer slots than memory has frames, and `page` returns
-    /// how many.
+    /// result is how many did; its other places stay. Each processor that cached their translations invalidates them.
+    /// If `lost` is full, others may still have the page: call again. A group has fewer slots than memory has frames,
+    /// and `page` returns how many.
     ///
     /// It looks up the pages that processes have mapped, process by process, until the group has only this slot.
     ///
@@ -219,8 +227,10 @@ impl Core {
         ensures refused { IfErr result (λ cause. answer self.old.state (info_of_page pid page) ≡ reply.Refused cause) }
         ensures done { completes (answer self.old.state (info_of_page pid page)) ≡ true → IsOk result }
         ensures kept { IsErr result → (self.new ≡ self.old) × (lost.new ≡ lost.old) }
-        ensures taken { IfOk result (λ count. TakesBack self.old.state (at_page pid page) (take count lost.new) self.new.state) }
-        ensures ended { IfOk result (λ count. EndAlong (unmaps (take count lost.new)) (pages_of_all (take count lost.new)) self.old self.new) }
+        ensures taken { IfOk result (λ count. TakesBack self.old.state (at_page pid page)
+            (take count lost.new) self.new.state) }
+        ensures ended { IfOk result (λ count. EndAlong (unmaps (take count lost.new))
+            (pages_of_all (take count lost.new)) self.old self.new) }
         ensures alone { IfOk result (λ count. count < length lost.old → IsAlone self.new.state (at_page pid page)) }
         ensures most { IfOk result (λ count. count ≤ length lost.old) }
         ensures rest { IfOk result (λ count. drop count lost.new ≡ drop count lost.old) }

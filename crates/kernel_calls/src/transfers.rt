@@ -128,8 +128,10 @@ impl Core {
     fn load_pages(&mut self, pid: Pid, address: Vaddr, out: &mut [u8]) -> Transfer
         ensures count { result.count ≡ length (carried self.old.state (loads pid address (length out.old))) }
         ensures stop { result.stop ≡ stop_of self.old.state (loads pid address (length out.old)) }
-        ensures bytes { out.new ≡ values (answers self.old.state (carried self.old.state (loads pid address (length out.old)))) ++ drop result.count out.old }
-        ensures state { self.new.state ≡ end_of self.old.state (carried self.old.state (loads pid address (length out.old))) }
+        ensures bytes { out.new ≡ values (answers self.old.state
+            (carried self.old.state (loads pid address (length out.old)))) ++ drop result.count out.old }
+        ensures state { self.new.state ≡ end_of self.old.state
+            (carried self.old.state (loads pid address (length out.old))) }
         ensures stay { FramesStay none_goes (memory_of self.old) (memory_of self.new) }
         ensures kept { result.count ≡ 0 → self.new ≡ self.old }
     {
@@ -151,8 +153,10 @@ impl Core {
     pub fn read_bytes(&mut self, pid: Pid, address: Vaddr, out: &mut [u8]) -> Transfer
         ensures count { result.count ≡ length (carried self.old.state (loads pid address (length out.old))) }
         ensures stop { result.stop ≡ stop_of self.old.state (loads pid address (length out.old)) }
-        ensures bytes { out.new ≡ values (answers self.old.state (carried self.old.state (loads pid address (length out.old)))) ++ drop result.count out.old }
-        ensures state { self.new.state ≡ end_of self.old.state (carried self.old.state (loads pid address (length out.old))) }
+        ensures bytes { out.new ≡ values (answers self.old.state
+            (carried self.old.state (loads pid address (length out.old)))) ++ drop result.count out.old }
+        ensures state { self.new.state ≡ end_of self.old.state
+            (carried self.old.state (loads pid address (length out.old))) }
         ensures stay { FramesStay none_goes (memory_of self.old) (memory_of self.new) }
         ensures stands { StandsFor (image_of self.new) self.new.state }
         ensures kept { result.count ≡ 0 → self.new ≡ self.old }
@@ -170,7 +174,8 @@ impl Core {
         ensures stored { IsNone result → AreStored self.old.state pid address part.now self.new.state }
         ensures stay { FramesStay (of_lazy pid (page_number address)) (memory_of self.old) (memory_of self.new) }
         ensures user { IsNone result → IsUserPage (page_number address) }
-        ensures told { IfSome result (λ reply. reply ≡ answer self.old.state (store_byte pid address (slice_index part.now 0))) }
+        ensures told { IfSome result (λ reply. reply ≡ answer self.old.state
+            (store_byte pid address (slice_index part.now 0))) }
         ensures stops { IfSome result (λ reply. completes reply ≡ false) }
         ensures kept { IsSome result → self.new ≡ self.old }
     {
@@ -189,7 +194,8 @@ impl Core {
         ensures stored { IsNone result → AreStored self.old.state pid address part.now self.new.state }
         ensures stay { FramesStay (of_lazy pid (page_number address)) (memory_of self.old) (memory_of self.new) }
         ensures user { IsNone result → IsUserPage (page_number address) }
-        ensures told { IfSome result (λ reply. reply ≡ answer self.old.state (store_byte pid address (slice_index part.now 0))) }
+        ensures told { IfSome result (λ reply. reply ≡ answer self.old.state
+            (store_byte pid address (slice_index part.now 0))) }
         ensures stops { IfSome result (λ reply. completes reply ≡ false) }
         ensures kept { IsSome result → self.new ≡ self.old }
     {

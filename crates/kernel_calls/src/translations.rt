@@ -92,7 +92,8 @@ fn by_store(processes: &Processes, event: &Event, address: Vaddr, size: Size, va
 /// What a Protect of a page of the user range ends, where it completes: the translation of a page that let writes
 /// through, where it lets none from then on.
 fn by_protect(processes: &Processes, pid: Pid, page: Page, write: bool) -> Ended
-    ensures { IsUserPage page → result ≡ (if not write && takes_stores processes.now.state.spaces (memory_of processes.now) (at_page pid page) then end.Page pid page else end.Nothing) }
+    ensures { IsUserPage page → result ≡ (if not write && takes_stores processes.now.state.spaces
+        (memory_of processes.now) (at_page pid page) then end.Page pid page else end.Nothing) }
 {
     let Some(place) = processes.place(pid, page) else {
         return Ended::Nothing;
@@ -108,7 +109,9 @@ fn by_protect(processes: &Processes, pid: Pid, page: Page, write: bool) -> Ended
 /// What an Accept of a page of the user range ends, where it completes: the translation of the giver's page, where that
 /// is lazy, as it gets its frame then.
 fn by_accept(processes: &Processes, giver: Pid, giver_page: Page) -> Ended
-    ensures { IsUserPage giver_page → result ≡ (if is_lazy_at (memory_of processes.now) (at_page giver giver_page) then end.Page giver giver_page else end.Nothing) }
+    ensures { IsUserPage giver_page → result ≡
+        (if is_lazy_at (memory_of processes.now) (at_page giver giver_page) then end.Page giver giver_page
+        else end.Nothing) }
 {
     let Some(place) = processes.place(giver, giver_page) else {
         return Ended::Nothing;

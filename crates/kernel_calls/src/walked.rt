@@ -38,13 +38,15 @@ pub fn access_by_walk(processes: &mut Processes, event: &Event) -> Reply
     requires { finds_event processes.old event.now ≡ true }
     ensures plan { takes_no_frame (plan_of_event processes.old event.now) ≡ true }
     ensures reply { result ≡ answer processes.old.state event.now }
-    ensures found { (directory : ℕ) → directory_of processes.old.directories event.now.pid ≡ Some directory → result ≡ reply_found processes.old.bytes directory event.now.call }
+    ensures found { (directory : ℕ) → directory_of processes.old.directories event.now.pid ≡ Some directory
+        → result ≡ reply_found processes.old.bytes directory event.now.call }
     ensures state { processes.new.state ≡ next processes.old.state event.now }
     ensures stay { FramesStay none_goes (memory_of processes.old) (memory_of processes.new) }
     ensures directories { processes.new.directories ≡ processes.old.directories }
     ensures roles { processes.new.roles ≡ processes.old.roles }
     ensures containers { (p : ℕ) → container_of processes.new.state p ≡ container_of processes.old.state p }
-    ensures bytes { (directory : ℕ) → directory_of processes.old.directories event.now.pid ≡ Some directory → processes.new.bytes ≡ bytes_accessed processes.old.bytes directory event.now.call }
+    ensures bytes { (directory : ℕ) → directory_of processes.old.directories event.now.pid ≡ Some directory
+        → processes.new.bytes ≡ bytes_accessed processes.old.bytes directory event.now.call }
 {
     let pid = event.pid;
     match event.call {
@@ -80,7 +82,8 @@ pub fn finds_marked(processes: &Processes, event: &Event) -> bool
     requires well_formed { IsWellFormed processes.now.state }
     ensures find { result ≡ true → finds_event processes.now event.now ≡ true }
     ensures marked { result ≡ true → StoresMarked processes.now.state event.now.pid event.now.call }
-    ensures all { finds_event processes.now event.now ≡ true → StoresMarked processes.now.state event.now.pid event.now.call → result ≡ true }
+    ensures all { finds_event processes.now event.now ≡ true
+        → StoresMarked processes.now.state event.now.pid event.now.call → result ≡ true }
 {
     let pid = event.pid;
     match event.call {
@@ -106,7 +109,8 @@ pub fn store_kept(processes: &mut Processes, event: &Event)
     ensures stay { FramesStay none_goes (memory_of processes.old) (memory_of processes.new) }
     ensures directories { processes.new.directories ≡ processes.old.directories }
     ensures roles { processes.new.roles ≡ processes.old.roles }
-    ensures bytes { (frames : ℕ → ℕ) → ServesEvent processes.old frames event.now → processes.new.bytes ≡ bytes_kept frames processes.old.bytes event.now.call }
+    ensures bytes { (frames : ℕ → ℕ) → ServesEvent processes.old frames event.now
+        → processes.new.bytes ≡ bytes_kept frames processes.old.bytes event.now.call }
 {
     let pid = event.pid;
     match event.call {

@@ -196,12 +196,14 @@ impl<N: Name> Model for Front<N> {
 
     ghost view = { λ f. f.seen.log };
 
-    ghost invariant = { λ f. (f.count ≡ length (entries_in f.seen.log)) × (f.seen.book ≡ N.book.history) × Legal N.frames (entries_in f.seen.log) };
+    ghost invariant = { λ f. (f.count ≡ length (entries_in f.seen.log)) × (f.seen.book ≡ N.book.history)
+        × Legal N.frames (entries_in f.seen.log) };
 }
 
 impl<N: Name> Front<N> {
     pub(crate) fn new(count: usize, seen: Beginning) -> Front<N>
-        requires { (count ≡ length (entries_in seen.log)) × (seen.book ≡ N.book.history) × Legal N.frames (entries_in seen.log) }
+        requires { (count ≡ length (entries_in seen.log)) × (seen.book ≡ N.book.history)
+            × Legal N.frames (entries_in seen.log) }
         ensures { result ≡ seen.log }
     {
         Front {
@@ -241,7 +243,9 @@ impl<N: Name> Front<N> {
 
     /// Whether it is no longer than the other front. The shorter of both begins the longer one.
     pub fn begins(&self, other: &Front<N>) -> bool
-        ensures order { MatchBool result (StartsWith (entries_in other.now) (entries_in self.now)) (StartsWith (entries_in self.now) (entries_in other.now) × (length (entries_in other.now) < length (entries_in self.now))) }
+        ensures order { MatchBool result (StartsWith (entries_in other.now) (entries_in self.now))
+            (StartsWith (entries_in self.now) (entries_in other.now)
+            × (length (entries_in other.now) < length (entries_in self.now))) }
         ensures moments { MatchBool result (Begins other.now self.now) (Begins self.now other.now) }
         ensures legal { Legal N.frames (entries_in self.now) × Legal N.frames (entries_in other.now) }
     {

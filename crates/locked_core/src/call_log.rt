@@ -11,7 +11,15 @@ use std::marker::Model;
 
 /// What is logged of a call as it was decided, with that number of its CPU's entries before it.
 pub fn entry_of(event: &Event, nth: usize, outcome: &Outcome) -> LogEntry
-    ensures { result ≡ record { cpu = event.now.cpu; nth = nth; pid = event.now.pid; call = event.now.call; reply = outcome.now.reply; used_after = outcome.now.used_after } }
+    ensures { result ≡ record {
+      cpu = event.now.cpu;
+      nth = nth;
+      pid = event.now.pid;
+      call = event.now.call;
+      reply =
+          outcome.now.reply;
+      used_after = outcome.now.used_after;
+    } }
 {
     LogEntry {
         cpu: event.cpu,

@@ -81,7 +81,9 @@ impl<N: Name> Model for Cpu<N> {
 
     ghost view = { λ c. maker_told c.number c.seen c.told };
 
-    ghost invariant = { λ c. Begins c.told c.seen × (c.calls ≡ calls_of c.number (entries_in c.seen)) × (c.number < 8) × (c.share.parts ≡ 1) × (c.share.amount ≡ calls_of c.number (entries_in c.seen)) × (c.own ≡ record { number = c.number; calls = calls_of c.number (entries_in c.seen) }) };
+    ghost invariant = { λ c. Begins c.told c.seen × (c.calls ≡ calls_of c.number (entries_in c.seen)) × (c.number < 8)
+        × (c.share.parts ≡ 1) × (c.share.amount ≡ calls_of c.number (entries_in c.seen))
+        × (c.own ≡ record { number = c.number; calls = calls_of c.number (entries_in c.seen) }) };
 }
 
 impl<N: Name> Cpu<N> {
@@ -114,7 +116,8 @@ impl<N: Name> Cpu<N> {
     /// seen changes with its next call, and then begins with this list.
     #[tactic(auto, using(crate::proofs::Moments::begins_itself, crate::proofs::Moments::begins_trans))]
     pub fn learn(&mut self, told: Told<N>)
-        ensures kept { (self.new.number ≡ self.old.number) × (self.new.seen ≡ self.old.seen) × (self.new.moments ≡ self.old.moments) }
+        ensures kept { (self.new.number ≡ self.old.number) × (self.new.seen ≡ self.old.seen)
+            × (self.new.moments ≡ self.old.moments) }
         ensures one { (self.new.told ≡ self.old.told) ⊎ (self.new.told ≡ told) }
         ensures old { Begins self.new.told self.old.told }
         ensures told { Begins self.new.told told }
@@ -125,11 +128,13 @@ impl<N: Name> Cpu<N> {
         }
     }
 
-    /// Returns whether it has seen no more than another CPU of its kernel. What it has seen is then a prefix of what the
-    /// other has seen. Otherwise the other has seen less, and that is a prefix of what it has seen.
+    /// Returns whether it has seen no more than another CPU of its kernel. What it has seen is then a prefix of what
+    /// the other has seen. Otherwise the other has seen less, and that is a prefix of what it has seen.
     pub fn begins(&self, other: &Cpu<N>) -> bool
-        ensures seen { MatchBool result (StartsWith other.now.seen self.now.seen) (StartsWith self.now.seen other.now.seen × (length other.now.seen < length self.now.seen)) }
-        ensures moments { MatchBool result (Begins other.now.moments self.now.moments) (Begins self.now.moments other.now.moments) }
+        ensures seen { MatchBool result (StartsWith other.now.seen self.now.seen)
+            (StartsWith self.now.seen other.now.seen × (length other.now.seen < length self.now.seen)) }
+        ensures moments { MatchBool result (Begins other.now.moments self.now.moments)
+            (Begins self.now.moments other.now.moments) }
     {
         self.seen.begins(&other.seen)
     }
@@ -197,7 +202,8 @@ impl<N: Name> Cpu<N> {
         requires small { length (entries_in grown) < 2 ^ 64 }
         ensures made { self.new ≡ maker_of self.old.number grown }
         ensures counted { counted.new.total ≡ counted.old.total + 1 }
-        ensures tallied { tally.new ≡ slice_set tally.old self.old.number (slice_index_or tally.old self.old.number 0 + 1) }
+        ensures tallied { tally.new ≡ slice_set tally.old self.old.number
+            (slice_index_or tally.old self.old.number 0 + 1) }
     {
         let Cpu {
             number: _,
@@ -233,7 +239,8 @@ impl<N: Name> Cpu<N> {
         ensures isolated { IfOk result (λ _. AreIsolated N.frames self.new.seen) }
         ensures guarded { IfOk result (λ _. AreGuarded N.frames self.new.seen) }
         ensures number { self.new.number ≡ self.old.number }
-        ensures calls { IfOk result (λ _. calls_of self.new.number self.new.seen ≡ calls_of self.old.number self.old.seen + 1) }
+        ensures calls { IfOk result (λ _. calls_of self.new.number self.new.seen
+            ≡ calls_of self.old.number self.old.seen + 1) }
         ensures refused { IfErr result (λ f. (log : List LogEntry) × IsRefused N.frames log self.old f) }
         ensures err { OnErr result (self.new ≡ self.old) }
     {
@@ -281,7 +288,8 @@ impl<N: Name> Cpu<N> {
         ensures isolated { IfOk result (λ _. AreIsolated N.frames self.new.seen) }
         ensures guarded { IfOk result (λ _. AreGuarded N.frames self.new.seen) }
         ensures number { self.new.number ≡ self.old.number }
-        ensures calls { IfOk result (λ _. calls_of self.new.number self.new.seen ≡ calls_of self.old.number self.old.seen + 1) }
+        ensures calls { IfOk result (λ _. calls_of self.new.number self.new.seen
+            ≡ calls_of self.old.number self.old.seen + 1) }
         ensures refused { IfErr result (λ f. (log : List LogEntry) × IsRefused N.frames log self.old f) }
         ensures err { OnErr result (self.new ≡ self.old) }
     {

@@ -34,7 +34,8 @@ impl<N: Name> Model for Head<N> {
 
     ghost view = { λ h. h.seen.log };
 
-    ghost invariant = { λ h. (h.word ≡ head_of N.book.history) × (h.turns ≡ turns_of N.book.history) × (h.seen.book ≡ N.book.history) × IfSome h.unused (λ t. t ≡ turn_after h.seen.log) };
+    ghost invariant = { λ h. (h.word ≡ head_of N.book.history) × (h.turns ≡ turns_of N.book.history)
+        × (h.seen.book ≡ N.book.history) × IfSome h.unused (λ t. t ≡ turn_after h.seen.log) };
 }
 
 impl<N: Name> Head<N> {
@@ -120,7 +121,8 @@ fn exchange<N: Name>(
     requires room { count + 1 < 2 ^ 64 }
     requires seen { (count ≡ length (entries_in seen.old.log)) × (seen.old.book ≡ N.book.history) }
     requires turn { turn ≡ turn_after seen.old.log }
-    ensures { (seen.new.book ≡ N.book.history) × (seen.new.log ≡ seen.old.log ++ moment done.now.entry.now done.now.core.now ∷ []) }
+    ensures { (seen.new.book ≡ N.book.history)
+        × (seen.new.log ≡ seen.old.log ++ moment done.now.entry.now done.now.core.now ∷ []) }
 {
     let mut offer: Offer<Moment, u64, Law, Nothing> = seen.plain::<Nothing, Done, Add>(done);
     let mut pen = turn.into_pen();

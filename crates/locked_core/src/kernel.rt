@@ -56,9 +56,22 @@ impl<G: Gate + Drop> Model for Blank<G> {
 
     ghost Value = { Unnamed };
 
-    ghost view = { λ b. record { frames = b.frames; cpus = b.cpus; monitors = b.monitors; book = record { history = b.opened.seen.book; ledger = b.calls.name; parts = b.calls.parts; ledgers = b.tallies; opening = b.core } } };
+    ghost view = { λ b. record {
+      frames = b.frames;
+      cpus = b.cpus;
+      monitors = b.monitors;
+      book = record {
+        history = b.opened.seen.book;
+        ledger = b.calls.name;
+        parts = b.calls.parts;
+        ledgers = b.tallies;
+        opening =
+            b.core;
+      };
+    } };
 
-    ghost invariant = { λ b. IsMade b.frames b.cpus b.opened.seen.book b.calls.parts b.core.state b.writer.desk.shown.value b.writer.desk.spare.value b.writer.desk.place.me.0.client };
+    ghost invariant = { λ b. IsMade b.frames b.cpus b.opened.seen.book b.calls.parts b.core.state
+        b.writer.desk.shown.value b.writer.desk.spare.value b.writer.desk.place.me.0.client };
 }
 
 /// A kernel: its core, log and writer under one lock. Contracts see how many CPUs it has. End it by `close`.
@@ -103,7 +116,8 @@ impl<N: Name, G: Gate + Drop> Kernel<N, G> {
     ) -> Result<Blank<G>, BootFault>
         ensures made { IfOk result (λ b. (b.frames ≡ frames) × (b.cpus ≡ cpus) × (b.monitors ≡ monitors)) }
         ensures size { IsErrOf result BootFault.BadSize ↔ (16 ≤ frames → frames ≤ 4096 → ⊥) }
-        ensures count { IsErrOf result BootFault.BadCount ↔ (16 ≤ frames) × (frames ≤ 4096) × (1 ≤ cpus → cpus ≤ 8 → monitors ≤ 8 → ⊥) }
+        ensures count { IsErrOf result BootFault.BadCount ↔ (16 ≤ frames) × (frames ≤ 4096)
+            × (1 ≤ cpus → cpus ≤ 8 → monitors ≤ 8 → ⊥) }
         ensures counted { IfOk result (λ _. (1 ≤ cpus) × (cpus ≤ 8) × (monitors ≤ 8)) }
     {
         if !is_frame_count(frames) {
@@ -170,9 +184,11 @@ impl<N: Name, G: Gate + Drop> Kernel<N, G> {
     /// than the log has of it. Disagree also if an entry is of none of these CPUs. Nothing is returned then.
     pub fn close<R: Wait>(self, rt: &R, cpus: Vec<Cpu<N>>) -> Result<History, Fault>
         ensures legal { IfOk result (λ h. Legal N.frames h.entries × (h.core.state ≡ state_after N.frames h.entries)) }
-        ensures left { IfOk result (λ h. (moments : List Moment) × IsLeft N.book.opening cpus.items h.entries h.core moments) }
+        ensures left { IfOk result (λ h. (moments : List Moment)
+            × IsLeft N.book.opening cpus.items h.entries h.core moments) }
         ensures begins { IfOk result (λ h. All (λ c. take (length c.seen) h.entries ≡ c.seen) cpus.items) }
-        ensures calls { IfOk result (λ h. All (λ c. calls_of c.number h.entries ≡ calls_of c.number c.seen) cpus.items) }
+        ensures calls { IfOk result (λ h. All (λ c. calls_of c.number h.entries ≡ calls_of c.number c.seen)
+            cpus.items) }
         ensures counted { IfOk result (λ h. calls_of_all cpus.items ≡ length h.entries) }
         ensures all { IfOk result (λ h. All (λ e. Any (λ c. c.number ≡ e.cpu) cpus.items) h.entries) }
         ensures isolated { IfOk result (λ h. AreIsolated N.frames h.entries) }
@@ -257,8 +273,10 @@ fn seats<N: Name>(
     requires few { count ≤ 8 }
     requires shares { (uncut.old.shares.parts ≡ count) × (uncut.old.shares.amount ≡ 0) }
     requires rest { (uncut.old.rest.parts ≡ replicate 8 1) × (uncut.old.rest.amounts ≡ replicate 8 0) }
-    requires writer { (writer.old.desk.shown.value ≡ page N.frames N.book.history []) × (view writer.old.desk.place ≡ view_of N.frames N.book.history) }
-    ensures writer { (view writer.new.desk.place ≡ view writer.old.desk.place) × (writer.new.desk.shown ≡ writer.old.desk.shown) × (writer.new.desk.spare ≡ writer.old.desk.spare) }
+    requires writer { (writer.old.desk.shown.value ≡ page N.frames N.book.history [])
+        × (view writer.old.desk.place ≡ view_of N.frames N.book.history) }
+    ensures writer { (view writer.new.desk.place ≡ view writer.old.desk.place)
+        × (writer.new.desk.shown ≡ writer.old.desk.shown) × (writer.new.desk.spare ≡ writer.old.desk.spare) }
     ensures cpus { IfOk result (λ t. t.0.items ≡ new_makers count) }
     ensures monitors { IfOk result (λ t. t.1.items ≡ replicate watchers []) }
 {

@@ -65,7 +65,9 @@ impl<N: Name> Model for Locked<N> {
 
     ghost view = { λ l. record { core = l.core; log = l.log.entries; moments = l.head } };
 
-    ghost invariant = { λ l. IsUnderLock N.frames N.book.history N.book.opening l.core l.log.entries l.head l.counted.total l.tally l.is_watched l.writer.desk.shown.value l.writer.desk.spare.value l.writer.desk.place.me.0.client };
+    ghost invariant = { λ l. IsUnderLock N.frames N.book.history N.book.opening l.core l.log.entries l.head
+        l.counted.total l.tally l.is_watched l.writer.desk.shown.value l.writer.desk.spare.value
+        l.writer.desk.place.me.0.client };
 }
 
 impl<N: Name> Locked<N> {
@@ -85,7 +87,8 @@ impl<N: Name> Locked<N> {
         requires core { core.state ≡ open_with N.frames }
         requires opening { core ≡ N.book.opening }
         requires book { opened.seen.book ≡ N.book.history }
-        requires writer { (writer.desk.shown.value ≡ page N.frames N.book.history []) × (view writer.desk.place ≡ view_of N.frames N.book.history) }
+        requires writer { (writer.desk.shown.value ≡ page N.frames N.book.history [])
+            × (view writer.desk.place ≡ view_of N.frames N.book.history) }
         requires spare { writer.desk.spare.value ≡ page N.frames N.book.history [] }
         ensures log { result.log ≡ [] }
         ensures core { result.core.state ≡ open_with N.frames }
@@ -108,7 +111,8 @@ impl<N: Name> Locked<N> {
         ensures legal { Legal N.frames self.old.log }
         ensures opened { N.book.opening.state ≡ open_with N.frames }
         ensures follows { Follows N.book.opening self.old.moments }
-        ensures fits { IfSome result (λ _. StartsWith self.old.log cpu.old.seen × (calls_of cpu.old.number self.old.log ≡ calls_of cpu.old.number cpu.old.seen)) }
+        ensures fits { IfSome result (λ _. StartsWith self.old.log cpu.old.seen
+            × (calls_of cpu.old.number self.old.log ≡ calls_of cpu.old.number cpu.old.seen)) }
         ensures begins { IfSome result (λ _. Begins self.old.moments cpu.old.moments) }
         ensures told { IfSome result (λ _. Begins self.old.moments cpu.old.told) }
         ensures same { (self.new ≡ self.old) × (cpu.new ≡ cpu.old) }
@@ -127,7 +131,8 @@ impl<N: Name> Locked<N> {
         ensures shows { IfOk result (λ image. IsImageOf (core_after N.book.opening self.old.moments) image) }
         ensures follows { Follows N.book.opening self.old.moments }
         ensures begins { IfOk result (λ _. Begins self.old.moments cpu.old.moments) }
-        ensures fits { IfOk result (λ _. StartsWith self.old.log cpu.old.seen × (calls_of cpu.old.number self.old.log ≡ calls_of cpu.old.number cpu.old.seen)) }
+        ensures fits { IfOk result (λ _. StartsWith self.old.log cpu.old.seen
+            × (calls_of cpu.old.number self.old.log ≡ calls_of cpu.old.number cpu.old.seen)) }
         ensures refused { IfErr result (IsRefused N.frames self.old.log cpu.old) }
         ensures same { (self.new ≡ self.old) × (cpu.new ≡ cpu.old) }
     {
@@ -154,7 +159,8 @@ impl<N: Name> Locked<N> {
         ensures nth { IfOk result (λ r. (cpu.old.number < 8) × (r.nth ≡ calls_of cpu.old.number self.old.log)) }
         ensures event { IfOk result (λ r. r.event ≡ record { cpu = cpu.old.number; pid = pid; call = call }) }
         ensures turn { IfOk result (λ r. r.turn ≡ turn_after self.old.moments) }
-        ensures fits { IfOk result (λ _. StartsWith self.old.log cpu.old.seen × (calls_of cpu.old.number self.old.log ≡ calls_of cpu.old.number cpu.old.seen)) }
+        ensures fits { IfOk result (λ _. StartsWith self.old.log cpu.old.seen
+            × (calls_of cpu.old.number self.old.log ≡ calls_of cpu.old.number cpu.old.seen)) }
         ensures begins { IfOk result (λ _. Begins self.old.moments cpu.old.moments) }
         ensures told { IfOk result (λ _. Begins self.old.moments cpu.old.told) }
         ensures opened { N.book.opening.state ≡ open_with N.frames }
@@ -195,17 +201,24 @@ impl<N: Name> Locked<N> {
     ) -> Result<Reply, Fault>
         requires nth { (ready.event.cpu < 8) × (ready.nth ≡ calls_of ready.event.cpu self.old.log) }
         requires turn { ready.turn ≡ turn_after self.old.moments }
-        requires own { (ready.event.cpu ≡ cpu.old.number) × (calls_of cpu.old.number self.old.log ≡ calls_of cpu.old.number cpu.old.seen) }
-        ensures log { IfOk result (λ _. self.new.log ≡ self.old.log ++ entry_after N.frames self.old.log ready.event.cpu ready.event.pid ready.event.call ∷ []) }
-        ensures reply { IfOk result (λ r. r ≡ (entry_after N.frames self.old.log ready.event.cpu ready.event.pid ready.event.call).reply) }
+        requires own { (ready.event.cpu ≡ cpu.old.number)
+            × (calls_of cpu.old.number self.old.log ≡ calls_of cpu.old.number cpu.old.seen) }
+        ensures log { IfOk result (λ _. self.new.log
+            ≡ self.old.log ++ entry_after N.frames self.old.log ready.event.cpu ready.event.pid ready.event.call ∷ []) }
+        ensures reply { IfOk result (λ r. r ≡ (entry_after N.frames self.old.log ready.event.cpu ready.event.pid
+            ready.event.call).reply) }
         ensures made { IfOk result (λ _. cpu.new ≡ maker_of cpu.old.number self.new.moments) }
-        ensures moments { IfOk result (λ _. self.new.moments ≡ self.old.moments ++ moment (entry_after N.frames self.old.log ready.event.cpu ready.event.pid ready.event.call) self.new.core ∷ []) }
-        ensures told { IfOk result (λ _. (entries_in self.old.moments ≡ self.old.log) × (entries_in self.new.moments ≡ self.new.log)) }
+        ensures moments { IfOk result (λ _. self.new.moments
+            ≡ self.old.moments ++ moment (entry_after N.frames self.old.log ready.event.cpu ready.event.pid
+            ready.event.call) self.new.core ∷ []) }
+        ensures told { IfOk result (λ _. (entries_in self.old.moments ≡ self.old.log)
+            × (entries_in self.new.moments ≡ self.new.log)) }
         ensures left { IfOk result (λ _. core_after N.book.opening self.old.moments ≡ self.old.core) }
         ensures follows { IfOk result (λ _. Follows N.book.opening self.new.moments) }
         ensures number { cpu.new.number ≡ cpu.old.number }
         ensures legal { IfOk result (λ _. Legal N.frames self.new.log) }
-        ensures calls { IfOk result (λ _. calls_of ready.event.cpu self.new.log ≡ calls_of ready.event.cpu self.old.log + 1) }
+        ensures calls { IfOk result (λ _. calls_of ready.event.cpu self.new.log
+            ≡ calls_of ready.event.cpu self.old.log + 1) }
         ensures state { IfOk result (λ _. self.new.core.state ≡ state_after N.frames self.new.log) }
         ensures ends { IfOk result (λ _. Ends (ended_by self.old.core ready.event) self.old.core self.new.core) }
         ensures prevented { IfErr result Prevents }

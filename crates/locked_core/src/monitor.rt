@@ -54,7 +54,8 @@ impl<N: Name> Monitor<N> {
     pub fn report(&mut self) -> Option<Seen>
         ensures front { IfSome result (λ s. s.front ≡ length self.new) }
         ensures later { IfSome result (λ s. StartsWith self.new self.old) }
-        ensures report { IfSome result (λ s. Legal N.frames self.new × (s.report ≡ report_of (state_after N.frames self.new))) }
+        ensures report { IfSome result (λ s. Legal N.frames self.new
+            × (s.report ≡ report_of (state_after N.frames self.new))) }
         ensures none { IfNone result (self.new ≡ self.old) }
     {
         let shown = replace_with(&mut self.reader, (), |reader, _| look(reader))?;

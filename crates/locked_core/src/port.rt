@@ -100,7 +100,8 @@ impl<'a, C: Caller<K>, K: Drop> Port for CallerPort<'a, C, K> {
     ghost use Rattle.std.specs.Prelude.{◌≡◌};
     ghost use Rattle.locked_core.specs.Ports.{IsPortStep};
 
-    ghost step = { λ before event answer after. IsPortStep C.cpu_of C.called before.caller.now event answer after.caller.now × (after.caller.ghost_name ≡ before.caller.ghost_name) };
+    ghost step = { λ before event answer after. IsPortStep C.cpu_of C.called before.caller.now event answer
+        after.caller.now × (after.caller.ghost_name ≡ before.caller.ghost_name) };
 
     fn call(&mut self, event: Event) -> Result<Reply, PortFault> {
         if event.cpu != self.caller.number() {

@@ -35,7 +35,8 @@ pub fn look(reader: LogReader) -> (LogReader, Option<Shown>)
 
 /// A reader of the kernel that the writer publishes.
 pub fn reader_of(writer: &mut LogWriter) -> Result<LogReader, AllocError>
-    ensures writer { (view writer.new.desk.place ≡ view writer.old.desk.place) × (writer.new.desk.shown ≡ writer.old.desk.shown) × (writer.new.desk.spare ≡ writer.old.desk.spare) }
+    ensures writer { (view writer.new.desk.place ≡ view writer.old.desk.place)
+        × (writer.new.desk.shown ≡ writer.old.desk.shown) × (writer.new.desk.spare ≡ writer.old.desk.spare) }
     ensures reader { IfOk result (λ r. view r.place ≡ view writer.old.desk.place) }
 {
     let mut reader = writer.factory().reader()?;
@@ -45,7 +46,8 @@ pub fn reader_of(writer: &mut LogWriter) -> Result<LogReader, AllocError>
 
 /// Shows this page to readers from now on, in the place of the side that none of them reads. It allocates nothing.
 fn show_opening<R: Wait>(rt: &R, writer: &mut LogWriter, page: Shown)
-    requires { TurnsAt Keeps writer.old.desk.place.id (view writer.old.desk.place) writer.old.desk.shown.value page Opens }
+    requires { TurnsAt Keeps writer.old.desk.place.id
+        (view writer.old.desk.place) writer.old.desk.shown.value page Opens }
     ensures shown { (writer.new.desk.shown.value ≡ page) × (writer.new.desk.spare.value ≡ writer.old.desk.shown.value) }
     ensures rule { Opens (view writer.old.desk.place) writer.old.desk.shown.value page (view writer.new.desk.place) }
 {
@@ -73,7 +75,8 @@ pub fn writer_of<R: Wait>(
     requires size { (16 ≤ frames) × (frames ≤ 4096) }
     requires readers { (0 < readers) × (readers < 2 ^ 32) }
     requires empty { seen.now.log ≡ [] }
-    ensures shown { IfOk result (λ w. (w.desk.shown.value ≡ page frames seen.now.book []) × (w.desk.spare.value ≡ page frames seen.now.book [])) }
+    ensures shown { IfOk result (λ w. (w.desk.shown.value ≡ page frames seen.now.book [])
+        × (w.desk.spare.value ≡ page frames seen.now.book [])) }
     ensures view { IfOk result (λ w. view w.desk.place ≡ view_of frames seen.now.book) }
 {
     let first = Shown::opening(frames, seen);
@@ -88,7 +91,8 @@ pub fn writer_of<R: Wait>(
 pub fn publish<R: Wait>(rt: &R, writer: &mut LogWriter, log: &[LogEntry], seen: &Beginning)
     requires kernel { view writer.old.desk.place ≡ view_of writer.old.desk.spare.value.frames seen.now.book }
     requires seen { entries_in seen.now.log ≡ log.now }
-    requires behind { LagsBehind writer.old.desk.spare.value (page writer.old.desk.spare.value.frames seen.now.book log.now) }
+    requires behind { LagsBehind writer.old.desk.spare.value
+        (page writer.old.desk.spare.value.frames seen.now.book log.now) }
     requires legal { Legal writer.old.desk.spare.value.frames log.now }
     ensures view { view writer.new.desk.place ≡ view writer.old.desk.place }
     ensures shown { writer.new.desk.shown.value ≡ page writer.old.desk.spare.value.frames seen.now.book log.now }
@@ -98,7 +102,11 @@ pub fn publish<R: Wait>(rt: &R, writer: &mut LogWriter, log: &[LogEntry], seen: 
         &mut writer.desk,
         (log, seen),
         |desk, news|
-            requires { (entries_in news.1.now.log ≡ news.0.now) × LagsBehind desk.spare.value (page desk.spare.value.frames news.1.now.book news.0.now) × Legal desk.spare.value.frames news.0.now × TurnsAt Keeps desk.place.id (view desk.place) desk.shown.value (page desk.spare.value.frames news.1.now.book news.0.now) Stays }
+            requires { (entries_in news.1.now.log ≡ news.0.now)
+                × LagsBehind desk.spare.value (page desk.spare.value.frames news.1.now.book news.0.now)
+                × Legal desk.spare.value.frames news.0.now
+                × TurnsAt Keeps desk.place.id (view desk.place) desk.shown.value
+                (page desk.spare.value.frames news.1.now.book news.0.now) Stays }
         {
             let (open, mut spare) = desk.open(rt);
             spare.catch_up(news.0, news.1);
@@ -117,14 +125,19 @@ pub fn keep_up<R: Wait>(
 )
     requires kernel { view writer.old.desk.place ≡ view_of writer.old.desk.spare.value.frames seen.now.book }
     requires seen { entries_in seen.now.log ≡ log.now }
-    requires behind { LagsBehind writer.old.desk.spare.value (page writer.old.desk.spare.value.frames seen.now.book log.now) }
-    requires shown { LagsBehind writer.old.desk.shown.value (page writer.old.desk.spare.value.frames seen.now.book log.now) }
+    requires behind { LagsBehind writer.old.desk.spare.value
+        (page writer.old.desk.spare.value.frames seen.now.book log.now) }
+    requires shown { LagsBehind writer.old.desk.shown.value
+        (page writer.old.desk.spare.value.frames seen.now.book log.now) }
     requires legal { Legal writer.old.desk.spare.value.frames log.now }
     ensures view { view writer.new.desk.place ≡ view writer.old.desk.place }
     ensures unwatched { is_watched ≡ false → writer.new ≡ writer.old }
-    ensures watched { is_watched ≡ true → writer.new.desk.shown.value ≡ page writer.old.desk.spare.value.frames seen.now.book log.now }
-    ensures shown { LagsBehind writer.new.desk.shown.value (page writer.old.desk.spare.value.frames seen.now.book log.now) }
-    ensures spare { LagsBehind writer.new.desk.spare.value (page writer.old.desk.spare.value.frames seen.now.book log.now) }
+    ensures watched { is_watched ≡ true → writer.new.desk.shown.value
+        ≡ page writer.old.desk.spare.value.frames seen.now.book log.now }
+    ensures shown { LagsBehind writer.new.desk.shown.value
+        (page writer.old.desk.spare.value.frames seen.now.book log.now) }
+    ensures spare { LagsBehind writer.new.desk.spare.value
+        (page writer.old.desk.spare.value.frames seen.now.book log.now) }
 {
     if !is_watched {
         return;

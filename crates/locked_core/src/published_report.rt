@@ -31,7 +31,8 @@ impl Model for Shown {
 
     ghost view = { λ s. page s.frames s.seen.book (entries_in s.seen.log) };
 
-    ghost invariant = { λ s. (s.count ≡ length (entries_in s.seen.log)) × Legal s.frames (entries_in s.seen.log) × (s.report ≡ report_of (state_after s.frames (entries_in s.seen.log))) };
+    ghost invariant = { λ s. (s.count ≡ length (entries_in s.seen.log)) × Legal s.frames (entries_in s.seen.log)
+        × (s.report ≡ report_of (state_after s.frames (entries_in s.seen.log))) };
 }
 
 impl Shown {

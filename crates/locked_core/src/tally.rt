@@ -38,9 +38,11 @@ impl Model for Blanks {
 
     ghost Value = { List ℕ };
 
-    ghost view = { λ u. u.zero.name ∷ u.one.name ∷ u.two.name ∷ u.three.name ∷ u.four.name ∷ u.five.name ∷ u.six.name ∷ u.seven.name ∷ [] };
+    ghost view = { λ u. u.zero.name ∷ u.one.name ∷ u.two.name ∷ u.three.name ∷ u.four.name ∷ u.five.name ∷ u.six.name
+        ∷ u.seven.name ∷ [] };
 
-    ghost invariant = { λ u. All (λ p. p ≡ 1) (u.zero.parts ∷ u.one.parts ∷ u.two.parts ∷ u.three.parts ∷ u.four.parts ∷ u.five.parts ∷ u.six.parts ∷ u.seven.parts ∷ []) };
+    ghost invariant = { λ u. All (λ p. p ≡ 1) (u.zero.parts ∷ u.one.parts ∷ u.two.parts ∷ u.three.parts ∷ u.four.parts
+        ∷ u.five.parts ∷ u.six.parts ∷ u.seven.parts ∷ []) };
 }
 
 impl Blanks {
@@ -127,7 +129,8 @@ impl<N: Name> Model for Tally<N> {
 
     ghost Value = { List ℕ };
 
-    ghost view = { λ t. t.zero.total ∷ t.one.total ∷ t.two.total ∷ t.three.total ∷ t.four.total ∷ t.five.total ∷ t.six.total ∷ t.seven.total ∷ [] };
+    ghost view = { λ t. t.zero.total ∷ t.one.total ∷ t.two.total ∷ t.three.total ∷ t.four.total ∷ t.five.total
+        ∷ t.six.total ∷ t.seven.total ∷ [] };
 }
 
 /// Shares of the eight ledgers. Contracts see the parts and the amount of each.
@@ -149,7 +152,12 @@ impl<N: Name> Model for Rest<N> {
 
     ghost Value = { Shares };
 
-    ghost view = { λ r. record { parts = r.zero.parts ∷ r.one.parts ∷ r.two.parts ∷ r.three.parts ∷ r.four.parts ∷ r.five.parts ∷ r.six.parts ∷ r.seven.parts ∷ []; amounts = r.zero.amount ∷ r.one.amount ∷ r.two.amount ∷ r.three.amount ∷ r.four.amount ∷ r.five.amount ∷ r.six.amount ∷ r.seven.amount ∷ [] } };
+    ghost view = { λ r. record {
+      parts = r.zero.parts ∷ r.one.parts ∷ r.two.parts ∷ r.three.parts ∷ r.four.parts
+          ∷ r.five.parts ∷ r.six.parts ∷ r.seven.parts ∷ [];
+      amounts = r.zero.amount ∷ r.one.amount ∷ r.two.amount
+          ∷ r.three.amount ∷ r.four.amount ∷ r.five.amount ∷ r.six.amount ∷ r.seven.amount ∷ [];
+    } };
 }
 
 /// What counts the calls of one CPU. Contracts see its number and its count.
@@ -189,7 +197,8 @@ impl<N: Name> Rest<N> {
         requires number { number < 8 }
         requires there { (slice_index_or self.old.parts number 0 ≡ 1) × (slice_index_or self.old.amounts number 0 ≡ 0) }
         ensures own { result ≡ record { number = number; calls = 0 } }
-        ensures others { (k : ℕ) → k ≢ number → (slice_index_or self.new.parts k 0 ≡ slice_index_or self.old.parts k 0) × (slice_index_or self.new.amounts k 0 ≡ slice_index_or self.old.amounts k 0) }
+        ensures others { (k : ℕ) → k ≢ number → (slice_index_or self.new.parts k 0 ≡ slice_index_or self.old.parts k 0)
+            × (slice_index_or self.new.amounts k 0 ≡ slice_index_or self.old.amounts k 0) }
     {
         let Rest {
             zero,

@@ -69,7 +69,8 @@ fn film<S: AsStr, I: Read + Drop, O: Write>(
     input: I,
     output: &mut O,
 ) -> Answer
-    ensures { AnswersFilm (map S.text words.now) result (I.remaining input) (O.contents output.old) (O.contents output.new) }
+    ensures { AnswersFilm (map S.text words.now) result (I.remaining input) (O.contents output.old)
+        (O.contents output.new) }
 {
     match frames_of(alloc, words) {
         Ok(frames) => film_script(alloc, frames, input, output),
@@ -88,7 +89,8 @@ pub fn answer<R: AllocGlobal + Files, S: AsStr, I: Read + Drop, O: Write>(
     input: I,
     output: &mut O,
 ) -> Answer
-    ensures { AnswersAll (map S.text words.now) result (I.remaining input) (O.contents output.old) (O.contents output.new) }
+    ensures { AnswersAll (map S.text words.now) result (I.remaining input) (O.contents output.old)
+        (O.contents output.new) }
 {
     if asks_film(words) {
         film(rt.alloc(), words, input, output)

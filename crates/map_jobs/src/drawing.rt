@@ -48,7 +48,8 @@ pub fn draw_bytes<W: Write>(
     writer: &mut W,
 ) -> Result<bool, ToolFault>
     ensures drawn { IfOk result (λ sound. Draws form bytes.now sound (W.contents writer.old) (W.contents writer.new)) }
-    ensures fault { IfErr result (λ fault. EndsDrawing form bytes.now fault (W.contents writer.old) (W.contents writer.new)) }
+    ensures fault { IfErr result (λ fault. EndsDrawing form bytes.now fault (W.contents writer.old)
+        (W.contents writer.new)) }
 {
     let image = match read_image(alloc, bytes) {
         Ok(image) => image,

@@ -39,8 +39,10 @@ pub fn write_film<O: Write>(
     script: &[u8],
     output: &mut O,
 ) -> Result<End, ToolFault>
-    ensures film { IfOk result (λ end. WritesFilm frames script.now end (O.contents output.old) (O.contents output.new)) }
-    ensures fault { IfErr result (λ fault. EndsFilm frames script.now fault (O.contents output.old) (O.contents output.new)) }
+    ensures film { IfOk result (λ end. WritesFilm frames script.now end (O.contents output.old)
+        (O.contents output.new)) }
+    ensures fault { IfErr result (λ fault. EndsFilm frames script.now fault (O.contents output.old)
+        (O.contents output.new)) }
 {
     let film = match film_of(alloc, frames, script) {
         Ok(film) => film,

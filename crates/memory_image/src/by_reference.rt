@@ -30,9 +30,21 @@ impl<'a> Model for ImageRef<'a> {
 
     ghost coded = { image_code };
 
-    ghost view = { λ i. record { version = i.version; processes = i.processes.now; roles = i.roles.now; bytes = i.bytes.now } };
+    ghost view = { λ i. record {
+      version = i.version;
+      processes = i.processes.now;
+      roles = i.roles.now;
+      bytes =
+          i.bytes.now;
+    } };
 
-    ghost invariant = { λ i. IsWideImage (record { version = i.version; processes = i.processes.now; roles = i.roles.now; bytes = i.bytes.now }) };
+    ghost invariant = { λ i. IsWideImage (record {
+      version = i.version;
+      processes = i.processes.now;
+      roles =
+          i.roles.now;
+      bytes = i.bytes.now;
+    }) };
 }
 
 impl<'a> ImageRef<'a> {
@@ -43,8 +55,19 @@ impl<'a> ImageRef<'a> {
         roles: &'a [Role],
         bytes: &'a [u8],
     ) -> ImageRef<'a>
-        requires { IsWideImage (record { version = version; processes = processes.now; roles = roles.now; bytes = bytes.now }) }
-        ensures { result ≡ record { version = version; processes = processes.now; roles = roles.now; bytes = bytes.now } }
+        requires { IsWideImage (record {
+          version = version;
+          processes = processes.now;
+          roles = roles.now;
+          bytes =
+              bytes.now;
+        }) }
+        ensures { result ≡ record {
+          version = version;
+          processes = processes.now;
+          roles = roles.now;
+          bytes = bytes.now;
+        } }
     {
         ImageRef {
             version,

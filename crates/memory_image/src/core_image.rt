@@ -79,7 +79,13 @@ impl<'a> ImageRef<'a> {
     /// state.
     pub fn of_core(core: &'a Core, processes: &'a [Option<Process>; 64]) -> ImageRef<'a>
         requires { ShowsProcesses core.now processes.now }
-        ensures parts { result ≡ record { version = 2; processes = processes.now; roles = core.now.roles; bytes = core.now.bytes } }
+        ensures parts { result ≡ record {
+          version = 2;
+          processes = processes.now;
+          roles = core.now.roles;
+          bytes =
+              core.now.bytes;
+        } }
         ensures shows { IsImageOf core.now result }
         ensures stands { StandsFor result core.now.state }
     {

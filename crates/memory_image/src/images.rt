@@ -32,9 +32,20 @@ impl Model for Image {
 
     ghost coded = { image_code };
 
-    ghost view = { λ i. record { version = i.version; processes = i.processes; roles = i.roles.items; bytes = i.bytes.items } };
+    ghost view = { λ i. record {
+      version = i.version;
+      processes = i.processes;
+      roles = i.roles.items;
+      bytes =
+          i.bytes.items;
+    } };
 
-    ghost invariant = { λ i. IsImage (record { version = i.version; processes = i.processes; roles = i.roles.items; bytes = i.bytes.items }) };
+    ghost invariant = { λ i. IsImage (record {
+      version = i.version;
+      processes = i.processes;
+      roles = i.roles.items;
+      bytes = i.bytes.items;
+    }) };
 }
 
 impl Image {
@@ -45,8 +56,18 @@ impl Image {
         roles: Vec<Role>,
         bytes: Vec<u8>,
     ) -> Image
-        requires { IsImage (record { version = version; processes = processes; roles = roles.items; bytes = bytes.items }) }
-        ensures { result ≡ record { version = version; processes = processes; roles = roles.items; bytes = bytes.items } }
+        requires { IsImage (record {
+          version = version;
+          processes = processes;
+          roles = roles.items;
+          bytes = bytes.items;
+        }) }
+        ensures { result ≡ record {
+          version = version;
+          processes = processes;
+          roles = roles.items;
+          bytes = bytes.items;
+        } }
     {
         Image {
             version,

@@ -81,7 +81,8 @@ fn role_numbers(role: Role) -> [u32; 4]
 
 fn write_process<W: Write>(process: &Option<Process>, writer: &mut W) -> Result<(), WriteFailed>
     ensures ok { OnOk result (Appends (W.contents writer.old) (W.contents writer.new) (process_bytes process.now)) }
-    ensures err { OnErr result (AppendsFront (W.contents writer.old) (W.contents writer.new) (process_bytes process.now)) }
+    ensures err { OnErr result (AppendsFront (W.contents writer.old) (W.contents writer.new)
+        (process_bytes process.now)) }
 {
     write_whole(writer, &record_of(&process_numbers(process)))
 }
@@ -97,8 +98,10 @@ fn write_processes<W: Write>(
     processes: &[Option<Process>],
     writer: &mut W,
 ) -> Result<(), WriteFailed>
-    ensures ok { OnOk result (Appends (W.contents writer.old) (W.contents writer.new) (flat_map process_bytes processes.now)) }
-    ensures err { OnErr result (AppendsFront (W.contents writer.old) (W.contents writer.new) (flat_map process_bytes processes.now)) }
+    ensures ok { OnOk result (Appends (W.contents writer.old) (W.contents writer.new)
+        (flat_map process_bytes processes.now)) }
+    ensures err { OnErr result (AppendsFront (W.contents writer.old) (W.contents writer.new)
+        (flat_map process_bytes processes.now)) }
 {
     for place in 0..processes.len() {
         write_process(&processes[place], writer)?;
@@ -108,7 +111,8 @@ fn write_processes<W: Write>(
 
 fn write_roles<W: Write>(roles: &[Role], writer: &mut W) -> Result<(), WriteFailed>
     ensures ok { OnOk result (Appends (W.contents writer.old) (W.contents writer.new) (flat_map role_bytes roles.now)) }
-    ensures err { OnErr result (AppendsFront (W.contents writer.old) (W.contents writer.new) (flat_map role_bytes roles.now)) }
+    ensures err { OnErr result (AppendsFront (W.contents writer.old) (W.contents writer.new)
+        (flat_map role_bytes roles.now)) }
 {
     for place in 0..roles.len() {
         write_role(roles[place], writer)?;
@@ -118,8 +122,10 @@ fn write_roles<W: Write>(roles: &[Role], writer: &mut W) -> Result<(), WriteFail
 
 /// Writes what an image begins with: the four bytes, the version and the number of frames.
 fn write_front<W: Write>(image: &Image, writer: &mut W) -> Result<(), WriteFailed>
-    ensures ok { OnOk result (Appends (W.contents writer.old) (W.contents writer.new) (magic ++ (number image.now.version ++ number (frames image.now)))) }
-    ensures err { OnErr result (AppendsFront (W.contents writer.old) (W.contents writer.new) (magic ++ (number image.now.version ++ number (frames image.now)))) }
+    ensures ok { OnOk result (Appends (W.contents writer.old) (W.contents writer.new)
+        (magic ++ (number image.now.version ++ number (frames image.now)))) }
+    ensures err { OnErr result (AppendsFront (W.contents writer.old) (W.contents writer.new)
+        (magic ++ (number image.now.version ++ number (frames image.now)))) }
 {
     write_whole(
         writer,

@@ -104,7 +104,8 @@ fn absorb_call(rows: &mut Rows, pid: Pid, call: &Call, reply: &Reply, used_after
 
 /// Takes in one entry; a refusal or a fault leaves all rows.
 pub(crate) fn absorb_entry(rows: &mut Rows, entry: &LogEntry)
-    ensures { (completes entry.now.reply ≡ true → IsRoomy rows.old entry.now.pid entry.now.call) → rows.new ≡ absorbed rows.old entry.now }
+    ensures { (completes entry.now.reply ≡ true → IsRoomy rows.old entry.now.pid entry.now.call)
+        → rows.new ≡ absorbed rows.old entry.now }
 {
     match entry.reply {
         Reply::Refused(_) => {}

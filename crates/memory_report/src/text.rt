@@ -23,7 +23,8 @@ impl Report {
     /// WriteFailed where a write fails; what was written is then a front of the text.
     pub fn write_text<W: Write>(&self, writer: &mut W) -> Result<(), WriteFailed>
         ensures ok { OnOk result (Appends (W.contents writer.old) (W.contents writer.new) (report_text self.now)) }
-        ensures err { OnErr result (AppendsFront (W.contents writer.old) (W.contents writer.new) (report_text self.now)) }
+        ensures err { OnErr result (AppendsFront (W.contents writer.old) (W.contents writer.new)
+            (report_text self.now)) }
     {
         write_rows(self.rows(), writer)
     }

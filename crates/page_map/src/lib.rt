@@ -98,7 +98,8 @@ fn word(memory: &Memory, frame: Frame, index: u32) -> u32
 fn set_word(memory: &mut Memory, frame: Frame, index: u32, word: u32)
     requires inside { 4096 * frame + 4096 ≤ length memory.old }
     requires index { index < 1024 }
-    ensures frames { frame_bytes memory.new ≡ with_frame (frame_bytes memory.old) frame (with_word_in (frame_bytes memory.old frame) index word) }
+    ensures frames { frame_bytes memory.new ≡ with_frame (frame_bytes memory.old) frame
+        (with_word_in (frame_bytes memory.old frame) index word) }
     ensures length { length memory.new ≡ length memory.old }
 {
     let frames = memory.frames();
@@ -196,9 +197,11 @@ pub fn link_table(memory: &mut Memory, directory: Frame, slot: u32, table: Frame
     requires apart { table ≢ directory }
     ensures frames { frame_bytes memory.new ≡ with_table (frame_bytes memory.old) directory slot table }
     ensures length { length memory.new ≡ length memory.old }
-    ensures entries { IsFreshTable (frame_bytes memory.old) directory slot table → entries_of (frame_bytes memory.new) directory ≡ entries_of (frame_bytes memory.old) directory }
+    ensures entries { IsFreshTable (frame_bytes memory.old) directory slot table
+        → entries_of (frame_bytes memory.new) directory ≡ entries_of (frame_bytes memory.old) directory }
     ensures map { IsFreshTable (frame_bytes memory.old) directory slot table → IsPageMap memory.new directory }
-    ensures foreign { (frame : ℕ) → IsForeign (frame_bytes memory.old) directory frame → frame ≢ table → frame_bytes memory.new frame ≡ frame_bytes memory.old frame }
+    ensures foreign { (frame : ℕ) → IsForeign (frame_bytes memory.old) directory frame → frame ≢ table
+        → frame_bytes memory.new frame ≡ frame_bytes memory.old frame }
 {
     store_table(memory, directory, slot, table);
 }
@@ -218,7 +221,8 @@ fn store_entry(memory: &mut Memory, directory: Frame, page: Page, entry: PageEnt
     requires frame { entry.frame < 2 ^ 20 }
     requires map { IsPageMap memory.old directory }
     requires table { is_present (dir_word (frame_bytes memory.old) directory (slot_number page)) ≡ true }
-    ensures frames { frame_bytes memory.new ≡ with_entry (frame_bytes memory.old) (frame_number (dir_word (frame_bytes memory.old) directory (slot_number page))) page entry }
+    ensures frames { frame_bytes memory.new ≡ with_entry (frame_bytes memory.old)
+        (frame_number (dir_word (frame_bytes memory.old) directory (slot_number page))) page entry }
     ensures length { length memory.new ≡ length memory.old }
 {
     if let Some(table) = table(memory, directory, slot_of(page)) {
@@ -235,11 +239,14 @@ pub fn set_entry(memory: &mut Memory, directory: Frame, page: Page, entry: PageE
     requires frame { entry.frame < 2 ^ 20 }
     requires map { IsPageMap memory.old directory }
     requires table { is_present (dir_word (frame_bytes memory.old) directory (slot_number page)) ≡ true }
-    ensures frames { frame_bytes memory.new ≡ with_entry (frame_bytes memory.old) (frame_number (dir_word (frame_bytes memory.old) directory (slot_number page))) page entry }
+    ensures frames { frame_bytes memory.new ≡ with_entry (frame_bytes memory.old)
+        (frame_number (dir_word (frame_bytes memory.old) directory (slot_number page))) page entry }
     ensures length { length memory.new ≡ length memory.old }
-    ensures entries { entries_of (frame_bytes memory.new) directory ≡ map.insert (entries_of (frame_bytes memory.old) directory) page entry }
+    ensures entries { entries_of (frame_bytes memory.new) directory
+        ≡ map.insert (entries_of (frame_bytes memory.old) directory) page entry }
     ensures map { IsKernelEntry entry → IsPageMap memory.new directory }
-    ensures foreign { (frame : ℕ) → IsForeign (frame_bytes memory.old) directory frame → frame_bytes memory.new frame ≡ frame_bytes memory.old frame }
+    ensures foreign { (frame : ℕ) → IsForeign (frame_bytes memory.old) directory frame
+        → frame_bytes memory.new frame ≡ frame_bytes memory.old frame }
 {
     store_entry(memory, directory, page, entry);
 }
@@ -249,8 +256,10 @@ fn next_present(memory: &Memory, table: Frame, first: u32) -> Option<u32>
     requires inside { 4096 * table + 4096 ≤ length memory.now }
     ensures within { IfSome result (λ index. (first ≤ index) × (index < 1024)) }
     ensures present { IfSome result (λ index. is_present (word_in (frame_bytes memory.now table) index) ≡ true) }
-    ensures least { IfSome result (λ index. (i : ℕ) → first ≤ i → i < index → is_present (word_in (frame_bytes memory.now table) i) ≡ false) }
-    ensures none { IfNone result ((i : ℕ) → first ≤ i → i < 1024 → is_present (word_in (frame_bytes memory.now table) i) ≡ false) }
+    ensures least { IfSome result (λ index. (i : ℕ) → first ≤ i → i < index
+        → is_present (word_in (frame_bytes memory.now table) i) ≡ false) }
+    ensures none { IfNone result ((i : ℕ) → first ≤ i → i < 1024
+        → is_present (word_in (frame_bytes memory.now table) i) ≡ false) }
 {
     for index in first..1024 {
         if TableWord::read(word(memory, table, index)).present() {
@@ -286,9 +295,11 @@ pub fn clear_entry(memory: &mut Memory, directory: Frame, page: Page) -> Option<
     requires table { is_present (dir_word (frame_bytes memory.old) directory (slot_number page)) ≡ true }
     ensures cleared { IsCleared (frame_bytes memory.old) directory page result (frame_bytes memory.new) }
     ensures length { length memory.new ≡ length memory.old }
-    ensures entries { entries_of (frame_bytes memory.new) directory ≡ map.remove (entries_of (frame_bytes memory.old) directory) page }
+    ensures entries { entries_of (frame_bytes memory.new) directory
+        ≡ map.remove (entries_of (frame_bytes memory.old) directory) page }
     ensures map { IsPageMap memory.new directory }
-    ensures foreign { (frame : ℕ) → IsForeign (frame_bytes memory.old) directory frame → frame_bytes memory.new frame ≡ frame_bytes memory.old frame }
+    ensures foreign { (frame : ℕ) → IsForeign (frame_bytes memory.old) directory frame
+        → frame_bytes memory.new frame ≡ frame_bytes memory.old frame }
 {
     remove_entry(memory, directory, page)
 }
@@ -303,8 +314,10 @@ fn remove_found_entry(
     requires user { IsUserPage page }
     requires map { IsPageMap memory.old directory }
     requires table { table_of (frame_bytes memory.old) directory (slot_number page) ≡ Some table }
-    requires last { mapped ≡ 1 → IsLastEntry (frame_bytes memory.old) (frame_number (dir_word (frame_bytes memory.old) directory (slot_number page))) page }
-    requires others { mapped ≢ 1 → HasOtherEntry (frame_bytes memory.old) (frame_number (dir_word (frame_bytes memory.old) directory (slot_number page))) page }
+    requires last { mapped ≡ 1 → IsLastEntry (frame_bytes memory.old)
+        (frame_number (dir_word (frame_bytes memory.old) directory (slot_number page))) page }
+    requires others { mapped ≢ 1 → HasOtherEntry (frame_bytes memory.old)
+        (frame_number (dir_word (frame_bytes memory.old) directory (slot_number page))) page }
     ensures cleared { IsCleared (frame_bytes memory.old) directory page result (frame_bytes memory.new) }
     ensures length { length memory.new ≡ length memory.old }
     ensures last { is_some result ≡ true → mapped ≡ 1 }
@@ -332,13 +345,16 @@ pub fn clear_found_entry(
     requires map { IsPageMap memory.old directory }
     requires table { table_of (frame_bytes memory.old) directory (slot_number page) ≡ Some table }
     requires entry { is_some (entry_at (frame_bytes memory.old) directory page) ≡ true }
-    requires mapped { mapped ≡ count_range (λ other. is_some (entry_at (frame_bytes memory.old) directory other)) (1024 * slot_number page) 1024 }
+    requires mapped { mapped ≡ count_range (λ other. is_some (entry_at (frame_bytes memory.old) directory other))
+        (1024 * slot_number page) 1024 }
     ensures cleared { IsCleared (frame_bytes memory.old) directory page result (frame_bytes memory.new) }
     ensures length { length memory.new ≡ length memory.old }
     ensures last { is_some result ≡ true → mapped ≡ 1 }
-    ensures entries { entries_of (frame_bytes memory.new) directory ≡ map.remove (entries_of (frame_bytes memory.old) directory) page }
+    ensures entries { entries_of (frame_bytes memory.new) directory
+        ≡ map.remove (entries_of (frame_bytes memory.old) directory) page }
     ensures map { IsPageMap memory.new directory }
-    ensures foreign { (frame : ℕ) → IsForeign (frame_bytes memory.old) directory frame → frame_bytes memory.new frame ≡ frame_bytes memory.old frame }
+    ensures foreign { (frame : ℕ) → IsForeign (frame_bytes memory.old) directory frame
+        → frame_bytes memory.new frame ≡ frame_bytes memory.old frame }
 {
     remove_found_entry(memory, directory, table, page, mapped)
 }
@@ -374,7 +390,8 @@ pub fn words_present(memory: &Memory, table: Frame) -> u32
 fn pages_of_slot(memory: &Memory, directory: Frame, slot: u32) -> u32
     requires slot { slot < 1024 }
     requires map { IsPageMap memory.now directory }
-    ensures count { result ≡ count_range (λ page. is_some (entry_at (frame_bytes memory.now) directory page)) (1024 * slot) 1024 }
+    ensures count { result ≡ count_range (λ page. is_some (entry_at (frame_bytes memory.now) directory page))
+        (1024 * slot) 1024 }
     ensures bound { result ≤ 1024 }
 {
     match table(memory, directory, slot) {
@@ -403,8 +420,10 @@ fn next_in_table(memory: &Memory, directory: Frame, slot: u32, first: u32) -> Op
     requires map { IsPageMap memory.now directory }
     ensures within { IfSome result (λ page. (first ≤ page) × (1024 * slot ≤ page) × (page < 1024 * slot + 1024)) }
     ensures mapped { IfSome result (λ page. is_some (entry_at (frame_bytes memory.now) directory page) ≡ true) }
-    ensures least { IfSome result (λ page. (p : ℕ) → first ≤ p → 1024 * slot ≤ p → p < page → is_some (entry_at (frame_bytes memory.now) directory p) ≡ false) }
-    ensures none { IfNone result ((p : ℕ) → first ≤ p → 1024 * slot ≤ p → p < 1024 * slot + 1024 → is_some (entry_at (frame_bytes memory.now) directory p) ≡ false) }
+    ensures least { IfSome result (λ page. (p : ℕ) → first ≤ p → 1024 * slot ≤ p → p < page
+        → is_some (entry_at (frame_bytes memory.now) directory p) ≡ false) }
+    ensures none { IfNone result ((p : ℕ) → first ≤ p → 1024 * slot ≤ p → p < 1024 * slot + 1024
+        → is_some (entry_at (frame_bytes memory.now) directory p) ≡ false) }
 {
     let table = table(memory, directory, slot)?;
     let index = next_present(memory, table, first.saturating_sub(slot * 1024))?;
@@ -418,8 +437,10 @@ fn next_in_slot(memory: &Memory, directory: Frame, slot: u32, first: u32) -> Opt
     requires map { IsPageMap memory.now directory }
     ensures within { IfSome result (λ page. (first ≤ page) × (1024 * slot ≤ page) × (page < 1024 * slot + 1024)) }
     ensures mapped { IfSome result (λ page. is_some (entry_at (frame_bytes memory.now) directory page) ≡ true) }
-    ensures least { IfSome result (λ page. (p : ℕ) → first ≤ p → 1024 * slot ≤ p → p < page → is_some (entry_at (frame_bytes memory.now) directory p) ≡ false) }
-    ensures none { IfNone result ((p : ℕ) → first ≤ p → 1024 * slot ≤ p → p < 1024 * slot + 1024 → is_some (entry_at (frame_bytes memory.now) directory p) ≡ false) }
+    ensures least { IfSome result (λ page. (p : ℕ) → first ≤ p → 1024 * slot ≤ p → p < page
+        → is_some (entry_at (frame_bytes memory.now) directory p) ≡ false) }
+    ensures none { IfNone result ((p : ℕ) → first ≤ p → 1024 * slot ≤ p → p < 1024 * slot + 1024
+        → is_some (entry_at (frame_bytes memory.now) directory p) ≡ false) }
 {
     if has_table(memory, directory, slot) {
         next_in_table(memory, directory, slot, first)
@@ -434,8 +455,10 @@ fn next_entry(memory: &Memory, directory: Frame, first: u32) -> Option<u32>
     requires map { IsPageMap memory.now directory }
     ensures within { IfSome result (λ page. (first ≤ page) × (page < 0xf0000)) }
     ensures mapped { IfSome result (λ page. is_some (entry_at (frame_bytes memory.now) directory page) ≡ true) }
-    ensures least { IfSome result (λ page. (p : ℕ) → first ≤ p → p < page → is_some (entry_at (frame_bytes memory.now) directory p) ≡ false) }
-    ensures none { IfNone result ((p : ℕ) → first ≤ p → p < 0xf0000 → is_some (entry_at (frame_bytes memory.now) directory p) ≡ false) }
+    ensures least { IfSome result (λ page. (p : ℕ) → first ≤ p → p < page
+        → is_some (entry_at (frame_bytes memory.now) directory p) ≡ false) }
+    ensures none { IfNone result ((p : ℕ) → first ≤ p → p < 0xf0000
+        → is_some (entry_at (frame_bytes memory.now) directory p) ≡ false) }
 {
     for slot in first / 1024..SLOT_END {
         if let Some(page) = next_in_slot(memory, directory, slot, first) {
@@ -451,8 +474,10 @@ pub fn next_page(memory: &Memory, directory: Frame, from: Page) -> Option<Page>
     ensures mapped { IfSome result (λ page. is_mapped (frame_bytes memory.now) directory page ≡ true) }
     ensures user { IfSome result IsUserPage }
     ensures from { IfSome result (λ page. from ≤ page) }
-    ensures least { IfSome result (λ page. (other : ℕ) → from ≤ other → other < page → is_mapped (frame_bytes memory.now) directory other ≡ false) }
-    ensures none { IfNone result ((other : ℕ) → from ≤ other → is_mapped (frame_bytes memory.now) directory other ≡ false) }
+    ensures least { IfSome result (λ page. (other : ℕ) → from ≤ other → other < page
+        → is_mapped (frame_bytes memory.now) directory other ≡ false) }
+    ensures none { IfNone result ((other : ℕ) → from ≤ other
+        → is_mapped (frame_bytes memory.now) directory other ≡ false) }
 {
     let page = next_entry(memory, directory, from.0.max(FIRST_SLOT * 1024))?;
     Some(Page(page))

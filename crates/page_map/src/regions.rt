@@ -40,9 +40,12 @@ fn region_of_two(memory: &Memory, directory: Frame, place: usize) -> Option<Regi
     requires place { place < 1023 }
     requires map { IsPageMap memory.now directory }
     ensures within { IfSome result (λ region. (place ≤ region.slot) × (region.slot < place + 2)) }
-    ensures table { IfSome result (λ region. table_of (frame_bytes memory.now) directory region.slot ≡ Some region.table) }
-    ensures least { IfSome result (λ region. (slot : ℕ) → place ≤ slot → slot < region.slot → table_of (frame_bytes memory.now) directory slot ≡ None) }
-    ensures none { IfNone result ((slot : ℕ) → place ≤ slot → slot < place + 2 → table_of (frame_bytes memory.now) directory slot ≡ None) }
+    ensures table { IfSome result (λ region. table_of (frame_bytes memory.now) directory region.slot
+        ≡ Some region.table) }
+    ensures least { IfSome result (λ region. (slot : ℕ) → place ≤ slot → slot < region.slot
+        → table_of (frame_bytes memory.now) directory slot ≡ None) }
+    ensures none { IfNone result ((slot : ℕ) → place ≤ slot → slot < place + 2
+        → table_of (frame_bytes memory.now) directory slot ≡ None) }
 {
     match region_at(memory, directory, place) {
         Some(region) => Some(region),
@@ -55,9 +58,12 @@ fn region_of_two(memory: &Memory, directory: Frame, place: usize) -> Option<Regi
 pub fn next_region(memory: &Memory, directory: Frame, first: u32) -> Option<Region>
     requires { IsPageMap memory.now directory }
     ensures within { IfSome result (λ region. (first ≤ region.slot) × (region.slot < 960)) }
-    ensures table { IfSome result (λ region. table_of (frame_bytes memory.now) directory region.slot ≡ Some region.table) }
-    ensures least { IfSome result (λ region. (slot : ℕ) → first ≤ slot → slot < region.slot → table_of (frame_bytes memory.now) directory slot ≡ None) }
-    ensures none { IfNone result ((slot : ℕ) → first ≤ slot → slot < 960 → table_of (frame_bytes memory.now) directory slot ≡ None) }
+    ensures table { IfSome result (λ region. table_of (frame_bytes memory.now) directory region.slot
+        ≡ Some region.table) }
+    ensures least { IfSome result (λ region. (slot : ℕ) → first ≤ slot → slot < region.slot
+        → table_of (frame_bytes memory.now) directory slot ≡ None) }
+    ensures none { IfNone result ((slot : ℕ) → first ≤ slot → slot < 960
+        → table_of (frame_bytes memory.now) directory slot ≡ None) }
 {
     // Two by two, and over places of the machine's width, so that a slot without a table takes few instructions.
     let first = first as usize;
@@ -79,9 +85,12 @@ pub fn next_region(memory: &Memory, directory: Frame, first: u32) -> Option<Regi
 pub fn next_listed(memory: &Memory, table: Frame, first: u32) -> Option<Listed>
     requires { 4096 * table + 4096 ≤ length memory.now }
     ensures within { IfSome result (λ listed. (first ≤ listed.index) × (listed.index < 1024)) }
-    ensures entry { IfSome result (λ listed. word_entry (word_in (frame_bytes memory.now table) listed.index) ≡ Some listed.entry) }
-    ensures least { IfSome result (λ listed. (index : ℕ) → first ≤ index → index < listed.index → word_entry (word_in (frame_bytes memory.now table) index) ≡ None) }
-    ensures none { IfNone result ((index : ℕ) → first ≤ index → index < 1024 → word_entry (word_in (frame_bytes memory.now table) index) ≡ None) }
+    ensures entry { IfSome result (λ listed. word_entry (word_in (frame_bytes memory.now table) listed.index)
+        ≡ Some listed.entry) }
+    ensures least { IfSome result (λ listed. (index : ℕ) → first ≤ index → index < listed.index
+        → word_entry (word_in (frame_bytes memory.now table) index) ≡ None) }
+    ensures none { IfNone result ((index : ℕ) → first ≤ index → index < 1024
+        → word_entry (word_in (frame_bytes memory.now table) index) ≡ None) }
 {
     for place in first as usize..1024 {
         let index = place as u32;

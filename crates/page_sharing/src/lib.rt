@@ -123,7 +123,8 @@ impl Offer {
 
 /// Whether an offer's place is `from` or later, and before that of the first one that was found.
 fn comes_first(offer: &Offer, first: &Option<Offer>, from: u64) -> bool
-    ensures { (offers : List Offer) → IsFirstFrom from offers first.now → IsFirstFrom from (offers ++ offer.now ∷ []) (if result then Some offer.now else first.now) }
+    ensures { (offers : List Offer) → IsFirstFrom from offers first.now
+        → IsFirstFrom from (offers ++ offer.now ∷ []) (if result then Some offer.now else first.now) }
 {
     if offer.number() < from {
         return false;
@@ -224,7 +225,8 @@ fn remove_at(lists: &mut OfferLists, giver: Pid, place: usize) -> bool
 /// Takes the offers of a page out, and gives how many went.
 fn remove_page(lists: &mut OfferLists, giver: Pid, page: Page) -> u32
     ensures listed { giver < length lists.old }
-    ensures list { lists.new ≡ with_list lists.old giver (filter (λ offer. not (offer.page == page)) (offers_by lists.old giver)) }
+    ensures list { lists.new ≡ with_list lists.old giver
+        (filter (λ offer. not (offer.page == page)) (offers_by lists.old giver)) }
     ensures gone { result + all_pending lists.new ≡ all_pending lists.old }
 {
     keep_other_pages(&mut lists[giver.number() as usize], page)
@@ -250,7 +252,8 @@ fn pending_at(lists: &OfferLists, place: usize) -> u32
 /// Takes the offers to a process out of a list, and gives how many went.
 fn remove_to(lists: &mut OfferLists, place: usize, target: Pid) -> u32
     requires { place < MOST_PROCESSES }
-    ensures list { lists.new ≡ with_list lists.old place (filter (λ offer. not (offer.target == target)) (offers_by lists.old place)) }
+    ensures list { lists.new ≡ with_list lists.old place
+        (filter (λ offer. not (offer.target == target)) (offers_by lists.old place)) }
     ensures gone { result + all_pending lists.new ≡ all_pending lists.old }
 {
     keep_other_targets(&mut lists[place], target)
@@ -261,7 +264,8 @@ fn remove_to(lists: &mut OfferLists, place: usize, target: Pid) -> u32
 /// The lists have `count` offers, so that none is behind the list where that many were seen.
 fn remove_all_to(lists: &mut OfferLists, target: Pid, count: u32) -> u32
     requires { count ≡ all_pending lists.old }
-    ensures offers { (p : ℕ) → offers_by lists.new p ≡ filter (λ offer. not (offer.target == target)) (offers_by lists.old p) }
+    ensures offers { (p : ℕ) → offers_by lists.new p
+        ≡ filter (λ offer. not (offer.target == target)) (offers_by lists.old p) }
     ensures places { length lists.new ≡ length lists.old }
     ensures gone { result + all_pending lists.new ≡ all_pending lists.old }
 {
@@ -329,13 +333,17 @@ impl Offers {
         right_of(list_by(&self.lists, giver), page, target)
     }
 
-    /// Returns a process's first pending offer from a page and a target on, in the order of pages, and of targets for one
-    /// page. `target` may be any number: past 63 it leads to the next page. None if no such offer is pending.
+    /// Returns a process's first pending offer from a page and a target on, in the order of pages, and of targets for
+    /// one page. `target` may be any number: past 63 it leads to the next page. None if no such offer is pending.
     pub fn next(&self, giver: Pid, page: Page, target: u32) -> Option<Offer>
-        ensures pending { IfSome result (λ offer. map.get self.now (offer_key giver offer.page offer.target) ≡ Some offer.write) }
+        ensures pending { IfSome result (λ offer. map.get self.now (offer_key giver offer.page offer.target)
+            ≡ Some offer.write) }
         ensures from { IfSome result (λ offer. offer_number page target ≤ offer_number offer.page offer.target) }
-        ensures least { IfSome result (λ offer. (p t : ℕ) → offer_number page target ≤ offer_number p t → offer_number p t < offer_number offer.page offer.target → map.contains_key self.now (offer_key giver p t) ≡ false) }
-        ensures none { IfNone result ((p t : ℕ) → offer_number page target ≤ offer_number p t → map.contains_key self.now (offer_key giver p t) ≡ false) }
+        ensures least { IfSome result (λ offer. (p t : ℕ) → offer_number page target ≤ offer_number p t
+            → offer_number p t < offer_number offer.page offer.target
+            → map.contains_key self.now (offer_key giver p t) ≡ false) }
+        ensures none { IfNone result ((p t : ℕ) → offer_number page target ≤ offer_number p t
+            → map.contains_key self.now (offer_key giver p t) ≡ false) }
     {
         first_from(list_by(&self.lists, giver), number_of(page, target))
     }
@@ -343,7 +351,8 @@ impl Offers {
     /// Takes a pending offer back. NoOffer where it isn't pending, and nothing changes then.
     pub fn withdraw(&mut self, giver: Pid, page: Page, target: Pid) -> Result<(), OfferFault>
         ensures withdrawn { OnOk result (self.new ≡ map.remove self.old (offer_key giver page target)) }
-        ensures absent { IsErrOf result OfferFault.NoOffer ↔ (map.contains_key self.old (offer_key giver page target) ≡ false) }
+        ensures absent { IsErrOf result OfferFault.NoOffer
+            ↔ (map.contains_key self.old (offer_key giver page target) ≡ false) }
         ensures fault { IfErr result (λ fault. fault ≡ OfferFault.NoOffer) }
         ensures kept { OnErr result (self.new ≡ self.old) }
     {
@@ -356,7 +365,8 @@ impl Offers {
     pub fn take(&mut self, giver: Pid, page: Page, target: Pid) -> Result<bool, OfferFault>
         ensures right { IfOk result (λ write. map.get self.old (offer_key giver page target) ≡ Some write) }
         ensures taken { OnOk result (self.new ≡ map.remove self.old (offer_key giver page target)) }
-        ensures absent { IsErrOf result OfferFault.NoOffer ↔ (map.contains_key self.old (offer_key giver page target) ≡ false) }
+        ensures absent { IsErrOf result OfferFault.NoOffer
+            ↔ (map.contains_key self.old (offer_key giver page target) ≡ false) }
         ensures fault { IfErr result (λ fault. fault ≡ OfferFault.NoOffer) }
         ensures kept { OnErr result (self.new ≡ self.old) }
     {

@@ -42,8 +42,10 @@ impl Processes {
         value: u32,
     ) -> u32
         requires mapped { EachTouched address size (λ page. is_mapped self.old.state (at_page pid page) ≡ true) }
-        requires right { access ≡ Access.Write → EachTouched address size (λ page. (cell_or_fresh self.old.state.spaces (at_page pid page)).write ≡ true) }
-        requires real { access ≡ Access.Write → EachTouched address size (λ page. is_lazy_at (memory_of self.old) (at_page pid page) ≡ false) }
+        requires right { access ≡ Access.Write → EachTouched address size
+            (λ page. (cell_or_fresh self.old.state.spaces (at_page pid page)).write ≡ true) }
+        requires real { access ≡ Access.Write → EachTouched address size
+            (λ page. is_lazy_at (memory_of self.old) (at_page pid page) ≡ false) }
         ensures value { result ≡ access_value self.old.state pid address size access }
         ensures state { self.new.state ≡ after_access self.old.state pid address size access value }
         ensures stay { FramesStay none_goes (memory_of self.old) (memory_of self.new) }
@@ -65,8 +67,10 @@ impl Processes {
         places: &Places,
     ) -> u32
         requires mapped { EachTouched address size (λ page. is_mapped self.old.state (at_page pid page) ≡ true) }
-        requires right { access ≡ Access.Write → EachTouched address size (λ page. (cell_or_fresh self.old.state.spaces (at_page pid page)).write ≡ true) }
-        requires real { access ≡ Access.Write → EachTouched address size (λ page. is_lazy_at (memory_of self.old) (at_page pid page) ≡ false) }
+        requires right { access ≡ Access.Write → EachTouched address size
+            (λ page. (cell_or_fresh self.old.state.spaces (at_page pid page)).write ≡ true) }
+        requires real { access ≡ Access.Write → EachTouched address size
+            (λ page. is_lazy_at (memory_of self.old) (at_page pid page) ≡ false) }
         requires places { places.now ≡ access_places self.old pid address size }
         ensures value { result ≡ access_value self.old.state pid address size access }
         ensures state { self.new.state ≡ after_access self.old.state pid address size access value }
@@ -129,7 +133,8 @@ impl Processes {
         ensures state { self.new.state ≡ self.old.state }
         ensures stay { FramesStay (of_lazy pid page) (memory_of self.old) (memory_of self.new) }
         ensures real { is_lazy_at (memory_of self.new) (at_page pid page) ≡ false }
-        ensures others { (slot : Slot) → is_lazy_at (memory_of self.old) slot ≡ false → is_lazy_at (memory_of self.new) slot ≡ false }
+        ensures others { (slot : Slot) → is_lazy_at (memory_of self.old) slot ≡ false
+            → is_lazy_at (memory_of self.new) slot ≡ false }
     {
         self.stands();
         let place = self.spaces.place(pid, page);
@@ -145,7 +150,8 @@ impl Processes {
         ensures state { self.new.state ≡ self.old.state }
         ensures stay { FramesStay (of_lazy pid page) (memory_of self.old) (memory_of self.new) }
         ensures real { is_lazy_at (memory_of self.new) (at_page pid page) ≡ false }
-        ensures others { (slot : Slot) → is_lazy_at (memory_of self.old) slot ≡ false → is_lazy_at (memory_of self.new) slot ≡ false }
+        ensures others { (slot : Slot) → is_lazy_at (memory_of self.old) slot ≡ false
+            → is_lazy_at (memory_of self.new) slot ≡ false }
         ensures place { result ≡ place_in self.new.directories self.new.bytes pid page }
     {
         self.spaces.fill_at(pid, page, place)

@@ -43,7 +43,8 @@ pub fn left_of(container: &Container) -> u32
 fn charged_more(container: &Container, frames: u32) -> Result<u32, Cause>
     requires used { container.now.used < WIDE_FRAMES }
     requires few { frames ≤ 2 }
-    ensures { result ≡ (if nat_lt (container.now.quota - container.now.used - container.now.given) frames then Err cause.Quota else Ok (container.now.used + frames)) }
+    ensures { result ≡ (if nat_lt (container.now.quota - container.now.used - container.now.given) frames
+        then Err cause.Quota else Ok (container.now.used + frames)) }
 {
     if left_of(container) < frames {
         Err(Cause::Quota)
@@ -67,7 +68,9 @@ pub fn charge_with(
     requires live { is_live processes.now.state pid ≡ true }
     requires user { IsUserPage page }
     requires place { place.now ≡ place_in processes.now.directories processes.now.bytes pid page }
-    ensures { result ≡ (if is_mapped processes.now.state (at_page pid page) then Err cause.Mapped else if overdrawn processes.now.state pid (page ∷ []) then Err cause.Quota else Ok (cost processes.now.state.spaces pid + need processes.now.state.spaces pid page)) }
+    ensures { result ≡ (if is_mapped processes.now.state (at_page pid page) then Err cause.Mapped
+        else if overdrawn processes.now.state pid (page ∷ []) then Err cause.Quota
+        else Ok (cost processes.now.state.spaces pid + need processes.now.state.spaces pid page)) }
 {
     processes.stands();
     processes.spaces().stands();
@@ -94,7 +97,8 @@ pub fn take_room(quotas: &mut Quotas, pid: Pid, frames: u32)
     requires live { IsLive quotas.old pid }
     requires room { frames ≤ room_of quotas.old pid }
     ensures quotas { quotas.new ≡ with_used quotas.old pid (used_of quotas.old pid + frames) }
-    ensures room { (v : seen.View) → IsProcesses v quotas.old → 1 + total_cost v.directories v.spaces + frames ≤ length v.roles }
+    ensures room { (v : seen.View) → IsProcesses v quotas.old
+        → 1 + total_cost v.directories v.spaces + frames ≤ length v.roles }
 {
     quotas.charge(pid, frames);
     quotas.within();

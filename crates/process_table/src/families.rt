@@ -124,7 +124,8 @@ impl Processes {
         ensures child { fork_answer self.old.state pid quota ≡ Ok result }
         ensures state { self.new.state ≡ after_fork self.old.state pid quota }
         ensures stay { FramesStay none_goes (memory_of self.old) (memory_of self.new) }
-        ensures lazy { (page : ℕ) → is_lazy_at (memory_of self.new) (at_page result page) ≡ is_lazy_at (memory_of self.old) (at_page pid page) }
+        ensures lazy { (page : ℕ) → is_lazy_at (memory_of self.new) (at_page result page)
+            ≡ is_lazy_at (memory_of self.old) (at_page pid page) }
     {
         self.try_fork(pid, quota).unwrap()
     }
@@ -134,7 +135,8 @@ impl Processes {
         requires { fork_answer self.old.state pid quota ≡ Ok copy }
         ensures state { self.new.state ≡ after_fork self.old.state pid quota }
         ensures stay { FramesStay none_goes (memory_of self.old) (memory_of self.new) }
-        ensures lazy { (page : ℕ) → is_lazy_at (memory_of self.new) (at_page copy page) ≡ is_lazy_at (memory_of self.old) (at_page pid page) }
+        ensures lazy { (page : ℕ) → is_lazy_at (memory_of self.new) (at_page copy page)
+            ≡ is_lazy_at (memory_of self.old) (at_page pid page) }
     {
         self.spaces.stands();
         self.quotas.within();
@@ -151,7 +153,8 @@ impl Processes {
         ensures result { result ≡ fork_answer self.old.state pid quota }
         ensures state { IsOk result → self.new.state ≡ after_fork self.old.state pid quota }
         ensures stay { FramesStay none_goes (memory_of self.old) (memory_of self.new) }
-        ensures lazy { (copy page : ℕ) → result ≡ Ok copy → is_lazy_at (memory_of self.new) (at_page copy page) ≡ is_lazy_at (memory_of self.old) (at_page pid page) }
+        ensures lazy { (copy page : ℕ) → result ≡ Ok copy
+            → is_lazy_at (memory_of self.new) (at_page copy page) ≡ is_lazy_at (memory_of self.old) (at_page pid page) }
         ensures kept { IsErr result → self.new ≡ self.old }
     {
         match self.can_fork(pid, quota) {

@@ -108,7 +108,8 @@ impl Processes {
     fn place_to_unmap(&self, pid: Pid, page: Page) -> Result<Place, Cause>
         ensures place { IfOk result (λ place. place ≡ place_in self.now.directories self.now.bytes pid page) }
         ensures done { IsOk result → first_cause self.now.state pid (unmap_refusal self.now.state pid page) ≡ None }
-        ensures cause { IfErr result (λ cause. first_cause self.now.state pid (unmap_refusal self.now.state pid page) ≡ Some cause) }
+        ensures cause { IfErr result (λ cause. first_cause self.now.state pid (unmap_refusal self.now.state pid page)
+            ≡ Some cause) }
     {
         let Some(place) = self.place(pid, page) else {
             return Err(self.first_cause(pid, Cause::BadPage));
@@ -176,13 +177,15 @@ impl Processes {
         }
     }
 
-    /// The place of a page whose right to write a process may set so, or the first cause against it: NoProcess, BadPage,
-    /// NotMapped, Rights.
+    /// The place of a page whose right to write a process may set so, or the first cause against it: NoProcess,
+    /// BadPage, NotMapped, Rights.
     #[inline(always)]
     fn place_to_protect(&self, pid: Pid, page: Page, write: bool) -> Result<Place, Cause>
         ensures place { IfOk result (λ place. place ≡ place_in self.now.directories self.now.bytes pid page) }
-        ensures done { IsOk result → first_cause self.now.state pid (protect_refusal self.now.state pid page write) ≡ None }
-        ensures cause { IfErr result (λ cause. first_cause self.now.state pid (protect_refusal self.now.state pid page write) ≡ Some cause) }
+        ensures done { IsOk result → first_cause self.now.state pid (protect_refusal self.now.state pid page write)
+            ≡ None }
+        ensures cause { IfErr result (λ cause. first_cause self.now.state pid
+            (protect_refusal self.now.state pid page write) ≡ Some cause) }
     {
         let Some(place) = self.place(pid, page) else {
             return Err(self.first_cause(pid, Cause::BadPage));
@@ -232,7 +235,8 @@ impl Processes {
     /// `can_protect` gives it, and nothing changes. The page is looked up once.
     #[inline(never)]
     pub fn try_protect(&mut self, pid: Pid, page: Page, write: bool) -> Result<(), Cause>
-        ensures result { result ≡ done_unless (first_cause self.old.state pid (protect_refusal self.old.state pid page write)) }
+        ensures result { result ≡ done_unless (first_cause self.old.state pid
+            (protect_refusal self.old.state pid page write)) }
         ensures state { IsOk result → self.new.state ≡ after_protect self.old.state pid page write }
         ensures stay { FramesStay none_goes (memory_of self.old) (memory_of self.new) }
         ensures kept { IsErr result → self.new ≡ self.old }

@@ -21,7 +21,8 @@ impl Processes {
         requires user { IsUserPage (page_number address) }
         ensures mapped { result ≡ is_mapped self.old.state (slot_at pid address) }
         ensures live { result ≡ true → is_live self.old.state pid ≡ true }
-        ensures bytes { result ≡ true → out.new ≡ map (byte_at self.old.state.spaces pid) (range_with_len address (length out.old)) }
+        ensures bytes { result ≡ true → out.new ≡ map (byte_at self.old.state.spaces pid)
+            (range_with_len address (length out.old)) }
         ensures state { result ≡ true → self.new.state ≡ after_loads self.old.state pid address }
         ensures stay { FramesStay none_goes (memory_of self.old) (memory_of self.new) }
         ensures roles { self.new.roles ≡ self.old.roles }

@@ -62,11 +62,15 @@ impl Processes {
         requires user { IsUserPage page }
         requires place { place.now ≡ place_in self.now.directories self.now.bytes pid page }
         ensures mapped { is_some (found_of place.now) ≡ is_mapped self.now.state (at_page pid page) }
-        ensures flags { IfSome (found_of place.now) (λ found. entry_flags found.entry ≡ cell_flags (cell_or_fresh self.now.state.spaces (at_page pid page))) }
-        ensures write { IfSome (found_of place.now) (λ found. found.entry.write ≡ (cell_or_fresh self.now.state.spaces (at_page pid page)).write) }
-        ensures may { IfSome (found_of place.now) (λ found. found.entry.may ≡ (cell_or_fresh self.now.state.spaces (at_page pid page)).may) }
+        ensures flags { IfSome (found_of place.now) (λ found. entry_flags found.entry
+            ≡ cell_flags (cell_or_fresh self.now.state.spaces (at_page pid page))) }
+        ensures write { IfSome (found_of place.now) (λ found. found.entry.write
+            ≡ (cell_or_fresh self.now.state.spaces (at_page pid page)).write) }
+        ensures may { IfSome (found_of place.now) (λ found. found.entry.may
+            ≡ (cell_or_fresh self.now.state.spaces (at_page pid page)).may) }
         ensures lazy { lazy_place place.now ≡ is_lazy_at (memory_of self.now) (at_page pid page) }
-        ensures takes { takes_place place.now ≡ takes_stores self.now.state.spaces (memory_of self.now) (at_page pid page) }
+        ensures takes { takes_place place.now ≡ takes_stores self.now.state.spaces (memory_of self.now)
+            (at_page pid page) }
         ensures need { need_of place.now ≡ need self.now.state.spaces pid page }
         ensures most { need_of place.now ≤ 2 }
         ensures live { is_some (found_of place.now) ≡ true → is_live self.now.state pid ≡ true }

@@ -37,7 +37,8 @@ impl Processes {
         requires small { (i : ℕ) → slice_index bytes.items i < 256 }
         requires root { RootIsItsParent accounts.now }
         requires sound { IsSoundImage (image_in directories accounts.now bytes.items roles.items) }
-        ensures stands { IfOk result (λ new. StandsFor (image_in directories accounts.now bytes.items roles.items) new.state) }
+        ensures stands { IfOk result (λ new. StandsFor (image_in directories accounts.now bytes.items roles.items)
+            new.state) }
         ensures offers { IfOk result (λ new. new.state.offers ≡ finite_map.empty) }
         ensures directories { IfOk result (λ new. new.directories ≡ directories) }
         ensures bytes { IfOk result (λ new. new.bytes ≡ bytes.items) }

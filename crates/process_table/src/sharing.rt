@@ -23,7 +23,8 @@ use page_words::{Page, Pid, in_user_range};
 
 /// Why no further offer of that page to that process may be pending, where none may.
 fn pending_check(offers: &Offers, pid: Pid, page: Page, target: Pid) -> Option<Cause>
-    ensures { result ≡ (if map.contains_key offers.now (offer_key pid page target) then Some cause.OfferPending else if nat_le 32 (map.len (pending offers.now pid)) then Some cause.TooManyOffers else None) }
+    ensures { result ≡ (if map.contains_key offers.now (offer_key pid page target) then Some cause.OfferPending
+        else if nat_le 32 (map.len (pending offers.now pid)) then Some cause.TooManyOffers else None) }
 {
     match offers.can_offer(pid, page, target) {
         Ok(()) => None,
@@ -93,7 +94,8 @@ impl Processes {
     /// it, as `can_offer` gives it, and nothing changes. The page is looked up once.
     #[inline(never)]
     pub fn try_offer(&mut self, pid: Pid, page: Page, target: Pid, write: bool) -> Result<(), Cause>
-        ensures result { result ≡ done_unless (first_cause self.old.state pid (offer_refusal self.old.state pid page target write)) }
+        ensures result { result ≡ done_unless (first_cause self.old.state pid
+            (offer_refusal self.old.state pid page target write)) }
         ensures state { IsOk result → self.new.state ≡ after_offer self.old.state pid page target write }
         ensures stay { FramesStay none_goes (memory_of self.old) (memory_of self.new) }
         ensures kept { IsErr result → self.new ≡ self.old }
@@ -148,7 +150,8 @@ impl Processes {
     /// and nothing changes. The offer is looked up once.
     #[inline(never)]
     pub fn try_withdraw(&mut self, pid: Pid, page: Page, target: Pid) -> Result<(), Cause>
-        ensures result { result ≡ done_unless (first_cause self.old.state pid (withdraw_refusal self.old.state pid page target)) }
+        ensures result { result ≡ done_unless (first_cause self.old.state pid
+            (withdraw_refusal self.old.state pid page target)) }
         ensures state { IsOk result → self.new.state ≡ after_withdraw self.old.state pid page target }
         ensures stay { FramesStay none_goes (memory_of self.old) (memory_of self.new) }
         ensures kept { IsErr result → self.new ≡ self.old }

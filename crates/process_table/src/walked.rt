@@ -41,14 +41,17 @@ impl Processes {
         ensures live { is_live self.old.state pid ≡ true }
         ensures user { EachTouched address size IsUserPage }
         ensures mapped { EachTouched address size (λ page. is_mapped self.old.state (at_page pid page) ≡ true) }
-        ensures takes { access ≡ Access.Write → EachTouched address size (λ page. takes_stores self.old.state.spaces (memory_of self.old) (at_page pid page) ≡ true) }
+        ensures takes { access ≡ Access.Write → EachTouched address size
+            (λ page. takes_stores self.old.state.spaces (memory_of self.old) (at_page pid page) ≡ true) }
         ensures value { result ≡ access_value self.old.state pid address size access }
         ensures state { self.new.state ≡ after_access self.old.state pid address size access value }
         ensures stay { FramesStay none_goes (memory_of self.old) (memory_of self.new) }
         ensures directories { self.new.directories ≡ self.old.directories }
         ensures roles { self.new.roles ≡ self.old.roles }
-        ensures bytes { (directory : ℕ) → directory_of self.old.directories pid ≡ Some directory → self.new.bytes ≡ after_walked self.old.bytes directory address size access value }
-        ensures found { (directory : ℕ) → directory_of self.old.directories pid ≡ Some directory → result ≡ value_found self.old.bytes directory address size access }
+        ensures bytes { (directory : ℕ) → directory_of self.old.directories pid ≡ Some directory
+            → self.new.bytes ≡ after_walked self.old.bytes directory address size access value }
+        ensures found { (directory : ℕ) → directory_of self.old.directories pid ≡ Some directory
+            → result ≡ value_found self.old.bytes directory address size access }
         ensures containers { (p : ℕ) → container_of self.new.state p ≡ container_of self.old.state p }
     {
         match access {
@@ -69,7 +72,8 @@ impl Processes {
         ensures stay { FramesStay none_goes (memory_of self.old) (memory_of self.new) }
         ensures directories { self.new.directories ≡ self.old.directories }
         ensures roles { self.new.roles ≡ self.old.roles }
-        ensures bytes { (directory : ℕ) → directory_of self.old.directories pid ≡ Some directory → self.new.bytes ≡ with_walked self.old.bytes directory page walked }
+        ensures bytes { (directory : ℕ) → directory_of self.old.directories pid ≡ Some directory
+            → self.new.bytes ≡ with_walked self.old.bytes directory page walked }
     {
         self.spaces.set_walked(pid, page, walked);
     }
@@ -78,7 +82,10 @@ impl Processes {
     pub fn clean(&mut self, pid: Pid, page: Page)
         requires mapped { is_mapped self.old.state (at_page pid page) ≡ true }
         requires user { IsUserPage page }
-        ensures state { self.new.state ≡ record self.old.state { spaces = map.insert self.old.state.spaces (at_page pid page) (record (cell_or_fresh self.old.state.spaces (at_page pid page)) { accessed = false; dirty = false }) } }
+        ensures state { self.new.state ≡ record self.old.state {
+          spaces = map.insert self.old.state.spaces (at_page pid page)
+              (record (cell_or_fresh self.old.state.spaces (at_page pid page)) { accessed = false; dirty = false });
+        } }
         ensures stay { FramesStay none_goes (memory_of self.old) (memory_of self.new) }
         ensures directories { self.new.directories ≡ self.old.directories }
         ensures roles { self.new.roles ≡ self.old.roles }
@@ -95,12 +102,15 @@ impl Processes {
         ensures live { is_live self.old.state pid ≡ true }
         ensures user { EachTouched address size IsUserPage }
         ensures mapped { EachTouched address size (λ page. is_mapped self.old.state (at_page pid page) ≡ true) }
-        ensures takes { EachTouched address size (λ page. takes_stores self.old.state.spaces (memory_of self.old) (at_page pid page) ≡ true) }
+        ensures takes { EachTouched address size (λ page. takes_stores self.old.state.spaces (memory_of self.old)
+            (at_page pid page) ≡ true) }
         ensures state { self.new.state ≡ after_access self.old.state pid address size Access.Write value }
         ensures stay { FramesStay none_goes (memory_of self.old) (memory_of self.new) }
         ensures directories { self.new.directories ≡ self.old.directories }
         ensures roles { self.new.roles ≡ self.old.roles }
-        ensures bytes { (directory : ℕ) (frames : ℕ → ℕ) → directory_of self.old.directories pid ≡ Some directory → LeadTo self.old.bytes directory Access.Write frames address size → self.new.bytes ≡ written_at frames self.old.bytes address (bytes_of (byte_count size) value) }
+        ensures bytes { (directory : ℕ) (frames : ℕ → ℕ) → directory_of self.old.directories pid ≡ Some directory
+            → LeadTo self.old.bytes directory Access.Write frames address size
+            → self.new.bytes ≡ written_at frames self.old.bytes address (bytes_of (byte_count size) value) }
         ensures containers { (p : ℕ) → container_of self.new.state p ≡ container_of self.old.state p }
     {
         self.spaces.store_kept(pid, address, size, value);

@@ -184,7 +184,8 @@ fn add_child(
     requires child { position (λ container. not (is_some container)) containers.old ≡ Some child }
     requires given { giver.given + quota < 2 ^ 32 }
     requires children { giver.children + 1 < 2 ^ 32 }
-    ensures { containers.new ≡ slice_set (slice_set containers.old parent (Some (giver_after_split giver quota))) child (Some (charged_with (opened_container parent quota) used)) }
+    ensures { containers.new ≡ slice_set (slice_set containers.old parent (Some (giver_after_split giver quota))) child
+        (Some (charged_with (opened_container parent quota) used)) }
 {
     put(containers, parent, Some(with_child(giver, quota)));
     put(containers, child, Some(opened(parent, quota, used)));
@@ -352,9 +353,11 @@ impl Quotas {
     pub fn within(&self)
         ensures root { IsLive self.now 0 }
         ensures numbers { (p : ℕ) → IsLive self.now p → p < 64 }
-        ensures parents { (p : ℕ) (member : Member) → map.get self.now.book p ≡ Some member → IsLive self.now member.parent }
+        ensures parents { (p : ℕ) (member : Member) → map.get self.now.book p ≡ Some member
+            → IsLive self.now member.parent }
         ensures used { (p : ℕ) → IsLive self.now p → 1 ≤ used_of self.now p }
-        ensures quota { (p : ℕ) → IsLive self.now p → used_of self.now p + given self.now.book p ≤ quota_of self.now.book p }
+        ensures quota { (p : ℕ) → IsLive self.now p → used_of self.now p + given self.now.book p
+            ≤ quota_of self.now.book p }
         ensures total { total_used self.now ≤ quota_of self.now.book 0 }
     {
         let _ = &self.containers;

@@ -17,7 +17,8 @@ fn push_role_change(
     after: &Image,
     frame: u32,
 ) -> Result<(), AllocError>
-    ensures { OnOk result (text.new.items ≡ text.old.items ++ role_change (option_map (λ i. i.now) before.entry) after.now frame) }
+    ensures { OnOk result (text.new.items ≡ text.old.items ++ role_change
+        (option_map (λ i. i.now) before.entry) after.now frame) }
 {
     let was = role_in(before, frame);
     let is = role_in(Some(after), frame);
@@ -33,7 +34,8 @@ fn push_role_changes(
     before: Option<&Image>,
     after: &Image,
 ) -> Result<(), AllocError>
-    ensures { OnOk result (text.new.items ≡ text.old.items ++ role_changes (option_map (λ i. i.now) before.entry) after.now) }
+    ensures { OnOk result (text.new.items ≡ text.old.items ++ role_changes
+        (option_map (λ i. i.now) before.entry) after.now) }
 {
     for frame in 0..after.frames() {
         push_role_change(text, before, after, frame)?;
@@ -50,7 +52,8 @@ fn push_word_change(
     index: u32,
 ) -> Result<(), AllocError>
     requires { index < 1024 }
-    ensures { OnOk result (text.new.items ≡ text.old.items ++ word_change (option_map (λ i. i.now) before.entry) after.now frame index) }
+    ensures { OnOk result (text.new.items ≡ text.old.items ++ word_change
+        (option_map (λ i. i.now) before.entry) after.now frame index) }
 {
     let was = word_in(before, frame, index);
     let is = word_in(Some(after), frame, index);
@@ -67,7 +70,8 @@ fn push_frame_changes(
     after: &Image,
     frame: u32,
 ) -> Result<(), AllocError>
-    ensures { OnOk result (text.new.items ≡ text.old.items ++ frame_changes (option_map (λ i. i.now) before.entry) after.now frame) }
+    ensures { OnOk result (text.new.items ≡ text.old.items ++ frame_changes
+        (option_map (λ i. i.now) before.entry) after.now frame) }
 {
     for index in 0..1024 {
         push_word_change(text, before, after, frame, index)?;
@@ -81,7 +85,8 @@ fn push_word_changes(
     before: Option<&Image>,
     after: &Image,
 ) -> Result<(), AllocError>
-    ensures { OnOk result (text.new.items ≡ text.old.items ++ word_changes (option_map (λ i. i.now) before.entry) after.now) }
+    ensures { OnOk result (text.new.items ≡ text.old.items ++ word_changes
+        (option_map (λ i. i.now) before.entry) after.now) }
 {
     for frame in 0..after.frames() {
         push_frame_changes(text, before, after, frame)?;
@@ -105,7 +110,8 @@ fn push_process_change(
     number: u8,
 ) -> Result<(), AllocError>
     requires { number < 64 }
-    ensures { OnOk result (text.new.items ≡ text.old.items ++ process_change (option_map (λ i. i.now) before.entry) after.now number) }
+    ensures { OnOk result (text.new.items ≡ text.old.items ++ process_change
+        (option_map (λ i. i.now) before.entry) after.now number) }
 {
     let pid = pid_of(number);
     let was = process_in(before, pid);
@@ -122,7 +128,8 @@ fn push_process_changes(
     before: Option<&Image>,
     after: &Image,
 ) -> Result<(), AllocError>
-    ensures { OnOk result (text.new.items ≡ text.old.items ++ process_changes (option_map (λ i. i.now) before.entry) after.now) }
+    ensures { OnOk result (text.new.items ≡ text.old.items ++ process_changes
+        (option_map (λ i. i.now) before.entry) after.now) }
 {
     for number in 0..64 {
         push_process_change(text, before, after, number)?;
@@ -137,7 +144,8 @@ pub(crate) fn push_changes(
     before: Option<&Image>,
     after: &Image,
 ) -> Result<(), AllocError>
-    ensures { OnOk result (text.new.items ≡ text.old.items ++ changes (option_map (λ i. i.now) before.entry) after.now) }
+    ensures { OnOk result (text.new.items ≡ text.old.items ++ changes
+        (option_map (λ i. i.now) before.entry) after.now) }
 {
     push_role_changes(text, before, after)?;
     push_word_changes(text, before, after)?;

@@ -24,7 +24,8 @@ pub struct Film {
 
 /// The first line, and what stands behind its line feed, where it has one.
 fn first_line(bytes: &[u8]) -> (&[u8], Option<&[u8]>)
-    ensures lines { MatchOption result.1 (lines_of bytes.now ≡ result.0.now ∷ []) (λ after. lines_of bytes.now ≡ result.0.now ∷ lines_of after.now) }
+    ensures lines { MatchOption result.1 (lines_of bytes.now ≡ result.0.now ∷ [])
+        (λ after. lines_of bytes.now ≡ result.0.now ∷ lines_of after.now) }
     ensures shorter { IfSome result.1 (λ after. length after.now < length bytes.now) }
 {
     match split_line(bytes) {
@@ -37,7 +38,8 @@ fn first_line(bytes: &[u8]) -> (&[u8], Option<&[u8]>)
 fn take_lines(alloc: Global, recording: &mut Recording, script: &[u8]) -> Result<End, ScriptFault>
     requires short { length script.now ≤ 16777216 }
     requires events { recording.old.events ≤ 2000 }
-    ensures reaches { (frames : ℕ) → Records frames [] recording.old → IfOk result (λ end. Reaches frames script.now end recording.new) }
+    ensures reaches { (frames : ℕ) → Records frames [] recording.old
+        → IfOk result (λ end. Reaches frames script.now end recording.new) }
     ensures fault { IfErr result (λ fault. fault ≡ ScriptFault.NoMemory) }
 {
     let mut rest = Some(script);
@@ -87,7 +89,8 @@ pub fn film_of(alloc: Global, frames: u32, script: &[u8]) -> Result<Film, Script
     ensures film { IfOk result (λ film. IsFilm frames script.now film.rows.items film.end) }
     ensures fault { IfErr result (λ fault. IsRefused fault frames script.now) }
     ensures size { IsErrOf result ScriptFault.BadSize ↔ (16 ≤ frames → frames ≤ 4096 → ⊥) }
-    ensures long { IsErrOf result ScriptFault.TooLong ↔ (16 ≤ frames) × (frames ≤ 4096) × (16777216 < length script.now) }
+    ensures long { IsErrOf result ScriptFault.TooLong ↔ (16 ≤ frames) × (frames ≤ 4096)
+        × (16777216 < length script.now) }
 {
     if !is_frame_count(frames) {
         return Err(ScriptFault::BadSize);

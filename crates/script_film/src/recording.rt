@@ -65,7 +65,8 @@ fn tell_event(
 ) -> Result<(), ScriptFault>
     ensures state { OnOk result (core.new.state ≡ next core.old.state event.now) }
     ensures stands { OnOk result (StandsFor image.new (next core.old.state event.now)) }
-    ensures rows { OnOk result (rows.new.items ≡ rows.old.items ++ event_rows bytes.now (answer core.old.state event.now) image.old image.new) }
+    ensures rows { OnOk result (rows.new.items ≡ rows.old.items ++ event_rows bytes.now
+        (answer core.old.state event.now) image.old image.new) }
     ensures fault { IfErr result (λ fault. fault ≡ ScriptFault.NoMemory) }
 {
     let reply = core.step(event);
@@ -105,7 +106,9 @@ impl Recording {
     ) -> Result<Shot, ScriptFault>
         requires { self.old.events ≤ 2000 }
         ensures events { OnOk result (self.new.events ≤ 2000) }
-        ensures follows { (frames : ℕ) (lines : List (List ℕ)) → Records frames lines self.old → line_of bytes.now ≡ line.Event event.now → IfOk result (λ shot. Follows shot frames lines bytes.now self.new) }
+        ensures follows { (frames : ℕ) (lines : List (List ℕ)) → Records frames lines self.old
+            → line_of bytes.now ≡ line.Event event.now
+            → IfOk result (λ shot. Follows shot frames lines bytes.now self.new) }
         ensures fault { IfErr result (λ fault. fault ≡ ScriptFault.NoMemory) }
     {
         if self.events == MOST_EVENTS {
@@ -127,7 +130,8 @@ impl Recording {
     pub fn take_line(&mut self, alloc: Global, bytes: &[u8]) -> Result<Shot, ScriptFault>
         requires { self.old.events ≤ 2000 }
         ensures events { OnOk result (self.new.events ≤ 2000) }
-        ensures follows { (frames : ℕ) (lines : List (List ℕ)) → Records frames lines self.old → IfOk result (λ shot. Follows shot frames lines bytes.now self.new) }
+        ensures follows { (frames : ℕ) (lines : List (List ℕ)) → Records frames lines self.old
+            → IfOk result (λ shot. Follows shot frames lines bytes.now self.new) }
         ensures fault { IfErr result (λ fault. fault ≡ ScriptFault.NoMemory) }
     {
         match line_of(bytes) {

@@ -390,7 +390,8 @@ fn call_of(line: &[u8]) -> Option<Call>
 fn any_caller_of(line: &[u8]) -> Option<(u64, u64, &[u8])>
     ensures cpu { IfSome result (λ found. found.0 < 8) }
     ensures pid { IfSome result (λ found. found.1 < 64) }
-    ensures read { option_map (λ found. (found.0, found.1, tokens_of found.2.now)) result ≡ caller_by (tokens_of line.now) }
+    ensures read { option_map (λ found. (found.0, found.1, tokens_of found.2.now)) result
+        ≡ caller_by (tokens_of line.now) }
 {
     let (cpu, rest) = number_below(line, 8)?;
     let (pid, rest) = number_below(rest, 64)?;
@@ -403,7 +404,8 @@ fn any_caller_of(line: &[u8]) -> Option<(u64, u64, &[u8])>
 fn caller_of(line: &[u8]) -> Option<(u64, u64, &[u8])>
     ensures cpu { IfSome result (λ found. found.0 < 8) }
     ensures pid { IfSome result (λ found. found.1 < 64) }
-    ensures read { option_map (λ found. (found.0, found.1, tokens_of found.2.now)) result ≡ caller_by (tokens_of line.now) }
+    ensures read { option_map (λ found. (found.0, found.1, tokens_of found.2.now)) result
+        ≡ caller_by (tokens_of line.now) }
 {
     match line {
         [cpu, b' ', pid, b' ', rest @ ..] if digit_of(*cpu) < 8 && digit_of(*pid) < 10 => {

@@ -136,7 +136,8 @@ fn short_token(line: &[u8]) -> Option<(u64, usize)>
 /// bytes after it.
 #[inline(always)]
 pub fn hexadecimal(line: &[u8]) -> Option<(u32, &[u8])>
-    ensures { option_map (λ found. (found.0, tokens_of found.1.now)) result ≡ first_by hexadecimal_number (tokens_of line.now) }
+    ensures { option_map (λ found. (found.0, tokens_of found.1.now)) result
+        ≡ first_by hexadecimal_number (tokens_of line.now) }
 {
     let line = trimmed(line);
     let (value, end) = short_token(line)?;
@@ -164,7 +165,8 @@ fn worth_in_front(line: &[u8], digits: usize) -> u64
 #[inline(always)]
 pub fn hexadecimal_of(line: &[u8], digits: usize) -> Option<(u32, &[u8])>
     requires { (0 < digits) × (digits ≤ 8) }
-    ensures { IfSome result (λ found. Some (found.0, tokens_of found.1.now) ≡ first_by hexadecimal_number (tokens_of line.now)) }
+    ensures { IfSome result (λ found. Some (found.0, tokens_of found.1.now)
+        ≡ first_by hexadecimal_number (tokens_of line.now)) }
 {
     if line.len() < digits || !ends_at(line, digits) {
         return None;
@@ -180,7 +182,8 @@ pub fn hexadecimal_of(line: &[u8], digits: usize) -> Option<(u32, &[u8])>
 /// a space follows take one pass.
 #[inline(always)]
 fn decimal(line: &[u8]) -> Option<(u64, &[u8])>
-    ensures { option_map (λ found. (found.0, tokens_of found.1.now)) result ≡ first_by decimal_number (tokens_of line.now) }
+    ensures { option_map (λ found. (found.0, tokens_of found.1.now)) result
+        ≡ first_by decimal_number (tokens_of line.now) }
 {
     let line = trimmed(line);
     match line {
@@ -196,7 +199,8 @@ fn decimal(line: &[u8]) -> Option<(u64, &[u8])>
 #[inline(never)]
 #[tactic(auto, unfolding(crate::specs::Numbers::decimal_number, crate::specs::Operands::first_by))]
 fn long_decimal(line: &[u8]) -> Option<(u64, &[u8])>
-    ensures { option_map (λ found. (found.0, tokens_of found.1.now)) result ≡ first_by decimal_number (tokens_of line.now) }
+    ensures { option_map (λ found. (found.0, tokens_of found.1.now)) result
+        ≡ first_by decimal_number (tokens_of line.now) }
 {
     let (token, rest) = first_token(line)?;
     let value = number(token, 10, 10)?;
@@ -207,7 +211,8 @@ fn long_decimal(line: &[u8]) -> Option<(u64, &[u8])>
 /// that may have more than one digit.
 #[inline(always)]
 fn longer_decimal(line: &[u8]) -> Option<(u64, &[u8])>
-    ensures { option_map (λ found. (found.0, tokens_of found.1.now)) result ≡ first_by decimal_number (tokens_of line.now) }
+    ensures { option_map (λ found. (found.0, tokens_of found.1.now)) result
+        ≡ first_by decimal_number (tokens_of line.now) }
 {
     match line {
         [tens, ones, b' ', rest @ ..] if digit_of(*tens) < 10 && digit_of(*ones) < 10 => {
@@ -222,7 +227,8 @@ fn longer_decimal(line: &[u8]) -> Option<(u64, &[u8])>
 #[inline(always)]
 pub fn number_below(line: &[u8], limit: u64) -> Option<(u64, &[u8])>
     ensures bound { IfSome result (λ found. found.0 < limit) }
-    ensures number { option_map (λ found. (found.0, tokens_of found.1.now)) result ≡ first_by (λ token. below limit (decimal_number token)) (tokens_of line.now) }
+    ensures number { option_map (λ found. (found.0, tokens_of found.1.now)) result
+        ≡ first_by (λ token. below limit (decimal_number token)) (tokens_of line.now) }
 {
     let (number, rest) = decimal(line)?;
     if number < limit {

@@ -39,7 +39,8 @@ impl Output {
     /// Puts a reply's line behind what waits. Where there may be no room for it, what waits is written
     /// first. After an error what was written is a front of what waited, and the rest of it is dropped.
     pub fn push_reply<W: Write>(&mut self, reply: &Reply, writer: &mut W) -> Result<(), WriteFailed>
-        ensures ok { OnOk result (LeavesUnwritten (W.contents writer.old) (W.contents writer.new) (self.old ++ reply_line reply.now) self.new) }
+        ensures ok { OnOk result (LeavesUnwritten (W.contents writer.old) (W.contents writer.new)
+            (self.old ++ reply_line reply.now) self.new) }
         ensures err { OnErr result (AppendsFront (W.contents writer.old) (W.contents writer.new) self.old) }
         ensures dropped { OnErr result (self.new ≡ []) }
     {

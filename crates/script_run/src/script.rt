@@ -35,9 +35,13 @@ pub fn run_script<R: Read, W: Write>(
 
     // Where the reader tells what it had left, that is the script.
     ensures whole { OnOk result (IfSome (R.remaining reader.old) (λ input. fault_of input ≡ None)) }
-    ensures state { IfOk result (λ core. IfSome (R.remaining reader.old) (λ input. core.state ≡ end_of (open_with frames) (events_of input))) }
-    ensures replies { OnOk result (IfSome (R.remaining reader.old) (λ input. Appends (W.contents writer.old) (W.contents writer.new) (replies_text (open_with frames) (events_of input)))) }
-    ensures fault { IfErr result (λ fault. EndsBy (open_with frames) fault (R.remaining reader.old) (R.remaining reader.new) (W.contents writer.old) (W.contents writer.new)) }
+    ensures state { IfOk result (λ core. IfSome (R.remaining reader.old)
+        (λ input. core.state ≡ end_of (open_with frames) (events_of input))) }
+    ensures replies { OnOk result (IfSome (R.remaining reader.old)
+        (λ input. Appends (W.contents writer.old) (W.contents writer.new)
+        (replies_text (open_with frames) (events_of input)))) }
+    ensures fault { IfErr result (λ fault. EndsBy (open_with frames) fault (R.remaining reader.old)
+        (R.remaining reader.new) (W.contents writer.old) (W.contents writer.new)) }
 {
     let mut session = Session::boot(alloc, frames)?;
     let mut block = vec![in alloc; 0u8; BLOCK]?;
@@ -56,9 +60,13 @@ pub fn resume_script<R: Read, W: Write>(
     writer: &mut W,
 ) -> Result<Core, ScriptFault>
     ensures whole { OnOk result (IfSome (R.remaining reader.old) (λ input. fault_of input ≡ None)) }
-    ensures state { IfOk result (λ after. IfSome (R.remaining reader.old) (λ input. after.state ≡ end_of core.state (events_of input))) }
-    ensures replies { OnOk result (IfSome (R.remaining reader.old) (λ input. Appends (W.contents writer.old) (W.contents writer.new) (replies_text core.state (events_of input)))) }
-    ensures fault { IfErr result (λ fault. EndsBy core.state fault (R.remaining reader.old) (R.remaining reader.new) (W.contents writer.old) (W.contents writer.new)) }
+    ensures state { IfOk result (λ after. IfSome (R.remaining reader.old)
+        (λ input. after.state ≡ end_of core.state (events_of input))) }
+    ensures replies { OnOk result (IfSome (R.remaining reader.old)
+        (λ input. Appends (W.contents writer.old) (W.contents writer.new)
+        (replies_text core.state (events_of input)))) }
+    ensures fault { IfErr result (λ fault. EndsBy core.state fault (R.remaining reader.old) (R.remaining reader.new)
+        (W.contents writer.old) (W.contents writer.new)) }
     ensures size { IfErr result (λ fault. fault ≢ ScriptFault.BadSize) }
 {
     let mut session = Session::of_core(alloc, core)?;

@@ -39,7 +39,8 @@ impl Session {
         ensures size { IsErrOf result ScriptFault.BadSize ↔ (16 ≤ frames → frames ≤ 4096 → ⊥) }
         ensures early { IfErr result IsBeforeReading }
         ensures lines { IfOk result (λ session. session.lines ≡ 0) }
-        ensures opened { IfOk result (λ session. (held : Option (List ℕ)) → Reached (open_with frames) [] session held held) }
+        ensures opened { IfOk result (λ session. (held : Option (List ℕ))
+            → Reached (open_with frames) [] session held held) }
     {
         let core = Core::boot(alloc, frames)?;
         Session::of_core(alloc, core)
@@ -64,8 +65,12 @@ impl Session {
     fn keep(&mut self, piece: &[u8]) -> Result<(), ScriptFault>
         requires { self.old.lines + 1 < 2 ^ 32 }
         ensures lines { self.new.lines ≡ self.old.lines }
-        ensures ok { (begun : State) (read : List ℕ) (start now : Option (List ℕ)) → IsOneLine piece.now → Reached begun read self.old start now → OnOk result (Reached begun (read ++ piece.now) self.new start now) }
-        ensures err { (begun : State) (read : List ℕ) (start now : Option (List ℕ)) → IsOneLine piece.now → Reached begun read self.old start now → IfErr result (λ fault. Stops begun (read ++ piece.now) fault self.new.output start now) }
+        ensures ok { (begun : State) (read : List ℕ) (start now : Option (List ℕ)) → IsOneLine piece.now
+            → Reached begun read self.old start now
+            → OnOk result (Reached begun (read ++ piece.now) self.new start now) }
+        ensures err { (begun : State) (read : List ℕ) (start now : Option (List ℕ)) → IsOneLine piece.now
+            → Reached begun read self.old start now
+            → IfErr result (λ fault. Stops begun (read ++ piece.now) fault self.new.output start now) }
     {
         match self.line.try_extend_from_slice(piece) {
             Ok(()) => Ok(()),
@@ -79,8 +84,13 @@ impl Session {
     fn end_line<W: Write>(&mut self, piece: &[u8], writer: &mut W) -> Result<(), ScriptFault>
         requires { self.old.lines + 1 < 2 ^ 32 }
         ensures lines { OnOk result (self.new.lines ≡ self.old.lines + 1) }
-        ensures ok { (begun : State) (read : List ℕ) (start : Option (List ℕ)) → IsOneLine piece.now → Reached begun read self.old start (W.contents writer.old) → OnOk result (Reached begun (read ++ (piece.now ++ 10 ∷ [])) self.new start (W.contents writer.new)) }
-        ensures err { (begun : State) (read : List ℕ) (start : Option (List ℕ)) → IsOneLine piece.now → Reached begun read self.old start (W.contents writer.old) → IfErr result (λ fault. Stops begun (read ++ (piece.now ++ 10 ∷ [])) fault self.new.output start (W.contents writer.new)) }
+        ensures ok { (begun : State) (read : List ℕ) (start : Option (List ℕ)) → IsOneLine piece.now
+            → Reached begun read self.old start (W.contents writer.old)
+            → OnOk result (Reached begun (read ++ (piece.now ++ 10 ∷ [])) self.new start (W.contents writer.new)) }
+        ensures err { (begun : State) (read : List ℕ) (start : Option (List ℕ)) → IsOneLine piece.now
+            → Reached begun read self.old start (W.contents writer.old)
+            → IfErr result (λ fault. Stops begun (read ++ (piece.now ++ 10 ∷ [])) fault self.new.output start
+            (W.contents writer.new)) }
     {
         let number = self.lines + 1;
         if self.line.is_empty() {
@@ -100,8 +110,13 @@ impl Session {
     fn take_lines<W: Write>(&mut self, bytes: &[u8], writer: &mut W) -> Result<(), ScriptFault>
         requires { self.old.lines + length bytes.now + 1 < 2 ^ 32 }
         ensures lines { OnOk result (self.new.lines ≤ self.old.lines + length bytes.now) }
-        ensures ok { (begun : State) (read : List ℕ) (start : Option (List ℕ)) → Reached begun read self.old start (W.contents writer.old) → OnOk result (Reached begun (read ++ bytes.now) self.new start (W.contents writer.new)) }
-        ensures err { (begun : State) (read : List ℕ) (start : Option (List ℕ)) → Reached begun read self.old start (W.contents writer.old) → IfErr result (λ fault. Stops begun (read ++ bytes.now) fault self.new.output start (W.contents writer.new)) }
+        ensures ok { (begun : State) (read : List ℕ) (start : Option (List ℕ))
+            → Reached begun read self.old start (W.contents writer.old)
+            → OnOk result (Reached begun (read ++ bytes.now) self.new start (W.contents writer.new)) }
+        ensures err { (begun : State) (read : List ℕ) (start : Option (List ℕ))
+            → Reached begun read self.old start (W.contents writer.old)
+            → IfErr result (λ fault. Stops begun (read ++ bytes.now) fault self.new.output start
+            (W.contents writer.new)) }
     {
         let mut rest = bytes;
         while let Some((line, after)) = split_line(rest) {
@@ -114,8 +129,12 @@ impl Session {
     /// Writes the replies that wait.
     fn write_out<W: Write>(&mut self, writer: &mut W) -> Result<(), ScriptFault>
         ensures lines { self.new.lines ≡ self.old.lines }
-        ensures ok { (begun : State) (read : List ℕ) (start : Option (List ℕ)) → Reached begun read self.old start (W.contents writer.old) → OnOk result (Reached begun read self.new start (W.contents writer.new)) }
-        ensures err { (begun : State) (read : List ℕ) (start : Option (List ℕ)) → Reached begun read self.old start (W.contents writer.old) → IfErr result (λ fault. Stops begun read fault self.new.output start (W.contents writer.new)) }
+        ensures ok { (begun : State) (read : List ℕ) (start : Option (List ℕ))
+            → Reached begun read self.old start (W.contents writer.old)
+            → OnOk result (Reached begun read self.new start (W.contents writer.new)) }
+        ensures err { (begun : State) (read : List ℕ) (start : Option (List ℕ))
+            → Reached begun read self.old start (W.contents writer.old)
+            → IfErr result (λ fault. Stops begun read fault self.new.output start (W.contents writer.new)) }
     {
         self.output.flush(writer)?;
         Ok(())
@@ -126,8 +145,13 @@ impl Session {
     fn feed<W: Write>(&mut self, bytes: &[u8], writer: &mut W) -> Result<(), ScriptFault>
         requires { self.old.lines + length bytes.now + 1 < 2 ^ 32 }
         ensures lines { OnOk result (self.new.lines ≤ self.old.lines + length bytes.now) }
-        ensures ok { (begun : State) (read : List ℕ) (start : Option (List ℕ)) → Reached begun read self.old start (W.contents writer.old) → OnOk result (Reached begun (read ++ bytes.now) self.new start (W.contents writer.new)) }
-        ensures err { (begun : State) (read : List ℕ) (start : Option (List ℕ)) → Reached begun read self.old start (W.contents writer.old) → IfErr result (λ fault. Stops begun (read ++ bytes.now) fault self.new.output start (W.contents writer.new)) }
+        ensures ok { (begun : State) (read : List ℕ) (start : Option (List ℕ))
+            → Reached begun read self.old start (W.contents writer.old)
+            → OnOk result (Reached begun (read ++ bytes.now) self.new start (W.contents writer.new)) }
+        ensures err { (begun : State) (read : List ℕ) (start : Option (List ℕ))
+            → Reached begun read self.old start (W.contents writer.old)
+            → IfErr result (λ fault. Stops begun (read ++ bytes.now) fault self.new.output start
+            (W.contents writer.new)) }
     {
         self.take_lines(bytes, writer)?;
         self.write_out(writer)?;
@@ -137,8 +161,12 @@ impl Session {
     /// Carries out the last line, without a line feed, where the script has ended.
     fn finish<W: Write>(&mut self, writer: &mut W) -> Result<(), ScriptFault>
         requires { self.old.lines + 1 < 2 ^ 32 }
-        ensures ok { (begun : State) (read : List ℕ) (start : Option (List ℕ)) → Reached begun read self.old start (W.contents writer.old) → OnOk result (Finished begun read self.new start (W.contents writer.new)) }
-        ensures err { (begun : State) (read : List ℕ) (start : Option (List ℕ)) → Reached begun read self.old start (W.contents writer.old) → IfErr result (λ fault. StopsAtLast begun read fault self.new.output start (W.contents writer.new)) }
+        ensures ok { (begun : State) (read : List ℕ) (start : Option (List ℕ))
+            → Reached begun read self.old start (W.contents writer.old)
+            → OnOk result (Finished begun read self.new start (W.contents writer.new)) }
+        ensures err { (begun : State) (read : List ℕ) (start : Option (List ℕ))
+            → Reached begun read self.old start (W.contents writer.old)
+            → IfErr result (λ fault. StopsAtLast begun read fault self.new.output start (W.contents writer.new)) }
     {
         let line = self.line.as_slice();
         carry_out(
@@ -160,8 +188,13 @@ impl Session {
     ) -> Result<(), ScriptFault>
         requires block { 0 < length block.old }
         requires lines { self.old.lines ≡ 0 }
-        ensures ok { (begun : State) → Reached begun [] self.old (W.contents writer.old) (W.contents writer.old) → OnOk result (EndsWhole begun (R.remaining reader.old) self.new (W.contents writer.old) (W.contents writer.new)) }
-        ensures err { (begun : State) → Reached begun [] self.old (W.contents writer.old) (W.contents writer.old) → IfErr result (λ fault. (IsBeforeReading fault → ⊥) × EndsBy begun fault (R.remaining reader.old) (R.remaining reader.new) (W.contents writer.old) (W.contents writer.new)) }
+        ensures ok { (begun : State) → Reached begun [] self.old (W.contents writer.old) (W.contents writer.old)
+            → OnOk result (EndsWhole begun (R.remaining reader.old) self.new (W.contents writer.old)
+            (W.contents writer.new)) }
+        ensures err { (begun : State) → Reached begun [] self.old (W.contents writer.old) (W.contents writer.old)
+            → IfErr result (λ fault. (IsBeforeReading fault → ⊥)
+            × EndsBy begun fault (R.remaining reader.old) (R.remaining reader.new) (W.contents writer.old)
+            (W.contents writer.new)) }
     {
         let ended = self.take_script(reader, block, writer);
         self.output.flush(writer)?;
@@ -177,8 +210,12 @@ impl Session {
     ) -> Result<(), ScriptFault>
         requires block { 0 < length block.old }
         requires lines { self.old.lines ≡ 0 }
-        ensures ok { (begun : State) → Reached begun [] self.old (W.contents writer.old) (W.contents writer.old) → OnOk result (Ran begun (R.remaining reader.old) self.new (W.contents writer.old) (W.contents writer.new)) }
-        ensures err { (begun : State) → Reached begun [] self.old (W.contents writer.old) (W.contents writer.old) → IfErr result (λ fault. RanInto begun fault (R.remaining reader.old) (R.remaining reader.new) self.new.output (W.contents writer.old) (W.contents writer.new)) }
+        ensures ok { (begun : State) → Reached begun [] self.old (W.contents writer.old) (W.contents writer.old)
+            → OnOk result (Ran begun (R.remaining reader.old) self.new (W.contents writer.old)
+            (W.contents writer.new)) }
+        ensures err { (begun : State) → Reached begun [] self.old (W.contents writer.old) (W.contents writer.old)
+            → IfErr result (λ fault. RanInto begun fault (R.remaining reader.old)
+            (R.remaining reader.new) self.new.output (W.contents writer.old) (W.contents writer.new)) }
     {
         let mut total = 0;
         while total < SCRIPT_BYTES {
@@ -202,9 +239,11 @@ fn read_some<R: Read>(reader: &mut R, block: &mut [u8], most: usize) -> Result<u
     requires block { 0 < length block.old }
     requires most { 0 < most }
     ensures bound { IfOk result (λ count. (count ≤ most) × (count ≤ length block.new)) }
-    ensures bytes { IfOk result (λ count. Consumes (R.remaining reader.old) (R.remaining reader.new) (take count block.new)) }
+    ensures bytes { IfOk result (λ count. Consumes (R.remaining reader.old) (R.remaining reader.new)
+        (take count block.new)) }
     ensures end { IfOk result (λ count. count ≡ 0 → IsAtEnd (R.remaining reader.new)) }
-    ensures failed { IfErr result (λ fault. (fault ≡ ScriptFault.ReadFailed) × Keeps (R.remaining reader.old) (R.remaining reader.new)) }
+    ensures failed { IfErr result (λ fault. (fault ≡ ScriptFault.ReadFailed)
+        × Keeps (R.remaining reader.old) (R.remaining reader.new)) }
 {
     let room = most.min(block.len());
     match reader.read(&mut block[..room]) {
@@ -215,7 +254,8 @@ fn read_some<R: Read>(reader: &mut R, block: &mut [u8], most: usize) -> Result<u
 
 /// The bytes before the first line feed, and those after it; None where there is no line feed.
 pub fn split_line(bytes: &[u8]) -> Option<(&[u8], &[u8])>
-    ensures { MatchOption result (IsOneLine bytes.now) (λ found. (bytes.now ≡ found.0.now ++ 10 ∷ found.1.now) × IsOneLine found.0.now) }
+    ensures { MatchOption result (IsOneLine bytes.now)
+        (λ found. (bytes.now ≡ found.0.now ++ 10 ∷ found.1.now) × IsOneLine found.0.now) }
 {
     match memchr(b'\n', bytes) {
         None => None,
@@ -234,8 +274,10 @@ fn carry_out<W: Write>(
 ) -> Result<(), ScriptFault>
     ensures sound { OnOk result (is_malformed bytes.now ≡ false) }
     ensures state { OnOk result (core.new.state ≡ state_after core.old.state (line_of bytes.now)) }
-    ensures text { OnOk result (LeavesUnwritten (W.contents writer.old) (W.contents writer.new) (output.old ++ text_after core.old.state (line_of bytes.now)) output.new) }
-    ensures fault { IfErr result (λ fault. LineFails fault number bytes.now output.old output.new (W.contents writer.old) (W.contents writer.new)) }
+    ensures text { OnOk result (LeavesUnwritten (W.contents writer.old) (W.contents writer.new)
+        (output.old ++ text_after core.old.state (line_of bytes.now)) output.new) }
+    ensures fault { IfErr result (λ fault. LineFails fault number bytes.now output.old output.new
+        (W.contents writer.old) (W.contents writer.new)) }
 {
     match line_of(bytes) {
         Line::Skipped => Ok(()),

@@ -56,7 +56,8 @@ fn first_space(bytes: &[u8]) -> Option<usize>
 /// The first token, and the bytes after it; None where only spaces are left.
 #[inline(always)]
 pub fn first_token(line: &[u8]) -> Option<(&[u8], &[u8])>
-    ensures { MatchOption result (tokens_of line.now ≡ []) (λ found. tokens_of line.now ≡ found.0.now ∷ tokens_of found.1.now) }
+    ensures { MatchOption result (tokens_of line.now ≡ [])
+        (λ found. tokens_of line.now ≡ found.0.now ∷ tokens_of found.1.now) }
 {
     let line = trimmed(line);
     if line.is_empty() {

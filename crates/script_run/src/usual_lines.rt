@@ -167,7 +167,8 @@ fn load_of(line: &[u8]) -> Option<Call>
 /// `store ADDR SIZE VALUE`.
 #[inline(always)]
 fn store_of(line: &[u8]) -> Option<Call>
-    ensures { IfSome result (λ asked. Some asked ≡ three_by hexadecimal_number size_of hexadecimal_number call.Store (tokens_of line.now)) }
+    ensures { IfSome result (λ asked. Some asked
+        ≡ three_by hexadecimal_number size_of hexadecimal_number call.Store (tokens_of line.now)) }
 {
     let (addr, rest) = hexadecimal_of(line, ADDRESS)?;
     let addr = Vaddr(addr);
@@ -204,7 +205,8 @@ fn unmap_of(line: &[u8]) -> Option<Call>
 /// `offer PAGE process RIGHT`.
 #[inline(always)]
 fn offer_of(line: &[u8]) -> Option<Call>
-    ensures { IfSome result (λ asked. Some asked ≡ three_by hexadecimal_number process_of right_of call.Offer (tokens_of line.now)) }
+    ensures { IfSome result (λ asked. Some asked
+        ≡ three_by hexadecimal_number process_of right_of call.Offer (tokens_of line.now)) }
 {
     let (page, rest) = hexadecimal_of(line, PAGE)?;
     let page = Page(page);
@@ -221,7 +223,8 @@ fn offer_of(line: &[u8]) -> Option<Call>
 /// `accept process PAGE PAGE`: the giver, its page, and the own page.
 #[inline(always)]
 fn accept_of(line: &[u8]) -> Option<Call>
-    ensures { IfSome result (λ asked. Some asked ≡ three_by process_of hexadecimal_number hexadecimal_number call.Accept (tokens_of line.now)) }
+    ensures { IfSome result (λ asked. Some asked
+        ≡ three_by process_of hexadecimal_number hexadecimal_number call.Accept (tokens_of line.now)) }
 {
     let (giver, rest) = number_below(line, 64)?;
     let giver = Pid::new(giver as u8)?;

@@ -162,7 +162,8 @@ pub fn mark(memory: &mut Memory, directory: Frame, address: Vaddr, access: Acces
     ensures words { memory.new ≡ marked memory.old directory address access }
     ensures length { length memory.new ≡ length memory.old }
     ensures changed { ChangesTwoWords memory.old directory address access memory.new }
-    ensures walks { (other at : ℕ) (kind : Access) → walk_of memory.new other at kind ≡ walk_of memory.old other at kind }
+    ensures walks { (other at : ℕ) (kind : Access)
+        → walk_of memory.new other at kind ≡ walk_of memory.old other at kind }
 {
     mark_words(memory, directory, address, access);
 }

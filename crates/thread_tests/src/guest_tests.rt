@@ -16,7 +16,8 @@ struct AnswersOnce {
 }
 
 impl Port for AnswersOnce {
-    ghost step = { λ before event answer after. (answer ≡ (if before.has_answered then Err 9 else Ok (Value 7))) × (after.has_answered ≡ true) };
+    ghost step = { λ before event answer after. (answer ≡ (if before.has_answered then Err 9 else Ok (Value 7)))
+        × (after.has_answered ≡ true) };
 
     fn call(&mut self, _event: Event) -> Result<Reply, PortFault> {
         let answer = if self.has_answered {

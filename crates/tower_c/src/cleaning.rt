@@ -47,7 +47,8 @@ pub extern "C" fn tower_clean(
     ensures kept { IsTower tower.new }
     ensures live { tower.new.live ≡ tower.old.live }
     ensures mapped { result ≡ mapped_in tower.old.hold.core (pid_of pid) page }
-    ensures cleaned { result ≡ true → IfSome tower.old.hold.core (λ core. IfSome tower.new.hold.core (λ next. IsCleanedIn core (pid_of pid) page dirty.new next)) }
+    ensures cleaned { result ≡ true → IfSome tower.old.hold.core
+        (λ core. IfSome tower.new.hold.core (λ next. IsCleanedIn core (pid_of pid) page dirty.new next)) }
     ensures stands { IfSome tower.new.hold.core (λ core. StandsFor (image_of core) core.state) }
     ensures none { result ≡ false → (tower.new.hold.core ≡ tower.old.hold.core) × (dirty.new ≡ dirty.old) }
 {
@@ -81,8 +82,9 @@ fn next_dirty(core: &Core, pid: u32, from: u32) -> Option<u32>
     }
 }
 
-/// Finds the lowest page of a process from `from` on that is mapped and dirty. It looks up each mapped page from there on.
-/// Returns false if the handle has no core, the number is no process, or there is no such page. `from` may be any page.
+/// Finds the lowest page of a process from `from` on that is mapped and dirty. It looks up each mapped page from there
+/// on. Returns false if the handle has no core, the number is no process, or there is no such page. `from` may be any
+/// page.
 #[unsafe(no_mangle)]
 pub extern "C" fn tower_next_dirty(
     alloc: Global,
@@ -95,7 +97,8 @@ pub extern "C" fn tower_next_dirty(
     ensures kept { IsTower tower.new }
     ensures same { tower.new.hold.core ≡ tower.old.hold.core }
     ensures core { tower.old.live ≡ false → result ≡ false }
-    ensures found { result ≡ true → IfSome tower.old.hold.core (λ core. IsNextDirtyIn core.state (pid_of pid) from page.new) }
+    ensures found { result ≡ true → IfSome tower.old.hold.core
+        (λ core. IsNextDirtyIn core.state (pid_of pid) from page.new) }
     ensures last { result ≡ false → IfSome tower.old.hold.core (λ core. HasNoDirty core.state (pid_of pid) from) }
     ensures none { result ≡ false → page.new ≡ page.old }
 {
@@ -141,7 +144,8 @@ pub extern "C" fn tower_peek(
     ensures kept { IsTower tower.new }
     ensures same { tower.new.hold.core ≡ tower.old.hold.core }
     ensures core { result ≡ tower.old.live }
-    ensures peeks { IfSome tower.old.hold.core (λ core. PeeksIn core.state (pid_of pid) address bytes.old bytes.new moved.new) }
+    ensures peeks { IfSome tower.old.hold.core (λ core. PeeksIn core.state
+        (pid_of pid) address bytes.old bytes.new moved.new) }
     ensures none { result ≡ false → (bytes.new ≡ bytes.old) × (moved.new ≡ moved.old) }
 {
     match take(alloc, tower) {

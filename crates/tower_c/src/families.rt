@@ -52,8 +52,8 @@ fn children(core: &Core, pid: u32, children: &mut TowerProcesses) -> bool
     true
 }
 
-/// Lists a process's children in order of their numbers. The other places of `children` are unchanged. A process that is
-/// not live has none. Returns false if the handle has no core or the number is no process.
+/// Lists a process's children in order of their numbers. The other places of `children` are unchanged. A process that
+/// is not live has none. Returns false if the handle has no core or the number is no process.
 #[unsafe(no_mangle)]
 pub extern "C" fn tower_children(
     alloc: Global,
@@ -81,7 +81,8 @@ pub extern "C" fn tower_children(
 fn end(core: &mut Core, pid: u32, exited: &mut TowerProcesses) -> TowerReply
     ensures told { result ≡ end_told core.old.state (pid_of pid) }
     ensures family { result.kind ≡ 0 → EndsFamilyIn core.old.state (pid_of pid) (pids_in exited.new) core.new.state }
-    ensures ends { result.kind ≡ 0 → EndAlong (exits (pids_in exited.new)) (spaces_of_all (pids_in exited.new)) core.old core.new }
+    ensures ends { result.kind ≡ 0 → EndAlong (exits (pids_in exited.new))
+        (spaces_of_all (pids_in exited.new)) core.old core.new }
     ensures stands { StandsFor (image_of core.new) core.new.state }
     ensures refused { result.kind ≢ 0 → (core.new ≡ core.old) × (exited.new ≡ exited.old) }
 {
@@ -99,10 +100,10 @@ fn end(core: &mut Core, pid: u32, exited: &mut TowerProcesses) -> TowerReply
     }
 }
 
-/// Ends a process with all that descend from it, children first: the run of their Exits, each of which is done. `exited`
-/// lists the processes in that order; whoever caches translations invalidates all of each of them. `told` becomes Done.
-/// It becomes Refused with RootExit for process 0 and with NoProcess for a process that is not live, and no event if the
-/// number is no process; then nothing else changes. Returns false if the handle has no core.
+/// Ends a process with all that descend from it, children first: the run of their Exits, each of which is done.
+/// `exited` lists the processes in that order; whoever caches translations invalidates all of each of them. `told`
+/// becomes Done. It becomes Refused with RootExit for process 0 and with NoProcess for a process that is not live, and
+/// no event if the number is no process; then nothing else changes. Returns false if the handle has no core.
 #[unsafe(no_mangle)]
 pub extern "C" fn tower_end(
     alloc: Global,
@@ -115,10 +116,14 @@ pub extern "C" fn tower_end(
     ensures kept { IsTower tower.new }
     ensures live { (result ≡ tower.old.live) × (tower.new.live ≡ tower.old.live) }
     ensures told { IfSome tower.old.hold.core (λ core. told.new ≡ end_told core.state (pid_of pid)) }
-    ensures family { IfSome tower.old.hold.core (λ core. IfSome tower.new.hold.core (λ next. told.new.kind ≡ 0 → EndsFamilyIn core.state (pid_of pid) (pids_in exited.new) next.state)) }
-    ensures ends { IfSome tower.old.hold.core (λ core. IfSome tower.new.hold.core (λ next. told.new.kind ≡ 0 → EndAlong (exits (pids_in exited.new)) (spaces_of_all (pids_in exited.new)) core next)) }
+    ensures family { IfSome tower.old.hold.core (λ core. IfSome tower.new.hold.core
+        (λ next. told.new.kind ≡ 0 → EndsFamilyIn core.state (pid_of pid) (pids_in exited.new) next.state)) }
+    ensures ends { IfSome tower.old.hold.core (λ core. IfSome tower.new.hold.core
+        (λ next. told.new.kind ≡ 0 → EndAlong (exits (pids_in exited.new))
+        (spaces_of_all (pids_in exited.new)) core next)) }
     ensures stands { IfSome tower.new.hold.core (λ core. StandsFor (image_of core) core.state) }
-    ensures refused { IfSome tower.old.hold.core (λ core. told.new.kind ≢ 0 → (tower.new.hold.core ≡ Some core) × (exited.new ≡ exited.old)) }
+    ensures refused { IfSome tower.old.hold.core (λ core. told.new.kind ≢ 0 → (tower.new.hold.core ≡ Some core)
+        × (exited.new ≡ exited.old)) }
     ensures none { result ≡ false → (exited.new ≡ exited.old) × (told.new ≡ told.old) }
 {
     match take(alloc, tower) {

@@ -46,9 +46,9 @@ fn next_holder(core: &Core, pid: u32, page: u32, holder: u32, from: u32) -> Opti
     }
 }
 
-/// Finds the lowest page from `from` on at which process `holder` also has a page of process `pid`, at another place than
-/// that page itself: both share it. It looks up each page that the holder has mapped from there on. Returns false if the
-/// handle has no core, a number is no process, or there is no such page. `from` may be any page.
+/// Finds the lowest page from `from` on at which process `holder` also has a page of process `pid`, at another place
+/// than that page itself: both share it. It looks up each page that the holder has mapped from there on. Returns false
+/// if the handle has no core, a number is no process, or there is no such page. `from` may be any page.
 #[unsafe(no_mangle)]
 pub extern "C" fn tower_next_holder(
     alloc: Global,
@@ -63,8 +63,10 @@ pub extern "C" fn tower_next_holder(
     ensures kept { IsTower tower.new }
     ensures same { tower.new.hold.core ≡ tower.old.hold.core }
     ensures core { tower.old.live ≡ false → result ≡ false }
-    ensures found { result ≡ true → IfSome tower.old.hold.core (λ core. IsNextHolderIn core (pid_of pid) page (pid_of holder) from found.new) }
-    ensures last { result ≡ false → IfSome tower.old.hold.core (λ core. HasNoHolder core (pid_of pid) page (pid_of holder) from) }
+    ensures found { result ≡ true → IfSome tower.old.hold.core
+        (λ core. IsNextHolderIn core (pid_of pid) page (pid_of holder) from found.new) }
+    ensures last { result ≡ false → IfSome tower.old.hold.core
+        (λ core. HasNoHolder core (pid_of pid) page (pid_of holder) from) }
     ensures none { result ≡ false → found.new ≡ found.old }
 {
     match take(alloc, tower) {
@@ -158,7 +160,8 @@ fn refusal(core: &Core, pid: Pid, page: Page) -> Option<Cause>
 /// Takes a page back. Returns how many slots lost it, and Done or why not.
 fn take_back(core: &mut Core, pid: u32, page: u32, lost: &mut [TowerHolder]) -> (usize, TowerReply)
     ensures told { result.1 ≡ take_told core.old.state (pid_of pid) page }
-    ensures taken { result.1.kind ≡ 0 → TakesIn core.old core.new (pid_of pid) page (map holder_of (take result.0 lost.new)) }
+    ensures taken { result.1.kind ≡ 0 → TakesIn core.old core.new (pid_of pid) page
+        (map holder_of (take result.0 lost.new)) }
     ensures alone { result.1.kind ≡ 0 → result.0 < length lost.old → IsAloneIn core.new.state (pid_of pid) page }
     ensures most { result.0 ≤ length lost.old }
     ensures rest { drop result.0 lost.new ≡ drop result.0 lost.old }
@@ -177,12 +180,12 @@ fn take_back(core: &mut Core, pid: u32, page: u32, lost: &mut [TowerHolder]) -> 
     (count, done())
 }
 
-/// Takes a page of a process back from all others that share it: the run of the Unmaps of every other slot of its group,
-/// each of which is done. `lost` gets the slots that lost it, in that order, and `count` how many did; the other places
-/// are unchanged. Whoever caches translations invalidates those of these slots. If `count` is less than the number of
-/// places, the process has the page alone; otherwise others may still have it, so call again. `told` becomes Done. It
-/// becomes Refused with the cause for which an Info of the page would be refused, and no event if the number is no
-/// process; then nothing is taken, and `count` is 0. Returns false if the handle has no core.
+/// Takes a page of a process back from all others that share it: the run of the Unmaps of every other slot of its
+/// group, each of which is done. `lost` gets the slots that lost it, in that order, and `count` how many did; the other
+/// places are unchanged. Whoever caches translations invalidates those of these slots. If `count` is less than the
+/// number of places, the process has the page alone; otherwise others may still have it, so call again. `told` becomes
+/// Done. It becomes Refused with the cause for which an Info of the page would be refused, and no event if the number
+/// is no process; then nothing is taken, and `count` is 0. Returns false if the handle has no core.
 #[unsafe(no_mangle)]
 pub extern "C" fn tower_take_back(
     alloc: Global,
@@ -197,12 +200,15 @@ pub extern "C" fn tower_take_back(
     ensures kept { IsTower tower.new }
     ensures live { (result ≡ tower.old.live) × (tower.new.live ≡ tower.old.live) }
     ensures told { IfSome tower.old.hold.core (λ core. told.new ≡ take_told core.state (pid_of pid) page) }
-    ensures taken { IfSome tower.old.hold.core (λ core. IfSome tower.new.hold.core (λ next. told.new.kind ≡ 0 → TakesIn core next (pid_of pid) page (map holder_of (take count.new lost.new)))) }
-    ensures alone { result ≡ true → IfSome tower.new.hold.core (λ core. told.new.kind ≡ 0 → count.new < length lost.old → IsAloneIn core.state (pid_of pid) page) }
+    ensures taken { IfSome tower.old.hold.core (λ core. IfSome tower.new.hold.core
+        (λ next. told.new.kind ≡ 0 → TakesIn core next (pid_of pid) page (map holder_of (take count.new lost.new)))) }
+    ensures alone { result ≡ true → IfSome tower.new.hold.core
+        (λ core. told.new.kind ≡ 0 → count.new < length lost.old → IsAloneIn core.state (pid_of pid) page) }
     ensures most { result ≡ true → count.new ≤ length lost.old }
     ensures rest { result ≡ true → drop count.new lost.new ≡ drop count.new lost.old }
     ensures stands { IfSome tower.new.hold.core (λ core. StandsFor (image_of core) core.state) }
-    ensures refused { IfSome tower.old.hold.core (λ core. told.new.kind ≢ 0 → (tower.new.hold.core ≡ Some core) × (count.new ≡ 0)) }
+    ensures refused { IfSome tower.old.hold.core (λ core. told.new.kind ≢ 0 → (tower.new.hold.core ≡ Some core)
+        × (count.new ≡ 0)) }
     ensures none { result ≡ false → (lost.new ≡ lost.old) × (count.new ≡ count.old) × (told.new ≡ told.old) }
 {
     match take(alloc, tower) {

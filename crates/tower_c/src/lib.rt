@@ -139,10 +139,13 @@ pub extern "C" fn tower_step(
     ensures kept { IsTower tower.new }
     ensures live { (result ≡ tower.old.live) × (tower.new.live ≡ tower.old.live) }
     ensures reply { IfSome tower.old.hold.core (λ core. reply.new ≡ reply_in core.state (event_in event.now)) }
-    ensures state { IfSome tower.old.hold.core (λ core. IfSome tower.new.hold.core (λ next. next.state ≡ state_after core.state (event_in event.now))) }
+    ensures state { IfSome tower.old.hold.core (λ core. IfSome tower.new.hold.core
+        (λ next. next.state ≡ state_after core.state (event_in event.now))) }
     ensures stands { IfSome tower.new.hold.core (λ core. StandsFor (image_of core) core.state) }
-    ensures ends { IfSome tower.old.hold.core (λ core. IfSome tower.new.hold.core (λ next. Ends (ends_in core (event_in event.now)) core next)) }
-    ensures refused { IfSome tower.old.hold.core (λ core. is_carried_out core.state (event_in event.now) ≡ false → tower.new.hold.core ≡ Some core) }
+    ensures ends { IfSome tower.old.hold.core (λ core. IfSome tower.new.hold.core
+        (λ next. Ends (ends_in core (event_in event.now)) core next)) }
+    ensures refused { IfSome tower.old.hold.core (λ core. is_carried_out core.state (event_in event.now) ≡ false
+        → tower.new.hold.core ≡ Some core) }
     ensures none { result ≡ false → reply.new ≡ reply.old }
 {
     match take(alloc, tower) {
@@ -238,10 +241,13 @@ pub extern "C" fn tower_step_ending(
     ensures live { (result ≡ tower.old.live) × (tower.new.live ≡ tower.old.live) }
     ensures reply { IfSome tower.old.hold.core (λ core. reply.new ≡ reply_in core.state (event_in event.now)) }
     ensures ended { IfSome tower.old.hold.core (λ core. ended.new ≡ ended_numbers (ends_in core (event_in event.now))) }
-    ensures state { IfSome tower.old.hold.core (λ core. IfSome tower.new.hold.core (λ next. next.state ≡ state_after core.state (event_in event.now))) }
+    ensures state { IfSome tower.old.hold.core (λ core. IfSome tower.new.hold.core
+        (λ next. next.state ≡ state_after core.state (event_in event.now))) }
     ensures stands { IfSome tower.new.hold.core (λ core. StandsFor (image_of core) core.state) }
-    ensures ends { IfSome tower.old.hold.core (λ core. IfSome tower.new.hold.core (λ next. Ends (ends_in core (event_in event.now)) core next)) }
-    ensures refused { IfSome tower.old.hold.core (λ core. is_carried_out core.state (event_in event.now) ≡ false → tower.new.hold.core ≡ Some core) }
+    ensures ends { IfSome tower.old.hold.core (λ core. IfSome tower.new.hold.core
+        (λ next. Ends (ends_in core (event_in event.now)) core next)) }
+    ensures refused { IfSome tower.old.hold.core (λ core. is_carried_out core.state (event_in event.now) ≡ false
+        → tower.new.hold.core ≡ Some core) }
     ensures none { result ≡ false → (reply.new ≡ reply.old) × (ended.new ≡ ended.old) }
 {
     match take(alloc, tower) {
@@ -285,11 +291,15 @@ pub extern "C" fn tower_run(
     ensures kept { IsTower tower.new }
     ensures live { tower.new.live ≡ tower.old.live }
     ensures ran { result ≡ true ↔ (tower.old.live ≡ true) × (length events.now ≡ length replies.old) }
-    ensures replies { result ≡ true → IfSome tower.old.hold.core (λ core. replies.new ≡ replies_in core.state events.now) }
-    ensures state { result ≡ true → IfSome tower.old.hold.core (λ core. IfSome tower.new.hold.core (λ next. next.state ≡ end_after core.state events.now)) }
+    ensures replies { result ≡ true → IfSome tower.old.hold.core
+        (λ core. replies.new ≡ replies_in core.state events.now) }
+    ensures state { result ≡ true → IfSome tower.old.hold.core
+        (λ core. IfSome tower.new.hold.core (λ next. next.state ≡ end_after core.state events.now)) }
     ensures stands { result ≡ true → IfSome tower.new.hold.core (λ core. StandsFor (image_of core) core.state) }
-    ensures ends { result ≡ true → IfSome tower.old.hold.core (λ core. IfSome tower.new.hold.core (λ next. EndInOrder events.now core next)) }
-    ensures refused { IfSome tower.old.hold.core (λ core. none_is_carried_out core.state events.now ≡ true → tower.new.hold.core ≡ Some core) }
+    ensures ends { result ≡ true → IfSome tower.old.hold.core
+        (λ core. IfSome tower.new.hold.core (λ next. EndInOrder events.now core next)) }
+    ensures refused { IfSome tower.old.hold.core (λ core. none_is_carried_out core.state events.now ≡ true
+        → tower.new.hold.core ≡ Some core) }
     ensures none { result ≡ false → replies.new ≡ replies.old }
     ensures same { result ≡ false → tower.new.hold.core ≡ tower.old.hold.core }
 {

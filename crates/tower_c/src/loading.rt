@@ -29,11 +29,11 @@ fn load(core: &mut Core, pid: u32, address: u32, bytes: &[u8], write: bool) -> T
     }
 }
 
-/// Puts bytes into a process's memory from an address on, all or none, and leaves their pages with the right that `write`
-/// says. A page that is not mapped is mapped, and one that may not be written to gets that right for the time. `told`
-/// becomes Done; then whoever caches translations invalidates those of the process's pages from the first byte's page to
-/// that of the last. It becomes Refused with the first cause against it, which is NoProcess, BadPage, Rights or Quota, and
-/// no event if the number is no process; then nothing else changes. Returns false if the handle has no core.
+/// Puts bytes into a process's memory from an address on, all or none, and leaves their pages with the right that
+/// `write` says. A page that is not mapped is mapped, and one that may not be written to gets that right for the time.
+/// `told` becomes Done; then whoever caches translations invalidates those of the process's pages from the first byte's
+/// page to that of the last. It becomes Refused with the first cause against it, which is NoProcess, BadPage, Rights or
+/// Quota, and no event if the number is no process; then nothing else changes. Returns false if the handle has no core.
 #[unsafe(no_mangle)]
 pub extern "C" fn tower_load_bytes(
     alloc: Global,
@@ -47,8 +47,10 @@ pub extern "C" fn tower_load_bytes(
     requires { IsTower tower.old }
     ensures kept { IsTower tower.new }
     ensures live { (result ≡ tower.old.live) × (tower.new.live ≡ tower.old.live) }
-    ensures told { IfSome tower.old.hold.core (λ core. told.new ≡ load_told core.state (pid_of pid) address (length bytes.now)) }
-    ensures loaded { IfSome tower.old.hold.core (λ core. IfSome tower.new.hold.core (λ next. told.new.kind ≡ 0 → IsLoadedIn core (pid_of pid) address bytes.now write next)) }
+    ensures told { IfSome tower.old.hold.core (λ core. told.new
+        ≡ load_told core.state (pid_of pid) address (length bytes.now)) }
+    ensures loaded { IfSome tower.old.hold.core (λ core. IfSome tower.new.hold.core
+        (λ next. told.new.kind ≡ 0 → IsLoadedIn core (pid_of pid) address bytes.now write next)) }
     ensures stands { IfSome tower.new.hold.core (λ core. StandsFor (image_of core) core.state) }
     ensures refused { IfSome tower.old.hold.core (λ core. told.new.kind ≢ 0 → tower.new.hold.core ≡ Some core) }
     ensures none { result ≡ false → told.new ≡ told.old }

@@ -70,7 +70,8 @@ pub extern "C" fn tower_next_page(
     ensures kept { IsTower tower.new }
     ensures same { tower.new.hold.core ≡ tower.old.hold.core }
     ensures core { tower.old.live ≡ false → result ≡ false }
-    ensures found { result ≡ true → IfSome tower.old.hold.core (λ core. IsNextIn core (pid_of pid) from page.new found.new) }
+    ensures found { result ≡ true → IfSome tower.old.hold.core
+        (λ core. IsNextIn core (pid_of pid) from page.new found.new) }
     ensures last { result ≡ false → IfSome tower.old.hold.core (λ core. HasNone core (pid_of pid) from) }
     ensures none { result ≡ false → (page.new ≡ page.old) × (found.new ≡ found.old) }
 {

@@ -48,10 +48,10 @@ fn next_offer(core: &Core, pid: u32, page: u32, target: u32) -> Option<TowerOffe
     }
 }
 
-/// Finds a process's first pending offer from a page and a target on, in the order of pages, and of targets for one page.
-/// The next one is found from the same page and the target after. `page` and `target` may be any numbers; a target past
-/// 63 leads to the next page. Returns false if the handle has no core, the number is no process, or there is no such
-/// offer.
+/// Finds a process's first pending offer from a page and a target on, in the order of pages, and of targets for one
+/// page. The next one is found from the same page and the target after. `page` and `target` may be any numbers; a
+/// target past 63 leads to the next page. Returns false if the handle has no core, the number is no process, or there
+/// is no such offer.
 #[unsafe(no_mangle)]
 pub extern "C" fn tower_next_offer(
     alloc: Global,
@@ -65,8 +65,10 @@ pub extern "C" fn tower_next_offer(
     ensures kept { IsTower tower.new }
     ensures same { tower.new.hold.core ≡ tower.old.hold.core }
     ensures core { tower.old.live ≡ false → result ≡ false }
-    ensures found { result ≡ true → IfSome tower.old.hold.core (λ core. IsNextOfferIn core.state (pid_of pid) page target offer.new) }
-    ensures last { result ≡ false → IfSome tower.old.hold.core (λ core. HasNoOffer core.state (pid_of pid) page target) }
+    ensures found { result ≡ true → IfSome tower.old.hold.core
+        (λ core. IsNextOfferIn core.state (pid_of pid) page target offer.new) }
+    ensures last { result ≡ false → IfSome tower.old.hold.core
+        (λ core. HasNoOffer core.state (pid_of pid) page target) }
     ensures none { result ≡ false → offer.new ≡ offer.old }
 {
     match take(alloc, tower) {

@@ -63,12 +63,18 @@ pub extern "C" fn tower_run_until(
     ensures kept { IsTower tower.new }
     ensures live { tower.new.live ≡ tower.old.live }
     ensures ran { result ≡ true ↔ (tower.old.live ≡ true) × (length events.now ≡ length replies.old) }
-    ensures carried { result ≡ true → IfSome tower.old.hold.core (λ core. carried.new ≡ length (carried_in core.state events.now)) }
-    ensures replies { result ≡ true → IfSome tower.old.hold.core (λ core. replies.new ≡ replies_until core.state events.now replies.old) }
-    ensures state { result ≡ true → IfSome tower.old.hold.core (λ core. IfSome tower.new.hold.core (λ next. next.state ≡ end_after core.state (carried_in core.state events.now))) }
+    ensures carried { result ≡ true → IfSome tower.old.hold.core
+        (λ core. carried.new ≡ length (carried_in core.state events.now)) }
+    ensures replies { result ≡ true → IfSome tower.old.hold.core
+        (λ core. replies.new ≡ replies_until core.state events.now replies.old) }
+    ensures state { result ≡ true → IfSome tower.old.hold.core
+        (λ core. IfSome tower.new.hold.core
+        (λ next. next.state ≡ end_after core.state (carried_in core.state events.now))) }
     ensures stands { result ≡ true → IfSome tower.new.hold.core (λ core. StandsFor (image_of core) core.state) }
-    ensures ends { result ≡ true → IfSome tower.old.hold.core (λ core. IfSome tower.new.hold.core (λ next. EndInOrder (carried_in core.state events.now) core next)) }
-    ensures refused { result ≡ true → IfSome tower.old.hold.core (λ core. carried.new ≡ 0 → tower.new.hold.core ≡ Some core) }
+    ensures ends { result ≡ true → IfSome tower.old.hold.core
+        (λ core. IfSome tower.new.hold.core (λ next. EndInOrder (carried_in core.state events.now) core next)) }
+    ensures refused { result ≡ true → IfSome tower.old.hold.core
+        (λ core. carried.new ≡ 0 → tower.new.hold.core ≡ Some core) }
     ensures none { result ≡ false → (replies.new ≡ replies.old) × (carried.new ≡ carried.old) }
     ensures same { result ≡ false → tower.new.hold.core ≡ tower.old.hold.core }
 {

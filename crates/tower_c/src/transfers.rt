@@ -29,8 +29,10 @@ fn stop_from(stop: &Option<Reply>) -> TowerReply
 fn read(core: &mut Core, pid: u32, address: u32, bytes: &mut [u8]) -> (usize, TowerReply)
     ensures count { result.0 ≡ length (carried core.old.state (loads_in (pid_of pid) address (length bytes.old))) }
     ensures stop { result.1 ≡ stop_in core.old.state (pid_of pid) (loads_in (pid_of pid) address (length bytes.old)) }
-    ensures bytes { bytes.new ≡ values (answers core.old.state (carried core.old.state (loads_in (pid_of pid) address (length bytes.old)))) ++ drop result.0 bytes.old }
-    ensures state { core.new.state ≡ end_of core.old.state (carried core.old.state (loads_in (pid_of pid) address (length bytes.old))) }
+    ensures bytes { bytes.new ≡ values (answers core.old.state
+        (carried core.old.state (loads_in (pid_of pid) address (length bytes.old)))) ++ drop result.0 bytes.old }
+    ensures state { core.new.state ≡ end_of core.old.state
+        (carried core.old.state (loads_in (pid_of pid) address (length bytes.old))) }
     ensures stay { FramesStay none_goes (memory_of core.old) (memory_of core.new) }
     ensures stands { StandsFor (image_of core.new) core.new.state }
     ensures refused { result.0 ≡ 0 → core.new ≡ core.old }
@@ -63,11 +65,18 @@ pub extern "C" fn tower_read(
     requires { IsTower tower.old }
     ensures kept { IsTower tower.new }
     ensures live { (result ≡ tower.old.live) × (tower.new.live ≡ tower.old.live) }
-    ensures moved { IfSome tower.old.hold.core (λ core. moved.new ≡ length (carried core.state (loads_in (pid_of pid) address (length bytes.old)))) }
-    ensures stop { IfSome tower.old.hold.core (λ core. stop.new ≡ stop_in core.state (pid_of pid) (loads_in (pid_of pid) address (length bytes.old))) }
-    ensures bytes { IfSome tower.old.hold.core (λ core. bytes.new ≡ values (answers core.state (carried core.state (loads_in (pid_of pid) address (length bytes.old)))) ++ drop moved.new bytes.old) }
-    ensures state { IfSome tower.old.hold.core (λ core. IfSome tower.new.hold.core (λ next. next.state ≡ end_of core.state (carried core.state (loads_in (pid_of pid) address (length bytes.old))))) }
-    ensures stay { IfSome tower.old.hold.core (λ core. IfSome tower.new.hold.core (λ next. FramesStay none_goes (memory_of core) (memory_of next))) }
+    ensures moved { IfSome tower.old.hold.core (λ core. moved.new
+        ≡ length (carried core.state (loads_in (pid_of pid) address (length bytes.old)))) }
+    ensures stop { IfSome tower.old.hold.core (λ core. stop.new
+        ≡ stop_in core.state (pid_of pid) (loads_in (pid_of pid) address (length bytes.old))) }
+    ensures bytes { IfSome tower.old.hold.core (λ core. bytes.new
+        ≡ values (answers core.state (carried core.state (loads_in (pid_of pid) address (length bytes.old))))
+        ++ drop moved.new bytes.old) }
+    ensures state { IfSome tower.old.hold.core (λ core. IfSome tower.new.hold.core
+        (λ next. next.state ≡ end_of core.state
+        (carried core.state (loads_in (pid_of pid) address (length bytes.old))))) }
+    ensures stay { IfSome tower.old.hold.core (λ core. IfSome tower.new.hold.core
+        (λ next. FramesStay none_goes (memory_of core) (memory_of next))) }
     ensures stands { IfSome tower.new.hold.core (λ core. StandsFor (image_of core) core.state) }
     ensures refused { IfSome tower.old.hold.core (λ core. moved.new ≡ 0 → tower.new.hold.core ≡ Some core) }
     ensures none { result ≡ false → (bytes.new ≡ bytes.old) × (moved.new ≡ moved.old) × (stop.new ≡ stop.old) }
@@ -88,7 +97,8 @@ pub extern "C" fn tower_read(
 fn write(core: &mut Core, pid: u32, address: u32, bytes: &[u8]) -> (usize, TowerReply)
     ensures count { result.0 ≡ length (carried core.old.state (stores_in (pid_of pid) address bytes.now)) }
     ensures stop { result.1 ≡ stop_in core.old.state (pid_of pid) (stores_in (pid_of pid) address bytes.now) }
-    ensures state { core.new.state ≡ end_of core.old.state (carried core.old.state (stores_in (pid_of pid) address bytes.now)) }
+    ensures state { core.new.state ≡ end_of core.old.state
+        (carried core.old.state (stores_in (pid_of pid) address bytes.now)) }
     ensures stay { FramesStay (gone_in (pid_of pid) address result.0) (memory_of core.old) (memory_of core.new) }
     ensures stands { StandsFor (image_of core.new) core.new.state }
     ensures refused { result.0 ≡ 0 → core.new ≡ core.old }
@@ -122,10 +132,14 @@ pub extern "C" fn tower_write(
     requires { IsTower tower.old }
     ensures kept { IsTower tower.new }
     ensures live { (result ≡ tower.old.live) × (tower.new.live ≡ tower.old.live) }
-    ensures moved { IfSome tower.old.hold.core (λ core. moved.new ≡ length (carried core.state (stores_in (pid_of pid) address bytes.now))) }
-    ensures stop { IfSome tower.old.hold.core (λ core. stop.new ≡ stop_in core.state (pid_of pid) (stores_in (pid_of pid) address bytes.now)) }
-    ensures state { IfSome tower.old.hold.core (λ core. IfSome tower.new.hold.core (λ next. next.state ≡ end_of core.state (carried core.state (stores_in (pid_of pid) address bytes.now)))) }
-    ensures stay { IfSome tower.old.hold.core (λ core. IfSome tower.new.hold.core (λ next. FramesStay (gone_in (pid_of pid) address moved.new) (memory_of core) (memory_of next))) }
+    ensures moved { IfSome tower.old.hold.core (λ core. moved.new
+        ≡ length (carried core.state (stores_in (pid_of pid) address bytes.now))) }
+    ensures stop { IfSome tower.old.hold.core (λ core. stop.new
+        ≡ stop_in core.state (pid_of pid) (stores_in (pid_of pid) address bytes.now)) }
+    ensures state { IfSome tower.old.hold.core (λ core. IfSome tower.new.hold.core
+        (λ next. next.state ≡ end_of core.state (carried core.state (stores_in (pid_of pid) address bytes.now)))) }
+    ensures stay { IfSome tower.old.hold.core (λ core. IfSome tower.new.hold.core
+        (λ next. FramesStay (gone_in (pid_of pid) address moved.new) (memory_of core) (memory_of next))) }
     ensures stands { IfSome tower.new.hold.core (λ core. StandsFor (image_of core) core.state) }
     ensures refused { IfSome tower.old.hold.core (λ core. moved.new ≡ 0 → tower.new.hold.core ≡ Some core) }
     ensures none { result ≡ false → (moved.new ≡ moved.old) × (stop.new ≡ stop.old) }

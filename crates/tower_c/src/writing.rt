@@ -25,10 +25,10 @@ fn may_write(core: &Core, event: &TowerEvent, frame: u32) -> Option<bool>
     Some(core.may_write(&event, Frame(frame)))
 }
 
-/// Reports whether an event may write a frame, if it were the next one. It may write free frames, and the directory, the
-/// tables and the pages of its process. An Accept of a lazy page may also write the giver's directory and that page's
-/// table. What the event frees is among them. Every other frame stays as it is, except that accessed may be set in a
-/// directory. Returns false if the handle has no core, the numbers are no event, or there is no such frame.
+/// Reports whether an event may write a frame, if it were the next one. It may write free frames, and the directory,
+/// the tables and the pages of its process. An Accept of a lazy page may also write the giver's directory and that
+/// page's table. What the event frees is among them. Every other frame stays as it is, except that accessed may be set
+/// in a directory. Returns false if the handle has no core, the numbers are no event, or there is no such frame.
 #[unsafe(no_mangle)]
 pub extern "C" fn tower_may_write(
     alloc: Global,
@@ -41,7 +41,8 @@ pub extern "C" fn tower_may_write(
     ensures kept { IsTower tower.new }
     ensures same { tower.new.hold.core ≡ tower.old.hold.core }
     ensures asked { result ≡ asks_frame_in tower.old.hold.core (event_in event.now) frame }
-    ensures may { result ≡ true → IfSome tower.old.hold.core (λ core. IsTrue may.new ↔ MayWriteIn core (event_in event.now) frame) }
+    ensures may { result ≡ true → IfSome tower.old.hold.core
+        (λ core. IsTrue may.new ↔ MayWriteIn core (event_in event.now) frame) }
     ensures none { result ≡ false → may.new ≡ may.old }
 {
     match take(alloc, tower) {

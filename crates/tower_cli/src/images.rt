@@ -34,7 +34,8 @@ fn last_image(alloc: Global, core: &Core) -> Result<Image, ScriptFault>
 fn script_image<R: Read>(alloc: Global, reader: &mut R, frames: u32) -> Result<Image, ScriptFault>
     ensures size { IsErrOf result ScriptFault.BadSize ↔ (16 ≤ frames → frames ≤ 4096 → ⊥) }
     ensures shows { IfOk result (ShowsEnd (open_with frames) (R.remaining reader.old)) }
-    ensures fault { IfErr result (λ fault. EndsScript (open_with frames) fault (R.remaining reader.old) (R.remaining reader.new)) }
+    ensures fault { IfErr result (λ fault. EndsScript (open_with frames) fault (R.remaining reader.old)
+        (R.remaining reader.new)) }
 {
     let core = run_script(alloc, reader, &mut io::sink(), frames)?;
     last_image(alloc, &core)
@@ -43,7 +44,8 @@ fn script_image<R: Read>(alloc: Global, reader: &mut R, frames: u32) -> Result<I
 /// Runs a script on a core for its last state, as `script_image` does on one that is booted.
 fn resumed_image<R: Read>(alloc: Global, core: Core, reader: &mut R) -> Result<Image, ScriptFault>
     ensures shows { IfOk result (ShowsEnd core.state (R.remaining reader.old)) }
-    ensures fault { IfErr result (λ fault. EndsScript core.state fault (R.remaining reader.old) (R.remaining reader.new)) }
+    ensures fault { IfErr result (λ fault. EndsScript core.state fault (R.remaining reader.old)
+        (R.remaining reader.new)) }
     ensures size { IfErr result (λ fault. fault ≢ ScriptFault.BadSize) }
 {
     let core = resume_script(alloc, core, reader, &mut io::sink())?;
@@ -62,8 +64,10 @@ pub fn write_script_image<R: Read, W: Write>(
     frames: u32,
 ) -> Result<(), ScriptFault>
     ensures size { IsErrOf result ScriptFault.BadSize ↔ (16 ≤ frames → frames ≤ 4096 → ⊥) }
-    ensures image { OnOk result (WritesImage (open_with frames) (R.remaining reader.old) (W.contents writer.old) (W.contents writer.new)) }
-    ensures fault { IfErr result (λ fault. EndsImage (open_with frames) fault (R.remaining reader.old) (R.remaining reader.new) (W.contents writer.old) (W.contents writer.new)) }
+    ensures image { OnOk result (WritesImage (open_with frames) (R.remaining reader.old) (W.contents writer.old)
+        (W.contents writer.new)) }
+    ensures fault { IfErr result (λ fault. EndsImage (open_with frames) fault (R.remaining reader.old)
+        (R.remaining reader.new) (W.contents writer.old) (W.contents writer.new)) }
 {
     let image = script_image(alloc, reader, frames)?;
     image.within();
@@ -80,8 +84,10 @@ pub fn write_resumed_image<R: Read, W: Write>(
     reader: &mut R,
     writer: &mut W,
 ) -> Result<(), ScriptFault>
-    ensures image { OnOk result (WritesImage core.state (R.remaining reader.old) (W.contents writer.old) (W.contents writer.new)) }
-    ensures fault { IfErr result (λ fault. EndsImage core.state fault (R.remaining reader.old) (R.remaining reader.new) (W.contents writer.old) (W.contents writer.new)) }
+    ensures image { OnOk result (WritesImage core.state (R.remaining reader.old) (W.contents writer.old)
+        (W.contents writer.new)) }
+    ensures fault { IfErr result (λ fault. EndsImage core.state fault (R.remaining reader.old) (R.remaining reader.new)
+        (W.contents writer.old) (W.contents writer.new)) }
     ensures size { IfErr result (λ fault. fault ≢ ScriptFault.BadSize) }
 {
     let image = resumed_image(alloc, core, reader)?;

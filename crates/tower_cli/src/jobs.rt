@@ -113,7 +113,8 @@ fn race_command<'a>(alloc: Global) -> Result<Command<'a>, AllocError>
 fn with_command<'a>(program: Command<'a>, command: Command<'a>) -> Result<Command<'a>, AllocError>
     requires program { (fields_of program).has_globals ≡ false }
     requires command { (fields_of command).has_globals ≡ false }
-    ensures app { IfOk result (λ with. app_of with ≡ with_subcommand (app_of program.entry) (app_of command.entry).top) }
+    ensures app { IfOk result (λ with. app_of with
+        ≡ with_subcommand (app_of program.entry) (app_of command.entry).top) }
     ensures globals { IfOk result (λ with. (fields_of with).has_globals ≡ false) }
 {
     program.subcommand(command)
@@ -208,10 +209,12 @@ fn job_named<'a>(name: &str, matches: &ArgMatches<'a>) -> Option<Job<'a>>
 pub fn job_of<'a, S: AsStr>(alloc: Global, words: &'a [S]) -> Result<Job<'a>, Error>
     // Ok comes only if `clap` finds no fault in the arguments. An error is OutOfMemory, or of a kind that `clap` finds.
     ensures fails { FailsBy (fault_of tower_app (map S.text words.now)) result }
-    ensures job { IfOk result (λ job. job_asked (subcommand_of tower_app (map S.text words.now)) ≡ Some (as_asked job)) }
+    ensures job { IfOk result (λ job. job_asked (subcommand_of tower_app (map S.text words.now))
+        ≡ Some (as_asked job)) }
     ensures rounds { IfOk result HasRounds }
     // Arguments that `clap` accepts are refused only if memory runs out.
-    ensures taken { IfErr result (λ error. takes tower_app (map S.text words.now) ≡ true → kind_of error ≡ ErrorKind.OutOfMemory) }
+    ensures taken { IfErr result (λ error. takes tower_app (map S.text words.now) ≡ true
+        → kind_of error ≡ ErrorKind.OutOfMemory) }
 {
     let matches = tower_command(alloc)?.try_get_matches_from(words)?;
     let Some((name, found)) = matches.subcommand() else {

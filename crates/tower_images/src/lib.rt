@@ -45,7 +45,8 @@ pub extern "C" fn tower_image(
     ensures image { result ≡ 0 → IfSome tower.old.hold.core (λ core. SpellsCore core (take size.new bytes.new)) }
     ensures behind { result ≡ 0 → drop size.new bytes.new ≡ drop size.new bytes.old }
     ensures size { IfSome tower.old.hold.core (λ core. length core.roles ≤ 4096 → size.new ≡ image_length core) }
-    ensures short { IfSome tower.old.hold.core (λ core. result ≡ 3 ↔ (length core.roles ≤ 4096) × (length bytes.old < image_length core)) }
+    ensures short { IfSome tower.old.hold.core (λ core. result ≡ 3 ↔ (length core.roles ≤ 4096)
+        × (length bytes.old < image_length core)) }
     ensures many { IfSome tower.old.hold.core (λ core. result ≡ 4 ↔ 4096 < length core.roles) }
     ensures empty { result ≡ 1 ↔ tower.old.live ≡ false }
     ensures unwritten { result ≢ 0 → bytes.new ≡ bytes.old }
@@ -119,7 +120,8 @@ pub extern "C" fn tower_restore(
     ensures restored { result ≡ 0 → IfSome tower.new.hold.core (λ core. SpellsOne bytes.now (IsRestored core)) }
     ensures stands { result ≡ 0 → IfSome tower.new.hold.core (λ core. StandsFor (image_of core) core.state) }
     ensures busy { result ≡ 1 ↔ tower.old.live ≡ true }
-    ensures passes { SpellsOne bytes.now IsSound → tower.old.live ≡ false → (result ≡ 0) ⊎ ((result ≡ 2) ⊎ (result ≡ 6)) }
+    ensures passes { SpellsOne bytes.now IsSound → tower.old.live ≡ false → (result ≡ 0)
+        ⊎ ((result ≡ 2) ⊎ (result ≡ 6)) }
     ensures process { result ≡ 3 → SpellsOne bytes.now (FailsProcess verdict.new) }
     ensures frame { result ≡ 4 → SpellsOne bytes.now (FailsFrame verdict.new) }
     ensures refused { result ≡ 5 → IsNoImage verdict.new bytes.now }

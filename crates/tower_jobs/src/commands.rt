@@ -24,7 +24,8 @@ fn run_replies<I: Read, O: Write>(
     output: &mut O,
     frames: u32,
 ) -> Answer
-    ensures { RunsScript frames result (I.remaining input.old) (I.remaining input.new) (O.contents output.old) (O.contents output.new) }
+    ensures { RunsScript frames result (I.remaining input.old) (I.remaining input.new) (O.contents output.old)
+        (O.contents output.new) }
 {
     match run_script(alloc, input, output, frames) {
         Ok(_) => Answer::Done,
@@ -39,7 +40,8 @@ fn write_image_of<I: Read, O: Write>(
     output: &mut O,
     frames: u32,
 ) -> Answer
-    ensures { ImagesScript frames result (I.remaining input.old) (I.remaining input.new) (O.contents output.old) (O.contents output.new) }
+    ensures { ImagesScript frames result (I.remaining input.old) (I.remaining input.new) (O.contents output.old)
+        (O.contents output.new) }
 {
     match write_script_image(alloc, input, output, frames) {
         Ok(()) => Answer::Done,
@@ -108,7 +110,8 @@ fn resume_replies<I: Read, O: Write>(
     input: &mut I,
     output: &mut O,
 ) -> Answer
-    ensures { ResumesScript core.state result (I.remaining input.old) (I.remaining input.new) (O.contents output.old) (O.contents output.new) }
+    ensures { ResumesScript core.state result (I.remaining input.old) (I.remaining input.new) (O.contents output.old)
+        (O.contents output.new) }
 {
     match resume_script(alloc, core, input, output) {
         Ok(_) => Answer::Done,
@@ -123,7 +126,8 @@ fn resume_image<I: Read, O: Write>(
     input: &mut I,
     output: &mut O,
 ) -> Answer
-    ensures { ImagesResumed core.state result (I.remaining input.old) (I.remaining input.new) (O.contents output.old) (O.contents output.new) }
+    ensures { ImagesResumed core.state result (I.remaining input.old) (I.remaining input.new) (O.contents output.old)
+        (O.contents output.new) }
 {
     match write_resumed_image(alloc, core, input, output) {
         Ok(()) => Answer::Done,
@@ -138,7 +142,8 @@ fn resume_named<R: AllocGlobal + Files, I: Read, O: Write>(
     input: &mut I,
     output: &mut O,
 ) -> Answer
-    ensures { ResumesFile result None (I.remaining input.old) (I.remaining input.new) (O.contents output.old) (O.contents output.new) }
+    ensures { ResumesFile result None (I.remaining input.old) (I.remaining input.new) (O.contents output.old)
+        (O.contents output.new) }
 {
     match core_named(rt, name) {
         Ok(core) => resume_replies(rt.alloc(), core, input, output),
@@ -153,7 +158,8 @@ fn image_named<R: AllocGlobal + Files, I: Read, O: Write>(
     input: &mut I,
     output: &mut O,
 ) -> Answer
-    ensures { ImagesFile result None (I.remaining input.old) (I.remaining input.new) (O.contents output.old) (O.contents output.new) }
+    ensures { ImagesFile result None (I.remaining input.old) (I.remaining input.new) (O.contents output.old)
+        (O.contents output.new) }
 {
     match core_named(rt, name) {
         Ok(core) => resume_image(rt.alloc(), core, input, output),
@@ -186,7 +192,8 @@ fn answer_job<R: AllocGlobal + Files + Threads + Wait + Sync, I: Read, O: Write>
     output: &mut O,
 ) -> Answer
     requires { HasRounds job }
-    ensures { DoesJob (as_asked job.entry) result (I.remaining input.old) (I.remaining input.new) (O.contents output.old) (O.contents output.new) }
+    ensures { DoesJob (as_asked job.entry) result (I.remaining input.old) (I.remaining input.new)
+        (O.contents output.old) (O.contents output.new) }
 {
     match job {
         Job::Run { frames } => run_replies(rt.alloc(), input, output, frames),
@@ -205,7 +212,8 @@ pub fn answer<R: AllocGlobal + Files + Threads + Wait + Sync, S: AsStr, I: Read,
     input: &mut I,
     output: &mut O,
 ) -> Answer
-    ensures { AnswersWords (map S.text words.now) result (I.remaining input.old) (I.remaining input.new) (O.contents output.old) (O.contents output.new) }
+    ensures { AnswersWords (map S.text words.now) result (I.remaining input.old) (I.remaining input.new)
+        (O.contents output.old) (O.contents output.new) }
 {
     match job_of(rt.alloc(), words) {
         Ok(job) => answer_job(rt, job, input, output),

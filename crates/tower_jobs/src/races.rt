@@ -65,7 +65,8 @@ fn heading(rounds: u32) -> ArrayVec<u8, ROOM>
 #[tactic(auto, unfolding(crate::specs::Races::race_text))]
 fn write_race<W: Write>(writer: &mut W, rounds: u32, report: &Report) -> Result<(), WriteFailed>
     ensures ok { OnOk result (Appends (W.contents writer.old) (W.contents writer.new) (race_text rounds report.now)) }
-    ensures err { OnErr result (AppendsFront (W.contents writer.old) (W.contents writer.new) (race_text rounds report.now)) }
+    ensures err { OnErr result (AppendsFront (W.contents writer.old) (W.contents writer.new)
+        (race_text rounds report.now)) }
 {
     write_whole(writer, heading(rounds).as_slice())?;
     report.write_text(writer)
@@ -91,8 +92,10 @@ pub fn race_by<R: Threads + Wait + Sync, W: Write, F: Referee>(
     requires { 1 ≤ rounds }
     ensures size { IsErrOf result ToolFault.BadSize ↔ (16 ≤ frames → frames ≤ 4096 → ⊥) }
     ensures text { OnOk result (Writes frames rounds (W.contents writer.old) (W.contents writer.new)) }
-    ensures fault { IfErr result (λ fault. EndsRace frames rounds fault (W.contents writer.old) (W.contents writer.new)) }
-    ensures asked { OnOk result (WritesAnswers (IsAsked F.reported F.judged) rounds referee.old referee.new (W.contents writer.old) (W.contents writer.new)) }
+    ensures fault { IfErr result (λ fault. EndsRace frames rounds fault (W.contents writer.old)
+        (W.contents writer.new)) }
+    ensures asked { OnOk result (WritesAnswers (IsAsked F.reported F.judged) rounds referee.old referee.new
+        (W.contents writer.old) (W.contents writer.new)) }
 {
     if !is_frame_count(frames) {
         return Err(ToolFault::BadSize);
@@ -116,7 +119,8 @@ pub fn race<R: Threads + Wait + Sync, W: Write>(
     requires { 1 ≤ rounds }
     ensures size { IsErrOf result ToolFault.BadSize ↔ (16 ≤ frames → frames ≤ 4096 → ⊥) }
     ensures text { OnOk result (Writes frames rounds (W.contents writer.old) (W.contents writer.new)) }
-    ensures fault { IfErr result (λ fault. EndsRace frames rounds fault (W.contents writer.old) (W.contents writer.new)) }
+    ensures fault { IfErr result (λ fault. EndsRace frames rounds fault (W.contents writer.old)
+        (W.contents writer.new)) }
 {
     race_by(rt, alloc, writer, frames, rounds, &mut Asks)
 }
